@@ -1,0 +1,65 @@
+-- How long the texts are that a writer writes.
+use Rattle.std.proofs.Common.{◌≡◌, ℕ, zero, suc, ◌+◌, ◌-◌, ◌*◌, ◌/◌, ◌%◌, ◌<◌, ◌≤◌, List, [], ◌∷◌, ◌++◌, length, length-append, length-take, length-drop, take, drop, min, get_or, refl, sym, ap, arith, ◌∙◌, codes, flat_map}
+use Rattle.std.proofs.lemmas.List.{take_more, append-nil}
+use Rattle.std.proofs.lemmas.List.Concat.{flat_map-append}
+use Rattle.age_header.specs.Header.{StanzaParts, argument_line, line, version_line}
+use Rattle.age_header.specs.Text.{signs_of, body_lines, body_text, stanza_text, signed_bytes, mac_end}
+use Rattle.age_header.proofs.TextLemmas.{signs_size}
+
+line_size : (t : List ℕ) → length (line t) ≡ length t + 1
+line_size t = length-append t (10 ∷ [])
+
+lines_size : (n : ℕ) (b : List ℕ) → 48 * n ≤ length b → length (body_lines n b) ≡ 65 * n + ((4 * (length b - 48 * n) + 2) / 3 + 1)
+unfolding body_lines
+lines_size zero b low = omega (arith, line_size (signs_of b), signs_size b)
+lines_size (suc n) b low =
+    let back : List ℕ = drop 48 b in
+    let m : length back ≡ length b - 48 = length-drop 48 b in
+    let rest = lines_size n back (omega arith) in
+    let left : length back - 48 * n ≡ length b - 48 * suc n = omega arith in
+    let front : length (take 48 b) ≡ 48 = omega (arith, length-take 48 b) in
+    let more : length (body_lines n back) ≡ 65 * n + ((4 * (length b - 48 * suc n) + 2) / 3 + 1) = rw (← left) rest in
+    let sum = length-append (line (signs_of (take 48 b))) (body_lines n back) in
+    let one = line_size (signs_of (take 48 b)) in
+    let signs = signs_size (take 48 b) in
+    omega arith
+
+pub body_size : (b : List ℕ) → length (body_text b) ≡ 65 * (length b / 48) + ((length b % 48 * 4 + 2) / 3 + 1)
+unfolding body_text
+body_size b =
+    let s = lines_size (length b / 48) b (omega arith) in
+    let left : length b - 48 * (length b / 48) ≡ length b % 48 = omega arith in
+    omega arith
+
+-- a list of texts, one more
+pub flat_size : {X : Type 0} (f : X → List ℕ) (xs : List X) (i : ℕ) (x : X) → i < length xs → x ≡ get_or xs i x
+    → length (flat_map f (take (i + 1) xs)) ≡ length (flat_map f (take i xs)) + length (f x)
+flat_size {X} f xs i x low is =
+    ap length (ap (λ (z : List X). flat_map f z) (take_more xs i x low) ∙ flat_map-append f (take i xs) (get_or xs i x ∷ []) ∙ ap (λ (z : List ℕ). flat_map f (take i xs) ++ z) (append-nil (f (get_or xs i x))))
+    ∙ length-append (flat_map f (take i xs)) (f (get_or xs i x)) ∙ ap (λ (z : X). length (flat_map f (take i xs)) + length (f z)) (sym is)
+
+pub stanza_size : (s : StanzaParts) → length (stanza_text s) ≡ length (argument_line s.args) + length (body_text s.body)
+unfolding stanza_text
+stanza_size s = length-append (argument_line s.args) (body_text s.body)
+
+version_size : length version_line ≡ 22
+unfolding version_line
+version_size = refl
+
+mac_end_size : (mac : List ℕ) → length mac ≡ 32 → length (mac_end mac) ≡ 45
+unfolding mac_end
+mac_end_size mac n = omega (arith, signs_size mac, length-append (signs_of mac) (10 ∷ []))
+
+pub header_size : (ss : List StanzaParts) (mac : List ℕ) → length mac ≡ 32 → length (signed_bytes ss ++ mac_end mac) ≡ 70 + length (flat_map stanza_text ss)
+unfolding signed_bytes
+header_size ss mac n =
+    let all = length-append (signed_bytes ss) (mac_end mac) in
+    let front = length-append (version_line ++ flat_map stanza_text ss) (codes "---") in
+    let first = length-append version_line (flat_map stanza_text ss) in
+    let end = mac_end_size mac n in
+    let v = version_size in
+    omega arith
+
+-- sums that stay at the largest number
+pub sum_stays : (top r p q a b : ℕ) → p ≡ min a top → q ≡ min b top → r ≡ min (p + q) top → r ≡ min (a + b) top
+sum_stays top r p q a b e f g = omega arith

@@ -1,0 +1,17 @@
+mod ArgumentLemmas
+mod Base64Joined
+mod Base64Lemmas
+mod FrontPaths
+mod LengthLemmas
+mod LineLemmas
+mod OneReading
+mod OneText
+mod OneWay
+mod PathLemmas
+mod Spelled
+mod StepRuns
+mod TakeLemmas
+mod TextLemmas
+mod VerdictLemmas
+mod WriteLemmas
+mod OneVerdict

@@ -1,0 +1,10 @@
+use Rattle.std.proofs.Common.{map, length}
+use Rattle.std.specs.String.{string_bytes}
+use Rattle.age_header.proofs.ArgumentLemmas.{Parsed}
+use Rattle.age_header.proofs.arguments.Arguments.parse.Given as goal
+
+abbrev pub invariant-loop-rest : goal.invariant-loop-rest
+invariant-loop-rest l = Parsed l.text (map string_bytes l.texts.items) l.rest
+
+abbrev pub decreases-loop-rest : goal.decreases-loop-rest
+decreases-loop-rest l = length l.rest

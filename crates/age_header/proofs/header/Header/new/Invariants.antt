@@ -1,0 +1,7 @@
+use Rattle.std.proofs.Common.{take}
+use Rattle.std.specs.List.{AllByRecursion}
+use Rattle.age_header.specs.Text.{IsWhole}
+use Rattle.age_header.proofs.header.Header.new.Given as goal
+
+abbrev pub invariant-loop-stanza : goal.invariant-loop-stanza
+invariant-loop-stanza l = AllByRecursion IsWhole (take l.stanza-index l.stanza-items)

@@ -1,0 +1,12 @@
+use Rattle.std.proofs.Common.{◌≡◌}
+use Rattle.age_header.proofs.VerdictLemmas.{Reached}
+use Rattle.age_header.proofs.reader.read_header.Given as goal
+
+abbrev pub invariant-lines : goal.invariant-lines
+invariant-lines g l = record {
+  count : g.S.Source.failed l.input ≡ g.S.Source.failed l.fn.input;
+  path : Reached (g.S.Source.to_come l.fn.input) (g.S.Source.to_come l.input) l.max l.room l.lines l.progress;
+}
+
+abbrev pub decreases-lines : goal.decreases-lines
+decreases-lines g l = l.room

@@ -1,0 +1,13 @@
+use Rattle.std.proofs.Common.{◌≡◌, ◌∷◌, [], ◌++◌, map, drop}
+use Rattle.std.specs.String.{string_bytes}
+use Rattle.age_header.specs.Header.{argument_line}
+use Rattle.age_header.proofs.ArgumentLemmas.{spaced}
+use Rattle.age_header.proofs.WriteLemmas.{Done}
+use Rattle.age_header.proofs.writer.write_args.Given as goal
+
+abbrev pub invariant-loop-arg : goal.invariant-loop-arg
+invariant-loop-arg g l = record {
+  written : Done (g.W.Sink.taken l.fn.out) (g.W.Sink.taken l.out) (argument_line (map string_bytes l.args))
+      (spaced (map string_bytes (drop l.arg-index l.args)) ++ 10 ∷ []);
+  count : g.W.Sink.failed l.out ≡ g.W.Sink.failed l.fn.out;
+}

@@ -1,0 +1,13 @@
+use Rattle.std.proofs.Common.{◌≡◌, length}
+use Rattle.age_header.specs.Text.{body_text}
+use Rattle.age_header.proofs.WriteLemmas.{Done}
+use Rattle.age_header.proofs.writer.write_body.Given as goal
+
+abbrev pub invariant-loop-rest : goal.invariant-loop-rest
+invariant-loop-rest g l = record {
+  written : Done (g.W.Sink.taken l.fn.out) (g.W.Sink.taken l.out) (body_text l.body) (body_text l.rest);
+  count : g.W.Sink.failed l.out ≡ g.W.Sink.failed l.fn.out;
+}
+
+abbrev pub decreases-loop-rest : goal.decreases-loop-rest
+decreases-loop-rest g l = length l.rest

@@ -1,0 +1,61 @@
+use Rattle.std.proofs.Common.{◌∙◌, List, ℕ, ◌++◌, flat_map, refl, codes, append_assoc}
+use Rattle.std.proofs.lemmas.List.{drop_all}
+use Rattle.age_header.specs.Header.{argument_line, version_line}
+use Rattle.age_header.specs.Text.{body_text, stanza_text, signed_bytes}
+use Rattle.age_header.proofs.TextLemmas.{stanza_step}
+use Rattle.age_header.proofs.WriteLemmas.{done_start, done_more, done_part, part_at_exit, writes_last}
+use Rattle.age_header.proofs.writer.write_signed.Goals as goal
+
+pub returns-in_err-write_all-clause-text : goal.returns-in_err-write_all-clause-text
+unfolding signed_bytes version_line
+returns-in_err-write_all-clause-text g c =
+    let ss = c.args.stanzas.now in
+    let rest : List ℕ = flat_map stanza_text ss ++ codes "---" in
+    part_at_exit _ _ _ _ _ c.from_residual.ensures.1
+    (done_part _ _ _ (signed_bytes ss) (signed_bytes ss) version_line rest (done_start _ (signed_bytes ss)) (append_assoc version_line (flat_map stanza_text ss) (codes "---")) c.in_err-write_all.ensures.text)
+
+pub loop-stanza-init : goal.loop-stanza-init
+unfolding signed_bytes version_line
+loop-stanza-init g c =
+    let ss = c.args.stanzas.now in
+    let rest : List ℕ = flat_map stanza_text ss ++ codes "---" in
+    record {
+      written = done_more _ _ _ (signed_bytes ss) (signed_bytes ss) version_line rest (done_start _ (signed_bytes ss)) (append_assoc version_line (flat_map stanza_text ss) (codes "---")) c.in_ok-write_all.ensures.text;
+      count = c.in_ok-write_all.ensures.count;
+    }
+
+pub returns-in_err-write_args-clause-text : goal.returns-in_err-write_args-clause-text
+returns-in_err-write_args-clause-text g c =
+    let s = c.stanza-item.result in
+    let step = stanza_step c.args.stanzas.now c.loop-stanza.stanza-index s c.loop-stanza-test.true c.stanza-item.is in
+    let failed = rw c.args-in-loop-stanza.ensures.value at c.in_err-write_args.ensures.text in
+    part_at_exit _ _ _ _ _ c.from_residual-in_err-write_args.ensures.1
+    (done_part _ _ _ _ _ (argument_line s.args) _ c.loop-stanza.invariant.written step failed)
+
+pub returns-in_err-write_body-clause-text : goal.returns-in_err-write_body-clause-text
+returns-in_err-write_body-clause-text g c =
+    let s = c.stanza-item.result in
+    let step = stanza_step c.args.stanzas.now c.loop-stanza.stanza-index s c.loop-stanza-test.true c.stanza-item.is in
+    let wrote = rw c.args-in-loop-stanza.ensures.value at c.in_ok-write_args.ensures.text in
+    let one = done_more _ _ _ _ _ (argument_line s.args) _ c.loop-stanza.invariant.written step wrote in
+    let failed = rw c.body.ensures.value at c.in_err-write_body.ensures.text in
+    part_at_exit _ _ _ _ _ c.from_residual-in_err-write_body.ensures.1
+    (done_part _ _ _ _ _ (body_text s.body) _ one refl failed)
+
+pub loop-stanza-preserved : goal.loop-stanza-preserved
+loop-stanza-preserved g c =
+    let s = c.stanza-item.result in
+    let step = stanza_step c.args.stanzas.now c.loop-stanza.stanza-index s c.loop-stanza-test.true c.stanza-item.is in
+    let args = rw c.args-in-loop-stanza.ensures.value at c.in_ok-write_args.ensures.text in
+    let one = done_more _ _ _ _ _ (argument_line s.args) _ c.loop-stanza.invariant.written step args in
+    let body = rw c.body.ensures.value at c.in_ok-write_body.ensures.text in
+    record {
+      written = done_more _ _ _ _ _ (body_text s.body) _ one refl body;
+      count = c.in_ok-write_body.ensures.count ∙ c.in_ok-write_args.ensures.count ∙ c.loop-stanza.invariant.count;
+    }
+
+pub returns-clause-text : goal.returns-clause-text
+returns-clause-text g c =
+    let none = drop_all c.loop-stanza.stanza-index c.args.stanzas.now c.loop-stanza-test.false in
+    let done = rw none at c.loop-stanza.invariant.written in
+    writes_last _ _ _ c.write_all-2.result _ (codes "---") done c.write_all-2.ensures.text

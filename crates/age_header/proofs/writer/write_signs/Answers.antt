@@ -1,0 +1,11 @@
+use Rattle.std.proofs.Common.{◌≡◌, length, arith}
+use Rattle.base64.specs.GeneralPurpose.{encoded_size_of}
+use Rattle.age_header.proofs.TextLemmas.{encoded, encoded_size_plain}
+use Rattle.age_header.proofs.writer.write_signs.Goals as goal
+
+pub returns-clause-text : goal.returns-clause-text
+returns-clause-text g c =
+    let size = encoded_size_plain c.args.engine.now (length c.args.bytes.now) c.requires.plain in
+    let len : c.in-Ok.len ≡ encoded_size_of c.args.engine.now (length c.args.bytes.now) = cc (c.in-Ok.ensures.fits (omega (arith, c.requires.short))) in
+    let same = encoded c.args.engine.now c.args.bytes.now _ c.encode_slice.new.output c.in-Ok.len c.requires.plain c.in-Ok.ensures.written len in
+    rw (← same) c.write_all.ensures.text

@@ -1,0 +1,37 @@
+-- Base64 without padding (RFC 4648, sections 3.2, 3.5 and 4), as a relation between bytes and signs. It is canonical:
+-- bits that no byte fills are zero.
+use Rattle.std.specs.Prelude.{◌≡◌, ℕ, ◌+◌, ◌*◌, ◌<◌, List, [], ◌∷◌, slice_index, codes}
+
+-- the 64 signs, by their values
+unfoldable pub alphabet : List ℕ
+alphabet = codes "ABCDEFGHIJKLMNOPQRSTUVWXYZabcdefghijklmnopqrstuvwxyz0123456789+/"
+
+-- the sign c stands for the six bits v
+abbrev pub StandsFor : ℕ → ℕ → Type 0
+StandsFor c v = (v < 64) × (c ≡ slice_index alphabet v)
+
+-- one byte as two signs: its eight bits, then four zero bits
+abbrev pub IsOne : ℕ → ℕ → ℕ → Type 0
+IsOne a p q =
+    (u : ℕ) × (v : ℕ) × StandsFor p u × StandsFor q v × (a < 256) × (a * 16 ≡ u * 64 + v)
+
+-- two bytes as three signs: their sixteen bits, then two zero bits
+abbrev pub IsTwo : ℕ → ℕ → ℕ → ℕ → ℕ → Type 0
+IsTwo a b p q r =
+    (u : ℕ) × (v : ℕ) × (w : ℕ) × StandsFor p u × StandsFor q v × StandsFor r w
+    × (a < 256) × (b < 256) × ((a * 256 + b) * 4 ≡ (u * 64 + v) * 64 + w)
+
+-- three bytes as four signs, the same twenty-four bits
+abbrev pub IsThree : ℕ → ℕ → ℕ → ℕ → ℕ → ℕ → ℕ → Type 0
+IsThree a b c p q r s =
+    (u : ℕ) × (v : ℕ) × (w : ℕ) × (x : ℕ) × StandsFor p u × StandsFor q v × StandsFor r w × StandsFor s x
+    × (a < 256) × (b < 256) × (c < 256)
+    × ((a * 256 + b) * 256 + c ≡ ((u * 64 + v) * 64 + w) * 64 + x)
+
+-- the signs are the base64 of the bytes
+unfoldable pub B64 : List ℕ → List ℕ → Type 0
+B64 [] [] = Unit {0}
+B64 (a ∷ []) (p ∷ q ∷ []) = IsOne a p q
+B64 (a ∷ b ∷ []) (p ∷ q ∷ r ∷ []) = IsTwo a b p q r
+B64 (a ∷ b ∷ c ∷ bytes) (p ∷ q ∷ r ∷ s ∷ signs) = IsThree a b c p q r s × B64 bytes signs
+B64 _ _ = ⊥

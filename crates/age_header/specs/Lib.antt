@@ -1,0 +1,11 @@
+pub mod Arguments
+pub mod Base64
+pub mod Device
+pub mod Header
+pub mod Lines
+pub mod Progress
+pub mod Reader
+pub mod Stanza
+pub mod Steps
+pub mod Text
+pub mod Verdict

@@ -1,0 +1,26 @@
+-- How one line is taken from a source.
+use Rattle.std.specs.Prelude.{◌≡◌, ℕ, ◌<◌, ⊤, List, ◌++◌, [], ◌∷◌}
+use Rattle.std.specs.declared.option.Option.{Option}
+use Rattle.std.specs.Io.KnownBytes.{IsAtEnd}
+use Rattle.age_header.specs.declared.fault.HeaderFault.{HeaderFault}
+use Rattle.age_header.specs.declared.fault.HeaderFault.TheVariants.{Read, Memory}
+use Rattle.age_header.specs.declared.lines.LineEnd.{LineEnd}
+use Rattle.age_header.specs.declared.lines.LineEnd.TheVariants.{Lf, Input, Room}
+
+-- the bytes that a line took
+abbrev pub taken : List ℕ → LineEnd → List ℕ
+taken text Lf = text ++ 10 ∷ []
+taken text Input = text
+taken text Room = text
+
+-- how a line of at most room bytes ended, and what the source still has
+abbrev pub IsEnd : LineEnd → ℕ → ℕ → Option (List ℕ) → Type 0
+IsEnd Lf len room left = len < room
+IsEnd Input len room left = (len < room) × IsAtEnd left
+IsEnd Room len room left = len ≡ room
+
+-- only a read or memory failed
+abbrev pub IsOutside : HeaderFault → Type 0
+IsOutside Read = ⊤
+IsOutside Memory = ⊤
+IsOutside _ = ⊥

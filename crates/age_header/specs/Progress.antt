@@ -1,0 +1,14 @@
+-- The state that a reader's progress is in.
+use Rattle.std.specs.Prelude.{List}
+use Rattle.std.specs.declared.option.Option.{Option}
+use Rattle.std.specs.declared.option.Option.TheVariants.{None, Some}
+use Rattle.age_header.specs.Header.{StanzaParts}
+use Rattle.age_header.specs.Steps.{State, between, within}
+use Rattle.age_header.specs.declared.progress.Progress.TheInside.{Inside}
+
+abbrev state_with : List StanzaParts → Option StanzaParts → State
+state_with ss None = between ss
+state_with ss (Some s) = within ss s.args s.body
+
+abbrev pub state_of : Inside → State
+state_of p = state_with p.stanzas.items p.open

@@ -1,0 +1,47 @@
+-- The text that a writer writes, part by part.
+use Rattle.std.specs.Prelude.{◌≡◌, ◌≢◌, ℕ, zero, suc, ◌/◌, false, List, [], ◌∷◌, ◌++◌, length, take, drop, codes, flat_map}
+use Rattle.std.specs.List.{AllByRecursion}
+use Rattle.base64.specs.Rfc4648.{encode_symbols}
+use Rattle.base64.specs.GeneralPurpose.{IsBytes, IsStrict, engine_symbols, engine_config, config_padding}
+use Rattle.base64.specs.declared.engine.general_purpose.GeneralPurpose.{GeneralPurpose}
+use Rattle.age_header.specs.Base64.{alphabet}
+use Rattle.age_header.specs.Header.{StanzaParts, AreArguments, argument_line, line, version_line}
+
+-- an engine for this alphabet, without padding, that decodes canonical text alone
+pub record IsPlain (e : GeneralPurpose) : Type 0 where
+  pub strict : IsStrict e
+  pub unpadded : config_padding (engine_config e) ≡ false
+  pub signs : engine_symbols e ≡ alphabet
+
+unfoldable pub signs_of : List ℕ → List ℕ
+signs_of bytes = encode_symbols alphabet bytes
+
+-- n full lines, and a last line
+unfoldable pub body_lines : ℕ → List ℕ → List ℕ
+body_lines zero body = line (signs_of body)
+body_lines (suc n) body = line (signs_of (take 48 body)) ++ body_lines n (drop 48 body)
+
+unfoldable pub body_text : List ℕ → List ℕ
+body_text body = body_lines (length body / 48) body
+
+unfoldable pub stanza_text : StanzaParts → List ℕ
+stanza_text s = argument_line s.args ++ body_text s.body
+
+-- the header through the three bytes `---`
+unfoldable pub signed_bytes : List StanzaParts → List ℕ
+signed_bytes ss = version_line ++ flat_map stanza_text ss ++ codes "---"
+
+-- what follows them
+unfoldable pub mac_end : List ℕ → List ℕ
+mac_end mac = 32 ∷ (signs_of mac ++ 10 ∷ [])
+
+-- a stanza that has a text
+abbrev pub IsWhole : StanzaParts → Type 0
+IsWhole s = AreArguments s.args × IsBytes s.body
+
+-- stanzas and a MAC that have a text
+pub record IsHeaderValue (stanzas : List StanzaParts) (mac : List ℕ) : Type 0 where
+  pub some : stanzas ≢ []
+  pub each : AllByRecursion IsWhole stanzas
+  pub mac_len : length mac ≡ 32
+  pub mac_bytes : IsBytes mac

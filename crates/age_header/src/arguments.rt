@@ -1,0 +1,109 @@
+//! The arguments of a stanza, and the line that spells them.
+
+ghost use Rattle.std.specs.Prelude.{◌≡◌, ◌≢◌, ◌≤◌, ◌++◌, ℕ, List, map, length, take, drop, IfOk, MatchOption};
+ghost use Rattle.std.specs.List.{AllByRecursion};
+ghost use Rattle.std.specs.String.{string_bytes};
+ghost use Rattle.age_header.specs.Header.{IsVisible};
+ghost use Rattle.age_header.specs.Arguments.{NoVisible};
+
+use std::alloc::{AllocError, Global};
+use std::marker::Model;
+
+/// The arguments of a stanza.
+#[derive(Drop)]
+pub(crate) struct Arguments {
+    texts: Vec<String>,
+}
+
+impl Model for Arguments {
+    ghost use Rattle.std.specs.Prelude.{List, ℕ, map};
+    ghost use Rattle.std.specs.String.{string_bytes};
+
+    ghost Value = { List (List ℕ) };
+
+    ghost view = { λ a. map string_bytes a.texts.items };
+}
+
+impl Arguments {
+    ghost use Rattle.std.specs.Prelude.{List, ℕ, IfSome, IfNone, ◌≡◌};
+    ghost use Rattle.age_header.specs.Header.{AreArguments, argument_line, line};
+
+    /// These texts, copied.
+    pub(crate) fn copied(alloc: Global, texts: &[&str]) -> Result<Arguments, AllocError>
+        ensures { IfOk result (λ args. args ≡ map (λ t. t.now) texts.now) }
+    {
+        let mut copies = Vec::with_capacity(alloc, texts.len())?;
+        for text in texts {
+            let copy = String::from_str(alloc, text)?;
+            copies.push(copy)?;
+        }
+        Ok(Arguments { texts: copies })
+    }
+
+    /// The arguments that an argument line, less its LF, spells.
+    pub(crate) fn parse(alloc: Global, text: &[u8]) -> Result<Option<Arguments>, AllocError>
+        ensures some { IfOk result (λ o. IfSome o (λ args. AreArguments args × (line text.now ≡ argument_line args))) }
+        ensures none { IfOk result (λ o. IfNone o ((args : List (List ℕ)) → AreArguments args → line text.now ≡ argument_line args → ⊥)) }
+    {
+        let Some(mut rest) = behind(text, b"->") else {
+            return Ok(None);
+        };
+        let mut texts = Vec::new(alloc);
+        while !rest.is_empty() {
+            let Some(tail) = behind(rest, b" ") else {
+                return Ok(None);
+            };
+            let len = visible_len(tail);
+            if len == 0 {
+                return Ok(None);
+            }
+            let (arg, after) = tail.split_at(len);
+            texts.push(visible_string(alloc, arg)?)?;
+            rest = after;
+        }
+        if texts.is_empty() {
+            return Ok(None);
+        }
+        Ok(Some(Arguments { texts }))
+    }
+
+    /// The texts, in order.
+    pub(crate) fn texts(&self) -> &[String]
+        ensures { map string_bytes result.now ≡ self.now }
+    {
+        self.texts.as_slice()
+    }
+}
+
+/// What follows this front, where the text begins with it.
+pub(crate) fn behind<'a>(text: &'a [u8], front: &[u8]) -> Option<&'a [u8]>
+    ensures { MatchOption result ((x : List ℕ) → text.now ≢ front.now ++ x)
+        (λ x. text.now ≡ front.now ++ x.now) }
+{
+    text.strip_prefix(front)
+}
+
+/// How many visible characters the text begins with.
+pub(crate) fn visible_len(text: &[u8]) -> usize
+    ensures bound { result ≤ length text.now }
+    ensures front { AllByRecursion IsVisible (take result text.now) }
+    ensures rest { NoVisible (drop result text.now) }
+{
+    for (i, byte) in text.iter().enumerate() {
+        if *byte < 33 || *byte > 126 {
+            return i;
+        }
+    }
+    text.len()
+}
+
+/// The string of these visible characters.
+fn visible_string(alloc: Global, text: &[u8]) -> Result<String, AllocError>
+    requires { AllByRecursion IsVisible text.now }
+    ensures { IfOk result (λ s. string_bytes s ≡ text.now) }
+{
+    match String::from_utf8(Vec::from_slice(alloc, text)?) {
+        Ok(string) => Ok(string),
+        Err(_) => unreachable!(),
+    }
+}

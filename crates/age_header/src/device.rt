@@ -1,0 +1,216 @@
+//! Where bytes come from and where they go to. A device counts its failures, so that a caller can tell a fault of
+//! the outside from one of the bytes, and may tell its bytes to proofs.
+
+ghost use Rattle.std.specs.Prelude.{◌≡◌, ◌≤◌, ℕ, List, Some, length, IfOk};
+ghost use Rattle.std.specs.declared.option.Option.{Option};
+ghost use Rattle.std.specs.Io.{ReadsAtMost};
+ghost use Rattle.age_header.specs.Device.{Counts, Gives, Takes, Writes};
+
+use std::io::{Read, Write};
+
+/// A read or a write that failed. The device's count of failures says that it did.
+#[derive(Clone, Copy, Debug, Drop, PartialEq, Eq)]
+pub struct DeviceFault;
+
+/// Where bytes come from.
+pub trait Source {
+    // How many reads have failed, which stays at the largest u64.
+    ghost failed: { Self → ℕ };
+
+    // The bytes that are still to come, where the source tells them.
+    ghost to_come: { Self → Option (List ℕ) };
+
+    /// Reads the next bytes into the front of `buf`, and gives their number; 0 in a nonempty `buf` only at the end of
+    /// the input. A short read is not the end. An error says nothing of the bytes.
+    fn read(&mut self, buf: &mut [u8]) -> Result<usize, DeviceFault>
+        ensures bound { ReadsAtMost result buf.new }
+        ensures count { Counts (failed self.old) (failed self.new) result }
+        ensures bytes { Gives (to_come self.old) (to_come self.new) result buf.new };
+
+    /// How many reads have failed; it stays at the largest `u64`.
+    fn failures(&self) -> u64
+        ensures { result ≡ failed self.now };
+}
+
+/// Where bytes go to.
+pub trait Sink {
+    // How many writes have failed, which stays at the largest u64.
+    ghost failed: { Self → ℕ };
+
+    // The bytes that were taken, where the sink tells them.
+    ghost taken: { Self → Option (List ℕ) };
+
+    /// Takes the front of `piece`, and gives the number of bytes taken, at least 1 of a nonempty piece. An error takes
+    /// nothing.
+    fn write(&mut self, piece: &[u8]) -> Result<usize, DeviceFault>
+        ensures bound { IfOk result (λ n. n ≤ length piece.now) }
+        ensures count { Counts (failed self.old) (failed self.new) result }
+        ensures bytes { Takes (taken self.old) (taken self.new) result piece.now };
+
+    /// How many writes have failed; it stays at the largest `u64`.
+    fn failures(&self) -> u64
+        ensures { result ≡ failed self.now };
+}
+
+/// Writes the whole piece, in as many writes as the sink needs. On an error a beginning of it was written; a call that
+/// was interrupted is not tried again.
+pub fn write_all<W: Sink>(out: &mut W, piece: &[u8]) -> Result<(), DeviceFault>
+    ensures text { Writes (W.taken out.old) (W.taken out.new) result piece.now }
+    ensures count { Counts (W.failed out.old) (W.failed out.new) result }
+{
+    let mut at = 0;
+    while at < piece.len() {
+        at += out.write(&piece[at..])?;
+    }
+    Ok(())
+}
+
+/// A source over bytes in memory, which never fails.
+#[derive(Drop)]
+pub struct MemSource<'a> {
+    rest: &'a [u8],
+}
+
+impl<'a> MemSource<'a> {
+    /// A source of these bytes.
+    pub fn new(bytes: &'a [u8]) -> MemSource<'a>
+        ensures { ⟦<MemSource<'a> as Source>⟧.to_come result ≡ Some bytes.now }
+    {
+        MemSource { rest: bytes }
+    }
+}
+
+impl<'a> Source for MemSource<'a> {
+    ghost failed = { λ _. 0 };
+
+    ghost to_come = { λ s. Some s.rest.now };
+
+    fn read(&mut self, buf: &mut [u8]) -> Result<usize, DeviceFault> {
+        let n = self.rest.len().min(buf.len());
+        let (front, rest) = self.rest.split_at(n);
+        buf[..n].copy_from_slice(front);
+        self.rest = rest;
+        Ok(n)
+    }
+
+    fn failures(&self) -> u64 {
+        0
+    }
+}
+
+/// A sink that appends to a vector. A refused growth is a failure.
+#[derive(Drop)]
+pub struct MemSink<'a> {
+    out: &'a mut Vec<u8>,
+    failures: u64,
+}
+
+impl<'a> MemSink<'a> {
+    /// A sink that appends to this vector.
+    pub fn new(out: &'a mut Vec<u8>) -> MemSink<'a>
+        ensures bytes { ⟦<MemSink<'a> as Sink>⟧.taken result ≡ Some out.entry.now.items }
+        ensures count { ⟦<MemSink<'a> as Sink>⟧.failed result ≡ 0 }
+    {
+        MemSink { out, failures: 0 }
+    }
+}
+
+impl<'a> Sink for MemSink<'a> {
+    ghost failed = { λ s. s.failures };
+
+    ghost taken = { λ s. Some s.out.now.items };
+
+    fn write(&mut self, piece: &[u8]) -> Result<usize, DeviceFault> {
+        match self.out.extend_from_slice(piece) {
+            Ok(()) => Ok(piece.len()),
+            Err(_) => {
+                self.failures = self.failures.saturating_add(1);
+                Err(DeviceFault)
+            }
+        }
+    }
+
+    fn failures(&self) -> u64 {
+        self.failures
+    }
+}
+
+/// A source over any reader.
+#[derive(Drop)]
+pub struct ReadSource<R> {
+    reader: R,
+    failures: u64,
+}
+
+impl<R: Read> ReadSource<R> {
+    /// A source of what this reader gives, which has not failed yet.
+    pub fn new(reader: R) -> ReadSource<R>
+        ensures bytes { ⟦<ReadSource<R> as Source>⟧.to_come result ≡ R.remaining reader }
+        ensures count { ⟦<ReadSource<R> as Source>⟧.failed result ≡ 0 }
+    {
+        ReadSource {
+            reader,
+            failures: 0,
+        }
+    }
+}
+
+impl<R: Read> Source for ReadSource<R> {
+    ghost failed = { λ s. s.failures };
+
+    ghost to_come = { λ s. R.remaining s.reader };
+
+    fn read(&mut self, buf: &mut [u8]) -> Result<usize, DeviceFault> {
+        match self.reader.read(buf) {
+            Ok(n) => Ok(n),
+            Err(_) => {
+                self.failures = self.failures.saturating_add(1);
+                Err(DeviceFault)
+            }
+        }
+    }
+
+    fn failures(&self) -> u64 {
+        self.failures
+    }
+}
+
+/// A sink over any writer. A write that takes nothing of a nonempty piece is a failure.
+#[derive(Drop)]
+pub struct WriteSink<W> {
+    writer: W,
+    failures: u64,
+}
+
+impl<W: Write> WriteSink<W> {
+    /// A sink into this writer, which has not failed yet.
+    pub fn new(writer: W) -> WriteSink<W>
+        ensures bytes { ⟦<WriteSink<W> as Sink>⟧.taken result ≡ W.contents writer }
+        ensures count { ⟦<WriteSink<W> as Sink>⟧.failed result ≡ 0 }
+    {
+        WriteSink {
+            writer,
+            failures: 0,
+        }
+    }
+}
+
+impl<W: Write> Sink for WriteSink<W> {
+    ghost failed = { λ s. s.failures };
+
+    ghost taken = { λ s. W.contents s.writer };
+
+    fn write(&mut self, piece: &[u8]) -> Result<usize, DeviceFault> {
+        match self.writer.write(piece) {
+            Ok(n) if n > 0 || piece.is_empty() => Ok(n),
+            _ => {
+                self.failures = self.failures.saturating_add(1);
+                Err(DeviceFault)
+            }
+        }
+    }
+
+    fn failures(&self) -> u64 {
+        self.failures
+    }
+}

@@ -1,0 +1,84 @@
+ghost use Rattle.std.specs.Prelude.{◌≡◌, ◌≢◌, ◌-◌, ◌^◌, [], ℕ, List, length, min, IfSome, IfNone};
+
+use crate::signs;
+use crate::size::stanza_len;
+use crate::stanza::Stanza;
+use std::marker::Model;
+
+/// A header (C2SP `age.md`, "Header"): its stanzas, one or more, and its MAC of 32 bytes.
+#[derive(Drop)]
+pub struct Header {
+    stanzas: Vec<Stanza>,
+    mac: [u8; 32],
+}
+
+impl Model for Header {
+    ghost use Rattle.age_header.specs.Header.{HeaderParts};
+    ghost use Rattle.age_header.specs.Text.{IsHeaderValue};
+
+    ghost Value = { HeaderParts };
+
+    ghost view = { λ h. record { stanzas = h.stanzas.items; mac = h.mac } };
+
+    ghost invariant = { λ h. IsHeaderValue h.stanzas.items h.mac };
+}
+
+impl Header {
+    ghost use Rattle.age_header.specs.Base64.{B64};
+    ghost use Rattle.age_header.specs.Header.{Head};
+    ghost use Rattle.age_header.specs.Text.{IsHeaderValue};
+
+    /// A header of these stanzas and this MAC; None where there is no stanza.
+    pub fn new(stanzas: Vec<Stanza>, mac: [u8; 32]) -> Option<Header>
+        ensures some { IfSome result (λ h. (stanzas.items ≢ []) × (h.stanzas ≡ stanzas.items) × (h.mac ≡ mac)) }
+        ensures none { IfNone result (stanzas.items ≡ []) }
+    {
+        if stanzas.is_empty() {
+            return None;
+        }
+        // each stanza says here what it keeps, which a list of them doesn't
+        for stanza in &stanzas {
+            let _ = stanza.args();
+            let _ = stanza.body();
+        }
+        Some(Header { stanzas, mac })
+    }
+
+    /// The stanzas, in order. With the MAC they have a text.
+    pub fn stanzas(&self) -> &[Stanza]
+        ensures value { result.now ≡ self.now.stanzas }
+        ensures whole { IsHeaderValue self.now.stanzas self.now.mac }
+    {
+        self.stanzas.as_slice()
+    }
+
+    /// The MAC's 32 bytes.
+    pub fn mac(&self) -> &[u8; 32]
+        ensures { result.now ≡ self.now.mac }
+    {
+        &self.mac
+    }
+
+    /// The MAC as the end line spells it: its base64.
+    pub fn mac_signs(&self) -> [u8; 43]
+        ensures { B64 self.now.mac result }
+    {
+        let mut signs = [0u8; 43];
+        let Ok(_) = signs::engine().encode_slice(&self.mac, &mut signs) else {
+            unreachable!();
+        };
+        signs
+    }
+
+    /// The length in bytes of the header's text, or the largest `u64` where it is longer.
+    pub fn text_len(&self) -> u64
+        ensures { (h : List ℕ) × Head self.now.stanzas self.now.mac h
+            × (result ≡ min (length h) (2 ^ 64 - 1)) }
+    {
+        let mut len = 70u64;
+        for stanza in self.stanzas() {
+            len = len.saturating_add(stanza_len(stanza));
+        }
+        len
+    }
+}

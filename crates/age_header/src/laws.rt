@@ -1,0 +1,21 @@
+//! Laws of the format, over its definitions alone: each is the contract of a function that does nothing.
+
+ghost use Rattle.std.specs.Prelude.{◌≡◌, ◌↔◌, ◌++◌, [], ℕ, List, Ok};
+ghost use Rattle.std.specs.declared.result.Result.{Result};
+ghost use Rattle.age_header.specs.declared.fault.HeaderFault.{HeaderFault};
+ghost use Rattle.age_header.specs.Header.{StanzaParts, Head};
+ghost use Rattle.age_header.specs.Verdict.{Found, HeaderVerdict, BeginsWith};
+
+/// A header's text has one reading, stanzas and a MAC have one text, and no header's text begins another one.
+pub fn one_reading()
+    ensures reading { (ss ts : List StanzaParts) (m n h : List ℕ) → Head ss m h → Head ts n h → (ss ≡ ts) × (m ≡ n) }
+    ensures text { (ss : List StanzaParts) (m h k : List ℕ) → Head ss m h → Head ss m k → h ≡ k }
+    ensures front { (ss ts : List StanzaParts) (m n h x : List ℕ) → Head ss m h → Head ts n (h ++ x) → x ≡ [] }
+{}
+
+/// Bytes have one header verdict under a limit, and it is a header exactly where they begin with that header and the limit
+/// holds it.
+pub fn one_verdict()
+    ensures one { (b : List ℕ) (max : ℕ) (r q : Result Found HeaderFault) → HeaderVerdict b max r → HeaderVerdict b max q → r ≡ q }
+    ensures header { (b : List ℕ) (max : ℕ) (found : Found) → HeaderVerdict b max (Ok found) ↔ BeginsWith b max found }
+{}

@@ -1,0 +1,24 @@
+//! The header of age v1 files (C2SP `age.md`), and the devices that bytes are read from and written to.
+#![tactic(auto)]
+
+mod arguments;
+mod device;
+mod fault;
+mod header;
+pub mod laws;
+mod lines;
+mod progress;
+mod reader;
+mod signs;
+mod size;
+mod stanza;
+#[cfg(test)]
+mod tests;
+mod writer;
+
+pub use device::{DeviceFault, MemSink, MemSource, ReadSource, Sink, Source, WriteSink, write_all};
+pub use fault::HeaderFault;
+pub use header::Header;
+pub use reader::HeaderReader;
+pub use stanza::{Stanza, StanzaError};
+pub use writer::write_header;

@@ -1,0 +1,53 @@
+ghost use Rattle.std.specs.Prelude.{◌≡◌, length, IfOk, IfErr};
+ghost use Rattle.std.specs.Io.KnownBytes.{Consumes};
+ghost use Rattle.age_header.specs.Verdict.{IsLineText};
+ghost use Rattle.age_header.specs.Reader.{CountsRead};
+ghost use Rattle.age_header.specs.Lines.{taken, IsEnd, IsOutside};
+
+use crate::device::Source;
+use crate::fault::HeaderFault;
+use std::alloc::Global;
+
+/// How a line ended.
+#[derive(Clone, Copy, Debug, Drop, PartialEq, Eq)]
+pub(crate) enum LineEnd {
+    /// By an LF, which was taken too.
+    Lf,
+    /// By the end of the input.
+    Input,
+    /// By its room: it goes on.
+    Room,
+}
+
+/// Takes one line, of at most `room` bytes with its LF, and no byte past it: so byte by byte.
+pub(crate) fn read_line<S: Source>(
+    alloc: Global,
+    input: &mut S,
+    room: usize,
+) -> Result<(Vec<u8>, LineEnd), HeaderFault>
+    ensures count { CountsRead (S.failed input.old) (S.failed input.new) result }
+    ensures bytes { IfOk result (λ l. Consumes (S.to_come input.old) (S.to_come input.new)
+        (taken l.0.items l.1)) }
+    ensures text { IfOk result (λ l. IsLineText l.0.items) }
+    ensures end { IfOk result (λ l. IsEnd l.1 (length l.0.items) room (S.to_come input.new)) }
+    ensures err { IfErr result IsOutside }
+{
+    let mut line = Vec::new(alloc);
+    for _ in 0..room {
+        let mut byte = [0u8; 1];
+        let Ok(count) = input.read(&mut byte) else {
+            return Err(HeaderFault::Read);
+        };
+        if count == 0 {
+            return Ok((line, LineEnd::Input));
+        }
+        let [next] = byte;
+        if next == b'\n' {
+            return Ok((line, LineEnd::Lf));
+        }
+        if line.push(next).is_err() {
+            return Err(HeaderFault::Memory);
+        }
+    }
+    Ok((line, LineEnd::Room))
+}

@@ -1,0 +1,158 @@
+//! Reading a header, line by line.
+
+ghost use Rattle.std.specs.Prelude.{◌≡◌, ◌≤◌, ◌++◌, ℕ, List, length, codes, None, IfOk, IfErr, OnOk, IfSome, IfNone};
+ghost use Rattle.std.specs.Io.KnownBytes.{Consumes};
+ghost use Rattle.age_header.specs.Base64.{B64};
+ghost use Rattle.age_header.specs.Header.{version_line};
+ghost use Rattle.age_header.specs.Reader.{Answers, CountsRead, Refuses};
+ghost use Rattle.age_header.specs.Text.{IsPlain};
+
+use crate::arguments::behind;
+use crate::device::Source;
+use crate::fault::HeaderFault;
+use crate::header::Header;
+use crate::lines::{LineEnd, read_line};
+use crate::progress::Progress;
+use crate::signs;
+use base64::engine::general_purpose::GeneralPurpose;
+use std::alloc::{AllocError, Global};
+use std::convert::TryFrom;
+use std::marker::Model;
+
+const VERSION: &[u8; 21] = b"age-encryption.org/v1";
+
+/// Reads headers of at most `max` bytes. It keeps a fault, and answers it from then on without asking its source.
+#[derive(Drop)]
+pub struct HeaderReader {
+    max: usize,
+    fault: Option<HeaderFault>,
+}
+
+impl Model for HeaderReader {
+    ghost use Rattle.age_header.specs.Reader.{ReaderState};
+
+    ghost Value = { ReaderState };
+
+    ghost view = { λ r. record { max = r.max; fault = r.fault } };
+}
+
+impl HeaderReader {
+    ghost use Rattle.age_header.specs.Reader.{fault_of};
+    ghost use Rattle.std.specs.Prelude.{Err};
+
+    /// A reader of headers of at most so many bytes, which keeps no fault.
+    pub fn new(max: usize) -> HeaderReader
+        ensures { result ≡ record { max = max; fault = None } }
+    {
+        HeaderReader { max, fault: None }
+    }
+
+    /// The header at the front of the input (C2SP `age.md`, "Header"), of which just the header's bytes are taken.
+    ///
+    /// # Errors
+    /// Over the input's first `max` bytes: `NotAge` where they don't begin as the version line does; else
+    /// `BadLine(n)` for the least n for which the first n lines are no header and no front of one; else `Truncated` where
+    /// the input is shorter than `max`, and `TooLarge` where it is not. `Read` where the source failed, `Memory` where a
+    /// growth was refused.
+    pub fn read_from<S: Source>(
+        &mut self,
+        alloc: Global,
+        input: &mut S,
+    ) -> Result<Header, HeaderFault>
+        ensures kept { IfSome self.old.fault (λ e. (result ≡ Err e) × (input.new ≡ input.old)) }
+        ensures keeps { self.new ≡ record { max = self.old.max; fault = fault_of result } }
+        ensures count { IfNone self.old.fault
+            (CountsRead (S.failed input.old) (S.failed input.new) result) }
+        ensures verdict { IfNone self.old.fault
+            (Answers (S.to_come input.old) (S.to_come input.new) self.old.max result) }
+    {
+        if let Some(fault) = self.fault {
+            return Err(fault);
+        }
+        let result = read_header(alloc, input, self.max);
+        if let Err(fault) = &result {
+            self.fault = Some(*fault);
+        }
+        result
+    }
+}
+
+/// The header at the front of the input.
+fn read_header<S: Source>(alloc: Global, input: &mut S, max: usize) -> Result<Header, HeaderFault>
+    ensures count { CountsRead (S.failed input.old) (S.failed input.new) result }
+    ensures verdict { Answers (S.to_come input.old) (S.to_come input.new) max result }
+{
+    read_version(alloc, input, max)?;
+    let engine = signs::engine();
+    let mut room = max - 22;
+    let mut lines = 1u64;
+    let mut progress = Progress::new(alloc);
+    'lines: loop {
+        let (text, end) = read_line(alloc, input, room)?;
+        match end {
+            LineEnd::Input => return Err(HeaderFault::Truncated),
+            LineEnd::Room => return Err(HeaderFault::TooLarge),
+            LineEnd::Lf => {}
+        }
+        room -= text.len() + 1;
+        lines += 1;
+        if progress.is_whole() {
+            match end_mac(alloc, &engine, text.as_slice()) {
+                Ok(Some(mac)) => return Ok(progress.finish(mac)),
+                Ok(None) => {}
+                Err(_) => return Err(HeaderFault::Memory),
+            }
+        }
+        progress = match progress.step(alloc, &engine, text.as_slice()) {
+            Ok(Some(next)) => next,
+            Ok(None) => return Err(HeaderFault::BadLine(lines)),
+            Err(_) => return Err(HeaderFault::Memory),
+        };
+    }
+}
+
+/// Takes the version line.
+fn read_version<S: Source>(alloc: Global, input: &mut S, max: usize) -> Result<(), HeaderFault>
+    ensures count { CountsRead (S.failed input.old) (S.failed input.new) result }
+    ensures ok { OnOk result ((22 ≤ max) × Consumes (S.to_come input.old) (S.to_come input.new) version_line) }
+    ensures err { IfErr result (λ e. IfSome (S.to_come input.old) (λ b. Refuses b max e)) }
+{
+    let (first, end) = read_line(alloc, input, max.min(22))?;
+    let Some(rest) = behind(VERSION, first.as_slice()) else {
+        return Err(HeaderFault::NotAge);
+    };
+    match end {
+        LineEnd::Input => Err(HeaderFault::Truncated),
+        LineEnd::Room => Err(HeaderFault::TooLarge),
+        LineEnd::Lf => {
+            if !rest.is_empty() {
+                return Err(HeaderFault::NotAge);
+            }
+            Ok(())
+        }
+    }
+}
+
+/// The MAC that an end line, less its LF, spells.
+fn end_mac(
+    alloc: Global,
+    engine: &GeneralPurpose,
+    text: &[u8],
+) -> Result<Option<[u8; 32]>, AllocError>
+    requires { IsPlain engine.now }
+    ensures some { IfOk result (λ o. IfSome o (λ mac. (signs : List ℕ)
+        × (length mac ≡ 32) × (text.now ≡ codes "--- " ++ signs) × B64 mac signs)) }
+    ensures none { IfOk result (λ o. IfNone o ((mac signs : List ℕ) → length mac ≡ 32
+        → text.now ≡ codes "--- " ++ signs → B64 mac signs → ⊥)) }
+{
+    let Some(signs) = behind(text, b"--- ") else {
+        return Ok(None);
+    };
+    let Some(mac) = signs::decode(alloc, engine, signs)? else {
+        return Ok(None);
+    };
+    match <[u8; 32]>::try_from(mac.as_slice()) {
+        Ok(mac) => Ok(Some(mac)),
+        Err(_) => Ok(None),
+    }
+}

@@ -1,0 +1,39 @@
+//! Base64 without padding, by the crate `base64` with an alphabet of this project's own.
+
+ghost use Rattle.std.specs.Prelude.{◌≡◌, ℕ, List, IfOk, IfSome, IfNone};
+ghost use Rattle.age_header.specs.Base64.{B64};
+ghost use Rattle.age_header.specs.Text.{IsPlain};
+
+use base64::DecodeAllocError;
+use base64::alphabet::Alphabet;
+use base64::engine::general_purpose::{GeneralPurpose, NO_PAD};
+use std::alloc::{AllocError, Global};
+
+const SIGNS: &str = "ABCDEFGHIJKLMNOPQRSTUVWXYZabcdefghijklmnopqrstuvwxyz0123456789+/";
+
+/// The engine for base64 without padding, canonical. It holds a table: make it once for many lines.
+pub(crate) fn engine() -> GeneralPurpose
+    ensures { IsPlain result }
+{
+    let Ok(signs) = Alphabet::new(SIGNS) else {
+        unreachable!();
+    };
+    GeneralPurpose::new(&signs, NO_PAD)
+}
+
+/// The bytes whose base64 these signs are, if there are such bytes.
+pub(crate) fn decode(
+    alloc: Global,
+    engine: &GeneralPurpose,
+    signs: &[u8],
+) -> Result<Option<Vec<u8>>, AllocError>
+    requires { IsPlain engine.now }
+    ensures some { IfOk result (λ o. IfSome o (λ v. B64 v.items signs.now)) }
+    ensures none { IfOk result (λ o. IfNone o ((b : List ℕ) → B64 b signs.now → ⊥)) }
+{
+    match engine.decode(alloc, signs) {
+        Ok(bytes) => Ok(Some(bytes)),
+        Err(DecodeAllocError::DecodeError(_)) => Ok(None),
+        Err(DecodeAllocError::OutOfMemory) => Err(AllocError),
+    }
+}

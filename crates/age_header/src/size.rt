@@ -1,0 +1,35 @@
+//! How long the text of a stanza is. Sums stay at the largest `u64`.
+
+ghost use Rattle.std.specs.Prelude.{◌≡◌, ◌-◌, ◌^◌, ℕ, List, length, map, min};
+ghost use Rattle.std.specs.String.{string_bytes};
+ghost use Rattle.age_header.specs.Header.{argument_line};
+ghost use Rattle.age_header.specs.Text.{body_text, stanza_text};
+
+use crate::stanza::Stanza;
+
+/// The length of a stanza.
+pub(crate) fn stanza_len(stanza: &Stanza) -> u64
+    ensures { result ≡ min (length (stanza_text stanza.now)) (2 ^ 64 - 1) }
+{
+    args_len(stanza.args()).saturating_add(body_len(stanza.body().len()))
+}
+
+/// The length of a line of arguments.
+fn args_len(args: &[String]) -> u64
+    ensures { result ≡ min (length (argument_line (map string_bytes args.now))) (2 ^ 64 - 1) }
+{
+    let mut len = 3u64;
+    for arg in args {
+        len = len.saturating_add(1).saturating_add(arg.len() as u64);
+    }
+    len
+}
+
+/// The length of the lines of a body of so many bytes.
+fn body_len(len: usize) -> u64
+    ensures { (b : List ℕ) → length b ≡ len → result ≡ min (length (body_text b)) (2 ^ 64 - 1) }
+{
+    let full = (len / 48) as u64;
+    let last = ((len % 48 * 4 + 2) / 3 + 1) as u64;
+    full.saturating_mul(65).saturating_add(last)
+}

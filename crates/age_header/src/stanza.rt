@@ -1,0 +1,124 @@
+ghost use Rattle.std.specs.Prelude.{◌≡◌, ◌↔◌, ◌++◌, [], map, IfOk, IfErr, OnOk, IsTrue};
+ghost use Rattle.std.specs.List.{AllByRecursion};
+
+use crate::arguments::Arguments;
+use std::alloc::{AllocError, Global};
+use std::marker::Model;
+
+/// Why a stanza could not be made.
+#[derive(Clone, Copy, Debug, Drop, PartialEq, Eq)]
+pub enum StanzaError {
+    /// There is no argument.
+    NoArgs,
+    /// The argument at this place, the first being 0, is empty.
+    EmptyArg(usize),
+    /// The argument at this place has a byte outside 33 to 126.
+    BadByte(usize),
+    /// A growth was refused.
+    Memory,
+}
+
+/// A stanza of a header (C2SP `age.md`, "Recipient stanza"): its arguments, one or more, of visible characters, and its
+/// body, any bytes. The first argument is its type.
+#[derive(Drop)]
+pub struct Stanza {
+    args: Arguments,
+    body: Vec<u8>,
+}
+
+impl Model for Stanza {
+    ghost use Rattle.age_header.specs.Header.{StanzaParts, AreArguments};
+    ghost use Rattle.base64.specs.GeneralPurpose.{IsBytes};
+
+    ghost Value = { StanzaParts };
+
+    ghost view = { λ s. record { args = s.args; body = s.body.items } };
+
+    ghost invariant = { λ s. AreArguments s.args × IsBytes s.body.items };
+}
+
+impl Stanza {
+    ghost use Rattle.base64.specs.GeneralPurpose.{IsBytes};
+    ghost use Rattle.std.specs.String.{string_bytes};
+
+    /// A stanza of these arguments and this body, copied.
+    ///
+    /// # Errors
+    /// `NoArgs`; else for the first bad argument `EmptyArg` or `BadByte`; else `Memory`.
+    pub fn new(alloc: Global, args: &[&str], body: &[u8]) -> Result<Stanza, StanzaError>
+        ensures ok { IfOk result (λ s. (s.args ≡ map (λ a. a.now) args.now) × (s.body ≡ body.now)) }
+        ensures err { IfErr result (IsStanzaError (map (λ a. a.now) args.now)) }
+    {
+        check_arguments(args)?;
+        let Ok(args) = Arguments::copied(alloc, args) else {
+            return Err(StanzaError::Memory);
+        };
+        let Ok(body) = Vec::from_slice(alloc, body) else {
+            return Err(StanzaError::Memory);
+        };
+        Ok(Stanza { args, body })
+    }
+
+    /// A stanza of these arguments, whose body is still empty.
+    pub(crate) fn open(alloc: Global, args: Arguments) -> Stanza
+        requires { AreArguments args }
+        ensures { result ≡ record { args = args; body = [] } }
+    {
+        Stanza {
+            args,
+            body: Vec::new(alloc),
+        }
+    }
+
+    /// Adds bytes at the end of the body.
+    pub(crate) fn extend(&mut self, bytes: &[u8]) -> Result<(), AllocError>
+        ensures ok { OnOk result (self.new ≡ record { args = self.old.args; body = self.old.body ++ bytes.now }) }
+    {
+        self.body.extend_from_slice(bytes)
+    }
+
+    /// The arguments, in order: one or more, none empty, each of bytes 33 to 126.
+    pub fn args(&self) -> &[String]
+        ensures value { map string_bytes result.now ≡ self.now.args }
+        ensures arguments { AreArguments self.now.args }
+    {
+        self.args.texts()
+    }
+
+    /// The body's bytes.
+    pub fn body(&self) -> &[u8]
+        ensures value { result.now ≡ self.now.body }
+        ensures bytes { IsBytes self.now.body }
+    {
+        self.body.as_slice()
+    }
+}
+
+ghost use Rattle.age_header.specs.Header.{AreArguments, IsVisible};
+ghost use Rattle.age_header.specs.Stanza.{IsStanzaError};
+
+/// The first fault of these arguments.
+fn check_arguments(args: &[&str]) -> Result<(), StanzaError>
+    ensures ok { OnOk result (AreArguments (map (λ a. a.now) args.now)) }
+    ensures err { IfErr result (IsStanzaError (map (λ a. a.now) args.now)) }
+{
+    if args.is_empty() {
+        return Err(StanzaError::NoArgs);
+    }
+    for (i, arg) in args.iter().enumerate() {
+        if arg.is_empty() {
+            return Err(StanzaError::EmptyArg(i));
+        }
+        if !is_visible(arg.as_bytes()) {
+            return Err(StanzaError::BadByte(i));
+        }
+    }
+    Ok(())
+}
+
+/// Whether each byte is from 33 to 126.
+fn is_visible(text: &[u8]) -> bool
+    ensures { IsTrue result ↔ AllByRecursion IsVisible text.now }
+{
+    text.iter().all(|b| *b >= 33 && *b <= 126)
+}

@@ -1,0 +1,105 @@
+//! Writing a header, part by part and with no memory.
+
+ghost use Rattle.std.specs.Prelude.{◌≡◌, ◌≤◌, ℕ, List, length, map};
+ghost use Rattle.std.specs.String.{string_bytes};
+ghost use Rattle.age_header.specs.Device.{Counts, Writes};
+ghost use Rattle.age_header.specs.Header.{Head, argument_line};
+ghost use Rattle.age_header.specs.Text.{IsPlain, signs_of, body_text, stanza_text, signed_bytes, mac_end};
+
+use crate::device::{DeviceFault, Sink, write_all};
+use crate::header::Header;
+use crate::signs;
+use crate::stanza::Stanza;
+use base64::engine::general_purpose::GeneralPurpose;
+
+/// Writes the header's text (C2SP `age.md`, "Header"). On an error a beginning of it was written.
+pub fn write_header<W: Sink>(header: &Header, out: &mut W) -> Result<(), DeviceFault>
+    ensures text { (h : List ℕ) × Head header.now.stanzas header.now.mac h
+        × Writes (W.taken out.old) (W.taken out.new) result h }
+    ensures count { Counts (W.failed out.old) (W.failed out.new) result }
+{
+    let engine = signs::engine();
+    write_signed(header.stanzas(), &engine, out)?;
+    write_mac(header.mac(), &engine, out)
+}
+
+/// Writes the header of these stanzas through the three bytes `---`.
+fn write_signed<W: Sink>(
+    stanzas: &[Stanza],
+    engine: &GeneralPurpose,
+    out: &mut W,
+) -> Result<(), DeviceFault>
+    requires { IsPlain engine.now }
+    ensures text { Writes (W.taken out.old) (W.taken out.new) result (signed_bytes stanzas.now) }
+    ensures count { Counts (W.failed out.old) (W.failed out.new) result }
+{
+    write_all(out, b"age-encryption.org/v1\n")?;
+    for stanza in stanzas {
+        write_args(stanza.args(), out)?;
+        write_body(stanza.body(), engine, out)?;
+    }
+    write_all(out, b"---")
+}
+
+/// Writes what follows those: the MAC.
+fn write_mac<W: Sink>(
+    mac: &[u8; 32],
+    engine: &GeneralPurpose,
+    out: &mut W,
+) -> Result<(), DeviceFault>
+    requires { IsPlain engine.now }
+    ensures text { Writes (W.taken out.old) (W.taken out.new) result (mac_end mac.now) }
+    ensures count { Counts (W.failed out.old) (W.failed out.new) result }
+{
+    write_all(out, b" ")?;
+    write_signs(mac, engine, out)?;
+    write_all(out, b"\n")
+}
+
+/// Writes the line of these arguments.
+fn write_args<W: Sink>(args: &[String], out: &mut W) -> Result<(), DeviceFault>
+    ensures text { Writes (W.taken out.old) (W.taken out.new) result (argument_line (map string_bytes args.now)) }
+    ensures count { Counts (W.failed out.old) (W.failed out.new) result }
+{
+    write_all(out, b"->")?;
+    for arg in args {
+        write_all(out, b" ")?;
+        write_all(out, arg.as_bytes())?;
+    }
+    write_all(out, b"\n")
+}
+
+/// Writes a body's lines.
+fn write_body<W: Sink>(body: &[u8], engine: &GeneralPurpose, out: &mut W) -> Result<(), DeviceFault>
+    requires { IsPlain engine.now }
+    ensures text { Writes (W.taken out.old) (W.taken out.new) result (body_text body.now) }
+    ensures count { Counts (W.failed out.old) (W.failed out.new) result }
+{
+    let mut rest = body;
+    while rest.len() >= 48 {
+        let (piece, after) = rest.split_at(48);
+        write_signs(piece, engine, out)?;
+        write_all(out, b"\n")?;
+        rest = after;
+    }
+    write_signs(rest, engine, out)?;
+    write_all(out, b"\n")
+}
+
+/// Writes the base64 of at most 48 bytes.
+fn write_signs<W: Sink>(
+    bytes: &[u8],
+    engine: &GeneralPurpose,
+    out: &mut W,
+) -> Result<(), DeviceFault>
+    requires short { length bytes.now ≤ 48 }
+    requires plain { IsPlain engine.now }
+    ensures text { Writes (W.taken out.old) (W.taken out.new) result (signs_of bytes.now) }
+    ensures count { Counts (W.failed out.old) (W.failed out.new) result }
+{
+    let mut signs = [0u8; 64];
+    let Ok(len) = engine.encode_slice(bytes, &mut signs) else {
+        unreachable!();
+    };
+    write_all(out, &signs[..len])
+}
