@@ -1,7 +1,7 @@
 //! Where bytes come from and where they go to. A device counts its failures, so that a caller can tell a fault of
 //! the outside from one of the bytes, and may tell its bytes to proofs.
 
-ghost use Rattle.std.specs.Prelude.{◌≡◌, ◌≤◌, ℕ, List, Some, length, IfOk};
+ghost use Rattle.std.specs.Prelude.{◌≡◌, ◌≤◌, ◌+◌, ◌-◌, ◌^◌, ℕ, List, Some, length, min, IfOk};
 ghost use Rattle.std.specs.declared.option.Option.{Option};
 ghost use Rattle.std.specs.Io.{ReadsAtMost};
 ghost use Rattle.age_header.specs.Device.{Counts, Gives, Takes, Writes};
@@ -65,6 +65,14 @@ pub fn write_all<W: Sink>(out: &mut W, piece: &[u8]) -> Result<(), DeviceFault>
     Ok(())
 }
 
+/// One failure more.
+fn count_failure(failures: &mut u64) -> DeviceFault
+    ensures { failures.new ≡ min (failures.old + 1) (2 ^ 64 - 1) }
+{
+    *failures = failures.saturating_add(1);
+    DeviceFault
+}
+
 /// A source over bytes in memory, which never fails.
 #[derive(Drop)]
 pub struct MemSource<'a> {
@@ -123,10 +131,7 @@ impl<'a> Sink for MemSink<'a> {
     fn write(&mut self, piece: &[u8]) -> Result<usize, DeviceFault> {
         match self.out.extend_from_slice(piece) {
             Ok(()) => Ok(piece.len()),
-            Err(_) => {
-                self.failures = self.failures.saturating_add(1);
-                Err(DeviceFault)
-            }
+            Err(_) => Err(count_failure(&mut self.failures)),
         }
     }
 
@@ -163,10 +168,7 @@ impl<R: Read> Source for ReadSource<R> {
     fn read(&mut self, buf: &mut [u8]) -> Result<usize, DeviceFault> {
         match self.reader.read(buf) {
             Ok(n) => Ok(n),
-            Err(_) => {
-                self.failures = self.failures.saturating_add(1);
-                Err(DeviceFault)
-            }
+            Err(_) => Err(count_failure(&mut self.failures)),
         }
     }
 
@@ -203,10 +205,7 @@ impl<W: Write> Sink for WriteSink<W> {
     fn write(&mut self, piece: &[u8]) -> Result<usize, DeviceFault> {
         match self.writer.write(piece) {
             Ok(n) if n > 0 || piece.is_empty() => Ok(n),
-            _ => {
-                self.failures = self.failures.saturating_add(1);
-                Err(DeviceFault)
-            }
+            _ => Err(count_failure(&mut self.failures)),
         }
     }
 

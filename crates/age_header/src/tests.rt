@@ -1,0 +1,244 @@
+//! Worked headers: what is read, what is written, and that calls which may answer want of memory succeed.
+
+use crate::{
+    Header, HeaderFault, HeaderReader, MemSink, MemSource, ReadSource, Sink, Source, Stanza,
+    StanzaError, WriteSink, write_header,
+};
+use std::alloc::Global;
+use std::process::Abort;
+use std::test::Fail;
+
+const VERSION: &[u8] = b"age-encryption.org/v1\n";
+
+const END: &[u8] = b"--- AAAAAAAAAAAAAAAAAAAAAAAAAAAAAAAAAAAAAAAAAAA\n";
+
+const BAD_END: &[u8] = b"--- AAAAAAAAAAAAAAAAAAAAAAAAAAAAAAAAAAAAAAAAAAB\n";
+
+const FULL: &[u8] = b"AAAAAAAAAAAAAAAAAAAAAAAAAAAAAAAAAAAAAAAAAAAAAAAAAAAAAAAAAAAAAAAA";
+
+const SALT: &str = "ICEiIyQlJicoKSorLC0uLw";
+
+const KEY: &str = "example.org/key";
+
+/// These pieces, joined.
+fn joined(alloc: Global, pieces: &[&[u8]]) -> Result<Vec<u8>, Fail> {
+    let mut text = Vec::new(alloc);
+    for piece in pieces {
+        text.extend_from_slice(piece)?;
+    }
+    Ok(text)
+}
+
+/// The version line, `count` times this piece, and the end.
+fn repeated(alloc: Global, piece: &[u8], count: usize, end: &[u8]) -> Result<Vec<u8>, Fail> {
+    let mut text = joined(alloc, &[VERSION])?;
+    for _ in 0..count {
+        text.extend_from_slice(piece)?;
+    }
+    text.extend_from_slice(end)?;
+    Ok(text)
+}
+
+/// How many stanzas are read, and how many bytes are left unread (at most 8 are looked for).
+fn read(alloc: Global, text: &[u8], max: usize) -> Result<(usize, usize), HeaderFault> {
+    let mut input = MemSource::new(text);
+    let header = HeaderReader::new(max).read_from(alloc, &mut input)?;
+    let mut rest = [0u8; 8];
+    let Ok(left) = input.read(&mut rest) else {
+        return Err(HeaderFault::Read);
+    };
+    Ok((header.stanzas().len(), left))
+}
+
+/// Each text has this verdict under the usual limit.
+fn expect_verdicts(
+    rt: &impl Abort,
+    alloc: Global,
+    rows: &[(&[&[u8]], Result<(usize, usize), HeaderFault>)],
+) -> Result<(), Fail> {
+    for (pieces, wanted) in rows {
+        let text = joined(alloc, pieces)?;
+        assert!(rt; read(alloc, text.as_slice(), 65536) == *wanted);
+    }
+    Ok(())
+}
+
+#[test]
+fn headers_and_bad_lines(rt: HostRuntime) -> Result<(), Fail> {
+    let bad = |n| Err(HeaderFault::BadLine(n));
+    expect_verdicts(
+        &rt,
+        rt.alloc(),
+        &[
+            (&[VERSION, b"-> a\n\n", END], Ok((1, 0))),
+            (&[VERSION, b"-> a\n\n", END, b"xyz"], Ok((1, 3))),
+            (&[VERSION, b"-> a\nAA\n", END], Ok((1, 0))),
+            (&[VERSION, b"-> a\n", FULL, b"\n\n", END], Ok((1, 0))),
+            (
+                &[VERSION, b"-> scrypt A\n\n-> scrypt B\n\n", END],
+                Ok((2, 0)),
+            ),
+            (&[VERSION, b"-> a\nAB\n", END], bad(3)),
+            (&[VERSION, b"-> a\nA\n", END], bad(3)),
+            (&[VERSION, b"->  a\n\n", END], bad(2)),
+            (&[VERSION, b"-> a \n\n", END], bad(2)),
+            (&[VERSION, b"->\n\n", END], bad(2)),
+            (&[VERSION, b"-> a\r\n\n", END], bad(2)),
+            (&[VERSION, b"-> a\n", FULL, b"A\n", END], bad(3)),
+            (&[VERSION, b"-> a\n", FULL, b"\n", END], bad(4)),
+            (&[VERSION, b"-> a\n\n", BAD_END], bad(4)),
+            (&[VERSION, END], bad(2)),
+            (&[b""], Err(HeaderFault::Truncated)),
+            (&[b"age-enc"], Err(HeaderFault::Truncated)),
+            (&[b"age-encryption.org/v2\n"], Err(HeaderFault::NotAge)),
+            (&[b"age-encryption.org/v1\r\n"], Err(HeaderFault::NotAge)),
+        ],
+    )
+}
+
+#[test]
+fn limits(rt: HostRuntime) -> Result<(), Fail> {
+    let alloc = rt.alloc();
+    let cut = Err(HeaderFault::Truncated);
+    let large = Err(HeaderFault::TooLarge);
+    let mut wide = joined(alloc, &[VERSION, b"-> "])?;
+    for _ in 0..949 {
+        wide.push(b'a')?;
+    }
+    let fits = joined(alloc, &[wide.as_slice(), b"\n\n", END])?;
+    assert_eq!(rt; fits.len(), 1024);
+    assert!(rt; read(alloc, fits.as_slice(), 1024) == Ok((1, 0)));
+    let longer = joined(alloc, &[wide.as_slice(), b"a\n\n", END])?;
+    assert!(rt; read(alloc, longer.as_slice(), 1024) == large);
+    let mut line = joined(alloc, &[VERSION, b"-> "])?;
+    for _ in 0..998 {
+        line.push(b'a')?;
+    }
+    assert!(rt; read(alloc, line.as_slice(), 1024) == cut);
+    line.push(b'a')?;
+    assert!(rt; read(alloc, line.as_slice(), 1024) == large);
+    let stanzas = repeated(alloc, b"-> a\n\n", 10_911, END)?;
+    assert_eq!(rt; stanzas.len(), 65536);
+    assert!(rt; read(alloc, stanzas.as_slice(), 65536) == Ok((10_911, 0)));
+    let more = repeated(alloc, b"-> a\n\n", 10_912, END)?;
+    assert!(rt; read(alloc, more.as_slice(), 65536) == large);
+    let one_line = repeated(alloc, b"A", 65_514, b"")?;
+    assert!(rt; read(alloc, one_line.as_slice(), 65536) == large);
+    Ok(())
+}
+
+#[test]
+fn many_arguments(rt: HostRuntime) -> Result<(), Fail> {
+    let alloc = rt.alloc();
+    let mut text = joined(alloc, &[VERSION, b"->"])?;
+    for _ in 0..30_000 {
+        text.extend_from_slice(b" a")?;
+    }
+    text.extend_from_slice(b"\n\n")?;
+    text.extend_from_slice(END)?;
+    let mut input = ReadSource::new(text.as_slice());
+    let Ok(header) = HeaderReader::new(65536).read_from(alloc, &mut input) else {
+        assert!(rt; false);
+        return Ok(());
+    };
+    assert_eq!(rt; header.text_len(), 60_074);
+    assert!(rt; header.stanzas().iter().all(|s| s.args().len() == 30_000));
+    Ok(())
+}
+
+/// The header of these stanzas, each its arguments and a body of so many zero bytes, and a MAC of zero bytes.
+fn written(rt: &impl Abort, alloc: Global, stanzas: &[(&[&str], usize)]) -> Result<Vec<u8>, Fail> {
+    let mut list = Vec::new(alloc);
+    for (args, len) in stanzas {
+        let body = vec![in alloc; 0u8; *len]?;
+        match Stanza::new(alloc, args, body.as_slice()) {
+            Ok(stanza) => list.push(stanza)?,
+            Err(_) => assert!(rt; false),
+        }
+    }
+    let mut text = Vec::new(alloc);
+    if let Some(header) = Header::new(list, [0; 32]) {
+        assert!(rt; write_header(&header, &mut MemSink::new(&mut text)).is_ok());
+        assert_eq!(rt; header.text_len(), text.len() as u64);
+        assert_eq!(rt; header.mac_signs(), [b'A'; 43]);
+        assert_eq!(rt; *header.mac(), [0u8; 32]);
+    }
+    Ok(text)
+}
+
+/// The header of these stanzas has this size, and is read again.
+fn expect_size(
+    rt: &impl Abort,
+    alloc: Global,
+    stanzas: &[(&[&str], usize)],
+    size: usize,
+) -> Result<(), Fail> {
+    let text = written(rt, alloc, stanzas)?;
+    assert_eq!(rt; text.len(), size);
+    assert!(rt; read(alloc, text.as_slice(), size) == Ok((stanzas.len(), 0)));
+    Ok(())
+}
+
+#[test]
+fn written_headers(rt: HostRuntime) -> Result<(), Fail> {
+    let alloc = rt.alloc();
+    expect_size(&rt, alloc, &[(&["a"], 0)], 76)?;
+    expect_size(&rt, alloc, &[(&["scrypt", SALT, "9"], 32)], 149)?;
+    expect_size(&rt, alloc, &[(&["scrypt", SALT, "18"], 32)], 150)?;
+    expect_size(&rt, alloc, &[(&[KEY, SALT], 32)], 156)?;
+    expect_size(&rt, alloc, &[(&[KEY, SALT], 32), (&[KEY, SALT], 32)], 242)?;
+    expect_size(&rt, alloc, &[(&["plug"], 48), (&[KEY, SALT], 32)], 230)?;
+    let text = written(&rt, alloc, &[(&["plug"], 48)])?;
+    let spelled = joined(alloc, &[VERSION, b"-> plug\n", FULL, b"\n\n", END])?;
+    assert_eq!(rt; text.as_slice(), spelled.as_slice());
+    Ok(())
+}
+
+#[test]
+fn refused_stanzas(rt: HostRuntime) -> Result<(), Fail> {
+    let alloc = rt.alloc();
+    let rows: [(&[&str], StanzaError); 4] = [
+        (&[], StanzaError::NoArgs),
+        (&["a", "", "b c"], StanzaError::EmptyArg(1)),
+        (&["a", "b c", ""], StanzaError::BadByte(1)),
+        (&["é"], StanzaError::BadByte(0)),
+    ];
+    for (args, wanted) in rows {
+        assert!(rt; matches!(Stanza::new(alloc, args, b""), Err(error) if error == wanted));
+    }
+    assert!(rt; Header::new(Vec::new(alloc), [0; 32]).is_none());
+    Ok(())
+}
+
+#[test]
+fn devices_that_fail(rt: HostRuntime) -> Result<(), Fail> {
+    let alloc = rt.alloc();
+    let mut room = [0u8; 100];
+    let mut sink = WriteSink::new(room.as_mut_slice());
+    assert_eq!(rt; sink.write(&[7; 60]), Ok(60));
+    assert_eq!(rt; sink.write(&[7; 60]), Ok(40));
+    assert!(rt; sink.write(&[7; 60]).is_err());
+    assert_eq!(rt; sink.failures(), 1);
+    assert_eq!(rt; sink.write(b""), Ok(0));
+    let mut text = Vec::new(alloc);
+    let mut memory = MemSink::new(&mut text);
+    assert_eq!(rt; memory.write(b"abc"), Ok(3));
+    assert_eq!(rt; memory.failures(), 0);
+    let mut reader = HeaderReader::new(1024);
+    let mut empty = MemSource::new(b"");
+    assert!(rt;
+        matches!(
+            reader.read_from(alloc, &mut empty),
+            Err(HeaderFault::Truncated)
+        )
+    );
+    let mut other = MemSource::new(b"x");
+    assert!(rt;
+        matches!(
+            reader.read_from(alloc, &mut other),
+            Err(HeaderFault::Truncated)
+        )
+    );
+    assert_eq!(rt; other.failures(), 0);
+    Ok(())
+}
