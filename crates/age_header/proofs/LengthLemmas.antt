@@ -3,7 +3,7 @@ use Rattle.std.proofs.Common.{◌≡◌, ℕ, zero, suc, ◌+◌, ◌-◌, ◌*�
 use Rattle.std.proofs.lemmas.List.{take_more, append-nil}
 use Rattle.std.proofs.lemmas.List.Concat.{flat_map-append}
 use Rattle.age_header.specs.Header.{StanzaParts, argument_line, line, version_line}
-use Rattle.age_header.specs.Text.{signs_of, body_lines, body_text, stanza_text, signed_bytes, mac_end}
+use Rattle.age_header.specs.Text.{signs_of, body_lines, body_text, stanza_text, signed, mac_end}
 use Rattle.age_header.proofs.TextLemmas.{signs_size}
 
 line_size : (t : List ℕ) → length (line t) ≡ length t + 1
@@ -46,14 +46,14 @@ version_size : length version_line ≡ 22
 unfolding version_line
 version_size = refl
 
-mac_end_size : (mac : List ℕ) → length mac ≡ 32 → length (mac_end mac) ≡ 45
+pub mac_end_size : (mac : List ℕ) → length mac ≡ 32 → length (mac_end mac) ≡ 45
 unfolding mac_end
 mac_end_size mac n = omega (arith, signs_size mac, length-append (signs_of mac) (10 ∷ []))
 
-pub header_size : (ss : List StanzaParts) (mac : List ℕ) → length mac ≡ 32 → length (signed_bytes ss ++ mac_end mac) ≡ 70 + length (flat_map stanza_text ss)
-unfolding signed_bytes
+pub header_size : (ss : List StanzaParts) (mac : List ℕ) → length mac ≡ 32 → length (signed ss ++ mac_end mac) ≡ 70 + length (flat_map stanza_text ss)
+unfolding signed
 header_size ss mac n =
-    let all = length-append (signed_bytes ss) (mac_end mac) in
+    let all = length-append (signed ss) (mac_end mac) in
     let front = length-append (version_line ++ flat_map stanza_text ss) (codes "---") in
     let first = length-append version_line (flat_map stanza_text ss) in
     let end = mac_end_size mac n in

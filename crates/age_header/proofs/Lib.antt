@@ -15,3 +15,4 @@ mod TextLemmas
 mod VerdictLemmas
 mod WriteLemmas
 mod OneVerdict
+mod HeadFacts

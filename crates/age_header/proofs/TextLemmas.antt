@@ -9,7 +9,7 @@ use Rattle.base64.specs.GeneralPurpose.{IsBytes, IsEncodedOver, encode_of, encod
 use Rattle.base64.specs.declared.engine.general_purpose.GeneralPurpose.{GeneralPurpose}
 use Rattle.age_header.specs.Base64.{B64, alphabet}
 use Rattle.age_header.specs.Header.{StanzaParts, Head, IsStanza, AreStanzas, IsFullLine, argument_line, line, version_line}
-use Rattle.age_header.specs.Text.{IsPlain, IsWhole, IsHeaderValue, signs_of, body_lines, body_text, stanza_text, signed_bytes, mac_end}
+use Rattle.age_header.specs.Text.{IsPlain, IsWhole, IsHeaderValue, signs_of, body_lines, body_text, stanza_text, signed, mac_end}
 use Rattle.age_header.proofs.Base64Lemmas.{B64-encode, encode_of-unpadded}
 use Rattle.age_header.proofs.Base64Joined.{B64-append}
 
@@ -136,8 +136,8 @@ stanzas_text_is : (ss : List StanzaParts) → AllByRecursion IsWhole ss → AreS
 stanzas_text_is [] h = refl
 stanzas_text_is (s ∷ ss) h = (stanza_text s, flat_map stanza_text ss, stanza_text_is s h.0, stanzas_text_is ss h.1, refl)
 
-pub header_text_is : (ss : List StanzaParts) (mac : List ℕ) → IsHeaderValue ss mac → Head ss mac (signed_bytes ss ++ mac_end mac)
-unfolding signed_bytes mac_end
+pub header_text_is : (ss : List StanzaParts) (mac : List ℕ) → IsHeaderValue ss mac → Head ss mac (signed ss ++ mac_end mac)
+unfolding signed mac_end
 header_text_is ss mac h = record {
   body = flat_map stanza_text ss;
   signs = signs_of mac;

@@ -3,6 +3,7 @@ pub mod Base64
 pub mod Device
 pub mod Header
 pub mod Lines
+pub mod Mac
 pub mod Progress
 pub mod Reader
 pub mod Stanza

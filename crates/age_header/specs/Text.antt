@@ -28,8 +28,8 @@ unfoldable pub stanza_text : StanzaParts → List ℕ
 stanza_text s = argument_line s.args ++ body_text s.body
 
 -- the header through the three bytes `---`
-unfoldable pub signed_bytes : List StanzaParts → List ℕ
-signed_bytes ss = version_line ++ flat_map stanza_text ss ++ codes "---"
+unfoldable pub signed : List StanzaParts → List ℕ
+signed ss = version_line ++ flat_map stanza_text ss ++ codes "---"
 
 -- what follows them
 unfoldable pub mac_end : List ℕ → List ℕ

@@ -48,7 +48,8 @@ impl Arguments {
         let Some(mut rest) = behind(text, b"->") else {
             return Ok(None);
         };
-        let mut texts = Vec::new(alloc);
+        let spaces = rest.iter().filter(|byte| **byte == b' ').count();
+        let mut texts = Vec::with_capacity(alloc, spaces)?;
         while !rest.is_empty() {
             let Some(tail) = behind(rest, b" ") else {
                 return Ok(None);

@@ -66,7 +66,7 @@ pub fn write_all<W: Sink>(out: &mut W, piece: &[u8]) -> Result<(), DeviceFault>
 }
 
 /// One failure more.
-fn count_failure(failures: &mut u64) -> DeviceFault
+pub(crate) fn count_failure(failures: &mut u64) -> DeviceFault
     ensures { failures.new ≡ min (failures.old + 1) (2 ^ 64 - 1) }
 {
     *failures = failures.saturating_add(1);

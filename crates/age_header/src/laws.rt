@@ -1,9 +1,10 @@
 //! Laws of the format, over its definitions alone: each is the contract of a function that does nothing.
 
-ghost use Rattle.std.specs.Prelude.{◌≡◌, ◌↔◌, ◌++◌, [], ℕ, List, Ok};
+ghost use Rattle.std.specs.Prelude.{◌≡◌, ◌↔◌, ◌++◌, ◌-◌, [], ℕ, List, Ok, length, take};
 ghost use Rattle.std.specs.declared.result.Result.{Result};
 ghost use Rattle.age_header.specs.declared.fault.HeaderFault.{HeaderFault};
 ghost use Rattle.age_header.specs.Header.{StanzaParts, Head};
+ghost use Rattle.age_header.specs.Text.{signed};
 ghost use Rattle.age_header.specs.Verdict.{Found, HeaderVerdict, BeginsWith};
 
 /// A header's text has one reading, stanzas and a MAC have one text, and no header's text begins another one.
@@ -18,4 +19,9 @@ pub fn one_reading()
 pub fn one_verdict()
     ensures one { (b : List ℕ) (max : ℕ) (r q : Result Found HeaderFault) → HeaderVerdict b max r → HeaderVerdict b max q → r ≡ q }
     ensures header { (b : List ℕ) (max : ℕ) (found : Found) → HeaderVerdict b max (Ok found) ↔ BeginsWith b max found }
+{}
+
+/// What a header's MAC is taken over is its text without the last 45 bytes: the space, the MAC's 43 signs and the LF.
+pub fn signed_front()
+    ensures { (ss : List StanzaParts) (mac h : List ℕ) → Head ss mac h → signed ss ≡ take (length h - 45) h }
 {}

@@ -9,6 +9,7 @@ pub mod laws;
 mod lines;
 mod progress;
 mod reader;
+mod signing;
 mod signs;
 mod size;
 mod stanza;
@@ -20,5 +21,6 @@ pub use device::{DeviceFault, MemSink, MemSource, ReadSource, Sink, Source, Writ
 pub use fault::HeaderFault;
 pub use header::Header;
 pub use reader::HeaderReader;
+pub use signing::{mac_of, signed_text};
 pub use stanza::{Stanza, StanzaError};
 pub use writer::write_header;

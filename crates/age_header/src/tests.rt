@@ -2,7 +2,7 @@
 
 use crate::{
     Header, HeaderFault, HeaderReader, MemSink, MemSource, ReadSource, Sink, Source, Stanza,
-    StanzaError, WriteSink, write_header,
+    StanzaError, WriteSink, mac_of, signed_text, write_header,
 };
 use std::alloc::Global;
 use std::process::Abort;
@@ -191,6 +191,34 @@ fn written_headers(rt: HostRuntime) -> Result<(), Fail> {
     let text = written(&rt, alloc, &[(&["plug"], 48)])?;
     let spelled = joined(alloc, &[VERSION, b"-> plug\n", FULL, b"\n\n", END])?;
     assert_eq!(rt; text.as_slice(), spelled.as_slice());
+    Ok(())
+}
+
+#[test]
+fn signed_text_and_mac(rt: HostRuntime) -> Result<(), Fail> {
+    let alloc = rt.alloc();
+    let mut stanzas = Vec::new(alloc);
+    let Ok(stanza) = Stanza::new(alloc, &["scrypt", "AAAAAAAAAAAAAAAAAAAAAA", "18"], &[0; 32])
+    else {
+        assert!(rt; false);
+        return Ok(());
+    };
+    stanzas.push(stanza)?;
+    let line = b"-> scrypt AAAAAAAAAAAAAAAAAAAAAA 18\n";
+    let body = b"AAAAAAAAAAAAAAAAAAAAAAAAAAAAAAAAAAAAAAAAAAA\n";
+    let text = joined(alloc, &[VERSION, line, body, b"---"])?;
+    assert_eq!(rt; text.len(), 105);
+    assert_eq!(rt;
+        signed_text(alloc, stanzas.as_slice())?.as_slice(),
+        text.as_slice()
+    );
+    // made with Python's hmac and hashlib
+    let mac = [
+        0xaa, 0x95, 0x32, 0x87, 0x80, 0x12, 0x71, 0x33, 0x1d, 0x6d, 0x56, 0x64, 0x08, 0x49, 0xda,
+        0x57, 0xa2, 0xb6, 0x24, 0xd7, 0x7f, 0xd5, 0x3a, 0x52, 0x75, 0xe4, 0xab, 0x4a, 0xfb, 0x95,
+        0x4d, 0x6a,
+    ];
+    assert_eq!(rt; mac_of(alloc, &[7; 16], stanzas.as_slice())?, mac);
     Ok(())
 }
 

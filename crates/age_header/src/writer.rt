@@ -4,7 +4,7 @@ ghost use Rattle.std.specs.Prelude.{◌≡◌, ◌≤◌, ℕ, List, length, map
 ghost use Rattle.std.specs.String.{string_bytes};
 ghost use Rattle.age_header.specs.Device.{Counts, Writes};
 ghost use Rattle.age_header.specs.Header.{Head, argument_line};
-ghost use Rattle.age_header.specs.Text.{IsPlain, signs_of, body_text, stanza_text, signed_bytes, mac_end};
+ghost use Rattle.age_header.specs.Text.{IsPlain, signs_of, body_text, stanza_text, signed, mac_end};
 
 use crate::device::{DeviceFault, Sink, write_all};
 use crate::header::Header;
@@ -24,13 +24,13 @@ pub fn write_header<W: Sink>(header: &Header, out: &mut W) -> Result<(), DeviceF
 }
 
 /// Writes the header of these stanzas through the three bytes `---`.
-fn write_signed<W: Sink>(
+pub(crate) fn write_signed<W: Sink>(
     stanzas: &[Stanza],
     engine: &GeneralPurpose,
     out: &mut W,
 ) -> Result<(), DeviceFault>
     requires { IsPlain engine.now }
-    ensures text { Writes (W.taken out.old) (W.taken out.new) result (signed_bytes stanzas.now) }
+    ensures text { Writes (W.taken out.old) (W.taken out.new) result (signed stanzas.now) }
     ensures count { Counts (W.failed out.old) (W.failed out.new) result }
 {
     write_all(out, b"age-encryption.org/v1\n")?;

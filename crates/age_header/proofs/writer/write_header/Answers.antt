@@ -1,6 +1,6 @@
 use Rattle.std.proofs.Common.{List, ℕ, ◌++◌, refl}
 use Rattle.age_header.specs.Header.{Head}
-use Rattle.age_header.specs.Text.{signed_bytes, mac_end}
+use Rattle.age_header.specs.Text.{signed, mac_end}
 use Rattle.age_header.proofs.TextLemmas.{header_text_is}
 use Rattle.age_header.proofs.WriteLemmas.{done_start, done_more, done_part, part_at_exit, writes_last}
 use Rattle.age_header.proofs.writer.write_header.Goals as goal
@@ -9,18 +9,18 @@ pub returns-in_err-write_signed-clause-text : goal.returns-in_err-write_signed-c
 returns-in_err-write_signed-clause-text g c =
     let ss = c.args.header.now.stanzas in
     let mac : List ℕ = c.args.header.now.mac in
-    let text : List ℕ = signed_bytes ss ++ mac_end mac in
+    let text : List ℕ = signed ss ++ mac_end mac in
     let head : Head ss mac text = header_text_is ss mac c.stanzas.ensures.whole in
     let failed = rw c.stanzas.ensures.value at c.in_err-write_signed.ensures.text in
-    (text, head, part_at_exit _ _ _ _ _ c.from_residual.ensures.1 (done_part _ _ _ text text (signed_bytes ss) (mac_end mac) (done_start _ text) refl failed))
+    (text, head, part_at_exit _ _ _ _ _ c.from_residual.ensures.1 (done_part _ _ _ text text (signed ss) (mac_end mac) (done_start _ text) refl failed))
 
 pub returns-clause-text : goal.returns-clause-text
 returns-clause-text g c =
     let ss = c.args.header.now.stanzas in
     let mac : List ℕ = c.args.header.now.mac in
-    let text : List ℕ = signed_bytes ss ++ mac_end mac in
+    let text : List ℕ = signed ss ++ mac_end mac in
     let head : Head ss mac text = header_text_is ss mac c.stanzas.ensures.whole in
-    let signed = rw c.stanzas.ensures.value at c.in_ok-write_signed.ensures.text in
-    let one = done_more _ _ _ text text (signed_bytes ss) (mac_end mac) (done_start _ text) refl signed in
+    let front = rw c.stanzas.ensures.value at c.in_ok-write_signed.ensures.text in
+    let one = done_more _ _ _ text text (signed ss) (mac_end mac) (done_start _ text) refl front in
     let last = rw c.mac.ensures at c.write_mac.ensures.text in
     (text, head, writes_last _ _ _ c.write_mac.result text (mac_end mac) one last)

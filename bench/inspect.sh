@@ -1,0 +1,62 @@
+#!/bin/bash
+# Measures `agep inspect` on headers of 1, 4 and 16 MiB in three shapes: time, peak memory, system calls.
+# It needs GNU time, and strace for the last two columns.
+set -eu
+root=$(cd "$(dirname "$0")/.." && pwd -P)
+agep=$root/crates/agep/out/agep
+work=$(mktemp -d)
+trap 'rm -rf "$work"' EXIT
+cd "$work"
+
+many_a=$(printf 'A%.0s' {1..43})
+full_line=${many_a}AAAAAAAAAAAAAAAAAAAAA
+
+# Copies of a text, of at most so many bytes.
+copies() {
+    local text=$1 size=$2 lines
+    lines=$(printf "%s\n" "$text" | wc -l)
+    yes -- "$text" | head -n $((size / (${#text} + 1) * lines))
+}
+
+# A header of one shape, of at most so many bytes.
+header() {
+    local room=$(($2 - 22 - 48))
+    echo age-encryption.org/v1
+    case $1 in
+    body)
+        echo "-> a"
+        copies "$full_line" $((room - 6))
+        echo
+        ;;
+    x25519) copies "-> X25519 $many_a"$'\n'"$many_a" "$room" ;;
+    short) copies $'-> a\n' "$room" ;;
+    esac
+    echo "--- $many_a"
+}
+
+# The calls of one kind on one descriptor, or - where they can't be counted.
+calls() {
+    strace -o trace -e trace="$1" "$agep" inspect -H 16777216 <in >out 2>err && grep -c "^$1($2, " trace || echo -
+}
+
+timed() {
+    /usr/bin/time -o times -f "$1" "$agep" inspect -H 16777216 "${@:2}" <in >out
+    cat times
+}
+
+"$root/agep" --version >/dev/null
+printf '%-8s %10s %9s %9s %9s %10s %7s %7s %7s\n' \
+    shape bytes stanzas seconds '-r secs' 'peak KiB' 'x size' reads writes
+for shape in body x25519 short; do
+    for mebibytes in 1 4 16; do
+        header $shape $((mebibytes * 1048576)) >in
+        seconds_raw=$(timed %e -r)
+        cmp -s in out || echo "-r gave something else" >&2
+        seconds=$(timed %e)
+        stanzas=$(sed -n '2s/stanzas //p' out)
+        peak=$(timed %M)
+        size=$(wc -c <in)
+        printf '%-8s %10d %9d %9s %9s %10d %7s %7s %7s\n' $shape "$size" "$stanzas" "$seconds" "$seconds_raw" \
+            "$peak" "$((peak * 10240 / size / 10)).$((peak * 10240 / size % 10))" "$(calls read 0)" "$(calls write 1)"
+    done
+done

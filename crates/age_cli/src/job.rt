@@ -1,0 +1,52 @@
+//! What the command line asks for, and why it may ask for nothing.
+
+use clap::Error;
+use clap::error::ErrorKind;
+use std::alloc::AllocError;
+
+/// What the program can do.
+#[derive(Clone, Copy, Debug, PartialEq, Eq)]
+pub enum Command {
+    /// Shows a file's header.
+    Inspect,
+}
+
+/// A command with its options.
+#[derive(Debug, Drop)]
+pub struct Job {
+    pub command: Command,
+    /// Whether `inspect` gives the header's own bytes in place of the table.
+    pub raw: bool,
+    /// The file that holds the file key under which `inspect` checks the header's MAC.
+    pub file_key: Option<String>,
+    /// The most bytes that a header may have.
+    pub max_header: usize,
+    /// The file to read; standard input where there is none.
+    pub input: Option<String>,
+}
+
+/// Why the words gave no job.
+#[derive(Debug, Drop)]
+pub enum WordsFault {
+    /// `clap` refused the words, or has help or the version to show. It is never want of memory.
+    Refused(Error),
+    /// A growth was refused.
+    Memory,
+    /// `clap` took the words, and then had no value in range for one of them.
+    Lost,
+}
+
+impl From<AllocError> for WordsFault {
+    fn from(_error: AllocError) -> WordsFault {
+        WordsFault::Memory
+    }
+}
+
+impl From<Error> for WordsFault {
+    fn from(error: Error) -> WordsFault {
+        if error.kind() == ErrorKind::OutOfMemory {
+            return WordsFault::Memory;
+        }
+        WordsFault::Refused(error)
+    }
+}

@@ -1,0 +1,5 @@
+use Rattle.age_header.proofs.HeadFacts.{signed_front}
+use Rattle.age_header.proofs.laws.signed_front.Goals as goal
+
+pub returns : goal.returns
+returns c = signed_front

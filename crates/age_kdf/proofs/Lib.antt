@@ -1,0 +1,9 @@
+mod HmacLemmas
+mod ListLemmas
+mod OutputBlocks
+mod HkdfLemmas
+mod Pbkdf2Lemmas
+mod BlockMixLemmas
+mod RoMixLemmas
+mod ScryptLemmas
+mod Vectors

@@ -1,0 +1,10 @@
+pub mod Hmac
+pub mod Hkdf
+pub mod Pbkdf2
+pub mod Salsa
+pub mod BlockMix
+pub mod RoMix
+pub mod Scrypt
+pub mod Params
+pub mod Fed
+pub use Rattle.sha2.specs.Sha256

@@ -1,0 +1,38 @@
+//! The key derivations that age uses: HMAC, HKDF, PBKDF2 and scrypt, all over SHA-256.
+//!
+//! Each function gives exactly what its RFC defines. The definitions stand in `specs/`, on lists of
+//! bytes and over the SHA-256 of the crate `sha2`, and the contracts name them. Only `scrypt` takes
+//! memory, and only it can fail, where that memory is refused.
+#![tactic(auto)]
+
+ghost use Rattle.std.specs.Prelude.{◌≡◌};
+ghost use Rattle.std.specs.List.{flat_map};
+ghost use Rattle.age_kdf.specs.Hmac.{hmac};
+
+mod expand;
+mod mac;
+mod mixing;
+mod output;
+mod params;
+mod run;
+mod salsa;
+mod stretch;
+mod table;
+#[cfg(test)]
+mod tests;
+
+pub use expand::hkdf;
+use mac::Mac;
+pub use params::ScryptParams;
+pub use run::{scrypt, scrypt_with};
+pub use stretch::pbkdf2;
+
+/// HMAC-SHA-256 (RFC 2104, section 2): the MAC under `key` of the text that the parts make when
+/// joined.
+///
+/// A key of any length is taken; one of more than 64 bytes is hashed first.
+pub fn hmac(key: &[u8], parts: &[&[u8]]) -> [u8; 32]
+    ensures { result ≡ hmac key.now (flat_map (λ p. p.now) parts.now) }
+{
+    Mac::new(key).tag_with(parts)
+}

@@ -1,0 +1,84 @@
+// The parameters of scrypt.
+
+ghost use Rattle.std.specs.Prelude.{◌≡◌, ◌↔◌, ◌+◌, ◌^◌, ◌≤◌, ◌<◌, ◌*◌, IfSome, IsSome};
+ghost use Rattle.age_kdf.specs.Params.{Costs, InRange, work_words};
+
+use std::marker::Model;
+
+/// The parameters of scrypt (RFC 7914, section 2): N, which is 2^log_n, the block size r and the
+/// parallelization p, within the ranges of `ScryptParams::new`.
+#[derive(Clone, Copy)]
+pub struct ScryptParams {
+    log_n: u32,
+    r: u32,
+    p: u32,
+}
+
+impl Model for ScryptParams {
+    ghost Value = { Costs };
+
+    ghost view = { λ s. record { log_n = s.log_n; r = s.r; p = s.p } };
+
+    ghost invariant = { λ s. InRange s.log_n s.r s.p };
+
+    ghost inverse = { λ c. record { log_n = c.log_n; r = c.r; p = c.p } };
+}
+
+/// How many rows the table has: N = 2^log_n.
+pub(crate) fn row_count(log_n: u32) -> usize
+    requires { log_n ≤ 30 }
+    ensures value { result ≡ 2 ^ log_n }
+    ensures bound { result ≤ 1073741824 }
+{
+    1usize << log_n
+}
+
+impl ScryptParams {
+    /// The parameters, where `log_n` is 1 to 30 and below 16 * r, `r` is 1 to 32 and `p` is 1 to 32;
+    /// else None.
+    pub fn new(log_n: u32, r: u32, p: u32) -> Option<ScryptParams>
+        ensures in_range { IsSome result ↔ InRange log_n r p }
+        ensures parts { IfSome result (λ s. s ≡ record { log_n = log_n; r = r; p = p }) }
+    {
+        let each_in_range = (1..=30).contains(&log_n)
+            && (1..=32).contains(&r)
+            && (1..=32).contains(&p);
+        if each_in_range && log_n < 16 * r {
+            Some(ScryptParams { log_n, r, p })
+        } else {
+            None
+        }
+    }
+
+    /// The logarithm of N to the base 2.
+    pub fn log_n(&self) -> u32
+        ensures value { result ≡ self.now.log_n }
+        ensures range { (1 ≤ result) × (result ≤ 30) }
+    {
+        self.log_n
+    }
+
+    /// The block size, in 128 bytes.
+    pub fn r(&self) -> u32
+        ensures value { result ≡ self.now.r }
+        ensures range { (1 ≤ result) × (result ≤ 32) }
+    {
+        self.r
+    }
+
+    /// The parallelization.
+    pub fn p(&self) -> u32
+        ensures value { result ≡ self.now.p }
+        ensures range { (1 ≤ result) × (result ≤ 32) }
+    {
+        self.p
+    }
+
+    /// How many words of work space `scrypt_with` wants: 32 * r * (N + p + 2).
+    pub fn work_len(&self) -> usize
+        ensures { result ≡ work_words self.now }
+    {
+        let rows = row_count(self.log_n) + self.p as usize + 2;
+        32 * self.r as usize * rows
+    }
+}

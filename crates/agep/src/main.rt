@@ -1,0 +1,44 @@
+//! The program `agep`: `age_cli::run` on the words and the standard streams.
+#![tactic(auto)]
+
+use std::process::ExitCode;
+use std::{env, io};
+
+fn main(rt: HostRuntime) -> ExitCode {
+    let status = match words(&rt) {
+        Ok(words) => run(&rt, words.as_slice()),
+        Err(error) => refuse(&rt, error.kind()),
+    };
+    ExitCode::from(status)
+}
+
+/// The words of the command line, which have to be UTF-8.
+fn words(rt: &HostRuntime) -> io::Result<Vec<String>> {
+    Ok(env::args(rt)?.collect(rt.alloc())?)
+}
+
+fn run(rt: &HostRuntime, owned: &[String]) -> u8 {
+    let mut words: Vec<&str> = Vec::new(rt.alloc());
+    for word in owned {
+        if words.push(word.as_str()).is_err() {
+            return refuse(rt, io::ErrorKind::OutOfMemory);
+        }
+    }
+    age_cli::run(
+        rt,
+        words.as_slice(),
+        &mut rt.stdin(),
+        &mut rt.stdout(),
+        &mut rt.stderr(),
+    )
+}
+
+/// Says why there are no words to run.
+fn refuse(rt: &HostRuntime, kind: io::ErrorKind) -> u8 {
+    if kind == io::ErrorKind::OutOfMemory {
+        let _ = eprintln!(rt; "agep: out of memory");
+        return 1;
+    }
+    let _ = eprintln!(rt; "agep: bad command line");
+    2
+}
