@@ -1,6 +1,7 @@
 #!/bin/bash
-# Measures `agep inspect` on headers of 1, 4 and 16 MiB in three shapes: time, peak memory, system calls.
-# It needs GNU time, and strace for the last two columns.
+# Measures `agep inspect` on headers of 1, 4 and 16 MiB in four shapes: time, peak memory, system calls.
+# It needs GNU time, and strace for the last two columns. A machine that does other work at the same
+# time shows longer times: the processor's seconds are in the columns that end in "cpu".
 set -eu
 root=$(cd "$(dirname "$0")/.." && pwd -P)
 agep=$root/crates/agep/out/agep
@@ -29,7 +30,12 @@ header() {
         echo
         ;;
     x25519) copies "-> X25519 $many_a"$'\n'"$many_a" "$room" ;;
-    short) copies $'-> a\n' "$room" ;;
+    stanzas) copies $'-> a\n' "$room" ;;
+    words)
+        printf -- '->'
+        yes -- ' a' | head -n $(((room - 4) / 2)) | tr -d '\n'
+        printf '\n\n'
+        ;;
     esac
     echo "--- $many_a"
 }
@@ -44,19 +50,21 @@ timed() {
     cat times
 }
 
+sum() {
+    awk "BEGIN { printf \"%.2f\", $1 + $2 }"
+}
+
 "$root/agep" --version >/dev/null
-printf '%-8s %10s %9s %9s %9s %10s %7s %7s %7s\n' \
-    shape bytes stanzas seconds '-r secs' 'peak KiB' 'x size' reads writes
-for shape in body x25519 short; do
+printf '%-8s %10s %9s %8s %8s %8s %8s %10s %7s %6s %6s\n' \
+    shape bytes stanzas seconds cpu '-r' '-r cpu' 'peak KiB' 'x size' reads writes
+for shape in body x25519 stanzas words; do
     for mebibytes in 1 4 16; do
         header $shape $((mebibytes * 1048576)) >in
-        seconds_raw=$(timed %e -r)
+        read -r raw raw_user raw_system < <(timed '%e %U %S' -r)
         cmp -s in out || echo "-r gave something else" >&2
-        seconds=$(timed %e)
-        stanzas=$(sed -n '2s/stanzas //p' out)
-        peak=$(timed %M)
-        size=$(wc -c <in)
-        printf '%-8s %10d %9d %9s %9s %10d %7s %7s %7s\n' $shape "$size" "$stanzas" "$seconds" "$seconds_raw" \
-            "$peak" "$((peak * 10240 / size / 10)).$((peak * 10240 / size % 10))" "$(calls read 0)" "$(calls write 1)"
+        read -r table user system peak < <(timed '%e %U %S %M')
+        printf '%-8s %10d %9d %8s %8s %8s %8s %10d %7s %6s %6s\n' $shape "$(wc -c <in)" \
+            "$(sed -n '2s/stanzas //p' out)" "$table" "$(sum "$user" "$system")" "$raw" "$(sum "$raw_user" "$raw_system")" \
+            "$peak" "$(awk "BEGIN { printf \"%.1f\", $peak * 1024 / $(wc -c <in) }")" "$(calls read 0)" "$(calls write 1)"
     done
 done

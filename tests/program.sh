@@ -25,7 +25,7 @@ check() {
 
 # Whether the run before left this status, this line on standard error (none where it is empty), and
 # nothing on standard output, where that was kept.
-ended() {
+has_ended() {
     [[ $(cat status) == "$1" && $(cat err) == "$2" && ! -s out ]]
 }
 
@@ -65,7 +65,7 @@ real_files() {
     [[ $(cat status) == 0 ]]
     check "a header of 65,534 bytes, where so many are allowed"
     inspect -H 65533 "$data/recipients_668.age"
-    ended 1 "agep: header is too large"
+    has_ended 1 "agep: header is too large"
     check "a header of 65,534 bytes, where 65,533 are allowed"
 }
 
@@ -90,7 +90,7 @@ devices() {
         "$agep" inspect "$option" "$file" >/dev/full 2>err
         echo $? >status
         : >out
-        ended 1 "agep: write failed"
+        has_ended 1 "agep: write failed"
         check "a full device, with $option"
 
         # The program begins once the pipe's reader is gone.
@@ -104,30 +104,30 @@ devices() {
             echo >go
         }
         rm go
-        ended 1 "agep: write failed"
+        has_ended 1 "agep: write failed"
         check "a closed pipe, with $option"
 
         "$agep" inspect "$option" "$file" >&- 2>err
         echo $? >status
-        ended 1 "agep: write failed"
+        has_ended 1 "agep: write failed"
         check "a closed standard output, with $option"
     done
     "$agep" --help >/dev/full 2>err
     echo $? >status
-    ended 1 "agep: write failed"
+    has_ended 1 "agep: write failed"
     check "a full device, with help"
 
     inspect "$work"
-    ended 1 "agep: read failed"
+    has_ended 1 "agep: read failed"
     check "a directory as IN"
     inspect <&-
-    ended 1 "agep: read failed"
+    has_ended 1 "agep: read failed"
     check "a closed standard input"
     inspect nowhere.age
-    ended 1 "agep: cannot open nowhere.age"
+    has_ended 1 "agep: cannot open nowhere.age"
     check "a file that does not exist"
     inspect $'\xff.age'
-    ended 2 "agep: bad command line"
+    has_ended 2 "agep: bad command line"
     check "a word that is no UTF-8"
 }
 
@@ -145,8 +145,41 @@ memory() {
         ulimit -v 8192
         inspect -H 16777216 great.age
     )
-    ended 1 "agep: out of memory"
+    has_ended 1 "agep: out of memory"
     check "want of memory"
+}
+
+# Runs the program on these words with each growth of memory refused in turn, until a run meets none. Each
+# either says that memory is out and shows nothing, or got on with less and answers as ever; so does the last.
+each_growth() {
+    local usual answer refused=0 ended=0
+    "$agep" "$@" >out 2>err
+    usual="$? $(cat out err | cksum)"
+    while rm -f refused && [[ $refused -lt 10000 ]]; do
+        REFUSE=$((refused + 1)) LD_PRELOAD=./refuse.so "$agep" "$@" >out 2>err
+        echo $? >status
+        answer="$(cat status) $(cat out err | cksum)"
+        [[ -e refused ]] || break
+        refused=$((refused + 1))
+        if has_ended 1 "agep: out of memory"; then
+            ended=$((ended + 1))
+        elif [[ "$answer" != "$usual" ]]; then
+            break
+        fi
+    done
+    [[ $ended -gt 0 && ! -e refused && "$answer" == "$usual" ]]
+    check "$refused growths refused in turn, $ended times out of memory: ${*//$data\//}"
+}
+
+growths() {
+    if ! cc -shared -fPIC -o refuse.so "$root/tests/refuse.c" -ldl 2>/dev/null; then
+        echo "skipped: growths refused in turn, since there is no C compiler"
+        return
+    fi
+    each_growth inspect "$data/three_recipients.age"
+    each_growth inspect -r "$data/ssh_recipients.age"
+    each_growth inspect -H 12
+    each_growth help inspect
 }
 
 # How many of these calls on this descriptor the trace shows.
@@ -188,6 +221,7 @@ real_files
 header_check
 devices
 memory
+growths
 system_calls
 scripts
 echo "$passed passed, $failed failed"

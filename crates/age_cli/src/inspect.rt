@@ -45,16 +45,16 @@ pub(crate) fn inspect<'a, R: Read, W: Write>(
     let Ok(mut buffered) = BufWriter::with_capacity(alloc, BUFFER_LEN, out) else {
         return Err(Fault::OutOfMemory);
     };
-    let shown = if job.raw {
-        write_raw(&header, &mut buffered)
+    let is_shown = if job.raw {
+        write_header(&header, &mut WriteSink::new(&mut buffered)).is_ok()
     } else {
-        write_table(&header, check, &mut buffered)
+        write_table(&header, check, &mut buffered).is_ok()
     };
-    let written = shown.and_then(|()| buffered.flush());
+    let is_written = is_shown && buffered.flush().is_ok();
     // Dropped as a whole it would try once more to write what a failure left.
     let (_out, _unwritten) = buffered.into_parts();
-    written.map_err(|_| Fault::Write)?;
     match check {
+        _ if !is_written => Err(Fault::Write),
         Check::Bad => Err(Fault::BadMac),
         Check::None | Check::Good => Ok(()),
     }
@@ -84,12 +84,6 @@ fn header_of<'a, R: Read>(
     let mut source = ReadSource::new(input);
     let header = HeaderReader::new(max_header).read_from(alloc, &mut source)?;
     Ok(header)
-}
-
-fn write_raw<W: Write>(header: &Header, out: &mut W) -> io::Result<()> {
-    write_header(header, &mut WriteSink::new(out)).map_err(|_| io::Error::from(
-        io::ErrorKind::Other,
-    ))
 }
 
 fn write_table<W: Write>(header: &Header, check: Check, out: &mut W) -> io::Result<()> {

@@ -30,6 +30,7 @@ pub fn run<F: Files + AllocGlobal, R: Read, W: Write, E: Write>(
 ) -> u8
     ensures status { result ≤ 2 }
     ensures refused { result ≡ 2 → (input.new ≡ input.old) × (out.new ≡ out.old) }
+    ensures quiet { result ≡ 0 → err.new ≡ err.old }
 {
     match read_words(rt.alloc(), words) {
         Ok(job) => match perform(rt, &job, input, out) {
@@ -83,6 +84,7 @@ fn report<E: Write>(fault: Fault<'_>, err: &mut E) -> u8
 fn answer_refusal<W: Write, E: Write>(fault: &WordsFault, out: &mut W, err: &mut E) -> u8
     ensures status { result ≤ 2 }
     ensures refused { result ≡ 2 → out.new ≡ out.old }
+    ensures quiet { result ≡ 0 → err.new ≡ err.old }
 {
     match fault {
         WordsFault::Refused(error) => {

@@ -3,7 +3,8 @@ use Rattle.std.proofs.Common.{◌≡◌, ℕ, zero, suc, ◌+◌, ◌-◌, ◌*�
 use Rattle.std.proofs.lemmas.List.{take_more, append-nil}
 use Rattle.std.proofs.lemmas.List.Concat.{flat_map-append}
 use Rattle.age_header.specs.Header.{StanzaParts, argument_line, line, version_line}
-use Rattle.age_header.specs.Text.{signs_of, body_lines, body_text, stanza_text, signed, mac_end}
+use Rattle.age_header.specs.Base64.{signs_of}
+use Rattle.age_header.specs.Text.{body_lines, body_text, stanza_text, signed, mac_end}
 use Rattle.age_header.proofs.TextLemmas.{signs_size}
 
 line_size : (t : List ℕ) → length (line t) ≡ length t + 1

@@ -16,3 +16,4 @@ mod VerdictLemmas
 mod WriteLemmas
 mod OneVerdict
 mod HeadFacts
+mod Decoding

@@ -7,9 +7,9 @@ use Rattle.base64.specs.Rfc4648.{encode_symbols, unpadded_len}
 use Rattle.base64.proofs.RoundTrip.{length-encode_symbols}
 use Rattle.base64.specs.GeneralPurpose.{IsBytes, IsEncodedOver, encode_of, encoded_size_of}
 use Rattle.base64.specs.declared.engine.general_purpose.GeneralPurpose.{GeneralPurpose}
-use Rattle.age_header.specs.Base64.{B64, alphabet}
+use Rattle.age_header.specs.Base64.{B64, alphabet, signs_of}
 use Rattle.age_header.specs.Header.{StanzaParts, Head, IsStanza, AreStanzas, IsFullLine, argument_line, line, version_line}
-use Rattle.age_header.specs.Text.{IsPlain, IsWhole, IsHeaderValue, signs_of, body_lines, body_text, stanza_text, signed, mac_end}
+use Rattle.age_header.specs.Text.{IsPlain, IsWhole, IsHeaderValue, body_lines, body_text, stanza_text, signed, mac_end}
 use Rattle.age_header.proofs.Base64Lemmas.{B64-encode, encode_of-unpadded}
 use Rattle.age_header.proofs.Base64Joined.{B64-append}
 

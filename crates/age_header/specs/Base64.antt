@@ -1,6 +1,11 @@
 -- Base64 without padding (RFC 4648, sections 3.2, 3.5 and 4), as a relation between bytes and signs. It is canonical:
 -- bits that no byte fills are zero.
-use Rattle.std.specs.Prelude.{◌≡◌, ℕ, ◌+◌, ◌*◌, ◌<◌, List, [], ◌∷◌, slice_index, codes}
+use Rattle.std.specs.Prelude.{◌≡◌, ℕ, ◌+◌, ◌*◌, ◌/◌, ◌%◌, ◌<◌, ◌==◌, List, [], ◌∷◌, slice_index, codes, if◌then◌else◌}
+use Rattle.std.specs.List.{position_or_len}
+use Rattle.std.specs.Str.{bytes_eq}
+use Rattle.std.specs.declared.option.Option.{Option}
+use Rattle.std.specs.declared.option.Option.TheVariants.{None, Some}
+use Rattle.base64.specs.Rfc4648.{encode_symbols}
 
 -- the 64 signs, by their values
 unfoldable pub alphabet : List ℕ
@@ -35,3 +40,23 @@ B64 (a ∷ []) (p ∷ q ∷ []) = IsOne a p q
 B64 (a ∷ b ∷ []) (p ∷ q ∷ r ∷ []) = IsTwo a b p q r
 B64 (a ∷ b ∷ c ∷ bytes) (p ∷ q ∷ r ∷ s ∷ signs) = IsThree a b c p q r s × B64 bytes signs
 B64 _ _ = ⊥
+
+-- the base64 of bytes, as a function
+unfoldable pub signs_of : List ℕ → List ℕ
+signs_of bytes = encode_symbols alphabet bytes
+
+-- the value of a sign
+unfoldable pub value_of : ℕ → ℕ
+value_of c = position_or_len (λ b. b == c) alphabet
+
+-- the only bytes whose base64 these signs may be
+unfoldable pub candidate : List ℕ → List ℕ
+candidate (p ∷ q ∷ []) = (value_of p * 4 + value_of q / 16) % 256 ∷ []
+candidate (p ∷ q ∷ r ∷ []) = (value_of p * 4 + value_of q / 16) % 256 ∷ (value_of q * 16 + value_of r / 4) % 256 ∷ []
+candidate (p ∷ q ∷ r ∷ s ∷ signs) =
+    (value_of p * 4 + value_of q / 16) % 256 ∷ (value_of q * 16 + value_of r / 4) % 256 ∷ (value_of r * 64 + value_of s) % 256 ∷ candidate signs
+candidate _ = []
+
+-- the bytes whose base64 these signs are, where there are such bytes: the only candidate is tried
+unfoldable pub decoded : List ℕ → Option (List ℕ)
+decoded signs = if bytes_eq (signs_of (candidate signs)) signs then Some (candidate signs) else None

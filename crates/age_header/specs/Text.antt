@@ -1,10 +1,9 @@
 -- The text that a writer writes, part by part.
 use Rattle.std.specs.Prelude.{◌≡◌, ◌≢◌, ℕ, zero, suc, ◌/◌, false, List, [], ◌∷◌, ◌++◌, length, take, drop, codes, flat_map}
 use Rattle.std.specs.List.{AllByRecursion}
-use Rattle.base64.specs.Rfc4648.{encode_symbols}
 use Rattle.base64.specs.GeneralPurpose.{IsBytes, IsStrict, engine_symbols, engine_config, config_padding}
 use Rattle.base64.specs.declared.engine.general_purpose.GeneralPurpose.{GeneralPurpose}
-use Rattle.age_header.specs.Base64.{alphabet}
+use Rattle.age_header.specs.Base64.{alphabet, signs_of}
 use Rattle.age_header.specs.Header.{StanzaParts, AreArguments, argument_line, line, version_line}
 
 -- an engine for this alphabet, without padding, that decodes canonical text alone
@@ -12,9 +11,6 @@ pub record IsPlain (e : GeneralPurpose) : Type 0 where
   pub strict : IsStrict e
   pub unpadded : config_padding (engine_config e) ≡ false
   pub signs : engine_symbols e ≡ alphabet
-
-unfoldable pub signs_of : List ℕ → List ℕ
-signs_of bytes = encode_symbols alphabet bytes
 
 -- n full lines, and a last line
 unfoldable pub body_lines : ℕ → List ℕ → List ℕ

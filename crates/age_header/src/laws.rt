@@ -1,11 +1,19 @@
 //! Laws of the format, over its definitions alone: each is the contract of a function that does nothing.
 
-ghost use Rattle.std.specs.Prelude.{◌≡◌, ◌↔◌, ◌++◌, ◌-◌, [], ℕ, List, Ok, length, take};
+ghost use Rattle.std.specs.Prelude.{◌≡◌, ◌↔◌, ◌++◌, ◌-◌, [], ℕ, List, Ok, Some, length, take};
 ghost use Rattle.std.specs.declared.result.Result.{Result};
 ghost use Rattle.age_header.specs.declared.fault.HeaderFault.{HeaderFault};
+ghost use Rattle.base64.specs.GeneralPurpose.{IsBytes};
+ghost use Rattle.age_header.specs.Base64.{B64, decoded, signs_of};
 ghost use Rattle.age_header.specs.Header.{StanzaParts, Head};
 ghost use Rattle.age_header.specs.Text.{signed};
 ghost use Rattle.age_header.specs.Verdict.{Found, HeaderVerdict, BeginsWith};
+
+/// Signs are decoded to just the bytes whose base64 they are, and what bytes are encoded to is their base64.
+pub fn one_base64()
+    ensures decoded { (signs bytes : List ℕ) → (decoded signs ≡ Some bytes) ↔ B64 bytes signs }
+    ensures encoded { (bytes : List ℕ) → IsBytes bytes → B64 bytes (signs_of bytes) }
+{}
 
 /// A header's text has one reading, stanzas and a MAC have one text, and no header's text begins another one.
 pub fn one_reading()

@@ -10,7 +10,7 @@ mod lines;
 mod progress;
 mod reader;
 mod signing;
-mod signs;
+pub mod signs;
 mod size;
 mod stanza;
 #[cfg(test)]

@@ -1,7 +1,8 @@
-//! Base64 without padding, by the crate `base64` with an alphabet of this project's own.
+//! Base64 without padding (RFC 4648, section 4), canonical, by the crate `base64` with an alphabet of this project's own.
 
-ghost use Rattle.std.specs.Prelude.{◌≡◌, ℕ, List, IfOk, IfSome, IfNone};
-ghost use Rattle.age_header.specs.Base64.{B64};
+ghost use Rattle.std.specs.Prelude.{◌≡◌, ℕ, List, IfOk, IfSome, IfNone, option_map};
+ghost use Rattle.std.specs.String.{string_bytes};
+ghost use Rattle.age_header.specs.Base64.{B64, decoded, signs_of};
 ghost use Rattle.age_header.specs.Text.{IsPlain};
 
 use base64::DecodeAllocError;
@@ -12,7 +13,7 @@ use std::alloc::{AllocError, Global};
 const SIGNS: &str = "ABCDEFGHIJKLMNOPQRSTUVWXYZabcdefghijklmnopqrstuvwxyz0123456789+/";
 
 /// The engine for base64 without padding, canonical. It holds a table: make it once for many lines.
-pub(crate) fn engine() -> GeneralPurpose
+pub fn engine() -> GeneralPurpose
     ensures { IsPlain result }
 {
     let Ok(signs) = Alphabet::new(SIGNS) else {
@@ -21,13 +22,14 @@ pub(crate) fn engine() -> GeneralPurpose
     GeneralPurpose::new(&signs, NO_PAD)
 }
 
-/// The bytes whose base64 these signs are, if there are such bytes.
-pub(crate) fn decode(
+/// The bytes whose base64 these signs are; None where there are no such bytes.
+pub fn decode(
     alloc: Global,
     engine: &GeneralPurpose,
     signs: &[u8],
 ) -> Result<Option<Vec<u8>>, AllocError>
     requires { IsPlain engine.now }
+    ensures value { IfOk result (λ o. option_map (λ v. v.items) o ≡ decoded signs.now) }
     ensures some { IfOk result (λ o. IfSome o (λ v. B64 v.items signs.now)) }
     ensures none { IfOk result (λ o. IfNone o ((b : List ℕ) → B64 b signs.now → ⊥)) }
 {
@@ -36,4 +38,12 @@ pub(crate) fn decode(
         Err(DecodeAllocError::DecodeError(_)) => Ok(None),
         Err(DecodeAllocError::OutOfMemory) => Err(AllocError),
     }
+}
+
+/// The base64 of these bytes.
+pub fn encode(alloc: Global, engine: &GeneralPurpose, bytes: &[u8]) -> Result<String, AllocError>
+    requires { IsPlain engine.now }
+    ensures { IfOk result (λ text. string_bytes text ≡ signs_of bytes.now) }
+{
+    engine.encode(alloc, bytes)
 }

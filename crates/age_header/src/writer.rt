@@ -4,7 +4,8 @@ ghost use Rattle.std.specs.Prelude.{◌≡◌, ◌≤◌, ℕ, List, length, map
 ghost use Rattle.std.specs.String.{string_bytes};
 ghost use Rattle.age_header.specs.Device.{Counts, Writes};
 ghost use Rattle.age_header.specs.Header.{Head, argument_line};
-ghost use Rattle.age_header.specs.Text.{IsPlain, signs_of, body_text, stanza_text, signed, mac_end};
+ghost use Rattle.age_header.specs.Base64.{signs_of};
+ghost use Rattle.age_header.specs.Text.{IsPlain, body_text, stanza_text, signed, mac_end};
 
 use crate::device::{DeviceFault, Sink, write_all};
 use crate::header::Header;

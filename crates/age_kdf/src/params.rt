@@ -7,7 +7,7 @@ use std::marker::Model;
 
 /// The parameters of scrypt (RFC 7914, section 2): N, which is 2^log_n, the block size r and the
 /// parallelization p, within the ranges of `ScryptParams::new`.
-#[derive(Clone, Copy)]
+#[derive(Clone, Copy, Debug, PartialEq, Eq)]
 pub struct ScryptParams {
     log_n: u32,
     r: u32,
@@ -34,8 +34,8 @@ pub(crate) fn row_count(log_n: u32) -> usize
 }
 
 impl ScryptParams {
-    /// The parameters, where `log_n` is 1 to 30 and below 16 * r, `r` is 1 to 32 and `p` is 1 to 32;
-    /// else None.
+    /// These parameters, or None where one is out of range: `log_n` is 1 to 30 and below 16 * r, and
+    /// `r` and `p` are 1 to 32.
     pub fn new(log_n: u32, r: u32, p: u32) -> Option<ScryptParams>
         ensures in_range { IsSome result ↔ InRange log_n r p }
         ensures parts { IfSome result (λ s. s ≡ record { log_n = log_n; r = r; p = p }) }
@@ -58,7 +58,7 @@ impl ScryptParams {
         self.log_n
     }
 
-    /// The block size, in 128 bytes.
+    /// The block size, in units of 128 bytes.
     pub fn r(&self) -> u32
         ensures value { result ≡ self.now.r }
         ensures range { (1 ≤ result) × (result ≤ 32) }

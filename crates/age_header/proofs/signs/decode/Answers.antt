@@ -1,6 +1,7 @@
 use Rattle.std.proofs.Common.{◌∙◌, sym, ℕ, List, subst}
 use Rattle.age_header.specs.Base64.{B64}
 use Rattle.age_header.proofs.Base64Lemmas.{B64-only, B64-encode, B64-bytes, encode_of-unpadded}
+use Rattle.age_header.proofs.Decoding.{b64_decoded, none_decoded}
 use Rattle.age_header.proofs.signs.decode.Goals as goal
 
 pub returns-in-Ok-clause-some : goal.returns-in-Ok-clause-some
@@ -16,3 +17,9 @@ returns-in-Err-DecodeError-clause-none c b h =
     let read = (c.decode.ensures.strict c.requires.strict b (B64-bytes b c.args.signs.now h)).1 (is ∙ sym plain) in
     let failed = rw c.in-Err-DecodeError.field-0-is at c.in-Err-DecodeError.ensures.err in
     cc (read, failed)
+
+pub returns-in-Ok-clause-value : goal.returns-in-Ok-clause-value
+returns-in-Ok-clause-value c = sym (b64_decoded c.args.signs.now c.in-Ok.bytes.items (returns-in-Ok-clause-some c))
+
+pub returns-in-Err-DecodeError-clause-value : goal.returns-in-Err-DecodeError-clause-value
+returns-in-Err-DecodeError-clause-value c = sym (none_decoded c.args.signs.now (returns-in-Err-DecodeError-clause-none c))

@@ -1,5 +1,6 @@
 use Rattle.std.proofs.Common.{◌∙◌, [], ◌∷◌, refl, arith}
-use Rattle.age_header.specs.Text.{signs_of, body_text}
+use Rattle.age_header.specs.Base64.{signs_of}
+use Rattle.age_header.specs.Text.{body_text}
 use Rattle.age_header.proofs.TextLemmas.{body_step, body_end}
 use Rattle.age_header.proofs.WriteLemmas.{done_more, done_part, part_at_exit, writes_last}
 use Rattle.age_header.proofs.writer.write_body.Goals as goal

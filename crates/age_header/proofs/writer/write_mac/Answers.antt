@@ -1,5 +1,6 @@
 use Rattle.std.proofs.Common.{List, ℕ, [], ◌∷◌, ◌++◌, refl}
-use Rattle.age_header.specs.Text.{signs_of, mac_end}
+use Rattle.age_header.specs.Base64.{signs_of}
+use Rattle.age_header.specs.Text.{mac_end}
 use Rattle.age_header.proofs.WriteLemmas.{done_start, done_more, done_part, part_at_exit, writes_last}
 use Rattle.age_header.proofs.writer.write_mac.Goals as goal
 

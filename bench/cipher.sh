@@ -1,0 +1,55 @@
+#!/usr/bin/env bash
+# The cipher crate beside openssl, in one run: MB/s of user time, best and median, in chunks of 64 KiB.
+# Usage: bench/cipher.sh [MIB] [ROUNDS]. Rounds are interleaved, so that a busy machine slows both alike.
+set -euo pipefail
+mib=${1:-256}
+rounds=${2:-7}
+here=$(cd "$(dirname "$0")" && pwd)
+bench=$here/../crates/cipher_bench
+scratch=$(mktemp -d)
+trap 'rm -rf "$scratch"' EXIT
+
+(cd "$bench" && rt run -- seal 1 7 > /dev/null)
+head -c $((mib * 1048576)) /dev/zero > "$scratch/zeros"
+
+# MB/s of a command that takes $mib MiB in, from its user time
+rate() {
+    local seconds
+    seconds=$({ TIMEFORMAT=%U; time "$@" > /dev/null; } 2>&1)
+    awk -v mib="$mib" -v s="$seconds" 'BEGIN { printf "%.0f\n", mib * 1.048576 / s }'
+}
+
+ours() { rate "$bench/out/cipher_bench" "$1" "$mib" 7; }
+
+# openssl speed reads the user time itself; the authenticator alone is no algorithm of its, so a file goes through it
+theirs() {
+    case $1 in
+        poly1305) rate openssl mac -macopt "hexkey:$(printf '07%.0s' {1..32})" -in "$scratch/zeros" POLY1305 ;;
+        seal | open) openssl_speed chacha20-poly1305 ;;
+        chacha20) openssl_speed chacha20 ;;
+    esac
+}
+
+openssl_speed() {
+    openssl speed -evp "$1" -bytes 65536 -seconds 1 2> /dev/null | awk 'END { sub(/k$/, "", $2); printf "%.0f\n", $2 / 1000 }'
+}
+
+for _ in $(seq "$rounds"); do
+    for part in seal open chacha20 poly1305; do
+        ours "$part" >> "$scratch/ours.$part"
+        theirs "$part" >> "$scratch/theirs.$part"
+    done
+done
+
+best() { sort -n "$1" | tail -n 1; }
+median() { sort -n "$1" | awk '{ v[NR] = $1 } END { print v[int((NR + 1) / 2)] }'; }
+
+printf '%s, %s MiB, %s rounds\n\n' "$(openssl version | cut -d' ' -f1,2)" "$mib" "$rounds"
+printf '| %-8s | %11s | %13s | %12s | %14s | %10s | %12s |\n' part 'best, MB/s' 'median, MB/s' 'openssl best' 'openssl median' 'best ratio' 'median ratio'
+printf '|---|---|---|---|---|---|---|\n'
+for part in seal open chacha20 poly1305; do
+    a=$(best "$scratch/ours.$part") b=$(median "$scratch/ours.$part")
+    c=$(best "$scratch/theirs.$part") d=$(median "$scratch/theirs.$part")
+    awk -v p="$part" -v a="$a" -v b="$b" -v c="$c" -v d="$d" \
+        'BEGIN { printf "| %-8s | %11d | %13d | %12d | %14d | %10.2f | %12.2f |\n", p, a, b, c, d, a / c, b / d }'
+done

@@ -1,0 +1,7 @@
+pub mod Numbers
+pub mod ChaCha20
+pub mod Poly1305
+pub mod Authenticator
+pub mod Limbs
+pub mod Sealing
+pub mod Lanes

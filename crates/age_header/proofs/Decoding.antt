@@ -1,0 +1,93 @@
+-- The function that decodes, against the relation between bytes and signs.
+use Rattle.std.proofs.Common.{◌≡◌, ℕ, ◌+◌, ◌*◌, ◌/◌, ◌%◌, ◌<◌, List, [], ◌∷◌, zero, suc, slice_index, refl, sym, ap, arith, ◌∙◌, subst, Some, None, if◌then◌else◌, true, Bool, false}
+use Rattle.std.specs.declared.option.Option.{Option}
+use Rattle.std.specs.Str.{bytes_eq}
+use Rattle.std.proofs.lemmas.Slice.Eq.{bytes_eq-Decides}
+use Rattle.base64.specs.Rfc4648.{encode_symbols}
+use Rattle.age_header.specs.Base64.{B64, IsOne, IsTwo, IsThree, StandsFor, alphabet, value_of, candidate, decoded, signs_of}
+use Rattle.age_header.proofs.Base64Lemmas.{B64-only, B64-encode}
+use Rattle.age_header.proofs.OneWay.{value_back}
+
+value_is : (c v : ℕ) → StandsFor c v → value_of c ≡ v
+value_is c v h = ap value_of h.1 ∙ value_back v h.0
+
+-- the candidate of signs is the bytes that they stand for
+candidate_is : (bytes signs : List ℕ) → B64 bytes signs → candidate signs ≡ bytes
+unfolding B64 candidate
+candidate_is [] [] h = refl
+candidate_is (a ∷ []) (p ∷ q ∷ []) h =
+    let bits : a * 16 ≡ h.0 * 64 + h.1 = h.5 in
+    let low : a < 256 = h.4 in
+    let e : (h.0 * 4 + h.1 / 16) % 256 ≡ a = omega arith in
+    rw (value_is p h.0 h.2, value_is q h.1 h.3, e) refl
+candidate_is (a ∷ b ∷ []) (p ∷ q ∷ r ∷ []) h =
+    let bits : (a * 256 + b) * 4 ≡ (h.0 * 64 + h.1) * 64 + h.2 = h.8 in
+    let la : a < 256 = h.6 in
+    let lb : b < 256 = h.7 in
+    let lu : h.0 < 64 = h.3.0 in
+    let lv : h.1 < 64 = h.4.0 in
+    let lw : h.2 < 64 = h.5.0 in
+    let ea : (h.0 * 4 + h.1 / 16) % 256 ≡ a = omega arith in
+    let eb : (h.1 * 16 + h.2 / 4) % 256 ≡ b = omega arith in
+    rw (value_is p h.0 h.3, value_is q h.1 h.4, value_is r h.2 h.5, ea, eb) refl
+candidate_is (a ∷ b ∷ c ∷ bytes) (p ∷ q ∷ r ∷ s ∷ signs) h =
+    let t = h.0 in
+    let bits : (a * 256 + b) * 256 + c ≡ ((t.0 * 64 + t.1) * 64 + t.2) * 64 + t.3 = t.11 in
+    let la : a < 256 = t.8 in
+    let lb : b < 256 = t.9 in
+    let lc : c < 256 = t.10 in
+    let lu : t.0 < 64 = t.4.0 in
+    let lv : t.1 < 64 = t.5.0 in
+    let lw : t.2 < 64 = t.6.0 in
+    let lx : t.3 < 64 = t.7.0 in
+    let ea : (t.0 * 4 + t.1 / 16) % 256 ≡ a = omega arith in
+    let eb : (t.1 * 16 + t.2 / 4) % 256 ≡ b = omega arith in
+    let ec : (t.2 * 64 + t.3) % 256 ≡ c = omega arith in
+    rw (value_is p t.0 t.4, value_is q t.1 t.5, value_is r t.2 t.6, value_is s t.3 t.7, ea, eb, ec, candidate_is bytes signs h.1) refl
+candidate_is _ _ h = absurd h
+
+-- a candidate has bytes alone
+candidate_bytes : (signs : List ℕ) (i : ℕ) → slice_index (candidate signs) i < 256
+unfolding candidate
+candidate_bytes [] i = omega arith
+candidate_bytes (p ∷ []) i = omega arith
+candidate_bytes (p ∷ q ∷ []) zero = omega arith
+candidate_bytes (p ∷ q ∷ []) (suc i) = omega arith
+candidate_bytes (p ∷ q ∷ r ∷ []) zero = omega arith
+candidate_bytes (p ∷ q ∷ r ∷ []) (suc zero) = omega arith
+candidate_bytes (p ∷ q ∷ r ∷ []) (suc (suc i)) = omega arith
+candidate_bytes (p ∷ q ∷ r ∷ s ∷ signs) zero = omega arith
+candidate_bytes (p ∷ q ∷ r ∷ s ∷ signs) (suc zero) = omega arith
+candidate_bytes (p ∷ q ∷ r ∷ s ∷ signs) (suc (suc zero)) = omega arith
+candidate_bytes (p ∷ q ∷ r ∷ s ∷ signs) (suc (suc (suc i))) = candidate_bytes signs i
+
+-- what is decoded are the bytes that the signs stand for
+pub decoded_b64 : (signs bytes : List ℕ) → decoded signs ≡ Some bytes → B64 bytes signs
+unfolding decoded signs_of
+decoded_b64 signs bytes h =
+    let c : List ℕ = candidate signs in
+    let found : B64 c (encode_symbols alphabet c) = B64-encode c (candidate_bytes signs) in
+    let both : (encode_symbols alphabet c ≡ signs) × (c ≡ bytes) =
+    elim (bytes_eq (encode_symbols alphabet c) signs) as (λ b. bytes_eq (encode_symbols alphabet c) signs ≡ b → (if b then Some c else None) ≡ Some bytes
+        → (encode_symbols alphabet c ≡ signs) × (c ≡ bytes)) [
+      | true ↦ λ test e. ((bytes_eq-Decides (encode_symbols alphabet c) signs).0 test, cc)
+      | false ↦ λ test e. cc
+    ] refl h in
+    subst (λ (z : List ℕ). B64 z signs) both.1 (subst (λ (z : List ℕ). B64 c z) both.0 found)
+
+-- and these are decoded
+pub b64_decoded : (signs bytes : List ℕ) → B64 bytes signs → decoded signs ≡ Some bytes
+unfolding decoded signs_of
+b64_decoded signs bytes h =
+    let is : candidate signs ≡ bytes = candidate_is bytes signs h in
+    let spelled : signs ≡ encode_symbols alphabet (candidate signs) = B64-only bytes signs h ∙ ap (λ (z : List ℕ). encode_symbols alphabet z) (sym is) in
+    let same : bytes_eq (encode_symbols alphabet (candidate signs)) signs ≡ true = (bytes_eq-Decides (encode_symbols alphabet (candidate signs)) signs).1 (sym spelled) in
+    rw (same, is) refl
+
+-- signs that stand for no bytes are not decoded
+pub none_decoded : (signs : List ℕ) → ((bytes : List ℕ) → B64 bytes signs → ⊥) → decoded signs ≡ None
+none_decoded signs none = here (decoded signs) refl
+  where
+    here : (o : Option (List ℕ)) → decoded signs ≡ o → decoded signs ≡ None
+    here None e = e
+    here (Some bytes) e = absurd (none bytes (decoded_b64 signs bytes e))

@@ -1,0 +1,11 @@
+use Rattle.age_header.specs.Base64.{signs_of}
+use Rattle.age_header.proofs.Base64Lemmas.{B64-encode}
+use Rattle.age_header.proofs.Decoding.{decoded_b64, b64_decoded}
+use Rattle.age_header.proofs.laws.one_base64.Goals as goal
+
+pub returns-clause-decoded : goal.returns-clause-decoded
+returns-clause-decoded c signs bytes = (decoded_b64 signs bytes, b64_decoded signs bytes)
+
+pub returns-clause-encoded : goal.returns-clause-encoded
+unfolding signs_of
+returns-clause-encoded c bytes h = B64-encode bytes h

@@ -1,0 +1,128 @@
+//! Runs one part of `age_cipher` over many chunks and prints a checksum, to be timed from outside.
+//!
+//! Arguments: `seal`, `open`, `chacha20` or `poly1305`; how many MiB; a byte for key and text.
+#![tactic(auto)]
+
+ghost use Rattle.std.specs.Prelude.{◌≡◌, IfOk, length, vec_len, ◌≤◌};
+
+use age_cipher::{Poly1305, chacha20_xor, open_in_place, seal_in_place};
+use std::alloc::{AllocError, Global};
+use std::{env, io};
+
+const CHUNK: usize = 65_536;
+
+const CHUNKS_IN_A_MIB: u64 = 16;
+
+#[derive(Clone, Copy)]
+enum Part {
+    Seal,
+    Open,
+    ChaCha20,
+    Poly1305,
+}
+
+fn part_named(name: &str) -> Option<Part> {
+    match name {
+        "seal" => Some(Part::Seal),
+        "open" => Some(Part::Open),
+        "chacha20" => Some(Part::ChaCha20),
+        "poly1305" => Some(Part::Poly1305),
+        _ => None,
+    }
+}
+
+fn nonce_of(chunk: u64) -> [u8; 12] {
+    let [a, b, c, d, e, f, g, h] = chunk.to_le_bytes();
+    [a, b, c, d, e, f, g, h, 0, 0, 0, 0]
+}
+
+fn front(bytes: &[u8]) -> u64
+    requires { 8 ≤ length bytes.now }
+{
+    u64::from_le_bytes([
+        bytes[0], bytes[1], bytes[2], bytes[3], bytes[4], bytes[5], bytes[6], bytes[7],
+    ])
+}
+
+fn filled(alloc: Global, byte: u8, len: usize) -> Result<Vec<u8>, AllocError>
+    ensures { IfOk result (λ v. vec_len v ≡ len) }
+{
+    vec![in alloc; byte; len]
+}
+
+// What the part makes of one more chunk, cut to 8 bytes.
+fn one_chunk(
+    part: Part,
+    key: &[u8; 32],
+    chunk: u64,
+    text: &mut [u8],
+    sealed: &[u8],
+    tag: &[u8; 16],
+) -> u64
+    requires size { length text.old ≡ CHUNK }
+    requires same_size { length sealed.now ≡ CHUNK }
+{
+    match part {
+        Part::Seal => front(&seal_in_place(key, &nonce_of(chunk), &[], text)),
+        Part::Open => {
+            text.copy_from_slice(sealed);
+            if open_in_place(key, &nonce_of(0), &[], text, tag) {
+                front(text)
+            } else {
+                0
+            }
+        }
+        Part::ChaCha20 => {
+            chacha20_xor(key, &nonce_of(chunk), 1, text);
+            front(text)
+        }
+        Part::Poly1305 => {
+            let mut mac = Poly1305::new(key);
+            mac.update(text);
+            let tag = mac.tag();
+            text[0] = tag[0];
+            front(&tag)
+        }
+    }
+}
+
+// A checksum over all chunks.
+fn checksum(part: Part, byte: u8, chunks: u64, text: &mut [u8], sealed: &mut [u8]) -> u64
+    requires size { length text.old ≡ CHUNK }
+    requires same_size { length sealed.old ≡ CHUNK }
+{
+    let key = [byte; 32];
+    let tag = seal_in_place(&key, &nonce_of(0), &[], sealed);
+    let mut sum = 0u64;
+    for chunk in 0..chunks {
+        sum = sum
+            .rotate_left(1)
+            .wrapping_add(one_chunk(part, &key, chunk, text, sealed, &tag));
+    }
+    sum
+}
+
+fn main(rt: HostRuntime) -> io::Result<()> {
+    let words: Vec<String> = env::args(&rt)?.collect(rt.alloc())?;
+    let [_, name, mib, byte] = words.as_slice() else {
+        return Err(io::Error::from(io::ErrorKind::InvalidInput));
+    };
+    let (Some(part), Ok(mib), Ok(byte)) = (
+        part_named(name.as_str()),
+        mib.as_str().parse::<u32>(),
+        byte.as_str().parse::<u8>(),
+    ) else {
+        return Err(io::Error::from(io::ErrorKind::InvalidInput));
+    };
+    let mut text = filled(rt.alloc(), byte, CHUNK)?;
+    let mut sealed = filled(rt.alloc(), byte, CHUNK)?;
+    let chunks = u64::from(mib) * CHUNKS_IN_A_MIB;
+    let sum = checksum(
+        part,
+        byte,
+        chunks,
+        text.as_mut_slice(),
+        sealed.as_mut_slice(),
+    );
+    println!(rt; "{sum:016x}")
+}

@@ -1,0 +1,30 @@
+// Loaded before the C library, refuses the process its growth of memory with the number REFUSE (from 1),
+// and then makes the empty file "refused".
+#define _GNU_SOURCE
+#include <dlfcn.h>
+#include <fcntl.h>
+#include <stddef.h>
+#include <stdlib.h>
+#include <unistd.h>
+
+static int is_refused(void)
+{
+    static long growths;
+    const char *number = getenv("REFUSE");
+    if (number == NULL || ++growths != atol(number))
+        return 0;
+    close(open("refused", O_CREAT | O_WRONLY, 0600));
+    return 1;
+}
+
+void *malloc(size_t size)
+{
+    void *(*real)(size_t) = (void *(*)(size_t))dlsym(RTLD_NEXT, "malloc");
+    return is_refused() ? NULL : real(size);
+}
+
+void *realloc(void *old, size_t size)
+{
+    void *(*real)(void *, size_t) = (void *(*)(void *, size_t))dlsym(RTLD_NEXT, "realloc");
+    return is_refused() ? NULL : real(old, size);
+}
