@@ -9,7 +9,10 @@ bench=$here/../crates/cipher_bench
 scratch=$(mktemp -d)
 trap 'rm -rf "$scratch"' EXIT
 
-(cd "$bench" && rt run -- seal 1 7 > /dev/null)
+if ! (cd "$bench" && rt run -- seal 1 7) > "$scratch/build" 2>&1; then
+    cat "$scratch/build" >&2
+    exit 1
+fi
 head -c $((mib * 1048576)) /dev/zero > "$scratch/zeros"
 
 # MB/s of a command that takes $mib MiB in, from its user time
@@ -44,12 +47,12 @@ done
 best() { sort -n "$1" | tail -n 1; }
 median() { sort -n "$1" | awk '{ v[NR] = $1 } END { print v[int((NR + 1) / 2)] }'; }
 
-printf '%s, %s MiB, %s rounds\n\n' "$(openssl version | cut -d' ' -f1,2)" "$mib" "$rounds"
-printf '| %-8s | %11s | %13s | %12s | %14s | %10s | %12s |\n' part 'best, MB/s' 'median, MB/s' 'openssl best' 'openssl median' 'best ratio' 'median ratio'
+printf 'MB/s of user time, %s, %s MiB, %s rounds\n\n' "$(openssl version | cut -d' ' -f1,2)" "$mib" "$rounds"
+printf '| %-8s | %10s | %12s | %12s | %14s | %10s | %12s |\n' part best median 'openssl best' 'openssl median' 'best ratio' 'median ratio'
 printf '|---|---|---|---|---|---|---|\n'
 for part in seal open chacha20 poly1305; do
     a=$(best "$scratch/ours.$part") b=$(median "$scratch/ours.$part")
     c=$(best "$scratch/theirs.$part") d=$(median "$scratch/theirs.$part")
     awk -v p="$part" -v a="$a" -v b="$b" -v c="$c" -v d="$d" \
-        'BEGIN { printf "| %-8s | %11d | %13d | %12d | %14d | %10.2f | %12.2f |\n", p, a, b, c, d, a / c, b / d }'
+        'BEGIN { printf "| %-8s | %10d | %12d | %12d | %14d | %10.2f | %12.2f |\n", p, a, b, c, d, a / c, b / d }'
 done

@@ -16,4 +16,4 @@ mod VerdictLemmas
 mod WriteLemmas
 mod OneVerdict
 mod HeadFacts
-mod Decoding
+pub mod Decoding

@@ -1,0 +1,7 @@
+pub mod Answer
+pub mod Key
+pub mod Pairing
+pub mod Pass
+pub mod Passphrase
+pub mod Sealing
+pub mod Wrap

@@ -1,0 +1,84 @@
+-- The law of a passphrase and its pair: what the recipient wraps the identity unwraps. It stands here since an impl names the proof of its law.
+use Rattle.std.proofs.Common.{inl, inr, ◌≡◌, ◌∙◌, ℕ, zero, suc, ◌+◌, ◌-◌, ◌<◌, ◌≤◌, ◌&&◌, Bool, true, List, [], ◌∷◌, length, slice_index, map, nat_eq, nat_le, refl, sym, ap, arith, subst, Ok, Err, Some}
+use Rattle.std.proofs.lemmas.Bool.{and_parts, eqb-true, eq-eqb, le-leb, cases_lt}
+use Rattle.std.proofs.lemmas.Fmt.{decimal-digits_of}
+use Rattle.std.specs.Fmt.{decimal}
+use Rattle.std.specs.Int.Digits.{digits_of}
+use Rattle.std.specs.declared.result.Result.{Result}
+use Rattle.age_cipher.proofs.OpeningLemmas.{length-sealed, opened-sealed}
+use Rattle.age_header.specs.Base64.{decoded, signs_of}
+use Rattle.age_header.specs.Header.{StanzaParts}
+use Rattle.age_header.proofs.Decoding.{decoded-signs_of}
+use Rattle.age_recipient.specs.declared.key.FileKey.{FileKey}
+use Rattle.age_recipient.specs.declared.unwrapped.Unwrapped.TheVariants.{Key}
+use Rattle.age_recipient.specs.Key.{IsFileKey}
+use Rattle.age_recipient.specs.Pass.{IsSalt, PairFits, PassSecret, PassGuess, pass_wraps, pass_unwraps}
+use Rattle.age_recipient.specs.Passphrase.{is_work_factor, number_from, pass_answer, pass_key, pass_stanza}
+use Rattle.age_recipient.specs.Sealing.{sealed_key, unsealed, zero_nonce}
+
+abbrev all_below : (ℕ → Bool) → ℕ → Bool
+all_below f zero = true
+all_below f (suc n) = f n && all_below f n
+
+all_below_at : (f : ℕ → Bool) (n k : ℕ) → all_below f n ≡ true → k < n → f k ≡ true
+all_below_at f zero k e low = absurd (omega arith)
+all_below_at f (suc n) k e low =
+    let p = and_parts (f n) (all_below f n) e in
+    elim (cases_lt k n) [
+      | inl less ↦ all_below_at f n k p.1 less
+      | inr more ↦ let same : k ≡ n = omega arith in subst (λ (z : ℕ). f z ≡ true) (sym same) p.0
+    ]
+
+-- a text is a work factor, and spells this number
+abbrev is_spelled : List ℕ → ℕ → Bool
+is_spelled text n = is_work_factor text && nat_eq (number_from 0 text) n
+
+abbrev digits_text : ℕ → List ℕ
+digits_text n = map (λ d. 48 + d) (digits_of 10 n)
+
+-- the decimal text of a work factor spells it
+spelled : (work : ℕ) → 1 ≤ work → work ≤ 30 → is_spelled (decimal work) work ≡ true
+spelled work low high =
+    let table : all_below (λ k. is_spelled (digits_text (k + 1)) (k + 1)) 30 ≡ true = refl in
+    let at = all_below_at (λ k. is_spelled (digits_text (k + 1)) (k + 1)) 30 (work - 1) table (omega arith) in
+    let same : work - 1 + 1 ≡ work = omega arith in
+    let text : decimal work ≡ digits_text work = decimal-digits_of work (omega arith) (omega arith) in
+    rw text (subst (λ (z : ℕ). is_spelled (digits_text z) z ≡ true) same at)
+
+-- a sealed key is unsealed
+pub unsealed-sealed : (wrap_key : List ℕ) (key : FileKey) → unsealed wrap_key (sealed_key wrap_key key) ≡ Key key
+unfolding unsealed
+unsealed-sealed wrap_key key = rw (opened-sealed wrap_key zero_nonce [] key.0) refl
+
+-- an identity's answer to the stanza that a recipient makes
+pub pass_opens : (pass salt : List ℕ) (work max : ℕ) (key : FileKey) → length salt ≡ 16 → ((i : ℕ) → slice_index salt i < 256)
+    → 1 ≤ work → work ≤ 30 → work ≤ max → IsFileKey key → pass_answer pass max (pass_stanza pass work salt key) ≡ Key key
+unfolding pass_answer pass_stanza
+pass_opens pass salt work max key len bytes low high within is =
+    let body : List ℕ = sealed_key (pass_key pass salt work) key in
+    let text = and_parts (is_work_factor (decimal work)) (nat_eq (number_from 0 (decimal work)) work) (spelled work low high) in
+    let number : number_from 0 (decimal work) ≡ work = eqb-true (number_from 0 (decimal work)) work text.1 in
+    let some : decoded (signs_of salt) ≡ Some salt = decoded-signs_of salt bytes in
+    let sixteen : nat_eq (length salt) 16 ≡ true = eq-eqb (length salt) 16 len in
+    let top : nat_le work max ≡ true = le-leb work max within in
+    let size : length body ≡ 32 = length-sealed (pass_key pass salt work) zero_nonce [] key.0 ∙ omega (arith, is.len) in
+    let whole : nat_eq (length body) 32 ≡ true = eq-eqb (length body) 32 size in
+    rw (some, sixteen, text.0, number, top, whole) (unsealed-sealed (pass_key pass salt work) key)
+
+stanzas_of : Result (List StanzaParts) ℕ → List StanzaParts
+stanzas_of (Ok stanzas) = stanzas
+stanzas_of (Err code) = []
+
+-- the law of a pair
+pub pair_law : (r : PassSecret) (i : PassGuess) (key : FileKey) (stanzas : List StanzaParts) → r.pass ≡ i.pass → IsSalt r.salt → PairFits r.work i.max
+    → IsFileKey key → pass_wraps r key ≡ Ok stanzas → pass_unwraps i stanzas ≡ Key key
+unfolding stanzas_of
+pair_law r i key stanzas same salt fits is wraps =
+    let list : stanzas ≡ pass_stanza r.pass r.work r.salt key ∷ [] = sym (ap stanzas_of wraps) in
+    let low : 1 ≤ r.work = fits.low in
+    let within : r.work ≤ i.max = fits.within in
+    let top : i.max ≤ 30 = fits.top in
+    let opens : pass_answer i.pass i.max (pass_stanza r.pass r.work r.salt key) ≡ Key key =
+    subst (λ (p : List ℕ). pass_answer p i.max (pass_stanza r.pass r.work r.salt key) ≡ Key key) same
+    (pass_opens r.pass r.salt r.work i.max key salt.len salt.bytes low (omega arith) within is) in
+    rw (list, opens) refl

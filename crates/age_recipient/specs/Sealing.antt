@@ -1,0 +1,24 @@
+-- How a stanza of this project's own kinds holds the file key (C2SP age.md, "The scrypt recipient type"): sealed with
+-- ChaCha20-Poly1305 under a wrap key, a nonce of twelve zero bytes, and no associated data.
+use Rattle.std.specs.Prelude.{ℕ, List, [], replicate}
+use Rattle.std.specs.declared.option.Option.{Option}
+use Rattle.std.specs.declared.option.Option.TheVariants.{None, Some}
+use Rattle.age_cipher.specs.Sealing.{sealed, opened}
+use Rattle.age_recipient.specs.declared.key.FileKey.{FileKey}
+use Rattle.age_recipient.specs.declared.unwrapped.Unwrapped.{Unwrapped}
+use Rattle.age_recipient.specs.declared.unwrapped.Unwrapped.TheVariants.{Failed, Key}
+
+abbrev pub zero_nonce : List ℕ
+zero_nonce = replicate 12 0
+
+-- the body that holds this file key
+abbrev pub sealed_key : List ℕ → FileKey → List ℕ
+sealed_key wrap_key key = sealed wrap_key zero_nonce [] key.0
+
+abbrev pub key_answer : Option (List ℕ) → Unwrapped
+key_answer None = Failed
+key_answer (Some bytes) = Key (record { 0 = bytes })
+
+-- what a body of 32 bytes gives under a wrap key: the key that it opens to, or nothing
+unfoldable pub unsealed : List ℕ → List ℕ → Unwrapped
+unsealed wrap_key body = key_answer (opened wrap_key zero_nonce [] body)

@@ -1,0 +1,23 @@
+//! Recipients and identities of age v1 files: who wraps a file key into stanzas, and who unwraps it again.
+#![tactic(auto)]
+
+mod identity;
+mod key;
+mod matched;
+mod pair;
+mod pass;
+mod passphrase;
+mod recipient;
+mod sealing;
+#[cfg(test)]
+mod tests;
+mod unwrapped;
+mod work;
+
+pub use identity::Identity;
+pub use key::FileKey;
+pub use matched::Matched;
+pub use pair::PassPair;
+pub use pass::{PassError, PassIdentity, PassRecipient};
+pub use recipient::{Recipient, WrapFault};
+pub use unwrapped::{StanzaFault, Unwrapped};

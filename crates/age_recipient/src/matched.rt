@@ -1,0 +1,31 @@
+use crate::identity::Identity;
+use crate::recipient::Recipient;
+
+/// A recipient and an identity that belong together: the identity unwraps what the recipient wraps.
+pub trait Matched {
+    type R: Recipient;
+
+    type I: Identity;
+
+    ghost use Rattle.std.specs.Prelude.{List, ◌≡◌, Ok};
+    ghost use Rattle.age_header.specs.Header.{StanzaParts};
+    ghost use Rattle.age_recipient.specs.declared.key.FileKey.{FileKey};
+    ghost use Rattle.age_recipient.specs.declared.unwrapped.Unwrapped.TheVariants.{Key};
+    ghost use Rattle.age_recipient.specs.Key.{IsFileKey};
+
+    ghost the_recipient: { Self → Self.R };
+
+    ghost the_identity: { Self → Self.I };
+
+    /// The one that wraps.
+    fn recipient(&self) -> &Self::R
+        ensures { result.now ≡ the_recipient self.now };
+
+    /// The one that unwraps.
+    fn identity(&self) -> &Self::I
+        ensures { result.now ≡ the_identity self.now };
+
+    // The law: where the recipient wraps a key in stanzas, the identity makes of just these stanzas that key.
+    ghost opens: { (pair : Self) (key : FileKey) (stanzas : List StanzaParts) → IsFileKey key
+        → Self.R.wraps (the_recipient pair) key ≡ Ok stanzas → Self.I.meaning (the_identity pair) stanzas ≡ Key key };
+}

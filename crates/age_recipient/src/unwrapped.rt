@@ -1,0 +1,36 @@
+use crate::key::FileKey;
+use thiserror::Error;
+
+/// Why a stanza of an identity's own type is malformed. The product's identities look for these in this order.
+#[derive(Clone, Copy, Debug, Drop, PartialEq, Eq, Error)]
+pub enum StanzaFault {
+    #[error("argument count")]
+    ArgCount,
+    /// The salt is not the canonical base64 of 16 bytes.
+    #[error("salt")]
+    Salt,
+    /// The work factor is not a digit 1 to 9 followed by any digits.
+    #[error("work factor")]
+    WorkFactorText,
+    /// The work factor is above the identity's maximum.
+    #[error("work factor is too high")]
+    WorkFactorTooHigh,
+    /// The body hasn't 32 bytes.
+    #[error("body length")]
+    BodyLength,
+    /// What a caller's own identity found, by its number.
+    #[error("code {0}")]
+    Other(u32),
+}
+
+/// What an identity makes of a header's stanzas.
+#[derive(Clone, Copy, PartialEq, Eq)]
+pub enum Unwrapped {
+    /// No stanza is of the identity's type.
+    NotMine,
+    /// There are stanzas of its type, and none opens.
+    Failed,
+    Key(FileKey),
+    /// A stanza of its type is malformed.
+    Malformed(StanzaFault),
+}
