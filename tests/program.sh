@@ -178,6 +178,7 @@ growths() {
     fi
     each_growth inspect "$data/three_recipients.age"
     each_growth inspect -r "$data/ssh_recipients.age"
+    each_growth inspect -f "$data/passphrase.key" "$data/passphrase.age"
     each_growth inspect -H 12
     each_growth help inspect
 }

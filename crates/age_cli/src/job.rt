@@ -28,7 +28,7 @@ pub struct Job {
 /// Why the words gave no job.
 #[derive(Debug, Drop)]
 pub enum WordsFault {
-    /// `clap` refused the words, or has help or the version to show. It is never want of memory.
+    /// `clap` refused the words, or has help or the version to show.
     Refused(Error),
     /// A growth was refused.
     Memory,

@@ -415,11 +415,12 @@ fn checks_a_header(rt: HostRuntime) -> Result<(), Fail> {
     }
     let mac = mac_of(alloc, &[7; 16], stanzas.as_slice())?;
     let Some(header) = Header::new(stanzas, mac) else {
+        assert!(rt; false);
         return Ok(());
     };
-    let mut text = Vec::new(alloc);
-    assert!(rt; write_header(&header, &mut MemSink::new(&mut text)).is_ok());
-    let good = String::from_utf8(text)?;
+    let mut out = MemSink::new(Vec::new(alloc));
+    assert!(rt; write_header(&header, &mut out).is_ok());
+    let good = String::from_utf8(out.into_vec())?;
     let bad = good.replace(alloc, "bc", "bd")?;
     let failed = "agep: header check failed\n";
     let length = "agep: file key file must hold 16 bytes\n";

@@ -1,10 +1,10 @@
 -- The function that decodes, against the relation between bytes and signs.
-use Rattle.std.proofs.Common.{◌≡◌, ℕ, ◌+◌, ◌*◌, ◌/◌, ◌%◌, ◌<◌, List, [], ◌∷◌, zero, suc, slice_index, refl, sym, ap, arith, ◌∙◌, subst, Some, None, if◌then◌else◌, true, Bool, false}
+use Rattle.std.proofs.Common.{◌≡◌, ℕ, ◌+◌, ◌*◌, ◌/◌, ◌%◌, ◌<◌, List, [], ◌∷◌, zero, suc, slice_index, refl, sym, ap, arith, ◌∙◌, subst, Some, None, if◌then◌else◌, true, false}
 use Rattle.std.specs.declared.option.Option.{Option}
 use Rattle.std.specs.Str.{bytes_eq}
 use Rattle.std.proofs.lemmas.Slice.Eq.{bytes_eq-Decides}
 use Rattle.base64.specs.Rfc4648.{encode_symbols}
-use Rattle.age_header.specs.Base64.{B64, IsOne, IsTwo, IsThree, StandsFor, alphabet, value_of, candidate, decoded, signs_of}
+use Rattle.age_header.specs.Base64.{B64, StandsFor, alphabet, value_of, candidate, decoded, signs_of}
 use Rattle.age_header.proofs.Base64Lemmas.{B64-only, B64-encode}
 use Rattle.age_header.proofs.OneWay.{value_back}
 
@@ -69,7 +69,7 @@ decoded_b64 signs bytes h =
     let found : B64 c (encode_symbols alphabet c) = B64-encode c (candidate_bytes signs) in
     let both : (encode_symbols alphabet c ≡ signs) × (c ≡ bytes) =
     elim (bytes_eq (encode_symbols alphabet c) signs) as (λ b. bytes_eq (encode_symbols alphabet c) signs ≡ b → (if b then Some c else None) ≡ Some bytes
-        → (encode_symbols alphabet c ≡ signs) × (c ≡ bytes)) [
+    → (encode_symbols alphabet c ≡ signs) × (c ≡ bytes)) [
       | true ↦ λ test e. ((bytes_eq-Decides (encode_symbols alphabet c) signs).0 test, cc)
       | false ↦ λ test e. cc
     ] refl h in

@@ -66,7 +66,7 @@ pub fn write_all<W: Sink>(out: &mut W, piece: &[u8]) -> Result<(), DeviceFault>
 }
 
 /// One failure more.
-pub(crate) fn count_failure(failures: &mut u64) -> DeviceFault
+fn count_failure(failures: &mut u64) -> DeviceFault
     ensures { failures.new ≡ min (failures.old + 1) (2 ^ 64 - 1) }
 {
     *failures = failures.saturating_add(1);
@@ -85,6 +85,13 @@ impl<'a> MemSource<'a> {
         ensures { ⟦<MemSource<'a> as Source>⟧.to_come result ≡ Some bytes.now }
     {
         MemSource { rest: bytes }
+    }
+
+    /// The bytes that are still to come.
+    pub fn rest(&self) -> &'a [u8]
+        ensures { ⟦<MemSource<'a> as Source>⟧.to_come self.now ≡ Some result.now }
+    {
+        self.rest
     }
 }
 
@@ -106,27 +113,35 @@ impl<'a> Source for MemSource<'a> {
     }
 }
 
-/// A sink that appends to a vector. A refused growth is a failure.
+/// A sink that appends to its vector. A refused growth is a failure.
 #[derive(Drop)]
-pub struct MemSink<'a> {
-    out: &'a mut Vec<u8>,
+pub struct MemSink {
+    out: Vec<u8>,
     failures: u64,
 }
 
-impl<'a> MemSink<'a> {
-    /// A sink that appends to this vector.
-    pub fn new(out: &'a mut Vec<u8>) -> MemSink<'a>
-        ensures bytes { ⟦<MemSink<'a> as Sink>⟧.taken result ≡ Some out.entry.now.items }
-        ensures count { ⟦<MemSink<'a> as Sink>⟧.failed result ≡ 0 }
+impl MemSink {
+    /// A sink that appends to this vector, and has not failed yet.
+    pub fn new(out: Vec<u8>) -> MemSink
+        ensures bytes { ⟦<MemSink as Sink>⟧.taken result ≡ Some out.items }
+        ensures count { ⟦<MemSink as Sink>⟧.failed result ≡ 0 }
     {
         MemSink { out, failures: 0 }
     }
+
+    /// The vector, with all that was taken.
+    pub fn into_vec(self) -> Vec<u8>
+        ensures { ⟦<MemSink as Sink>⟧.taken self ≡ Some result.items }
+    {
+        let MemSink { out, failures: _ } = self;
+        out
+    }
 }
 
-impl<'a> Sink for MemSink<'a> {
+impl Sink for MemSink {
     ghost failed = { λ s. s.failures };
 
-    ghost taken = { λ s. Some s.out.now.items };
+    ghost taken = { λ s. Some s.out.items };
 
     fn write(&mut self, piece: &[u8]) -> Result<usize, DeviceFault> {
         match self.out.extend_from_slice(piece) {
@@ -157,6 +172,17 @@ impl<R: Read> ReadSource<R> {
             reader,
             failures: 0,
         }
+    }
+
+    /// The reader, which gives what this source would still give.
+    pub fn into_inner(self) -> R
+        ensures { ⟦<ReadSource<R> as Source>⟧.to_come self ≡ R.remaining result }
+    {
+        let ReadSource {
+            reader,
+            failures: _,
+        } = self;
+        reader
     }
 }
 
@@ -194,6 +220,17 @@ impl<W: Write> WriteSink<W> {
             writer,
             failures: 0,
         }
+    }
+
+    /// The writer, which has what this sink has taken.
+    pub fn into_inner(self) -> W
+        ensures { ⟦<WriteSink<W> as Sink>⟧.taken self ≡ W.contents result }
+    {
+        let WriteSink {
+            writer,
+            failures: _,
+        } = self;
+        writer
     }
 }
 

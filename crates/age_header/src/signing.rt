@@ -1,51 +1,24 @@
 //! A header's MAC, and what it is taken over.
 
-ghost use Rattle.std.specs.Prelude.{◌≡◌, IfOk, Some};
+ghost use Rattle.std.specs.Prelude.{◌≡◌, IfOk};
 ghost use Rattle.age_header.specs.Mac.{header_mac};
 ghost use Rattle.age_header.specs.Text.{signed};
 
-use crate::device::{DeviceFault, Sink, count_failure};
+use crate::device::MemSink;
 use crate::signs;
 use crate::stanza::Stanza;
 use crate::writer::write_signed;
 use age_kdf::{hkdf, hmac};
 use std::alloc::{AllocError, Global};
 
-/// A sink that owns its bytes, for a text that is handed out.
-#[derive(Drop)]
-struct Text {
-    bytes: Vec<u8>,
-    failures: u64,
-}
-
-impl Sink for Text {
-    ghost failed = { λ s. s.failures };
-
-    ghost taken = { λ s. Some s.bytes.items };
-
-    fn write(&mut self, piece: &[u8]) -> Result<usize, DeviceFault> {
-        match self.bytes.extend_from_slice(piece) {
-            Ok(()) => Ok(piece.len()),
-            Err(_) => Err(count_failure(&mut self.failures)),
-        }
-    }
-
-    fn failures(&self) -> u64 {
-        self.failures
-    }
-}
-
 /// The text of a header with these stanzas, one or more, from its first byte through the three bytes `---`: what the
 /// header's MAC is taken over (C2SP `age.md`, "Header MAC").
 pub fn signed_text(alloc: Global, stanzas: &[Stanza]) -> Result<Vec<u8>, AllocError>
     ensures { IfOk result (λ text. text.items ≡ signed stanzas.now) }
 {
-    let mut text = Text {
-        bytes: Vec::new(alloc),
-        failures: 0,
-    };
+    let mut text = MemSink::new(Vec::new(alloc));
     match write_signed(stanzas, &signs::engine(), &mut text) {
-        Ok(()) => Ok(text.bytes),
+        Ok(()) => Ok(text.into_vec()),
         Err(_) => Err(AllocError),
     }
 }

@@ -156,14 +156,16 @@ fn written(rt: &impl Abort, alloc: Global, stanzas: &[(&[&str], usize)]) -> Resu
             Err(_) => assert!(rt; false),
         }
     }
-    let mut text = Vec::new(alloc);
+    let mut out = MemSink::new(Vec::new(alloc));
     if let Some(header) = Header::new(list, [0; 32]) {
-        assert!(rt; write_header(&header, &mut MemSink::new(&mut text)).is_ok());
-        assert_eq!(rt; header.text_len(), text.len() as u64);
+        assert!(rt; write_header(&header, &mut out).is_ok());
         assert_eq!(rt; header.mac_signs(), [b'A'; 43]);
         assert_eq!(rt; *header.mac(), [0u8; 32]);
+        let text = out.into_vec();
+        assert_eq!(rt; header.text_len(), text.len() as u64);
+        return Ok(text);
     }
-    Ok(text)
+    Ok(out.into_vec())
 }
 
 /// The header of these stanzas has this size, and is read again.
@@ -248,10 +250,16 @@ fn devices_that_fail(rt: HostRuntime) -> Result<(), Fail> {
     assert!(rt; sink.write(&[7; 60]).is_err());
     assert_eq!(rt; sink.failures(), 1);
     assert_eq!(rt; sink.write(b""), Ok(0));
-    let mut text = Vec::new(alloc);
-    let mut memory = MemSink::new(&mut text);
+    let mut memory = MemSink::new(Vec::new(alloc));
     assert_eq!(rt; memory.write(b"abc"), Ok(3));
     assert_eq!(rt; memory.failures(), 0);
+    assert_eq!(rt; memory.into_vec().as_slice(), b"abc".as_slice());
+    let mut source = ReadSource::new(b"abc".as_slice());
+    assert_eq!(rt; source.read(&mut [0; 2]), Ok(2));
+    assert_eq!(rt; source.into_inner(), b"c".as_slice());
+    let mut writer = WriteSink::new(Vec::new(alloc));
+    assert_eq!(rt; writer.write(b"abc"), Ok(3));
+    assert_eq!(rt; writer.into_inner().as_slice(), b"abc".as_slice());
     let mut reader = HeaderReader::new(1024);
     let mut empty = MemSource::new(b"");
     assert!(rt;
