@@ -2,7 +2,9 @@
 //! growth of memory refused in turn.
 #![tactic(auto)]
 
-use age_recipient::{FileKey, Identity, Matched, PassError, PassPair, Recipient, Unwrapped, WrapFault};
+use age_recipient::{
+    FileKey, Identity, Matched, PassError, PassPair, Recipient, Unwrapped, WrapFault,
+};
 use std::alloc::Global;
 use std::process::ExitCode;
 
