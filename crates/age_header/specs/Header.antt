@@ -12,6 +12,7 @@ pub record StanzaParts : Type 0 where
 abbrev pub line : List ℕ → List ℕ
 line text = text ++ 10 ∷ []
 
+-- the first line, of 22 bytes with its LF
 unfoldable pub version_line : List ℕ
 version_line = line (codes "age-encryption.org/v1")
 

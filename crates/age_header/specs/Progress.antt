@@ -6,9 +6,11 @@ use Rattle.age_header.specs.Header.{StanzaParts}
 use Rattle.age_header.specs.Steps.{State, between, within}
 use Rattle.age_header.specs.declared.progress.Progress.TheInside.{Inside}
 
+-- with no stanza open, between two
 abbrev state_with : List StanzaParts → Option StanzaParts → State
 state_with ss None = between ss
 state_with ss (Some s) = within ss s.args s.body
 
+-- the state of a progress
 abbrev pub state_of : Inside → State
 state_of p = state_with p.stanzas.items p.open

@@ -17,9 +17,11 @@ unfoldable pub body_lines : ℕ → List ℕ → List ℕ
 body_lines zero body = line (signs_of body)
 body_lines (suc n) body = line (signs_of (take 48 body)) ++ body_lines n (drop 48 body)
 
+-- a line for each 48 bytes, then the last
 unfoldable pub body_text : List ℕ → List ℕ
 body_text body = body_lines (length body / 48) body
 
+-- an argument line, and the body
 unfoldable pub stanza_text : StanzaParts → List ℕ
 stanza_text s = argument_line s.args ++ body_text s.body
 

@@ -32,6 +32,7 @@ pub record IsFront (text : List ℕ) : Type 0 where
 abbrev pub IsViable : List ℕ → Type 0
 IsViable text = (text ≡ []) ⊎ IsFront text
 
+-- some stanzas and MAC have this text
 abbrev pub IsHeader : List ℕ → Type 0
 IsHeader text = (stanzas : List StanzaParts) × (mac : List ℕ) × Head stanzas mac text
 

@@ -11,5 +11,6 @@ decided_from rest (Malformed fault ∷ more) = Malformed fault
 decided_from rest (Failed ∷ more) = decided_from Failed more
 decided_from rest (NotMine ∷ more) = decided_from rest more
 
+-- the answer of a list of answers
 abbrev pub decided : List Unwrapped → Unwrapped
 decided answers = decided_from NotMine answers

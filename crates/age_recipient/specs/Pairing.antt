@@ -16,6 +16,7 @@ use Rattle.age_recipient.specs.Pass.{IsSalt, PairFits, PassSecret, PassGuess, pa
 use Rattle.age_recipient.specs.Passphrase.{is_work_factor, number_from, pass_answer, pass_key, pass_stanza}
 use Rattle.age_recipient.specs.Sealing.{sealed_key, unsealed, zero_nonce}
 
+-- f holds of each number below n
 abbrev all_below : (ℕ → Bool) → ℕ → Bool
 all_below f zero = true
 all_below f (suc n) = f n && all_below f n
@@ -33,6 +34,7 @@ all_below_at f (suc n) k e low =
 abbrev is_spelled : List ℕ → ℕ → Bool
 is_spelled text n = is_work_factor text && nat_eq (number_from 0 text) n
 
+-- the digits of a number above 0, as text
 abbrev digits_text : ℕ → List ℕ
 digits_text n = map (λ d. 48 + d) (digits_of 10 n)
 

@@ -10,11 +10,13 @@ use Rattle.age_recipient.specs.declared.pass.PassError.TheVariants.{WorkFactor, 
 use Rattle.age_recipient.specs.Answer.{decided}
 use Rattle.age_recipient.specs.Passphrase.{pass_answer, pass_stanza}
 
+-- what a recipient holds
 pub record PassSecret : Type 0 where
   pub pass : List ℕ
   pub salt : List ℕ
   pub work : ℕ
 
+-- what an identity holds
 pub record PassGuess : Type 0 where
   pub pass : List ℕ
   pub max : ℕ

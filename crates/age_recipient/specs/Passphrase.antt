@@ -25,6 +25,7 @@ pass_stanza pass work salt key = record {
   body = sealed_key (pass_key pass salt work) key;
 }
 
+-- 0 to 9
 abbrev pub is_digit : ℕ → Bool
 is_digit c = nat_le 48 c && nat_le c 57
 
@@ -64,5 +65,6 @@ abbrev pub typed_answer : List ℕ → ℕ → List (List ℕ) → List ℕ → 
 typed_answer pass max [] body = NotMine
 typed_answer pass max (kind ∷ rest) body = if bytes_eq kind (codes "scrypt") then arguments_answer pass max rest body else NotMine
 
+-- what one stanza gives
 unfoldable pub pass_answer : List ℕ → ℕ → StanzaParts → Unwrapped
 pass_answer pass max stanza = typed_answer pass max stanza.args stanza.body

@@ -8,6 +8,7 @@ use Rattle.age_recipient.specs.declared.key.FileKey.{FileKey}
 use Rattle.age_recipient.specs.declared.unwrapped.Unwrapped.{Unwrapped}
 use Rattle.age_recipient.specs.declared.unwrapped.Unwrapped.TheVariants.{Failed, Key}
 
+-- a wrap key seals one file key alone
 abbrev pub zero_nonce : List ℕ
 zero_nonce = replicate 12 0
 
@@ -15,6 +16,7 @@ zero_nonce = replicate 12 0
 abbrev pub sealed_key : List ℕ → FileKey → List ℕ
 sealed_key wrap_key key = sealed wrap_key zero_nonce [] key.0
 
+-- the key that was found, or a failure
 abbrev pub key_answer : Option (List ℕ) → Unwrapped
 key_answer None = Failed
 key_answer (Some bytes) = Key (record { 0 = bytes })
