@@ -3,25 +3,28 @@
 # a run that is refused none must give the key back. The last line is 'N passed, M failed'.
 set -u
 cd "$(dirname "$0")/../crates/growth_probe" || exit 1
+work=$(mktemp -d)
+trap 'rm -rf "$work"' EXIT
 
 passed=0
 failed=0
 
-# Counts a run in which this growth is refused, which must say these words.
+# Counts what the run said in which this growth was refused, which must be these words.
 expect() {
-    local said
-    said=$(rt try --fail-alloc "$1" 2>&1)
-    if grep -qx "$2" <<<"$said"; then
+    if grep -qx "$2" "$work/$1"; then
         passed=$((passed + 1))
     else
         failed=$((failed + 1))
-        printf 'FAILED: growth %s refused:\n%s\n' "$1" "$said"
+        echo "FAILED: growth $1 refused:"
+        cat "$work/$1"
     fi
-    growths=$(sed -n 's/^allocations: //p' <<<"$said")
 }
 
+rt try --fail-alloc 1000 >"$work/1000" 2>&1
 expect 1000 unwrapped
+growths=$(sed -n 's/^allocations: //p' "$work/1000")
 echo "${growths:=0} growths, each refused in turn"
+seq "$growths" | xargs -P "$(nproc)" -I{} sh -c 'rt try --fail-alloc {} >"$0/{}" 2>&1' "$work"
 for number in $(seq "$growths"); do
     expect "$number" "out of memory"
 done
