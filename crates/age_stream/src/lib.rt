@@ -1,0 +1,10 @@
+//! The payload of age v1 files: a nonce, then a plaintext's chunks, each sealed at its place.
+#![tactic(auto)]
+
+mod done;
+mod fault;
+pub mod laws;
+mod place;
+
+pub use done::Done;
+pub use fault::StreamFault;
