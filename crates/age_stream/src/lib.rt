@@ -5,6 +5,10 @@ mod done;
 mod fault;
 pub mod laws;
 mod place;
+mod reading;
+mod sealing;
 
 pub use done::Done;
 pub use fault::StreamFault;
+pub use reading::open_payload;
+pub use sealing::seal_payload;
