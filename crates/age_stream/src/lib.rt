@@ -7,6 +7,8 @@ pub mod laws;
 mod place;
 mod reading;
 mod sealing;
+#[cfg(test)]
+mod tests;
 
 pub use done::Done;
 pub use fault::StreamFault;

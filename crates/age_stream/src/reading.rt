@@ -28,7 +28,7 @@ pub fn open_payload(
 ) -> Result<Done, StreamFault>
     ensures { (IsErrOf result StreamFault.Memory × (out.new.items ≡ out.old.items))
         ⊎ GivesReading (payload_reading key.now max_chunks payload.now) (length (pieces (drop 16 payload.now)))
-            out.old.items out.new.items result }
+        out.old.items out.new.items result }
 {
     if out.reserve(payload.len()).is_err() {
         return Err(StreamFault::Memory);

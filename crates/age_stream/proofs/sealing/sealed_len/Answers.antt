@@ -1,4 +1,4 @@
-use Rattle.std.proofs.Common.{rules, arith, inl, inr, ◌≡◌, ◌+◌, ◌-◌, ◌*◌, ◌/◌, ◌<◌, ◌≤◌, ◌⊎◌, ℕ, length}
+use Rattle.std.proofs.Common.{rules, arith, inl, inr, ◌≡◌, ◌+◌, ◌-◌, ◌*◌, ◌/◌, ◌<◌, ◌⊎◌, ℕ, length}
 use Rattle.std.proofs.lemmas.Bool.{cases_lt}
 use Rattle.age_stream.specs.Payload.{chunks}
 use Rattle.age_stream.proofs.ReadingLemmas.{cut-count}
