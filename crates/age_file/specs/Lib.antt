@@ -1,0 +1,3 @@
+pub mod AgeFile
+pub mod Device
+pub mod Verdict
