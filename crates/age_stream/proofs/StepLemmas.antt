@@ -71,6 +71,9 @@ count-first p lt = ap length (cut-step 65536 p (omega arith) lt) ∙ one
     one : suc (length (chunks (drop 65536 p))) ≡ length (chunks (drop 65536 p)) + 1
     one = omega arith
 
+pub count-one : (p : List ℕ) → length p ≤ 65536 → length (chunks p) ≡ 1
+count-one p le = ap length (cut-last 65536 p le)
+
 -- so much is written: `gone` are the sealed chunks before number i, and rest is to come
 pub record Written (key p rest old new : List ℕ) (i : ℕ) : Type 0 where
   pub gone : List (List ℕ)

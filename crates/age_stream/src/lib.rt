@@ -5,6 +5,12 @@ mod done;
 mod fault;
 pub mod laws;
 mod place;
+mod reading;
+mod sealing;
+#[cfg(test)]
+mod tests;
 
 pub use done::Done;
 pub use fault::StreamFault;
+pub use reading::open_payload;
+pub use sealing::seal_payload;
