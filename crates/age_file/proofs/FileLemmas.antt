@@ -1,5 +1,5 @@
 -- The verdict is a plaintext on age files alone.
-use Rattle.std.proofs.Common.{◌≡◌, ◌↔◌, ℕ, List, [], ◌∷◌, ◌++◌, length, drop, cond, true, false, Bool, sym, ◌∙◌, ap, refl, subst, Option, Some, None, Result, Ok, Err}
+use Rattle.std.proofs.Common.{◌≡◌, ◌↔◌, ◌⊎◌, inl, inr, ℕ, List, [], ◌∷◌, ◌++◌, length, drop, cond, true, false, Bool, sym, ◌∙◌, ap, refl, subst, Option, Some, None, Result, Ok, Err}
 use Rattle.std.specs.Prelude.{option_map}
 use Rattle.std.specs.Str.{bytes_eq}
 use Rattle.std.proofs.lemmas.Bool.{cond-false, cond-true}
@@ -12,6 +12,7 @@ use Rattle.age_header.specs.Mac.{header_mac}
 use Rattle.age_header.specs.Verdict.{Found, BeginsWith, HeaderVerdict}
 use Rattle.age_header.proofs.OneVerdict as headers
 use Rattle.age_recipient.specs.declared.choice.UnlockFault.{UnlockFault}
+use Rattle.age_recipient.specs.declared.choice.UnlockFault.TheVariants.{Memory}
 use Rattle.age_recipient.specs.declared.key.FileKey.{FileKey}
 use Rattle.age_recipient.specs.declared.unwrapped.Unwrapped.{Unwrapped}
 use Rattle.age_recipient.specs.declared.unwrapped.Unwrapped.TheVariants.{Key}
@@ -21,7 +22,7 @@ use Rattle.age_stream.specs.Payload.{payload}
 use Rattle.age_stream.specs.Reading.{Reading, stops, whole, payload_reading}
 use Rattle.age_stream.proofs.PayloadLemmas.{ok-payload, payload-ok}
 use Rattle.age_file.specs.declared.fault.Fault.{Fault}
-use Rattle.age_file.specs.declared.fault.Fault.TheVariants.{MixedPassphrase, BadMac}
+use Rattle.age_file.specs.declared.fault.Fault.TheVariants.{MixedPassphrase, BadMac, OutOfMemory}
 use Rattle.age_file.specs.AgeFile.{Bounds, AgeFile, is_mixed}
 use Rattle.age_file.specs.Verdict.{of_header, of_stream, Answering, checked, unlocked, read_under, judged, IsVerdict}
 
@@ -80,6 +81,14 @@ pub key-unlocked : (answers : Answering) (h : HeaderParts) (k : FileKey) → Has
 key-unlocked answers h k has =
     cond-false (is_mixed h.stanzas) _ _ has.unmixed ∙ ap (checked h) has.chosen
     ∙ cond-true (bytes_eq h.mac (header_mac k.0 h.stanzas)) _ _ ((bytes_eq-Decides _ _).1 has.mac)
+
+-- the key of a header, whose choice was made and checked unless memory was wanting
+pub checked-unlocked : (answers : Answering) (h : HeaderParts) (chosen : Result FileKey UnlockFault) (r : Result FileKey Fault) → is_mixed h.stanzas ≡ false
+    → (chosen ≡ Err Memory) ⊎ (chosen ≡ choice (answers h.stanzas)) → (r ≡ Err OutOfMemory) ⊎ (r ≡ checked h chosen)
+    → (r ≡ Err OutOfMemory) ⊎ (r ≡ unlocked answers h)
+checked-unlocked answers h chosen r alone c (inl memory) = inl memory
+checked-unlocked answers h chosen r alone (inl memory) (inr is) = inl (is ∙ ap (checked h) memory)
+checked-unlocked answers h chosen r alone (inr chose) (inr is) = inr (is ∙ ap (checked h) chose ∙ sym (cond-false (is_mixed h.stanzas) _ _ alone))
 
 -- the stanzas and the MAC of a header that was found
 abbrev pub parts : Found → HeaderParts

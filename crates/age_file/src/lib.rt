@@ -3,9 +3,14 @@
 
 mod devices;
 mod fault;
+mod header;
 pub mod laws;
 mod limits;
+mod names;
+mod reading;
 
 pub use age_stream::Done;
 pub use fault::Fault;
+pub use header::inspect;
 pub use limits::{Fresh, Limits};
+pub use reading::decrypt;
