@@ -3,14 +3,17 @@
 
 mod devices;
 mod fault;
+mod gather;
 mod header;
 pub mod laws;
 mod limits;
 mod names;
 mod reading;
+mod writing;
 
 pub use age_stream::Done;
 pub use fault::Fault;
 pub use header::inspect;
 pub use limits::{Fresh, Limits};
 pub use reading::decrypt;
+pub use writing::encrypt;
