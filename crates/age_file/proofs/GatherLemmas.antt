@@ -14,7 +14,7 @@ pub gathered_step : {A : Type 0} (f : A → Result (List StanzaParts) ℕ) (xs :
 gathered_step f xs i n x a low is answer =
     ap (gathered_from n)
     (drop-map f i xs ∙ ap (map f) (drop_more xs i x low) ∙ ap (λ y. f y ∷ map f (drop (i + 1) xs)) (sym is)
-        ∙ ap (λ y. y ∷ map f (drop (i + 1) xs)) answer ∙ ap (λ t. a ∷ t) (sym (drop-map f (i + 1) xs)))
+    ∙ ap (λ y. y ∷ map f (drop (i + 1) xs)) answer ∙ ap (λ t. a ∷ t) (sym (drop-map f (i + 1) xs)))
 
 before_twice : (a b : List StanzaParts) (r : Result (List StanzaParts) Fault) → before a (before b r) ≡ before (a ++ b) r
 before_twice a b (Ok more) = ap Ok (sym (append_assoc a b more))

@@ -109,6 +109,6 @@ abbrev pub FailsHeading : Bounds → FileKey → Result (List StanzaParts) Fault
 FailsHeading limits k given fault =
     (fault ≡ OutOfMemory)
     ⊎ (((i : ℕ) × (code : ℕ) × (fault ≡ Refused i code) × IsRefusal limits k given (Refused i code))
-        ⊎ (((fault ≡ NoRecipients) × IsRefusal limits k given NoRecipients)
-            ⊎ (((fault ≡ MixedPassphrase) × IsRefusal limits k given MixedPassphrase)
-                ⊎ ((fault ≡ HeaderTooLarge) × IsRefusal limits k given HeaderTooLarge))))
+    ⊎ (((fault ≡ NoRecipients) × IsRefusal limits k given NoRecipients)
+    ⊎ (((fault ≡ MixedPassphrase) × IsRefusal limits k given MixedPassphrase)
+    ⊎ ((fault ≡ HeaderTooLarge) × IsRefusal limits k given HeaderTooLarge))))

@@ -9,6 +9,8 @@ pub mod laws;
 mod limits;
 mod names;
 mod reading;
+#[cfg(test)]
+mod tests;
 mod writing;
 
 pub use age_stream::Done;
