@@ -32,7 +32,7 @@ pub fn encrypt<S: Source, W: Sink>(
     fresh: &Fresh,
     limits: &Limits,
 ) -> Result<Done, Fault>
-    ensures written { EncryptsGiven limits.now fresh.now (gathered (map (λ r. wraps r fresh.now.file_key) recipients.now))
+    ensures answer { EncryptsGiven limits.now fresh.now (gathered (map (λ r. wraps r fresh.now.file_key) recipients.now))
         (S.to_come plain.old) (W.taken out.old) (W.taken out.new) result }
     ensures refused { IfErr result (RefusesFirst limits.now fresh.now.file_key (gathered (map (λ r. wraps r fresh.now.file_key) recipients.now))) }
     ensures quiet { IfErr result (λ fault. IsLate fault ⊎ Keeps (W.taken out.old) (W.taken out.new)) }
