@@ -1,0 +1,5 @@
+mod DecryptLemmas
+mod EncryptLemmas
+mod FileLemmas
+mod GatherLemmas
+mod ReadingLemmas
