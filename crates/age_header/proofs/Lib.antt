@@ -14,6 +14,6 @@ mod TakeLemmas
 mod TextLemmas
 mod VerdictLemmas
 mod WriteLemmas
-mod OneVerdict
+pub mod OneVerdict
 mod HeadFacts
 pub mod Decoding

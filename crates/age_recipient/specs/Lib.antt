@@ -1,4 +1,5 @@
 pub mod Answer
+pub mod Choice
 pub mod Key
 pub mod Pairing
 pub mod Pass

@@ -1,6 +1,7 @@
 //! Recipients and identities of age v1 files: who wraps a file key into stanzas, and who unwraps it again.
 #![tactic(auto)]
 
+mod choice;
 mod identity;
 mod key;
 mod matched;
@@ -14,6 +15,7 @@ mod tests;
 mod unwrapped;
 mod work;
 
+pub use choice::{UnlockFault, unlock};
 pub use identity::Identity;
 pub use key::FileKey;
 pub use matched::Matched;

@@ -1,5 +1,7 @@
 //! Passphrase stanzas with known answers: what is wrapped, what is unwrapped, and what each check says.
 
+mod unlocking;
+
 use crate::{
     FileKey, Identity, Matched, PassError, PassIdentity, PassPair, PassRecipient, Recipient,
     StanzaFault, Unwrapped,

@@ -1,0 +1,8 @@
+use Rattle.std.proofs.Common.{◌≡◌, drop}
+use Rattle.std.specs.List.{list_any}
+use Rattle.age_file.specs.AgeFile.{is_scrypt}
+use Rattle.age_file.proofs.header.has_scrypt.Given as goal
+
+abbrev pub invariant-loop-stanza : goal.invariant-loop-stanza
+invariant-loop-stanza l =
+    list_any (λ s. is_scrypt s.args) (drop l.stanza-index l.stanzas) ≡ list_any (λ s. is_scrypt s.args) l.stanzas

@@ -1,0 +1,40 @@
+-- Whole age files (C2SP age.md).
+use Rattle.std.specs.Prelude.{◌≡◌, ℕ, ◌≤◌, ◌&&◌, Bool, false, List, [], ◌∷◌, ◌++◌, length, codes, nat_lt}
+use Rattle.std.specs.List.{list_any}
+use Rattle.std.specs.Str.{bytes_eq}
+use Rattle.age_header.specs.Header.{StanzaParts, Head}
+use Rattle.age_header.specs.Mac.{header_mac}
+use Rattle.age_recipient.specs.declared.key.FileKey.{FileKey}
+use Rattle.age_stream.specs.Payload.{chunks, payload}
+
+-- how long a header may be in bytes, and a payload in chunks
+pub record Bounds : Type 0 where
+  pub max_header : ℕ
+  pub max_chunks : ℕ
+
+-- the bounds that there are
+pub record IsBounds (limits : Bounds) : Type 0 where
+  pub header_low : 1024 ≤ limits.max_header
+  pub header_high : limits.max_header ≤ 16777216
+  pub chunks_low : 1 ≤ limits.max_chunks
+  pub chunks_high : limits.max_chunks ≤ 4294967296
+
+-- arguments of type `scrypt`, which the first one says
+abbrev pub is_scrypt : List (List ℕ) → Bool
+is_scrypt [] = false
+is_scrypt (kind ∷ _) = bytes_eq kind (codes "scrypt")
+
+-- a `scrypt` stanza stands beside another stanza (C2SP age.md, "The scrypt recipient type")
+abbrev pub is_mixed : List StanzaParts → Bool
+is_mixed stanzas = nat_lt 1 (length stanzas) && list_any (λ s. is_scrypt s.args) stanzas
+
+-- b is a file of these stanzas and this plaintext under this file key: a header with the right MAC, then a payload
+pub record AgeFile (limits : Bounds) (k : FileKey) (stanzas : List StanzaParts) (plain b : List ℕ) : Type 0 where
+  pub header : List ℕ
+  pub nonce : List ℕ
+  pub head : Head stanzas (header_mac k.0 stanzas) header
+  pub nonce_len : length nonce ≡ 16
+  pub spelled : b ≡ header ++ payload k nonce plain
+  pub header_fits : length header ≤ limits.max_header
+  pub chunks_fit : length (chunks plain) ≤ limits.max_chunks
+  pub unmixed : is_mixed stanzas ≡ false

@@ -1,0 +1,30 @@
+-- What answers say of devices: of their counts of failures, and of what was written.
+use Rattle.std.specs.Prelude.{◌≡◌, ℕ, ◌+◌, ◌-◌, ◌^◌, ⊤, min, Result, Err}
+use Rattle.age_file.specs.declared.fault.Fault.{Fault}
+use Rattle.age_file.specs.declared.fault.Fault.TheVariants.{ChunkShort, EmptyFinal, BadChunk, TooManyChunks, Read, Write}
+
+-- the count of failed reads rises by one where the answer is Read, and else stays
+abbrev pub CountsRead : {A : Type 0} → ℕ → ℕ → Result A Fault → Type 0
+CountsRead old new (Err Read) = new ≡ min (old + 1) (2 ^ 64 - 1)
+CountsRead old new _ = new ≡ old
+
+-- the count of failed writes rises by one where the answer is Write, and else stays
+abbrev pub CountsWrite : {A : Type 0} → ℕ → ℕ → Result A Fault → Type 0
+CountsWrite old new (Err Write) = new ≡ min (old + 1) (2 ^ 64 - 1)
+CountsWrite old new _ = new ≡ old
+
+-- a fault of no device
+abbrev pub IsInside : Fault → Type 0
+IsInside Read = ⊥
+IsInside Write = ⊥
+IsInside _ = ⊤
+
+-- a fault before which something may have been written: of a chunk, or of a device
+abbrev pub IsLate : Fault → Type 0
+IsLate (ChunkShort i) = ⊤
+IsLate (EmptyFinal i) = ⊤
+IsLate (BadChunk i) = ⊤
+IsLate TooManyChunks = ⊤
+IsLate Read = ⊤
+IsLate Write = ⊤
+IsLate _ = ⊥

@@ -1,0 +1,5 @@
+pub mod AgeFile
+pub mod Decrypt
+pub mod Device
+pub mod Inspect
+pub mod Verdict

@@ -1,0 +1,81 @@
+-- What bytes are to given identities and limits: a plaintext, or the first fault and the plaintext before it.
+use Rattle.std.specs.Prelude.{◌≡◌, ℕ, List, length, drop, option_map, Result, Ok, Err, if◌then◌else◌}
+use Rattle.std.specs.Str.{bytes_eq}
+use Rattle.age_header.specs.declared.fault.HeaderFault.{HeaderFault}
+use Rattle.age_header.specs.declared.fault.HeaderFault.TheVariants as header
+use Rattle.age_header.specs.Header.{StanzaParts, HeaderParts}
+use Rattle.age_header.specs.Mac.{header_mac}
+use Rattle.age_header.specs.Verdict.{Found, HeaderVerdict}
+use Rattle.age_recipient.specs.declared.choice.UnlockFault.{UnlockFault}
+use Rattle.age_recipient.specs.declared.choice.UnlockFault.TheVariants as unlock
+use Rattle.age_recipient.specs.declared.key.FileKey.{FileKey}
+use Rattle.age_recipient.specs.declared.unwrapped.Unwrapped.{Unwrapped}
+use Rattle.age_recipient.specs.Choice.{choice}
+use Rattle.age_stream.specs.declared.fault.StreamFault.{StreamFault}
+use Rattle.age_stream.specs.declared.fault.StreamFault.TheVariants as stream
+use Rattle.age_stream.specs.Reading.{Reading, stops, payload_reading}
+use Rattle.age_file.specs.declared.fault.Fault.{Fault}
+use Rattle.age_file.specs.declared.fault.Fault.TheVariants.{NotAge, BadLine, HeaderTruncated, HeaderTooLarge, MixedPassphrase, NoMatch, WrongKey, Malformed, BadMac, NonceTruncated, ChunkShort, EmptyFinal, BadChunk, TooManyChunks, Read, Write, OutOfMemory}
+use Rattle.age_file.specs.AgeFile.{Bounds, is_mixed}
+
+-- a file's name of the fault of its header
+abbrev pub of_header : HeaderFault → Fault
+of_header header.NotAge = NotAge
+of_header (header.BadLine n) = BadLine n
+of_header header.Truncated = HeaderTruncated
+of_header header.TooLarge = HeaderTooLarge
+of_header header.Read = Read
+of_header header.Memory = OutOfMemory
+
+-- of finding its key
+abbrev pub of_unlock : UnlockFault → Fault
+of_unlock unlock.NoMatch = NoMatch
+of_unlock unlock.WrongKey = WrongKey
+of_unlock (unlock.Malformed fault) = Malformed fault
+of_unlock unlock.Memory = OutOfMemory
+
+-- of its payload
+abbrev pub of_stream : StreamFault → Fault
+of_stream stream.NonceTruncated = NonceTruncated
+of_stream (stream.ChunkShort i) = ChunkShort i
+of_stream (stream.EmptyFinal i) = EmptyFinal i
+of_stream (stream.BadChunk i) = BadChunk i
+of_stream stream.TooManyChunks = TooManyChunks
+of_stream stream.Read = Read
+of_stream stream.Write = Write
+of_stream stream.Memory = OutOfMemory
+
+-- what identities answer to each list of stanzas
+abbrev pub Answering : Type 0
+Answering = List StanzaParts → List Unwrapped
+
+-- the key that was chosen, where the header's MAC is the one under it
+abbrev pub checked : HeaderParts → Result FileKey UnlockFault → Result FileKey Fault
+checked h (Err fault) = Err (of_unlock fault)
+checked h (Ok k) = if bytes_eq h.mac (header_mac k.0 h.stanzas) then Ok k else Err BadMac
+
+-- the file key of a header, or the first fault up to the MAC
+abbrev pub unlocked : Answering → HeaderParts → Result FileKey Fault
+unlocked answers h =
+    if is_mixed h.stanzas then Err MixedPassphrase
+    else checked h (choice (answers h.stanzas))
+
+-- what follows a header, read under the file key
+abbrev pub read_under : Bounds → List ℕ → Result FileKey Fault → Reading Fault
+read_under limits rest (Err fault) = stops fault
+read_under limits rest (Ok k) = record {
+  front = (payload_reading k limits.max_chunks rest).front;
+  fault = option_map of_stream (payload_reading k limits.max_chunks rest).fault;
+}
+
+-- b, whose header verdict is known
+abbrev pub judged : Bounds → Answering → List ℕ → Result Found HeaderFault → Reading Fault
+judged limits answers b (Err fault) = stops (of_header fault)
+judged limits answers b (Ok found) =
+    read_under limits (drop (length found.text) b) (unlocked answers (record { stanzas = found.stanzas; mac = found.mac }))
+
+-- The verdict on b: the first fault, if there is one, and the plaintext of the chunks before it.
+pub record IsVerdict (limits : Bounds) (answers : Answering) (b : List ℕ) (verdict : Reading Fault) : Type 0 where
+  pub header : Result Found HeaderFault
+  pub of_header : HeaderVerdict b limits.max_header header
+  pub is : verdict ≡ judged limits answers b header

@@ -1,0 +1,97 @@
+//! The header of a file, and the file key that its identities find in it.
+
+ghost use Rattle.std.specs.Prelude.{◌≡◌, ◌⊎◌, map, Err, IfErr};
+ghost use Rattle.std.specs.List.{list_any};
+ghost use Rattle.age_file.specs.AgeFile.{is_mixed, is_scrypt};
+ghost use Rattle.age_file.specs.Device.{CountsRead, IsInside};
+ghost use Rattle.age_file.specs.Inspect.{Inspects};
+ghost use Rattle.age_file.specs.Verdict.{checked, unlocked};
+
+use crate::fault::Fault;
+use crate::limits::Limits;
+use crate::names::{header_fault, unlock_fault};
+use age_header::{Header, HeaderReader, Source, Stanza, mac_of};
+use age_recipient::{FileKey, Identity, UnlockFault, unlock};
+use std::alloc::Global;
+
+/// The header at the front of a file, of which just the header's bytes are taken. Its MAC is not looked at.
+///
+/// # Errors
+/// The first of `NotAge`, `BadLine`, `HeaderTruncated` and `HeaderTooLarge` that applies, as `HeaderReader` says; `Read` where the
+/// source failed, `OutOfMemory` where a growth was refused.
+pub fn inspect<S: Source>(alloc: Global, input: &mut S, limits: &Limits) -> Result<Header, Fault>
+    ensures verdict { Inspects limits.now (S.to_come input.old) (S.to_come input.new) result }
+    ensures reads { CountsRead (S.failed input.old) (S.failed input.new) result }
+{
+    match HeaderReader::new(limits.max_header()).read_from(alloc, input) {
+        Ok(header) => Ok(header),
+        Err(fault) => Err(header_fault(fault)),
+    }
+}
+
+/// The file key of a header, which has to have the right MAC under it.
+pub(crate) fn unlock_header(
+    alloc: Global,
+    identities: &[Box<dyn Identity>],
+    header: &Header,
+) -> Result<FileKey, Fault>
+    ensures key { (result ≡ Err Fault.OutOfMemory)
+        ⊎ (result ≡ unlocked (λ stanzas. map (λ i. meaning i stanzas) identities.now) header.now) }
+    ensures inside { IfErr result IsInside }
+{
+    if is_mixed(header.stanzas()) {
+        return Err(Fault::MixedPassphrase);
+    }
+    checked(alloc, header, unlock(alloc, identities, header.stanzas()))
+}
+
+/// The key that was chosen, where the header's MAC is the one under it.
+fn checked(
+    alloc: Global,
+    header: &Header,
+    chosen: Result<FileKey, UnlockFault>,
+) -> Result<FileKey, Fault>
+    ensures key { (result ≡ Err Fault.OutOfMemory) ⊎ (result ≡ checked header.now chosen) }
+    ensures inside { IfErr result IsInside }
+{
+    let key = match chosen {
+        Ok(key) => key,
+        Err(fault) => return Err(unlock_fault(fault)),
+    };
+    let Ok(mac) = mac_of(alloc, &key.0, header.stanzas()) else {
+        return Err(Fault::OutOfMemory);
+    };
+    if *header.mac() == mac {
+        Ok(key)
+    } else {
+        Err(Fault::BadMac)
+    }
+}
+
+/// Whether a `scrypt` stanza stands beside another stanza.
+pub(crate) fn is_mixed(stanzas: &[Stanza]) -> bool
+    ensures { result ≡ is_mixed stanzas.now }
+{
+    stanzas.len() > 1 && has_scrypt(stanzas)
+}
+
+/// Whether a stanza is of type `scrypt`.
+fn has_scrypt(stanzas: &[Stanza]) -> bool
+    ensures { result ≡ list_any (λ s. is_scrypt s.args) stanzas.now }
+{
+    for stanza in stanzas {
+        if is_scrypt(stanza) {
+            return true;
+        }
+    }
+    false
+}
+
+fn is_scrypt(stanza: &Stanza) -> bool
+    ensures { result ≡ is_scrypt stanza.now.args }
+{
+    match stanza.args().split_first() {
+        Some((kind, _)) => kind.as_str() == "scrypt",
+        None => false,
+    }
+}

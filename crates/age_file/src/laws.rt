@@ -1,0 +1,29 @@
+//! Laws over the definitions alone: functions that do nothing, with the law as their contract.
+
+ghost use Rattle.std.specs.Prelude.{◌≡◌, ◌↔◌, ℕ, List, [], ◌∷◌, Ok};
+ghost use Rattle.age_header.specs.Header.{StanzaParts};
+ghost use Rattle.age_recipient.specs.declared.key.FileKey.{FileKey};
+ghost use Rattle.age_recipient.specs.Choice.{choice};
+ghost use Rattle.age_recipient.specs.Key.{IsFileKey};
+ghost use Rattle.age_stream.specs.Reading.{Reading, whole};
+ghost use Rattle.age_file.specs.declared.fault.Fault.{Fault};
+ghost use Rattle.age_file.specs.AgeFile.{AgeFile, Bounds};
+ghost use Rattle.age_file.specs.Verdict.{Answering, IsVerdict};
+
+use age_recipient::Matched;
+
+/// The verdict is a plaintext exactly on the age files of this plaintext for the file key that the identities choose. Bytes have one
+/// verdict.
+pub fn ok_is_age_file()
+    ensures ok { (limits : Bounds) (answers : Answering) (b plain : List ℕ) → IsVerdict limits answers b (whole plain)
+        ↔ ((stanzas : List StanzaParts) × (k : FileKey) × AgeFile limits k stanzas plain b × (choice (answers stanzas) ≡ Ok k)) }
+    ensures one { (limits : Bounds) (answers : Answering) (b : List ℕ) (v w : Reading Fault)
+        → IsVerdict limits answers b v → IsVerdict limits answers b w → v ≡ w }
+{}
+
+/// An age file of the stanzas in which a pair's recipient wraps its file key is its plaintext to the pair's identity.
+pub fn pair_opens<M: Matched>(pair: &M)
+    ensures { (limits : Bounds) (k : FileKey) (stanzas : List StanzaParts) (plain b : List ℕ) → IsFileKey k
+        → M.R.wraps (M.the_recipient pair.now) k ≡ Ok stanzas → AgeFile limits k stanzas plain b
+        → IsVerdict limits (λ s. M.I.meaning (M.the_identity pair.now) s ∷ []) b (whole plain) }
+{}

@@ -1,0 +1,16 @@
+//! Whole age v1 files (C2SP `age.md`): what bytes are to given identities, and the plaintext of a file.
+#![tactic(auto)]
+
+mod devices;
+mod fault;
+mod header;
+pub mod laws;
+mod limits;
+mod names;
+mod reading;
+
+pub use age_stream::Done;
+pub use fault::Fault;
+pub use header::inspect;
+pub use limits::{Fresh, Limits};
+pub use reading::decrypt;

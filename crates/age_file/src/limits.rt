@@ -1,0 +1,82 @@
+ghost use Rattle.std.specs.Prelude.{◌≡◌, Some, None, IfSome, IfNone};
+
+use age_recipient::FileKey;
+use std::marker::Model;
+
+/// How long a header may be in bytes, and a payload in chunks.
+#[derive(Clone, Copy, Debug, PartialEq, Eq)]
+pub struct Limits {
+    max_header: usize,
+    max_chunks: u64,
+}
+
+impl Model for Limits {
+    ghost use Rattle.age_file.specs.AgeFile.{Bounds, IsBounds};
+
+    ghost Value = { Bounds };
+
+    ghost view = { λ l. record { max_header = l.max_header; max_chunks = l.max_chunks } };
+
+    ghost invariant = { λ l. IsBounds (record { max_header = l.max_header; max_chunks = l.max_chunks }) };
+
+    ghost inverse = { λ b. record { max_header = b.max_header; max_chunks = b.max_chunks } };
+}
+
+impl Limits {
+    ghost use Rattle.age_file.specs.AgeFile.{IsBounds};
+
+    /// Limits of 1,024 to 16,777,216 bytes of a header and 1 to 4,294,967,296 chunks of a payload; None exactly outside.
+    pub fn new(max_header: usize, max_chunks: u64) -> Option<Limits>
+        ensures some { IfSome result (λ limits. IsBounds limits × (limits ≡ record { max_header = max_header; max_chunks = max_chunks })) }
+        ensures none { IfNone result (IsBounds (record { max_header = max_header; max_chunks = max_chunks }) → ⊥) }
+    {
+        if max_header < 1_024
+            || max_header > 16_777_216
+            || max_chunks < 1
+            || max_chunks > 4_294_967_296
+        {
+            return None;
+        }
+        Some(Limits {
+            max_header,
+            max_chunks,
+        })
+    }
+
+    /// The most bytes that a header may have.
+    pub(crate) fn max_header(&self) -> usize
+        ensures value { result ≡ self.now.max_header }
+        ensures range { IsBounds self.now }
+    {
+        self.max_header
+    }
+
+    /// The most chunks that a payload may have.
+    pub(crate) fn max_chunks(&self) -> u64
+        ensures value { result ≡ self.now.max_chunks }
+        ensures range { IsBounds self.now }
+    {
+        self.max_chunks
+    }
+}
+
+impl Default for Limits {
+    ghost is_default = { λ limits. limits ≡ record { max_header = 65536; max_chunks = 4294967296 } };
+
+    /// A header of 65,536 bytes, and a payload of 4,294,967,296 chunks.
+    fn default() -> Limits {
+        Limits {
+            max_header: 65_536,
+            max_chunks: 4_294_967_296,
+        }
+    }
+}
+
+/// What a file needs that no file before it may have had.
+#[derive(Clone, Copy, PartialEq, Eq)]
+pub struct Fresh {
+    /// The file key.
+    pub file_key: FileKey,
+    /// The payload's nonce.
+    pub nonce: [u8; 16],
+}

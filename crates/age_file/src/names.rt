@@ -1,0 +1,53 @@
+//! A file's names of the faults of its parts.
+
+ghost use Rattle.std.specs.Prelude.{◌≡◌};
+ghost use Rattle.age_file.specs.Device.{IsInside};
+ghost use Rattle.age_file.specs.Verdict.{of_header, of_stream, of_unlock};
+
+use crate::fault::Fault;
+use age_header::HeaderFault;
+use age_recipient::UnlockFault;
+use age_stream::StreamFault;
+
+/// Of a header.
+pub(crate) fn header_fault(fault: HeaderFault) -> Fault
+    ensures { result ≡ of_header fault }
+{
+    match fault {
+        HeaderFault::NotAge => Fault::NotAge,
+        HeaderFault::BadLine(line) => Fault::BadLine(line),
+        HeaderFault::Truncated => Fault::HeaderTruncated,
+        HeaderFault::TooLarge => Fault::HeaderTooLarge,
+        HeaderFault::Read => Fault::Read,
+        HeaderFault::Memory => Fault::OutOfMemory,
+    }
+}
+
+/// Of finding its key.
+pub(crate) fn unlock_fault(fault: UnlockFault) -> Fault
+    ensures name { result ≡ of_unlock fault }
+    ensures inside { IsInside result }
+{
+    match fault {
+        UnlockFault::NoMatch => Fault::NoMatch,
+        UnlockFault::WrongKey => Fault::WrongKey,
+        UnlockFault::Malformed(stanza) => Fault::Malformed(stanza),
+        UnlockFault::Memory => Fault::OutOfMemory,
+    }
+}
+
+/// Of a payload.
+pub(crate) fn stream_fault(fault: StreamFault) -> Fault
+    ensures { result ≡ of_stream fault }
+{
+    match fault {
+        StreamFault::NonceTruncated => Fault::NonceTruncated,
+        StreamFault::ChunkShort(i) => Fault::ChunkShort(i),
+        StreamFault::EmptyFinal(i) => Fault::EmptyFinal(i),
+        StreamFault::BadChunk(i) => Fault::BadChunk(i),
+        StreamFault::TooManyChunks => Fault::TooManyChunks,
+        StreamFault::Read => Fault::Read,
+        StreamFault::Write => Fault::Write,
+        StreamFault::Memory => Fault::OutOfMemory,
+    }
+}

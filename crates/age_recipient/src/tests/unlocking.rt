@@ -1,0 +1,75 @@
+//! Which of several identities' answers is the one of `unlock`.
+
+use crate::{FileKey, Identity, StanzaFault, UnlockFault, Unwrapped, unlock};
+use age_header::Stanza;
+use std::alloc::{AllocError, Global};
+use std::test::Fail;
+
+const KEY: FileKey = FileKey([9; 16]);
+
+/// A caller's identity, which has one answer whatever the stanzas are, or wants memory.
+#[derive(Drop)]
+struct Fixed {
+    answer: Unwrapped,
+    wants_memory: bool,
+}
+
+impl Identity for Fixed {
+    ghost meaning = { λ fixed _. fixed.answer };
+
+    fn unwrap(&self, _alloc: Global, _stanzas: &[Stanza]) -> Result<Unwrapped, AllocError> {
+        if self.wants_memory {
+            return Err(AllocError);
+        }
+        Ok(self.answer)
+    }
+}
+
+/// What identities with these answers come to; None stands for one that wants memory.
+fn choice_of(
+    alloc: Global,
+    answers: &[Option<Unwrapped>],
+) -> Result<Result<FileKey, UnlockFault>, Fail> {
+    let mut identities: Vec<Box<dyn Identity>> = Vec::new(alloc);
+    for answer in answers {
+        let fixed = Fixed {
+            answer: answer.unwrap_or(Unwrapped::NotMine),
+            wants_memory: answer.is_none(),
+        };
+        identities.push(Box::new(alloc, fixed)?)?;
+    }
+    Ok(unlock(alloc, identities.as_slice(), &[]))
+}
+
+/// The last identities of some lists want memory, which shows that they are not asked.
+#[test]
+fn first_that_decides(rt: HostRuntime) -> Result<(), Fail> {
+    let not_mine = Some(Unwrapped::NotMine);
+    let failed = Some(Unwrapped::Failed);
+    let key = Some(Unwrapped::Key(KEY));
+    let short = Some(Unwrapped::Malformed(StanzaFault::BodyLength));
+    let lists: [(&[Option<Unwrapped>], Result<FileKey, UnlockFault>); 8] = [
+        (&[], Err(UnlockFault::NoMatch)),
+        (&[not_mine, not_mine], Err(UnlockFault::NoMatch)),
+        (&[failed, not_mine], Err(UnlockFault::WrongKey)),
+        (
+            &[short, key],
+            Err(UnlockFault::Malformed(StanzaFault::BodyLength)),
+        ),
+        (&[failed, key, short, None], Ok(KEY)),
+        (&[failed, None, key], Err(UnlockFault::Memory)),
+        (
+            &[
+                not_mine,
+                Some(Unwrapped::Malformed(StanzaFault::Other(7))),
+                None,
+            ],
+            Err(UnlockFault::Malformed(StanzaFault::Other(7))),
+        ),
+        (&[None], Err(UnlockFault::Memory)),
+    ];
+    for (answers, expected) in lists {
+        assert!(rt; choice_of(rt.alloc(), answers)? == expected);
+    }
+    Ok(())
+}

@@ -1,0 +1,5 @@
+use Rattle.age_stream.proofs.CutLemmas.{one_cut_both}
+use Rattle.age_stream.proofs.laws.one_cut.Goals as goal
+
+pub returns : goal.returns
+returns c = one_cut_both

@@ -1,0 +1,7 @@
+use Rattle.std.proofs.Common.{rules}
+use Rattle.age_stream.specs.Payload.{payload_key}
+use Rattle.age_stream.proofs.place.payload_key.Goals as goal
+
+pub returns : goal.returns
+unfolding payload_key
+returns c = search rules

@@ -1,0 +1,62 @@
+-- What reading a payload gives: the first fault, and the plaintext before it (C2SP age.md, "Payload").
+use Rattle.std.specs.Prelude.{ℕ, List, [], ◌∷◌, ◌++◌, ◌+◌, ◌&&◌, Bool, length, take, drop, nat_lt, nat_le, nat_eq, Option, Some, None, Result, Ok, Err, ok_or, if◌then◌else◌}
+use Rattle.age_cipher.specs.Sealing.{opened}
+use Rattle.age_recipient.specs.declared.key.FileKey.{FileKey}
+use Rattle.age_stream.specs.declared.fault.StreamFault.{StreamFault}
+use Rattle.age_stream.specs.declared.fault.StreamFault.TheVariants.{NonceTruncated, ChunkShort, EmptyFinal, BadChunk, TooManyChunks}
+use Rattle.age_stream.specs.Payload.{pieces, place, is_end, payload_key}
+
+-- what piece i opens to at its place
+abbrev pub opened_at : List ℕ → ℕ → Bool → List ℕ → Option (List ℕ)
+opened_at key i last piece = opened key (place i last) [] piece
+
+-- what piece i gives: the first fault that applies, or its opening
+unfoldable pub outcome : List ℕ → ℕ → ℕ → Bool → List ℕ → Result (List ℕ) StreamFault
+outcome key max i last piece =
+    if nat_le max i then Err TooManyChunks
+    else if nat_lt (length piece) 16 then Err (ChunkShort i)
+    else if last && nat_lt 0 i && nat_eq (length piece) 16 then Err (EmptyFinal i)
+    else ok_or (opened_at key i last piece) (BadChunk i)
+
+-- what each piece gives, numbered from i on
+abbrev pub outcomes : List ℕ → ℕ → ℕ → List (List ℕ) → List (Result (List ℕ) StreamFault)
+outcomes key max i [] = []
+outcomes key max i (piece ∷ more) = outcome key max i (is_end more) piece ∷ outcomes key max (i + 1) more
+
+-- the first fault, if there is one
+abbrev pub first_fault : {F : Type 0} → List (Result (List ℕ) F) → Option F
+first_fault [] = None
+first_fault (Ok text ∷ more) = first_fault more
+first_fault (Err fault ∷ more) = Some fault
+
+-- the openings before the first fault, joined
+abbrev pub front : {F : Type 0} → List (Result (List ℕ) F) → List ℕ
+front [] = []
+front (Ok text ∷ more) = text ++ front more
+front (Err fault ∷ more) = []
+
+-- what a reading gives: some plaintext, then a fault or the end
+pub record Reading (F : Type 0) : Type 0 where
+  pub front : List ℕ
+  pub fault : Option F
+
+-- a fault before any plaintext
+abbrev pub stops : {F : Type 0} → F → Reading F
+stops fault = record { front = []; fault = Some fault }
+
+-- a plaintext to its end
+abbrev pub whole : {F : Type 0} → List ℕ → Reading F
+whole plain = record { front = plain; fault = None }
+
+-- a text read as the pieces from number i on
+abbrev pub reading_from : List ℕ → ℕ → ℕ → List ℕ → Reading StreamFault
+reading_from key max i rest = record {
+  front = front (outcomes key max i (pieces rest));
+  fault = first_fault (outcomes key max i (pieces rest));
+}
+
+-- a payload read under a file key: its nonce, then its pieces
+abbrev pub payload_reading : FileKey → ℕ → List ℕ → Reading StreamFault
+payload_reading k max text =
+    if nat_lt (length text) 16 then stops NonceTruncated
+    else reading_from (payload_key k (take 16 text)) max 0 (drop 16 text)

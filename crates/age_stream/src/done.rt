@@ -1,0 +1,8 @@
+/// How much was sealed or opened.
+#[derive(Clone, Copy, Debug, Drop, PartialEq, Eq)]
+pub struct Done {
+    /// The plaintext's length.
+    pub bytes: u64,
+    /// The number of its chunks.
+    pub chunks: u64,
+}

@@ -1,0 +1,20 @@
+/// What can be wrong with a payload (C2SP `age.md`, "Payload"). Chunks are numbered from 0.
+#[derive(Clone, Copy, Debug, Drop, PartialEq, Eq)]
+pub enum StreamFault {
+    /// There are fewer than the nonce's 16 bytes.
+    NonceTruncated,
+    /// This piece is shorter than a tag.
+    ChunkShort(u64),
+    /// The last piece has a tag alone, and stands behind others.
+    EmptyFinal(u64),
+    /// No plaintext seals to this piece at its place.
+    BadChunk(u64),
+    /// There are more chunks than are allowed.
+    TooManyChunks,
+    /// A read failed.
+    Read,
+    /// A write failed.
+    Write,
+    /// A growth was refused.
+    Memory,
+}
