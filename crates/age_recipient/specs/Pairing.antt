@@ -1,4 +1,4 @@
--- The law of a passphrase and its pair: what the recipient wraps the identity unwraps. It stands here since an impl names the proof of its law.
+-- The laws of the pairs: what the recipient wraps the identity unwraps. They stand here since an impl names the proof of its law.
 use Rattle.std.proofs.Common.{inl, inr, ◌≡◌, ◌∙◌, ℕ, zero, suc, ◌+◌, ◌-◌, ◌<◌, ◌≤◌, ◌&&◌, Bool, true, List, [], ◌∷◌, length, slice_index, map, nat_eq, nat_le, refl, sym, ap, arith, subst, Ok, Err, Some}
 use Rattle.std.proofs.lemmas.Bool.{and_parts, eqb-true, eq-eqb, le-leb, cases_lt}
 use Rattle.std.proofs.lemmas.Fmt.{decimal-digits_of}
@@ -12,8 +12,11 @@ use Rattle.age_header.proofs.Decoding.{decoded-signs_of}
 use Rattle.age_recipient.specs.declared.key.FileKey.{FileKey}
 use Rattle.age_recipient.specs.declared.unwrapped.Unwrapped.TheVariants.{Key}
 use Rattle.age_recipient.specs.Key.{IsFileKey}
-use Rattle.age_recipient.specs.Pass.{IsSalt, PairFits, PassSecret, PassGuess, pass_wraps, pass_unwraps}
+use Rattle.age_recipient.specs.KeyHolders.{KeySecret, key_unwraps, key_wraps}
+use Rattle.age_recipient.specs.Keyed.{keyed_answer, keyed_stanza, wrap_key}
+use Rattle.age_recipient.specs.Pass.{PairFits, PassSecret, PassGuess, pass_wraps, pass_unwraps}
 use Rattle.age_recipient.specs.Passphrase.{is_work_factor, number_from, pass_answer, pass_key, pass_stanza}
+use Rattle.age_recipient.specs.Salt.{IsSalt}
 use Rattle.age_recipient.specs.Sealing.{sealed_key, unsealed, zero_nonce}
 
 -- f holds of each number below n
@@ -52,7 +55,7 @@ pub unsealed-sealed : (wrap_key : List ℕ) (key : FileKey) → unsealed wrap_ke
 unfolding unsealed
 unsealed-sealed wrap_key key = rw (opened-sealed wrap_key zero_nonce [] key.0) refl
 
--- an identity's answer to the stanza that a recipient makes
+-- an identity's answer to the stanza that a recipient of the same passphrase makes
 pub pass_opens : (pass salt : List ℕ) (work max : ℕ) (key : FileKey) → length salt ≡ 16 → ((i : ℕ) → slice_index salt i < 256)
     → 1 ≤ work → work ≤ 30 → work ≤ max → IsFileKey key → pass_answer pass max (pass_stanza pass work salt key) ≡ Key key
 unfolding pass_answer pass_stanza
@@ -71,7 +74,7 @@ stanzas_of : Result (List StanzaParts) ℕ → List StanzaParts
 stanzas_of (Ok stanzas) = stanzas
 stanzas_of (Err code) = []
 
--- the law of a pair
+-- the law of a passphrase's pair
 pub pair_law : (r : PassSecret) (i : PassGuess) (key : FileKey) (stanzas : List StanzaParts) → r.pass ≡ i.pass → IsSalt r.salt → PairFits r.work i.max
     → IsFileKey key → pass_wraps r key ≡ Ok stanzas → pass_unwraps i stanzas ≡ Key key
 unfolding stanzas_of
@@ -83,4 +86,25 @@ pair_law r i key stanzas same salt fits is wraps =
     let opens : pass_answer i.pass i.max (pass_stanza r.pass r.work r.salt key) ≡ Key key =
     subst (λ (p : List ℕ). pass_answer p i.max (pass_stanza r.pass r.work r.salt key) ≡ Key key) same
     (pass_opens r.pass r.salt r.work i.max key salt.len salt.bytes low (omega arith) within is) in
+    rw (list, opens) refl
+
+-- an identity's answer to the stanza that a recipient of the same key makes
+keyed_opens : (key salt : List ℕ) (file_key : FileKey) → IsSalt salt → IsFileKey file_key → keyed_answer key (keyed_stanza key salt file_key) ≡ Key file_key
+unfolding keyed_answer keyed_stanza
+keyed_opens key salt file_key is_salt is_key =
+    let body : List ℕ = sealed_key (wrap_key key salt) file_key in
+    let some : decoded (signs_of salt) ≡ Some salt = decoded-signs_of salt is_salt.bytes in
+    let sixteen : nat_eq (length salt) 16 ≡ true = eq-eqb (length salt) 16 is_salt.len in
+    let size : length body ≡ 32 = length-sealed (wrap_key key salt) zero_nonce [] file_key.0 ∙ omega (arith, is_key.len) in
+    let whole : nat_eq (length body) 32 ≡ true = eq-eqb (length body) 32 size in
+    rw (some, sixteen, whole) (unsealed-sealed (wrap_key key salt) file_key)
+
+-- the law of a key's pair
+pub key_pair_law : (r : KeySecret) (i : List ℕ) (key : FileKey) (stanzas : List StanzaParts) → r.key ≡ i → IsSalt r.salt
+    → IsFileKey key → key_wraps r key ≡ Ok stanzas → key_unwraps i stanzas ≡ Key key
+unfolding stanzas_of
+key_pair_law r i key stanzas same salt is wraps =
+    let list : stanzas ≡ keyed_stanza r.key r.salt key ∷ [] = sym (ap stanzas_of wraps) in
+    let opens : keyed_answer i (keyed_stanza r.key r.salt key) ≡ Key key =
+    subst (λ (k : List ℕ). keyed_answer k (keyed_stanza r.key r.salt key) ≡ Key key) same (keyed_opens r.key r.salt key salt is) in
     rw (list, opens) refl

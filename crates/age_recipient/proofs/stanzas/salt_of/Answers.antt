@@ -1,7 +1,7 @@
 use Rattle.std.proofs.Common.{◌∙◌, ap, length}
 use Rattle.age_header.specs.Base64.{decoded}
-use Rattle.age_recipient.proofs.PassphraseLemmas.{no_salt}
-use Rattle.age_recipient.proofs.passphrase.salt_of.Goals as goal
+use Rattle.age_recipient.proofs.AnswerLemmas.{no_salt}
+use Rattle.age_recipient.proofs.stanzas.salt_of.Goals as goal
 
 pub returns : goal.returns
 returns c =
