@@ -182,8 +182,8 @@ bad_headers() {
         "work factor|scrypt $salt 015|$body" "work factor|scrypt $salt 0|$body" "work factor|scrypt $salt +9|$body" \
         "work factor is too high|scrypt $salt 23|$body" \
         "work factor is too high|scrypt $salt 1000000000000000000000000000000000000000|$body" \
-        "body length|scrypt $salt 10|${body%AA}" "argument count|example.org/key|$body" \
-        "salt|example.org/key ${salt%A}|$body" "body length|example.org/key $salt|${body%AA}"; do
+        "body length|scrypt $salt 10|${body%A}" "argument count|example.org/key|$body" \
+        "salt|example.org/key ${salt%A}|$body" "body length|example.org/key $salt|${body%A}"; do
         IFS='|' read -r fault arguments text <<<"$row"
         printf 'age-encryption.org/v1\n-> %s\n%s\n--- %s\n' "$arguments" "$text" "$body" >made
         if [[ $arguments == scrypt* ]]; then decrypt -p pass made; else decrypt -k key made; fi
@@ -289,6 +289,9 @@ order() {
         run "$command" -k key -o nowhere/made hello
         has_ended 1 "agep: cannot create nowhere/made"
         check "$command: OUT in a folder that does not exist"
+        run "$command" -k key -o "$work" hello
+        has_ended 1 "agep: cannot create $work"
+        check "$command: a directory as OUT"
         run "$command" -k key -o nowhere/made nowhere
         has_ended 1 "agep: cannot open nowhere"
         check "$command: IN is opened before OUT is made"
@@ -366,10 +369,10 @@ words() {
     done
     run encrypt --help
     grep -q 'a seed used twice repeats keys' out && grep -q 'an OUT that names IN destroys it' out &&
-        grep -q 'a fault leaves it empty or in part' out && grep -q 'default: 18' out && grep -q 'default: /dev/urandom' out && has_said 0 ""
+        grep -q 'a refused file leaves it empty' out && grep -q 'default: 18' out && grep -q 'default: /dev/urandom' out && has_said 0 ""
     check "help on encrypt, with its warnings"
     run decrypt --help
-    grep -q 'an OUT that names IN destroys it' out && grep -q 'default: 22' out && has_said 0 ""
+    grep -q 'a refused file leaves it empty, and an OUT that names IN destroys it' out && grep -q 'default: 22' out && has_said 0 ""
     check "help on decrypt, with its warnings"
 }
 

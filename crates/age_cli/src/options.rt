@@ -55,7 +55,7 @@ fn encrypt_command<'a>(alloc: Global) -> Result<Command<'a>, AllocError> {
         WORK,
         'w',
         "N",
-        "The work factor that makes a passphrase costly to guess, a power of two, 1 to 30",
+        "The passphrase's work factor, 1 to 30: each try takes 2^N KiB of memory, and time in proportion; not used with -k",
     )
     .value_parser(value_parser!(u64).range(LEAST_WORK as i64..=MOST_WORK as i64))
     .default_value("18");
@@ -64,7 +64,7 @@ fn encrypt_command<'a>(alloc: Global) -> Result<Command<'a>, AllocError> {
         SEED,
         's',
         "SEED",
-        "The file whose first 48 bytes are the file key, the nonce and the salt; a seed used twice repeats keys",
+        "The file whose first 48 bytes are the file key, the nonce and the salt: a seed used twice repeats keys",
     )
     .default_value(DEFAULT_SEED);
     Command::new(alloc, "encrypt")
@@ -84,7 +84,7 @@ fn decrypt_command<'a>(alloc: Global) -> Result<Command<'a>, AllocError> {
         MAX_WORK,
         'm',
         "N",
-        "The greatest work factor to accept, 1 to 30",
+        "The greatest work factor to accept, 1 to 30: a try takes 2^N KiB of memory; not used with -k",
     )
     .value_parser(value_parser!(u64).range(LEAST_WORK as i64..=MOST_WORK as i64))
     .default_value("22");
@@ -157,7 +157,7 @@ fn output_option<'a>(alloc: Global) -> Arg<'a> {
         OUTPUT,
         'o',
         "OUT",
-        "The file to write, standard output where it is left out; it is made before the work begins, so a fault leaves it empty or in part, and an OUT that names IN destroys it",
+        "The file to write; standard output where it is left out. OUT is made before the work begins: a refused file leaves it empty, and an OUT that names IN destroys it",
     )
 }
 
