@@ -13,6 +13,14 @@ mod reading;
 mod tests;
 mod writing;
 
+pub use age_header::{
+    DeviceFault, Header, MemSink, MemSource, ReadSource, Sink, Source, Stanza, StanzaError,
+    WriteSink, mac_of, write_header,
+};
+pub use age_recipient::{
+    FileKey, Identity, KeyIdentity, KeyPair, KeyRecipient, Matched, PassError, PassIdentity,
+    PassPair, PassRecipient, Recipient, StanzaFault, Unwrapped, WrapFault,
+};
 pub use age_stream::Done;
 pub use fault::Fault;
 pub use header::inspect;
