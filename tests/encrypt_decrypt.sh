@@ -13,7 +13,7 @@ make_files() {
     head -c 32 /dev/zero >other.key
     printf 'correct horse' >pass
     printf 'correct hors' >other.pass
-    head -c 131073 /dev/zero | tr '\0' 'a' >long
+    seq 30000 | head -c 131073 >long
     : >empty
     head -c 65536 long >full
     head -c 65537 long >two_chunks
@@ -177,7 +177,7 @@ keys() {
 
 # Headers that are read, and refused for their stanzas; bytes that are no header.
 bad_headers() {
-    local row salt=AAAAAAAAAAAAAAAAAAAAAA body=AAAAAAAAAAAAAAAAAAAAAAAAAAAAAAAAAAAAAAAAAAA
+    local row fault arguments text salt=AAAAAAAAAAAAAAAAAAAAAA body=AAAAAAAAAAAAAAAAAAAAAAAAAAAAAAAAAAAAAAAAAAA
     for row in "argument count|scrypt $salt|$body" "salt|scrypt ${salt%A} 10|$body" "salt|scrypt $salt== 10|$body" \
         "work factor|scrypt $salt 015|$body" "work factor|scrypt $salt 0|$body" "work factor|scrypt $salt +9|$body" \
         "work factor is too high|scrypt $salt 23|$body" \
@@ -228,7 +228,7 @@ cut_files() {
 
 # A file of two chunks, damaged behind its header: what is written is the plaintext of the chunks before the damage.
 damaged_files() {
-    local row
+    local row size front fault
     encrypt -p pass -w 10 -s seed -o whole two_chunks
     cp whole made && printf x >>made
     decrypt -p pass made
@@ -254,7 +254,7 @@ damaged_files() {
 
 # The words' own faults, in the order in which they are looked for. OUT is made last of all.
 order() {
-    local command
+    local command name
     head -c 31 seed >short.key
     head -c 33 seed >long.key
     head -c 47 seed >short.seed
@@ -316,6 +316,7 @@ order() {
 }
 
 outputs() {
+    local line
     echo old >made
     decrypt -p pass -o made hello
     has_ended 1 "agep: not an age file" && [[ -e made && ! -s made ]]
@@ -325,29 +326,29 @@ outputs() {
     has_ended 0 "" && decrypt -k key both && has_written empty
     check "an OUT that names IN is emptied before it is read"
     encrypt -k key -o whole two_chunks
-    for words in "encrypt -k key two_chunks" "decrypt -k key whole"; do
+    for line in "encrypt -k key two_chunks" "decrypt -k key whole"; do
         # shellcheck disable=SC2086
-        run $words -o /dev/full
+        run $line -o /dev/full
         has_ended 1 "agep: write failed"
-        check "a full device as OUT: $words"
+        check "a full device as OUT: $line"
         # shellcheck disable=SC2086
-        "$agep" $words >/dev/full 2>err
+        "$agep" $line >/dev/full 2>err
         echo $? >status
         has_said 1 "agep: write failed"
-        check "a full device as standard output: $words"
+        check "a full device as standard output: $line"
         # shellcheck disable=SC2086
-        run_into_closed_pipe $words
+        run_into_closed_pipe $line
         has_said 1 "agep: write failed"
-        check "a closed pipe: $words"
+        check "a closed pipe: $line"
         # shellcheck disable=SC2086
-        "$agep" $words >&- 2>err
+        "$agep" $line >&- 2>err
         echo $? >status
         has_said 1 "agep: write failed"
-        check "a closed standard output: $words"
+        check "a closed standard output: $line"
     done
     cat <whole | decrypt -k key
     has_written two_chunks
-    check "from a pipe"
+    check "decrypt from a pipe"
 }
 
 # Words that are refused, with the first line of what is said, and the texts of help.

@@ -13,7 +13,7 @@ header_of() {
 }
 
 # So many times this text.
-times() {
+repeated() {
     local i
     for ((i = 0; i < $1; i++)); do
         printf '%b' "$2"
@@ -42,7 +42,7 @@ tables() {
         "149 -> scrypt $key 9\n$body\n" \
         "185 -> X25519 $body\n$body\n-> abc-grease x\n\n" \
         "242 -> example.org/key $key\n$body\n-> example.org/key $key\n$body\n" \
-        "230 -> plug\n$(times 64 A)\n\n-> example.org/key $key\n$body\n" \
+        "230 -> plug\n$(repeated 64 A)\n\n-> example.org/key $key\n$body\n" \
         "146 -> scrypt $key 015\nAAAA\n-> scrypt $key\n\n"; do
         stanza=${sized#* }
         header_of "$stanza" >header
@@ -68,7 +68,7 @@ END
 bad_lines() {
     local row option
     for row in '2 ' '2 ->  a\n\n' '2 -> a \n\n' '2 ->\n\n' '2 -> a\r\n\n' '3 -> a\nAB\n' '3 -> a\nA\n' \
-        "3 -> a\n$(times 65 A)\n" "4 -> a\n$(times 64 A)\n" '4 -> a\n\n---\n'; do
+        "3 -> a\n$(repeated 65 A)\n" "4 -> a\n$(repeated 64 A)\n" '4 -> a\n\n---\n'; do
         for option in -H65536 --raw; do
             header_of "${row#* }" | run inspect "$option"
             has_ended 1 "agep: bad header line ${row%% *}"
@@ -90,18 +90,18 @@ no_headers() {
 
 # Headers at a limit and one byte beyond it, read to their end and cut.
 limits() {
-    header_of "-> $(times 949 a)\n\n" >header
+    header_of "-> $(repeated 949 a)\n\n" >header
     inspect -r -H 1024 header
     cmp -s out header && has_said 0 ""
     check "a header of 1,024 bytes, where so many are allowed"
-    header_of "-> $(times 950 a)\n\n" >header
+    header_of "-> $(repeated 950 a)\n\n" >header
     inspect -r -H 1024 header
     has_ended 1 "agep: header is too large"
     check "a header of 1,025 bytes, where 1,024 are allowed"
-    { printf 'age-encryption.org/v1\n-> ' && times 998 a; } | run inspect -H 1024
+    { printf 'age-encryption.org/v1\n-> ' && repeated 998 a; } | run inspect -H 1024
     has_ended 1 "agep: header is cut short"
     check "1,023 bytes of a header, where 1,024 are allowed"
-    { printf 'age-encryption.org/v1\n-> ' && times 999 a; } | run inspect -H 1024
+    { printf 'age-encryption.org/v1\n-> ' && repeated 999 a; } | run inspect -H 1024
     has_ended 1 "agep: header is too large"
     check "1,024 bytes of a header, where so many are allowed"
     header_of "$(yes -- $'-> a\n' | head -n 21822)\n\n" >header
@@ -109,7 +109,7 @@ limits() {
     inspect header
     [[ $(wc -c <header) == 65536 ]] && cmp -s out expected && has_said 0 ""
     check "a header of 65,536 bytes: $(sed -n 2p expected)"
-    header_of "->$(times 30000 ' a')\n\n" >header
+    header_of "->$(repeated 30000 ' a')\n\n" >header
     table header >expected
     inspect header
     [[ $(wc -c <header) == 60074 ]] && cmp -s out expected && has_said 0 ""
