@@ -9,6 +9,14 @@ mod limits;
 mod names;
 mod reading;
 
+pub use age_header::{
+    DeviceFault, Header, MemSink, MemSource, ReadSource, Sink, Source, Stanza, StanzaError,
+    WriteSink, mac_of, write_header,
+};
+pub use age_recipient::{
+    FileKey, Identity, PassError, PassIdentity, PassRecipient, Recipient, StanzaFault, Unwrapped,
+    WrapFault,
+};
 pub use age_stream::Done;
 pub use fault::Fault;
 pub use header::inspect;
