@@ -1,52 +1,142 @@
 #!/bin/bash
-# Runs the built program for what a test within it can't show: real files, pipes, devices, its system
-# calls, and the scripts ./agep and ./install. The last line is 'N passed, M failed'.
-set -u
-root=$(cd "$(dirname "$0")/.." && pwd -P)
-data=$root/tests/data
-agep=$root/crates/agep/out/agep
-work=$(mktemp -d)
-trap 'rm -rf "$work"' EXIT
-cd "$work" || exit 1
+# Runs the built program for what no proof says: what `inspect` prints, its lines and statuses, real files, pipes, devices,
+# its system calls, and the scripts ./agep and ./install. The last line is 'N passed, M failed'.
+source "$(dirname "$0")/checks.bash"
 
-passed=0
-failed=0
-
-# Counts the last command's success, after the words that name what it shows.
-check() {
-    if [[ $? -eq 0 ]]; then
-        passed=$((passed + 1))
-        echo "ok: $1"
-    else
-        failed=$((failed + 1))
-        echo "FAILED: $1"
-    fi
-}
-
-# Whether the run before left this status, this line on standard error (none where it is empty), and
-# nothing on standard output, where that was kept.
-has_ended() {
-    [[ $(cat status) == "$1" && $(cat err) == "$2" && ! -s out ]]
-}
-
-# Runs the program, and keeps what it says.
 inspect() {
-    "$agep" inspect "$@" >out 2>err
-    echo $? >status
+    run inspect "$@"
+}
+
+# A header of these lines, whose MAC is zero.
+header_of() {
+    printf 'age-encryption.org/v1\n%b--- %s\n' "$1" AAAAAAAAAAAAAAAAAAAAAAAAAAAAAAAAAAAAAAAAAAA
+}
+
+# So many times this text.
+times() {
+    local i
+    for ((i = 0; i < $1; i++)); do
+        printf '%b' "$2"
+    done
 }
 
 # The table of the header in this file, worked out by awk.
 table() {
     awk -v bytes="$(wc -c <"$1")" '
-        function row() { rows = rows sprintf("%4d %8d %s\n", count++, int(signs * 3 / 4), args) }
+        function row() { rows = rows sprintf("%4d %8d ", count++, int(signs * 3 / 4)) args "\n" }
         NR == 1 { version = $0; next }
         /^-> / { if (args != "") row(); args = substr($0, 4); signs = 0; next }
         /^--- / { row(); mac = substr($0, 5); next }
         { signs += length($0) }
         END {
-            printf "version %s\nstanzas %d\n%s", version, count, rows
+            printf "version %s\nstanzas %d\n", version, count
+            printf "%s", rows
             printf "mac %s\nheader %d bytes\ncheck none\n", mac, bytes
         }' "$1"
+}
+
+# Each header has this size and this table, also with bytes behind it, and -r gives it back.
+tables() {
+    local sized stanza key=AAAAAAAAAAAAAAAAAAAAAA body=AAAAAAAAAAAAAAAAAAAAAAAAAAAAAAAAAAAAAAAAAAA
+    for sized in "76 -> a\n\n" "78 -> a\nAA\n" \
+        "149 -> scrypt $key 9\n$body\n" \
+        "185 -> X25519 $body\n$body\n-> abc-grease x\n\n" \
+        "242 -> example.org/key $key\n$body\n-> example.org/key $key\n$body\n" \
+        "230 -> plug\n$(times 64 A)\n\n-> example.org/key $key\n$body\n" \
+        "146 -> scrypt $key 015\nAAAA\n-> scrypt $key\n\n"; do
+        stanza=${sized#* }
+        header_of "$stanza" >header
+        table header >expected
+        [[ $(wc -c <header) == "${sized%% *}" ]] && inspect <header && cmp -s out expected && has_said 0 "" &&
+            { cat header && printf xyz; } | run inspect && cmp -s out expected && has_said 0 "" &&
+            { cat header && printf xyz; } | run inspect -r && cmp -s out header && has_said 0 ""
+        check "a header of ${sized%% *} bytes: $stanza"
+    done
+    header_of "-> X25519 $body\n$body\n-> abc-grease x\n\n" | run inspect
+    cmp -s out - <<END
+version age-encryption.org/v1
+stanzas 2
+   0       32 X25519 $body
+   1        0 abc-grease x
+mac $body
+header 185 bytes
+check none
+END
+    check "the table of two stanzas, word for word"
+}
+
+bad_lines() {
+    local row option
+    for row in '2 ' '2 ->  a\n\n' '2 -> a \n\n' '2 ->\n\n' '2 -> a\r\n\n' '3 -> a\nAB\n' '3 -> a\nA\n' \
+        "3 -> a\n$(times 65 A)\n" "4 -> a\n$(times 64 A)\n" '4 -> a\n\n---\n'; do
+        for option in -H65536 --raw; do
+            header_of "${row#* }" | run inspect "$option"
+            has_ended 1 "agep: bad header line ${row%% *}"
+            check "line ${row%% *} is bad, with $option: ${row#* }"
+        done
+    done
+}
+
+no_headers() {
+    local row
+    for row in 'header is cut short|' 'header is cut short|age-enc' \
+        'header is cut short|age-encryption.org/v1\n-> a\n\n' 'not an age file|age-encryption.org/v2\n' \
+        'not an age file|-----BEGIN AGE ENCRYPTED FILE-----\n'; do
+        printf '%b' "${row#*|}" | run inspect
+        has_ended 1 "agep: ${row%%|*}"
+        check "${row%%|*}: ${row#*|}"
+    done
+}
+
+# Headers at a limit and one byte beyond it, read to their end and cut.
+limits() {
+    header_of "-> $(times 949 a)\n\n" >header
+    inspect -r -H 1024 header
+    cmp -s out header && has_said 0 ""
+    check "a header of 1,024 bytes, where so many are allowed"
+    header_of "-> $(times 950 a)\n\n" >header
+    inspect -r -H 1024 header
+    has_ended 1 "agep: header is too large"
+    check "a header of 1,025 bytes, where 1,024 are allowed"
+    { printf 'age-encryption.org/v1\n-> ' && times 998 a; } | run inspect -H 1024
+    has_ended 1 "agep: header is cut short"
+    check "1,023 bytes of a header, where 1,024 are allowed"
+    { printf 'age-encryption.org/v1\n-> ' && times 999 a; } | run inspect -H 1024
+    has_ended 1 "agep: header is too large"
+    check "1,024 bytes of a header, where so many are allowed"
+    header_of "$(yes -- $'-> a\n' | head -n 21822)\n\n" >header
+    table header >expected
+    inspect header
+    [[ $(wc -c <header) == 65536 ]] && cmp -s out expected && has_said 0 ""
+    check "a header of 65,536 bytes: $(sed -n 2p expected)"
+    header_of "->$(times 30000 ' a')\n\n" >header
+    table header >expected
+    inspect header
+    [[ $(wc -c <header) == 60074 ]] && cmp -s out expected && has_said 0 ""
+    check "a stanza of 30,000 arguments"
+}
+
+# Words that are refused, with a line of what is said, and help.
+words() {
+    local row text
+    for row in "|error: 'agep' requires a subcommand but one was not provided" \
+        "inspect -H 1023|error: invalid value '1023' for '--max-header <N>': 1023 is not in 1024..=16777216" \
+        "inspect -H16777217|error: invalid value '16777217' for '--max-header <N>': 16777217 is not in 1024..=16777216" \
+        "inspect a b|error: unexpected argument 'b' found" \
+        "inspect -p a|error: unexpected argument '-p' found"; do
+        # shellcheck disable=SC2086,SC2090
+        run ${row%%|*}
+        text=$(head -n 1 err)
+        [[ $(cat status) == 2 && "$text" == "${row#*|}" && ! -s out ]]
+        check "status 2: agep ${row%%|*}"
+    done
+    run -V
+    [[ $(cat out) == "agep 0.1.0" ]] && has_said 0 ""
+    check "-V"
+    run inspect --help
+    grep -qx 'Usage: agep inspect \[OPTIONS\] \[IN\]' out && grep -q -- '-r, --raw ' out &&
+        grep -q -- '-f, --file-key <FILE> ' out && grep -q -- '-H, --max-header <N> .*\[default: 65536\]' out && has_said 0 ""
+    check "help on inspect"
 }
 
 real_files() {
@@ -93,17 +183,7 @@ devices() {
         has_ended 1 "agep: write failed"
         check "a full device, with $option"
 
-        # The program begins once the pipe's reader is gone.
-        mkfifo go
-        (
-            read -r _ <go
-            "$agep" inspect "$option" "$file" 2>err
-            echo $? >status
-        ) | {
-            exec <&-
-            echo >go
-        }
-        rm go
+        run_into_closed_pipe inspect "$option" "$file"
         has_ended 1 "agep: write failed"
         check "a closed pipe, with $option"
 
@@ -149,30 +229,8 @@ memory() {
     check "want of memory"
 }
 
-# Runs the program on these words with each growth of memory refused in turn, until a run meets none. Each
-# either says that memory is out and shows nothing, or got on with less and answers as ever; so does the last.
-each_growth() {
-    local usual answer refused=0 ended=0
-    "$agep" "$@" >out 2>err
-    usual="$? $(cat out err | cksum)"
-    while rm -f refused && [[ $refused -lt 10000 ]]; do
-        REFUSE=$((refused + 1)) LD_PRELOAD=./refuse.so "$agep" "$@" >out 2>err
-        echo $? >status
-        answer="$(cat status) $(cat out err | cksum)"
-        [[ -e refused ]] || break
-        refused=$((refused + 1))
-        if has_ended 1 "agep: out of memory"; then
-            ended=$((ended + 1))
-        elif [[ "$answer" != "$usual" ]]; then
-            break
-        fi
-    done
-    [[ $ended -gt 0 && ! -e refused && "$answer" == "$usual" ]]
-    check "$refused growths refused in turn, $ended times out of memory: ${*//$data\//}"
-}
-
 growths() {
-    if ! cc -shared -fPIC -o refuse.so "$root/tests/refuse.c" -ldl 2>/dev/null; then
+    if ! has_refuser; then
         echo "skipped: growths refused in turn, since there is no C compiler"
         return
     fi
@@ -214,10 +272,11 @@ scripts() {
     check "./install puts the program into PREFIX/bin"
 }
 
-if ! "$root/agep" --version >/dev/null; then
-    echo "0 passed, 1 failed"
-    exit 1
-fi
+tables
+bad_lines
+no_headers
+limits
+words
 real_files
 header_check
 devices
@@ -225,5 +284,4 @@ memory
 growths
 system_calls
 scripts
-echo "$passed passed, $failed failed"
-[[ $failed -eq 0 ]]
+finish

@@ -6,6 +6,8 @@ use Rattle.age_cli.specs.declared.job.Job.{Job}
 abbrev pub Lies : ℕ → ℕ → ℕ → Type 0
 Lies least most n = (least ≤ n) × (n ≤ most)
 
--- each number lies in its range: the limit of a header is 1 KiB to 16 MiB
+-- each number lies in its range: a work factor is 1 to 30, the limit of a header 1 KiB to 16 MiB
 pub record IsInRange (job : Job) : Type 0 where
+  pub work : Lies 1 30 job.work
+  pub max_work : Lies 1 30 job.max_work
   pub max_header : Lies 1024 16777216 job.max_header

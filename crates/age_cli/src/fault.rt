@@ -1,50 +1,52 @@
 //! Why a command ends without its work done.
 
-use age_header::HeaderFault;
+use std::alloc::{AllocError, AllocFailed};
 use std::fmt;
 
 /// Why a command ends without its work done. Its text is what follows `agep: ` on standard error.
 #[derive(Clone, Copy, Debug, Drop, PartialEq, Eq)]
 pub(crate) enum Fault<'a> {
-    NotAge,
-    /// A line of the header is malformed; the version line is line 1.
-    BadLine(u64),
-    HeaderTruncated,
-    HeaderTooLarge,
-    BadMac,
-    Read,
-    Write,
-    OutOfMemory,
+    /// A file was not made, not read, or is not as it should be.
+    File(age_file::Fault),
+    /// The words name a passphrase file and a key file, or neither.
+    KeyChoice,
     CannotOpen(&'a str),
+    CannotCreate(&'a str),
+    KeyLength,
+    SeedLength,
     FileKeyLength,
+    PassphraseLength,
 }
 
-impl From<HeaderFault> for Fault<'_> {
-    fn from(fault: HeaderFault) -> Self {
-        match fault {
-            HeaderFault::NotAge => Fault::NotAge,
-            HeaderFault::BadLine(line) => Fault::BadLine(line),
-            HeaderFault::Truncated => Fault::HeaderTruncated,
-            HeaderFault::TooLarge => Fault::HeaderTooLarge,
-            HeaderFault::Read => Fault::Read,
-            HeaderFault::Memory => Fault::OutOfMemory,
-        }
+impl From<age_file::Fault> for Fault<'_> {
+    fn from(fault: age_file::Fault) -> Self {
+        Fault::File(fault)
+    }
+}
+
+impl From<AllocError> for Fault<'_> {
+    fn from(_error: AllocError) -> Self {
+        Fault::File(age_file::Fault::OutOfMemory)
+    }
+}
+
+impl<T: Drop> From<AllocFailed<T>> for Fault<'_> {
+    fn from(_error: AllocFailed<T>) -> Self {
+        Fault::File(age_file::Fault::OutOfMemory)
     }
 }
 
 impl fmt::Display for Fault<'_> {
     fn fmt<W: fmt::Write>(&self, f: &mut fmt::Formatter<W>) -> fmt::Result {
         match self {
-            Fault::NotAge => f.write_str("not an age file"),
-            Fault::BadLine(line) => write!(f, "bad header line {line}"),
-            Fault::HeaderTruncated => f.write_str("header is cut short"),
-            Fault::HeaderTooLarge => f.write_str("header is too large"),
-            Fault::BadMac => f.write_str("header check failed"),
-            Fault::Read => f.write_str("read failed"),
-            Fault::Write => f.write_str("write failed"),
-            Fault::OutOfMemory => f.write_str("out of memory"),
+            Fault::File(fault) => write!(f, "{fault}"),
+            Fault::KeyChoice => f.write_str("give one of -p and -k"),
             Fault::CannotOpen(name) => write!(f, "cannot open {name}"),
+            Fault::CannotCreate(name) => write!(f, "cannot create {name}"),
+            Fault::KeyLength => f.write_str("key file must hold 32 bytes"),
+            Fault::SeedLength => f.write_str("seed file must hold 48 bytes"),
             Fault::FileKeyLength => f.write_str("file key file must hold 16 bytes"),
+            Fault::PassphraseLength => f.write_str("passphrase file is too long"),
         }
     }
 }

@@ -1,14 +1,13 @@
 //! The command `inspect`: what a header holds, as a table or as its own bytes.
+ghost use Rattle.age_cli.specs.Job.{IsInRange};
 
+use crate::buffers::{buffer_of, end, limits_of, source_of};
 use crate::fault::Fault;
 use crate::job::Job;
-use age_header::{Header, HeaderReader, ReadSource, Stanza, WriteSink, mac_of, write_header};
+use age_file::{Header, Stanza, WriteSink, mac_of, write_header};
 use std::alloc::{AllocError, Global};
-use std::io::{BufReader, BufWriter, Read, Write};
+use std::io::{Read, Write};
 use std::{fmt, io};
-
-/// So many bytes go through each system call: a header of the default limit takes one read.
-const BUFFER_LEN: usize = 65_536;
 
 /// What is known of a header's MAC.
 #[derive(Clone, Copy, Debug, PartialEq, Eq)]
@@ -37,27 +36,23 @@ pub(crate) fn inspect<'a, R: Read, W: Write>(
     file_key: &Option<[u8; 16]>,
     input: &mut R,
     out: &mut W,
-) -> Result<(), Fault<'a>> {
-    let header = header_of(alloc, job.max_header, input)?;
-    let Ok(check) = check_of(alloc, &header, file_key) else {
-        return Err(Fault::OutOfMemory);
-    };
-    let Ok(mut buffered) = BufWriter::with_capacity(alloc, BUFFER_LEN, out) else {
-        return Err(Fault::OutOfMemory);
-    };
+) -> Result<(), Fault<'a>>
+    requires { IsInRange job.now }
+{
+    let header = age_file::inspect(alloc, &mut source_of(alloc, input)?, &limits_of(job))?;
+    let check = check_of(alloc, &header, file_key)?;
+    let mut buffered = buffer_of(alloc, out)?;
     let is_shown = if job.raw {
         write_header(&header, &mut WriteSink::new(&mut buffered)).is_ok()
     } else {
         write_table(&header, check, &mut buffered).is_ok()
     };
-    let is_written = is_shown && buffered.flush().is_ok();
-    // Dropped as a whole it would try once more to write what a failure left.
-    let (_out, _unwritten) = buffered.into_parts();
-    match check {
-        _ if !is_written => Err(Fault::Write),
-        Check::Bad => Err(Fault::BadMac),
-        Check::None | Check::Good => Ok(()),
-    }
+    let fault = match check {
+        _ if !is_shown => Some(age_file::Fault::Write),
+        Check::Bad => Some(age_file::Fault::BadMac),
+        Check::None | Check::Good => None,
+    };
+    end(buffered, fault)
 }
 
 /// Whether the header's MAC is the one of its stanzas under the file key.
@@ -71,19 +66,6 @@ fn check_of(
         Some(key) if mac_of(alloc, key, header.stanzas())? == *header.mac() => Ok(Check::Good),
         Some(_) => Ok(Check::Bad),
     }
-}
-
-fn header_of<'a, R: Read>(
-    alloc: Global,
-    max_header: usize,
-    input: &mut R,
-) -> Result<Header, Fault<'a>> {
-    let Ok(input) = BufReader::with_capacity(alloc, BUFFER_LEN, input) else {
-        return Err(Fault::OutOfMemory);
-    };
-    let mut source = ReadSource::new(input);
-    let header = HeaderReader::new(max_header).read_from(alloc, &mut source)?;
-    Ok(header)
 }
 
 fn write_table<W: Write>(header: &Header, check: Check, out: &mut W) -> io::Result<()> {

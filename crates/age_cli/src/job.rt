@@ -7,20 +7,36 @@ use std::alloc::AllocError;
 /// What the program can do.
 #[derive(Clone, Copy, Debug, PartialEq, Eq)]
 pub enum Command {
+    /// Makes a file of a plaintext.
+    Encrypt,
+    /// Gives the plaintext of a file.
+    Decrypt,
     /// Shows a file's header.
     Inspect,
 }
 
-/// A command with its options.
+/// A command with its options. A field whose option the command lacks has that option's default, or none.
 #[derive(Debug, Drop)]
 pub struct Job {
     pub command: Command,
+    /// The file that holds the passphrase.
+    pub pass: Option<String>,
+    /// The file that holds the key of 32 bytes.
+    pub key: Option<String>,
+    /// The work factor that `encrypt` writes, 1 to 30.
+    pub work: u8,
+    /// The file whose first 48 bytes are the file key, the nonce and the salt that `encrypt` takes.
+    pub seed: String,
+    /// The greatest work factor that `decrypt` takes, 1 to 30.
+    pub max_work: u8,
+    /// The most bytes that a header may have, 1,024 to 16,777,216.
+    pub max_header: usize,
+    /// The file to write; standard output where there is none.
+    pub output: Option<String>,
     /// Whether `inspect` gives the header's own bytes in place of the table.
     pub raw: bool,
     /// The file that holds the file key under which `inspect` checks the header's MAC.
     pub file_key: Option<String>,
-    /// The most bytes that a header may have.
-    pub max_header: usize,
     /// The file to read; standard input where there is none.
     pub input: Option<String>,
 }

@@ -4,12 +4,16 @@
 //! call it; the crate `agep` calls it with the standard streams.
 #![tactic(auto)]
 
+mod buffers;
+mod decrypt;
+mod encrypt;
 mod fault;
 mod files;
 mod inspect;
 mod job;
 mod options;
 mod program;
+mod secret;
 #[cfg(test)]
 mod tests;
 mod words;

@@ -1,11 +1,16 @@
 //! The program, over a reader and two writers that are handed in.
 ghost use Rattle.std.specs.Prelude.{◌≡◌, ◌≤◌};
+ghost use Rattle.age_cli.specs.Job.{IsInRange};
 
+use crate::decrypt::decrypt;
+use crate::encrypt::encrypt;
 use crate::fault::Fault;
-use crate::files::{open, read_file_key};
+use crate::files::{create, open, read_just};
 use crate::inspect::inspect;
 use crate::job::{Command, Job, WordsFault};
+use crate::secret::{Secret, Seed, read_secret, read_seed};
 use crate::words::read_words;
+use std::alloc::Global;
 use std::io::{Read, Write};
 use std::rt::Files;
 
@@ -41,34 +46,86 @@ pub fn run<F: Files + AllocGlobal, R: Read, W: Write, E: Write>(
     }
 }
 
+/// A command with all that it needs besides its input.
+#[derive(Drop)]
+enum Task {
+    Encrypt(Secret, Seed),
+    Decrypt(Secret),
+    /// With the file key, where the header is to be checked.
+    Inspect(Option<[u8; 16]>),
+}
+
+/// Reads the small files, opens the input, makes the output, and does the work, in this order.
 fn perform<'a, F: Files + AllocGlobal, R: Read, W: Write>(
     rt: &F,
     job: &'a Job,
     input: &mut R,
     out: &mut W,
-) -> Result<(), Fault<'a>> {
-    match job.command {
-        Command::Inspect => inspect_input(rt, job, input, out),
-    }
-}
-
-/// Reads the file key, opens the input, and inspects it, in this order.
-fn inspect_input<'a, F: Files + AllocGlobal, R: Read, W: Write>(
-    rt: &F,
-    job: &'a Job,
-    input: &mut R,
-    out: &mut W,
-) -> Result<(), Fault<'a>> {
-    let file_key = match &job.file_key {
-        Some(name) if !job.raw => Some(read_file_key(rt, name.as_str())?),
-        _ => None,
-    };
+) -> Result<(), Fault<'a>>
+    requires { IsInRange job.now }
+{
+    let task = prepare(rt, job)?;
     match &job.input {
         Some(name) => {
             let mut file = open(rt, name.as_str())?;
-            inspect(rt.alloc(), job, &file_key, &mut file, out)
+            perform_on(rt, job, &task, &mut file, out)
         }
-        None => inspect(rt.alloc(), job, &file_key, input, out),
+        None => perform_on(rt, job, &task, input, out),
+    }
+}
+
+/// Reads the files of the job's secrets.
+fn prepare<'a, F: Files + AllocGlobal>(rt: &F, job: &'a Job) -> Result<Task, Fault<'a>> {
+    match job.command {
+        Command::Encrypt => {
+            let secret = read_secret(rt, job)?;
+            let seed = read_seed(rt, job.seed.as_str())?;
+            Ok(Task::Encrypt(secret, seed))
+        }
+        Command::Decrypt => Ok(Task::Decrypt(read_secret(rt, job)?)),
+        Command::Inspect => match &job.file_key {
+            Some(name) if !job.raw => {
+                let file_key = read_just(rt, name.as_str(), Fault::FileKeyLength)?;
+                Ok(Task::Inspect(Some(file_key)))
+            }
+            _ => Ok(Task::Inspect(None)),
+        },
+    }
+}
+
+/// Makes the output, and does the work on this input.
+fn perform_on<'a, F: Files + AllocGlobal, R: Read, W: Write>(
+    rt: &F,
+    job: &'a Job,
+    task: &Task,
+    input: &mut R,
+    out: &mut W,
+) -> Result<(), Fault<'a>>
+    requires { IsInRange job.now }
+{
+    match &job.output {
+        Some(name) => {
+            let mut file = create(rt, name.as_str())?;
+            perform_between(rt.alloc(), job, task, input, &mut file)
+        }
+        None => perform_between(rt.alloc(), job, task, input, out),
+    }
+}
+
+/// Does the work from this input to this output.
+fn perform_between<'a, R: Read, W: Write>(
+    alloc: Global,
+    job: &Job,
+    task: &Task,
+    input: &mut R,
+    out: &mut W,
+) -> Result<(), Fault<'a>>
+    requires { IsInRange job.now }
+{
+    match task {
+        Task::Encrypt(secret, seed) => encrypt(alloc, job, secret, seed, input, out),
+        Task::Decrypt(secret) => decrypt(alloc, job, secret, input, out),
+        Task::Inspect(file_key) => inspect(alloc, job, file_key, input, out),
     }
 }
 
@@ -94,10 +151,10 @@ fn answer_refusal<W: Write, E: Write>(fault: &WordsFault, out: &mut W, err: &mut
             }
             match write!(out, "{error}").and_then(|()| out.flush()) {
                 Ok(()) => DONE,
-                Err(_) => report(Fault::Write, err),
+                Err(_) => report(Fault::File(age_file::Fault::Write), err),
             }
         }
-        WordsFault::Memory => report(Fault::OutOfMemory, err),
+        WordsFault::Memory => report(Fault::File(age_file::Fault::OutOfMemory), err),
         WordsFault::Lost => {
             let _ = writeln!(err, "agep: bad command line");
             REFUSED

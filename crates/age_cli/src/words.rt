@@ -3,9 +3,18 @@ ghost use Rattle.std.specs.Prelude.{IfOk};
 ghost use Rattle.age_cli.specs.Job.{IsInRange, Lies};
 
 use crate::job::{Command, Job, WordsFault};
-use crate::options::{FILE_KEY, INPUT, LEAST_HEADER, MAX_HEADER, MOST_HEADER, RAW, whole_command};
+use crate::options::{
+    DEFAULT_SEED, FILE_KEY, INPUT, KEY, LEAST_HEADER, LEAST_WORK, MAX_HEADER, MAX_WORK,
+    MOST_HEADER, MOST_WORK, OUTPUT, PASS, RAW, SEED, WORK, whole_command,
+};
 use clap::ArgMatches;
 use std::alloc::{AllocError, Global};
+
+/// The work factor that `encrypt` writes where the words name none.
+const DEFAULT_WORK: u8 = 18;
+
+/// The greatest work factor that `decrypt` takes where the words name none.
+const DEFAULT_MAX_WORK: u8 = 22;
 
 /// The job that the words ask for, the program's name first.
 ///
@@ -16,9 +25,54 @@ pub fn read_words(alloc: Global, words: &[&str]) -> Result<Job, WordsFault>
 {
     let matches = whole_command(alloc)?.try_get_matches_from(words)?;
     match matches.subcommand() {
+        Some(("encrypt", matches)) => encrypt_job(alloc, matches),
+        Some(("decrypt", matches)) => decrypt_job(alloc, matches),
         Some(("inspect", matches)) => inspect_job(alloc, matches),
         _ => Err(WordsFault::Lost),
     }
+}
+
+fn encrypt_job(alloc: Global, matches: &ArgMatches<'_>) -> Result<Job, WordsFault>
+    ensures ranges { IfOk result IsInRange }
+{
+    let work = number_in(matches, WORK, LEAST_WORK, MOST_WORK)?;
+    let max_header = number_in(matches, MAX_HEADER, LEAST_HEADER, MOST_HEADER)?;
+    let Some(seed) = matches.get_str(SEED) else {
+        return Err(WordsFault::Lost);
+    };
+    Ok(Job {
+        command: Command::Encrypt,
+        pass: text_of(alloc, matches, PASS)?,
+        key: text_of(alloc, matches, KEY)?,
+        work: work as u8,
+        seed: String::from_str(alloc, seed)?,
+        max_work: DEFAULT_MAX_WORK,
+        max_header: max_header as usize,
+        output: text_of(alloc, matches, OUTPUT)?,
+        raw: false,
+        file_key: None,
+        input: text_of(alloc, matches, INPUT)?,
+    })
+}
+
+fn decrypt_job(alloc: Global, matches: &ArgMatches<'_>) -> Result<Job, WordsFault>
+    ensures ranges { IfOk result IsInRange }
+{
+    let max_work = number_in(matches, MAX_WORK, LEAST_WORK, MOST_WORK)?;
+    let max_header = number_in(matches, MAX_HEADER, LEAST_HEADER, MOST_HEADER)?;
+    Ok(Job {
+        command: Command::Decrypt,
+        pass: text_of(alloc, matches, PASS)?,
+        key: text_of(alloc, matches, KEY)?,
+        work: DEFAULT_WORK,
+        seed: String::from_str(alloc, DEFAULT_SEED)?,
+        max_work: max_work as u8,
+        max_header: max_header as usize,
+        output: text_of(alloc, matches, OUTPUT)?,
+        raw: false,
+        file_key: None,
+        input: text_of(alloc, matches, INPUT)?,
+    })
 }
 
 fn inspect_job(alloc: Global, matches: &ArgMatches<'_>) -> Result<Job, WordsFault>
@@ -27,9 +81,15 @@ fn inspect_job(alloc: Global, matches: &ArgMatches<'_>) -> Result<Job, WordsFaul
     let max_header = number_in(matches, MAX_HEADER, LEAST_HEADER, MOST_HEADER)?;
     Ok(Job {
         command: Command::Inspect,
+        pass: None,
+        key: None,
+        work: DEFAULT_WORK,
+        seed: String::from_str(alloc, DEFAULT_SEED)?,
+        max_work: DEFAULT_MAX_WORK,
+        max_header: max_header as usize,
+        output: None,
         raw: matches.get_flag(RAW),
         file_key: text_of(alloc, matches, FILE_KEY)?,
-        max_header: max_header as usize,
         input: text_of(alloc, matches, INPUT)?,
     })
 }

@@ -1,3 +1,5 @@
-mod FileLemmas
-mod ReadingLemmas
 mod DecryptLemmas
+mod EncryptLemmas
+mod FileLemmas
+mod GatherLemmas
+mod ReadingLemmas

@@ -2,4 +2,5 @@ pub mod AgeFile
 pub mod Decrypt
 pub mod Device
 pub mod Inspect
+pub mod NewFile
 pub mod Verdict

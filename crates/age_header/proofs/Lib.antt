@@ -5,7 +5,7 @@ mod FrontPaths
 mod LengthLemmas
 mod LineLemmas
 mod OneReading
-mod OneText
+pub mod OneText
 mod OneWay
 mod PathLemmas
 mod Spelled
@@ -13,7 +13,7 @@ mod StepRuns
 mod TakeLemmas
 mod TextLemmas
 mod VerdictLemmas
-mod WriteLemmas
+pub mod WriteLemmas
 pub mod OneVerdict
 mod HeadFacts
 pub mod Decoding

@@ -1,8 +1,12 @@
--- The first answer that decides, one answer after the other.
-use Rattle.std.proofs.Common.{◌≡◌, ℕ, ◌+◌, ◌<◌, List, ◌∷◌, map, drop, length, get_or, sym, ◌∙◌, ap}
+-- The first answer that decides, one answer after the other; a salt; a stanza of two parts.
+use Rattle.std.proofs.Common.{◌≡◌, ℕ, ◌+◌, ◌<◌, List, ◌∷◌, map, drop, length, get_or, refl, sym, ◌∙◌, ap, true, false, Some, None, nat_eq, if◌then◌else◌}
+use Rattle.std.proofs.lemmas.Bool.{eqb-true}
 use Rattle.std.proofs.lemmas.List.{drop_more, drop-map}
+use Rattle.std.specs.declared.option.Option.{Option}
+use Rattle.age_header.specs.Header.{StanzaParts}
 use Rattle.age_recipient.specs.declared.unwrapped.Unwrapped.{Unwrapped}
 use Rattle.age_recipient.specs.Answer.{decided_from}
+use Rattle.age_recipient.specs.Salt.{salt_of}
 
 -- what is decided by what is left, at an element whose answer is known
 pub decided_step : {A : Type 0} (f : A → Unwrapped) (xs : List A) (i : ℕ) (x : A) (rest a : Unwrapped) → i < length xs → x ≡ get_or xs i x → a ≡ f x
@@ -11,3 +15,17 @@ decided_step f xs i x rest a low is answer =
     ap (decided_from rest)
     (drop-map f i xs ∙ ap (map f) (drop_more xs i x low) ∙ ap (λ y. f y ∷ map f (drop (i + 1) xs)) (sym is)
     ∙ ap (λ y. y ∷ map f (drop (i + 1) xs)) (sym answer) ∙ ap (λ t. a ∷ t) (sym (drop-map f (i + 1) xs)))
+
+-- a decoded text of another length is no salt
+pub no_salt : (o : Option (List ℕ)) (bytes : List ℕ) → Some bytes ≡ o → (length bytes ≡ 16 → ⊥) → None ≡ salt_of o
+no_salt None bytes is other = cc
+no_salt (Some found) bytes is other =
+    let same : bytes ≡ found = cc in
+    elim (nat_eq (length found) 16) as (λ t. nat_eq (length found) 16 ≡ t → None ≡ (if t then Some found else None)) [
+      | true ↦ λ e. absurd (other (ap length same ∙ eqb-true (length found) 16 e))
+      | false ↦ λ e. refl
+    ] refl
+
+-- a stanza is its arguments and its body
+pub of_parts : (s : StanzaParts) (args : List (List ℕ)) (body : List ℕ) → s.args ≡ args → s.body ≡ body → s ≡ record { args = args; body = body }
+of_parts s args body a b = rw (sym a, sym b) refl

@@ -1,13 +1,10 @@
 -- What the code finds of a passphrase stanza, and what the definition says of it.
-use Rattle.std.proofs.Common.{◌≡◌, ◌∙◌, ℕ, ◌+◌, ◌-◌, ◌*◌, ◌<◌, ◌≤◌, List, [], ◌∷◌, length, map, codes, get_or, refl, ap, arith, Some, None, true, false, Bool, not, ◌&&◌, nat_le, nat_eq, Global, String, if◌then◌else◌}
-use Rattle.std.proofs.lemmas.Bool.{and_parts, eqb-true, leb-true}
-use Rattle.age_header.specs.Header.{StanzaParts}
+use Rattle.std.proofs.Common.{◌≡◌, ℕ, ◌+◌, ◌-◌, ◌*◌, ◌<◌, ◌≤◌, List, [], ◌∷◌, length, map, get_or, refl, arith, true, ◌&&◌, nat_le, Global, String}
+use Rattle.std.proofs.lemmas.Bool.{and_parts, leb-true}
 use Rattle.std.specs.String.{string_bytes}
-use Rattle.std.specs.Str.{bytes_eq}
-use Rattle.std.specs.declared.option.Option.{Option}
 use Rattle.age_recipient.specs.declared.unwrapped.StanzaFault.TheVariants.{ArgCount}
-use Rattle.age_recipient.specs.declared.unwrapped.Unwrapped.TheVariants.{NotMine, Malformed}
-use Rattle.age_recipient.specs.Passphrase.{arguments_answer, is_work_factor, number_from, pass_answer, salt_of}
+use Rattle.age_recipient.specs.declared.unwrapped.Unwrapped.TheVariants.{Malformed}
+use Rattle.age_recipient.specs.Passphrase.{arguments_answer, is_work_factor, number_from}
 
 -- digits make a number no smaller
 number_grows : (n : ℕ) (digits : List ℕ) → n ≤ number_from n digits
@@ -25,36 +22,6 @@ long_number (a ∷ b ∷ c ∷ text) n h =
     let low : 49 ≤ a = leb-true 49 a front.0 in
     let more = number_grows (((0 * 10 + (a - 48)) * 10 + (b - 48)) * 10 + (c - 48)) text in
     omega (arith, more)
-
--- a decoded text of another length is no salt
-pub no_salt : (o : Option (List ℕ)) (bytes : List ℕ) → Some bytes ≡ o → (length bytes ≡ 16 → ⊥) → None ≡ salt_of o
-no_salt None bytes is other = cc
-no_salt (Some found) bytes is other =
-    let same : bytes ≡ found = cc in
-    elim (nat_eq (length found) 16) as (λ t. nat_eq (length found) 16 ≡ t → None ≡ (if t then Some found else None)) [
-      | true ↦ λ e. absurd (other (ap length same ∙ eqb-true (length found) 16 e))
-      | false ↦ λ e. refl
-    ] refl
-
-pub not_equal : (b : Bool) → true ≡ not b → b ≡ false
-not_equal true e = cc
-not_equal false e = refl
-
-pub equal : (b : Bool) → false ≡ not b → b ≡ true
-equal true e = refl
-equal false e = cc
-
--- a stanza of another type
-pub other_type : (pass : List ℕ) (max : ℕ) (s : StanzaParts) (kind : List ℕ) (rest : List (List ℕ)) → s.args ≡ kind ∷ rest
-    → bytes_eq kind (codes "scrypt") ≡ false → NotMine ≡ pass_answer pass max s
-unfolding pass_answer
-other_type pass max s kind rest is test = rw (is, test) refl
-
--- a stanza of this type
-pub own_type : (pass : List ℕ) (max : ℕ) (s : StanzaParts) (kind : List ℕ) (rest : List (List ℕ)) → s.args ≡ kind ∷ rest
-    → bytes_eq kind (codes "scrypt") ≡ true → arguments_answer pass max rest s.body ≡ pass_answer pass max s
-unfolding pass_answer
-own_type pass max s kind rest is test = rw (is, test) refl
 
 pub few_arguments : (pass : List ℕ) (max : ℕ) (body : List ℕ) (args : List (String Global)) → length args < 2
     → Malformed ArgCount ≡ arguments_answer pass max (map string_bytes args) body

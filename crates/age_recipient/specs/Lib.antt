@@ -1,8 +1,11 @@
 pub mod Answer
 pub mod Choice
 pub mod Key
+pub mod KeyHolders
+pub mod Keyed
 pub mod Pairing
 pub mod Pass
 pub mod Passphrase
+pub mod Salt
 pub mod Sealing
 pub mod Wrap

@@ -1,5 +1,5 @@
--- The law of a passphrase and its pair: what the recipient wraps the identity unwraps. It stands here since an impl names the proof of its law.
-use Rattle.std.proofs.Common.{inl, inr, ◌≡◌, ◌∙◌, ℕ, zero, suc, ◌+◌, ◌-◌, ◌<◌, ◌≤◌, ◌&&◌, Bool, true, List, [], ◌∷◌, length, slice_index, map, nat_eq, nat_le, refl, sym, ap, arith, subst, Ok, Err, Some}
+-- The laws of the pairs: what the recipient wraps the identity unwraps. They stand here since an impl names the proof of its law.
+use Rattle.std.proofs.Common.{inl, inr, ◌≡◌, ◌∙◌, ℕ, zero, suc, ◌+◌, ◌-◌, ◌<◌, ◌≤◌, ◌&&◌, Bool, true, List, [], ◌∷◌, length, map, nat_eq, nat_le, refl, sym, ap, arith, subst, Ok, Err, Some}
 use Rattle.std.proofs.lemmas.Bool.{and_parts, eqb-true, eq-eqb, le-leb, cases_lt}
 use Rattle.std.proofs.lemmas.Fmt.{decimal-digits_of}
 use Rattle.std.specs.Fmt.{decimal}
@@ -12,8 +12,11 @@ use Rattle.age_header.proofs.Decoding.{decoded-signs_of}
 use Rattle.age_recipient.specs.declared.key.FileKey.{FileKey}
 use Rattle.age_recipient.specs.declared.unwrapped.Unwrapped.TheVariants.{Key}
 use Rattle.age_recipient.specs.Key.{IsFileKey}
-use Rattle.age_recipient.specs.Pass.{IsSalt, PairFits, PassSecret, PassGuess, pass_wraps, pass_unwraps}
+use Rattle.age_recipient.specs.KeyHolders.{KeySecret, key_unwraps, key_wraps}
+use Rattle.age_recipient.specs.Keyed.{keyed_answer, keyed_stanza, wrap_key}
+use Rattle.age_recipient.specs.Pass.{PairFits, PassSecret, PassGuess, pass_wraps, pass_unwraps}
 use Rattle.age_recipient.specs.Passphrase.{is_work_factor, number_from, pass_answer, pass_key, pass_stanza}
+use Rattle.age_recipient.specs.Salt.{IsSalt, salt_of}
 use Rattle.age_recipient.specs.Sealing.{sealed_key, unsealed, zero_nonce}
 
 -- f holds of each number below n
@@ -52,35 +55,56 @@ pub unsealed-sealed : (wrap_key : List ℕ) (key : FileKey) → unsealed wrap_ke
 unfolding unsealed
 unsealed-sealed wrap_key key = rw (opened-sealed wrap_key zero_nonce [] key.0) refl
 
--- an identity's answer to the stanza that a recipient makes
-pub pass_opens : (pass salt : List ℕ) (work max : ℕ) (key : FileKey) → length salt ≡ 16 → ((i : ℕ) → slice_index salt i < 256)
-    → 1 ≤ work → work ≤ 30 → work ≤ max → IsFileKey key → pass_answer pass max (pass_stanza pass work salt key) ≡ Key key
+-- a sealed key has 32 bytes
+sealed_whole : (wrap_key : List ℕ) (key : FileKey) → IsFileKey key → nat_eq (length (sealed_key wrap_key key)) 32 ≡ true
+sealed_whole wrap_key key is =
+    eq-eqb (length (sealed_key wrap_key key)) 32 (length-sealed wrap_key zero_nonce [] key.0 ∙ omega (arith, is.len))
+
+-- a salt's signs spell it
+salt_spelled : (salt : List ℕ) → IsSalt salt → salt_of (decoded (signs_of salt)) ≡ Some salt
+salt_spelled salt is = rw (decoded-signs_of salt is.bytes, eq-eqb (length salt) 16 is.len) refl
+
+-- an identity's answer to the stanza that a recipient of the same passphrase makes
+pass_opens : (pass salt : List ℕ) (work max : ℕ) (key : FileKey) → IsSalt salt → PairFits work max → IsFileKey key
+    → pass_answer pass max (pass_stanza pass work salt key) ≡ Key key
 unfolding pass_answer pass_stanza
-pass_opens pass salt work max key len bytes low high within is =
-    let body : List ℕ = sealed_key (pass_key pass salt work) key in
-    let text = and_parts (is_work_factor (decimal work)) (nat_eq (number_from 0 (decimal work)) work) (spelled work low high) in
+pass_opens pass salt work max key is_salt fits is_key =
+    let low : 1 ≤ work = fits.low in
+    let within : work ≤ max = fits.within in
+    let high : max ≤ 30 = fits.top in
+    let text = and_parts (is_work_factor (decimal work)) (nat_eq (number_from 0 (decimal work)) work) (spelled work low (omega arith)) in
     let number : number_from 0 (decimal work) ≡ work = eqb-true (number_from 0 (decimal work)) work text.1 in
-    let some : decoded (signs_of salt) ≡ Some salt = decoded-signs_of salt bytes in
-    let sixteen : nat_eq (length salt) 16 ≡ true = eq-eqb (length salt) 16 len in
     let top : nat_le work max ≡ true = le-leb work max within in
-    let size : length body ≡ 32 = length-sealed (pass_key pass salt work) zero_nonce [] key.0 ∙ omega (arith, is.len) in
-    let whole : nat_eq (length body) 32 ≡ true = eq-eqb (length body) 32 size in
-    rw (some, sixteen, text.0, number, top, whole) (unsealed-sealed (pass_key pass salt work) key)
+    rw (salt_spelled salt is_salt, text.0, number, top, sealed_whole (pass_key pass salt work) key is_key)
+    (unsealed-sealed (pass_key pass salt work) key)
+
+-- an identity's answer to the stanza that a recipient of the same key makes
+keyed_opens : (key salt : List ℕ) (file_key : FileKey) → IsSalt salt → IsFileKey file_key → keyed_answer key (keyed_stanza key salt file_key) ≡ Key file_key
+unfolding keyed_answer keyed_stanza
+keyed_opens key salt file_key is_salt is_key =
+    rw (salt_spelled salt is_salt, sealed_whole (wrap_key key salt) file_key is_key) (unsealed-sealed (wrap_key key salt) file_key)
 
 stanzas_of : Result (List StanzaParts) ℕ → List StanzaParts
 stanzas_of (Ok stanzas) = stanzas
 stanzas_of (Err code) = []
 
--- the law of a pair
+-- the law of a passphrase's pair
 pub pair_law : (r : PassSecret) (i : PassGuess) (key : FileKey) (stanzas : List StanzaParts) → r.pass ≡ i.pass → IsSalt r.salt → PairFits r.work i.max
     → IsFileKey key → pass_wraps r key ≡ Ok stanzas → pass_unwraps i stanzas ≡ Key key
 unfolding stanzas_of
 pair_law r i key stanzas same salt fits is wraps =
     let list : stanzas ≡ pass_stanza r.pass r.work r.salt key ∷ [] = sym (ap stanzas_of wraps) in
-    let low : 1 ≤ r.work = fits.low in
-    let within : r.work ≤ i.max = fits.within in
-    let top : i.max ≤ 30 = fits.top in
     let opens : pass_answer i.pass i.max (pass_stanza r.pass r.work r.salt key) ≡ Key key =
     subst (λ (p : List ℕ). pass_answer p i.max (pass_stanza r.pass r.work r.salt key) ≡ Key key) same
-    (pass_opens r.pass r.salt r.work i.max key salt.len salt.bytes low (omega arith) within is) in
+    (pass_opens r.pass r.salt r.work i.max key salt fits is) in
+    rw (list, opens) refl
+
+-- the law of a key's pair
+pub key_pair_law : (r : KeySecret) (i : List ℕ) (key : FileKey) (stanzas : List StanzaParts) → r.key ≡ i → IsSalt r.salt
+    → IsFileKey key → key_wraps r key ≡ Ok stanzas → key_unwraps i stanzas ≡ Key key
+unfolding stanzas_of
+key_pair_law r i key stanzas same salt is wraps =
+    let list : stanzas ≡ keyed_stanza r.key r.salt key ∷ [] = sym (ap stanzas_of wraps) in
+    let opens : keyed_answer i (keyed_stanza r.key r.salt key) ≡ Key key =
+    subst (λ (k : List ℕ). keyed_answer k (keyed_stanza r.key r.salt key) ≡ Key key) same (keyed_opens r.key r.salt key salt is) in
     rw (list, opens) refl

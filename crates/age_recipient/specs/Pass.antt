@@ -1,5 +1,5 @@
 -- What a passphrase's recipient and identity hold and mean.
-use Rattle.std.specs.Prelude.{◌≡◌, ℕ, ◌<◌, ◌≤◌, List, [], ◌∷◌, length, map, slice_index}
+use Rattle.std.specs.Prelude.{ℕ, ◌≤◌, List, [], ◌∷◌, map}
 use Rattle.std.specs.declared.result.Result.{Result}
 use Rattle.std.specs.declared.result.Result.TheVariants.{Ok}
 use Rattle.age_header.specs.Header.{StanzaParts}
@@ -30,11 +30,6 @@ pub record PairFits (work max : ℕ) : Type 0 where
   pub low : 1 ≤ work
   pub within : work ≤ max
   pub top : max ≤ 30
-
--- sixteen bytes
-pub record IsSalt (salt : List ℕ) : Type 0 where
-  pub len : length salt ≡ 16
-  pub bytes : (i : ℕ) → slice_index salt i < 256
 
 -- a work factor is refused exactly where it does not fit
 abbrev pub IsPassError : Type 0 → PassError → Type 0

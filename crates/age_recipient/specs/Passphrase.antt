@@ -1,7 +1,6 @@
 -- The passphrase stanza (C2SP age.md, "The scrypt recipient type").
 use Rattle.std.specs.Prelude.{ℕ, ◌+◌, ◌-◌, ◌*◌, ◌^◌, ◌&&◌, Bool, false, List, [], ◌∷◌, ◌++◌, length, codes, nat_eq, nat_le, if◌then◌else◌}
 use Rattle.std.specs.Fmt.{decimal}
-use Rattle.std.specs.Str.{bytes_eq}
 use Rattle.std.specs.List.{list_all}
 use Rattle.std.specs.declared.option.Option.{Option}
 use Rattle.std.specs.declared.option.Option.TheVariants.{None, Some}
@@ -11,7 +10,9 @@ use Rattle.age_header.specs.Header.{StanzaParts}
 use Rattle.age_recipient.specs.declared.key.FileKey.{FileKey}
 use Rattle.age_recipient.specs.declared.unwrapped.StanzaFault.TheVariants.{ArgCount, Salt, WorkFactorText, WorkFactorTooHigh, BodyLength}
 use Rattle.age_recipient.specs.declared.unwrapped.Unwrapped.{Unwrapped}
-use Rattle.age_recipient.specs.declared.unwrapped.Unwrapped.TheVariants.{NotMine, Malformed}
+use Rattle.age_recipient.specs.declared.unwrapped.Unwrapped.TheVariants.{Malformed}
+use Rattle.age_recipient.specs.Answer.{behind_type, typed_answer}
+use Rattle.age_recipient.specs.Salt.{salt_of}
 use Rattle.age_recipient.specs.Sealing.{sealed_key, unsealed}
 
 -- the key that wraps the file key; the work factor is the base-2 logarithm of scrypt's N
@@ -39,11 +40,6 @@ abbrev pub number_from : ℕ → List ℕ → ℕ
 number_from n [] = n
 number_from n (c ∷ digits) = number_from (n * 10 + (c - 48)) digits
 
--- a salt has 16 bytes
-abbrev pub salt_of : Option (List ℕ) → Option (List ℕ)
-salt_of None = None
-salt_of (Some salt) = if nat_eq (length salt) 16 then Some salt else None
-
 -- the work factor's text is looked at, then its number, then the body's length, and only then is the key tried
 abbrev pub salted_answer : List ℕ → ℕ → List ℕ → List ℕ → Option (List ℕ) → Unwrapped
 salted_answer pass max work body None = Malformed Salt
@@ -60,11 +56,6 @@ abbrev pub arguments_answer : List ℕ → ℕ → List (List ℕ) → List ℕ 
 arguments_answer pass max (salt ∷ work ∷ []) body = salted_answer pass max work body (salt_of (decoded salt))
 arguments_answer pass max _ body = Malformed ArgCount
 
--- what one stanza gives; one of another type is not this identity's
-abbrev pub typed_answer : List ℕ → ℕ → List (List ℕ) → List ℕ → Unwrapped
-typed_answer pass max [] body = NotMine
-typed_answer pass max (kind ∷ rest) body = if bytes_eq kind (codes "scrypt") then arguments_answer pass max rest body else NotMine
-
 -- what one stanza gives
 unfoldable pub pass_answer : List ℕ → ℕ → StanzaParts → Unwrapped
-pass_answer pass max stanza = typed_answer pass max stanza.args stanza.body
+pass_answer pass max stanza = typed_answer (λ args. arguments_answer pass max args stanza.body) (behind_type (codes "scrypt") stanza.args)

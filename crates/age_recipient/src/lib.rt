@@ -4,12 +4,15 @@
 mod choice;
 mod identity;
 mod key;
+mod key_pair;
+mod keyed;
 mod matched;
 mod pair;
 mod pass;
 mod passphrase;
 mod recipient;
 mod sealing;
+mod stanzas;
 #[cfg(test)]
 mod tests;
 mod unwrapped;
@@ -18,6 +21,7 @@ mod work;
 pub use choice::{UnlockFault, unlock};
 pub use identity::Identity;
 pub use key::FileKey;
+pub use key_pair::{KeyIdentity, KeyPair, KeyRecipient};
 pub use matched::Matched;
 pub use pair::PassPair;
 pub use pass::{PassError, PassIdentity, PassRecipient};

@@ -1,7 +1,8 @@
 //! A passphrase's recipient and identity, which belong together.
 
 ghost use Rattle.std.specs.Prelude.{◌≡◌, IfOk, IfErr};
-ghost use Rattle.age_recipient.specs.Pass.{IsPassError, IsSalt, PairFits};
+ghost use Rattle.age_recipient.specs.Pass.{IsPassError, PairFits};
+ghost use Rattle.age_recipient.specs.Salt.{IsSalt};
 
 use crate::identity::Identity;
 use crate::matched::Matched;

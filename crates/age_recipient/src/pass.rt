@@ -7,6 +7,7 @@ use crate::identity::Identity;
 use crate::key::FileKey;
 use crate::passphrase::{pass_answer, pass_stanza};
 use crate::recipient::{Recipient, WrapFault};
+use crate::stanzas::{Opener, first_opened};
 use crate::unwrapped::Unwrapped;
 use age_header::Stanza;
 use std::alloc::{AllocError, Global};
@@ -121,18 +122,16 @@ impl Identity for PassIdentity {
     ghost meaning = { λ i stanzas. pass_unwraps i stanzas };
 
     fn unwrap(&self, alloc: Global, stanzas: &[Stanza]) -> Result<Unwrapped, AllocError> {
-        let mut rest = Unwrapped::NotMine;
-        for stanza in stanzas {
-            match pass_answer(alloc, self.pass.as_slice(), self.max, stanza)? {
-                Unwrapped::NotMine => continue,
-                Unwrapped::Failed => {
-                    rest = Unwrapped::Failed;
-                    continue;
-                }
-                Unwrapped::Key(key) => return Ok(Unwrapped::Key(key)),
-                Unwrapped::Malformed(fault) => return Ok(Unwrapped::Malformed(fault)),
-            }
-        }
-        Ok(rest)
+        first_opened(alloc, self, stanzas)
+    }
+}
+
+impl Opener for PassIdentity {
+    ghost use Rattle.age_recipient.specs.Passphrase.{pass_answer};
+
+    ghost gives = { λ i stanza. pass_answer i.pass i.max stanza };
+
+    fn open(&self, alloc: Global, stanza: &Stanza) -> Result<Unwrapped, AllocError> {
+        pass_answer(alloc, self.pass.as_slice(), self.max, stanza)
     }
 }

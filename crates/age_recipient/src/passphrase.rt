@@ -2,17 +2,16 @@
 
 ghost use Rattle.std.specs.Prelude.{◌≡◌, ◌≤◌, ◌++◌, Some, map, IfOk};
 ghost use Rattle.std.specs.String.{string_bytes};
-ghost use Rattle.age_header.specs.Base64.{decoded};
-ghost use Rattle.age_recipient.specs.Passphrase.{arguments_answer, pass_answer, pass_key, pass_stanza, salt_of, salted_answer};
+ghost use Rattle.age_recipient.specs.Passphrase.{arguments_answer, pass_answer, pass_key, pass_stanza, salted_answer};
 
 use crate::key::FileKey;
 use crate::sealing::{seal_key, unseal_key};
+use crate::stanzas::{behind_type, salt_of};
 use crate::unwrapped::{StanzaFault, Unwrapped};
 use crate::work::{is_work_factor, work_at_most};
 use age_header::{Stanza, signs};
 use age_kdf::{ScryptParams, scrypt};
 use std::alloc::{AllocError, Global};
-use std::convert::TryFrom;
 
 const LABEL: &[u8; 28] = b"age-encryption.org/v1/scrypt";
 
@@ -78,13 +77,10 @@ pub(crate) fn pass_answer(
     requires { max ≤ 30 }
     ensures { IfOk result (λ answer. answer ≡ pass_answer pass.now max stanza.now) }
 {
-    let Some((kind, rest)) = stanza.args().split_first() else {
-        return Ok(Unwrapped::NotMine);
-    };
-    if kind.as_str() != "scrypt" {
-        return Ok(Unwrapped::NotMine);
+    match behind_type(stanza, "scrypt") {
+        None => Ok(Unwrapped::NotMine),
+        Some(args) => arguments_answer(alloc, pass, max, args, stanza.body()),
     }
-    arguments_answer(alloc, pass, max, rest, stanza.body())
 }
 
 /// What a passphrase stanza gives, whose arguments behind the type are these.
@@ -104,19 +100,6 @@ fn arguments_answer(
     match salt_of(alloc, salt.as_bytes())? {
         None => Ok(Unwrapped::Malformed(StanzaFault::Salt)),
         Some(salt) => salted_answer(alloc, pass, max, work.as_bytes(), body, &salt),
-    }
-}
-
-/// The salt that these signs spell, if it is one of 16 bytes.
-fn salt_of(alloc: Global, text: &[u8]) -> Result<Option<[u8; 16]>, AllocError>
-    ensures { IfOk result (λ salt. salt ≡ salt_of (decoded text.now)) }
-{
-    let Some(bytes) = signs::decode(alloc, &signs::engine(), text)? else {
-        return Ok(None);
-    };
-    match <[u8; 16]>::try_from(bytes.as_slice()) {
-        Ok(salt) => Ok(Some(salt)),
-        Err(_) => Ok(None),
     }
 }
 

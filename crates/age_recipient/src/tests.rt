@@ -1,5 +1,6 @@
 //! Passphrase stanzas with known answers: what is wrapped, what is unwrapped, and what each check says.
 
+mod keyed;
 mod unlocking;
 
 use crate::{

@@ -1,18 +1,16 @@
-use Rattle.std.proofs.Common.{◌∙◌, List, map, sym, ap, Global, String}
+use Rattle.std.proofs.Common.{◌∙◌, List, ℕ, ap}
 use Rattle.std.proofs.lemmas.Result.{IfOk-weaker}
-use Rattle.std.specs.String.{string_bytes}
-use Rattle.age_recipient.proofs.PassphraseLemmas.{equal, not_equal, other_type, own_type}
+use Rattle.age_recipient.specs.Answer.{typed_answer}
+use Rattle.age_recipient.specs.Passphrase.{arguments_answer, pass_answer}
 use Rattle.age_recipient.proofs.passphrase.pass_answer.Goals as goal
 
-pub returns-then-ne : goal.returns-then-ne
-returns-then-ne c =
-    let args = sym c.args-2.ensures.value ∙ ap (λ (z : List (String Global)). map string_bytes z) c.in-Some.ensures.cases.0 in
-    let test = rw c.as_str.ensures.value at c.if-ne.ensures in
-    other_type c.args.pass.now c.args.max c.args.stanza.now _ _ args (not_equal _ test)
+pub returns-in-None : goal.returns-in-None
+unfolding pass_answer
+returns-in-None c =
+    ap (typed_answer (λ (args : List (List ℕ)). arguments_answer c.args.pass.now c.args.max args c.args.stanza.now.body)) (rw c.in-None.is at c.behind_type.ensures)
 
-pub returns : goal.returns
-returns c =
-    let args = sym c.args-2.ensures.value ∙ ap (λ (z : List (String Global)). map string_bytes z) c.in-Some.ensures.cases.0 in
-    let test = rw c.as_str.ensures.value at c.if-ne.ensures in
-    let own = own_type c.args.pass.now c.args.max c.args.stanza.now _ _ args (equal _ test) in
+pub returns-in-Some : goal.returns-in-Some
+unfolding pass_answer
+returns-in-Some c =
+    let own = ap (typed_answer (λ (args : List (List ℕ)). arguments_answer c.args.pass.now c.args.max args c.args.stanza.now.body)) (rw c.in-Some.is at c.behind_type.ensures) in
     IfOk-weaker c.arguments_answer.result _ _ (λ answer is. is ∙ rw c.body.ensures.value own) c.arguments_answer.ensures

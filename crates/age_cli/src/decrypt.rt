@@ -1,0 +1,56 @@
+//! The command `decrypt`: the plaintext of a file of the format.
+ghost use Rattle.age_cli.specs.Job.{IsInRange};
+
+use crate::buffers::{buffer_of, end, limits_of, source_of};
+use crate::fault::Fault;
+use crate::job::Job;
+use crate::secret::Secret;
+use age_file::{Identity, KeyIdentity, PassError, PassIdentity, WriteSink};
+use std::alloc::Global;
+use std::io::{Read, Write};
+
+/// Decrypts the input to the output, with the one identity of this secret. Before a fault of the payload the plaintext of the
+/// chunks before it is written.
+pub(crate) fn decrypt<'a, R: Read, W: Write>(
+    alloc: Global,
+    job: &Job,
+    secret: &Secret,
+    input: &mut R,
+    out: &mut W,
+) -> Result<(), Fault<'a>>
+    requires { IsInRange job.now }
+{
+    let mut identities: Vec<Box<dyn Identity>> = Vec::new(alloc);
+    match secret {
+        Secret::Passphrase(passphrase) => {
+            let identity = pass_identity(alloc, job, passphrase.as_slice())?;
+            identities.push(Box::new(alloc, identity)?)?;
+        }
+        Secret::Key(key) => {
+            let identity = KeyIdentity::new(*key);
+            identities.push(Box::new(alloc, identity)?)?;
+        }
+    }
+    let limits = limits_of(job);
+    let mut source = source_of(alloc, input)?;
+    let mut buffered = buffer_of(alloc, out)?;
+    let result = age_file::decrypt(
+        alloc,
+        &mut source,
+        &mut WriteSink::new(&mut buffered),
+        identities.as_slice(),
+        &limits,
+    );
+    end(buffered, result.err())
+}
+
+/// The identity of this passphrase, with the job's greatest work factor.
+fn pass_identity<'a>(alloc: Global, job: &Job, passphrase: &[u8]) -> Result<PassIdentity, Fault<'a>>
+    requires { IsInRange job.now }
+{
+    match PassIdentity::new(alloc, passphrase, job.max_work) {
+        Ok(identity) => Ok(identity),
+        Err(PassError::WorkFactor) => unreachable!(),
+        Err(PassError::Memory) => Err(Fault::File(age_file::Fault::OutOfMemory)),
+    }
+}

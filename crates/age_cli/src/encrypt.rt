@@ -1,0 +1,62 @@
+//! The command `encrypt`: a file of the format, made of any bytes.
+ghost use Rattle.age_cli.specs.Job.{IsInRange};
+
+use crate::buffers::{buffer_of, end, limits_of, source_of};
+use crate::fault::Fault;
+use crate::job::Job;
+use crate::secret::{Secret, Seed};
+use age_file::{KeyRecipient, PassError, PassRecipient, Recipient, WriteSink};
+use std::alloc::Global;
+use std::io::{Read, Write};
+
+/// Encrypts the input to the output, for the one recipient of this secret.
+pub(crate) fn encrypt<'a, R: Read, W: Write>(
+    alloc: Global,
+    job: &Job,
+    secret: &Secret,
+    seed: &Seed,
+    input: &mut R,
+    out: &mut W,
+) -> Result<(), Fault<'a>>
+    requires { IsInRange job.now }
+{
+    let mut recipients: Vec<Box<dyn Recipient>> = Vec::new(alloc);
+    match secret {
+        Secret::Passphrase(passphrase) => {
+            let recipient = pass_recipient(alloc, job, passphrase.as_slice(), seed.salt)?;
+            recipients.push(Box::new(alloc, recipient)?)?;
+        }
+        Secret::Key(key) => {
+            let recipient = KeyRecipient::new(*key, seed.salt);
+            recipients.push(Box::new(alloc, recipient)?)?;
+        }
+    }
+    let limits = limits_of(job);
+    let mut source = source_of(alloc, input)?;
+    let mut buffered = buffer_of(alloc, out)?;
+    let result = age_file::encrypt(
+        alloc,
+        &mut source,
+        &mut WriteSink::new(&mut buffered),
+        recipients.as_slice(),
+        &seed.fresh,
+        &limits,
+    );
+    end(buffered, result.err())
+}
+
+/// The recipient of this passphrase, with the job's work factor.
+fn pass_recipient<'a>(
+    alloc: Global,
+    job: &Job,
+    passphrase: &[u8],
+    salt: [u8; 16],
+) -> Result<PassRecipient, Fault<'a>>
+    requires { IsInRange job.now }
+{
+    match PassRecipient::new(alloc, passphrase, salt, job.work) {
+        Ok(recipient) => Ok(recipient),
+        Err(PassError::WorkFactor) => unreachable!(),
+        Err(PassError::Memory) => Err(Fault::File(age_file::Fault::OutOfMemory)),
+    }
+}

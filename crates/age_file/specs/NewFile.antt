@@ -1,0 +1,114 @@
+-- What a new file is: the stanzas of its recipients, its header, and its payload (C2SP age.md).
+use Rattle.std.specs.Prelude.{◌≡◌, ℕ, ◌+◌, ◌-◌, ◌<◌, ◌≤◌, ◌⊎◌, Bool, true, false, ⊤, List, [], ◌∷◌, ◌++◌, length, take, Result, Ok, Err, Option, Some, None, Vec}
+use Rattle.std.specs.Global.{Global}
+use Rattle.std.specs.List.{concat}
+use Rattle.std.specs.Io.KnownBytes.{Appends}
+use Rattle.age_header.specs.Device.{WritesPart}
+use Rattle.age_header.specs.Header.{StanzaParts, Head}
+use Rattle.age_header.specs.Mac.{header_mac}
+use Rattle.age_recipient.specs.declared.key.FileKey.{FileKey}
+use Rattle.age_stream.specs.declared.done.Done.{Done}
+use Rattle.age_stream.specs.Payload.{chunks, payload, sealed_chunks}
+use Rattle.age_file.specs.declared.fault.Fault.{Fault}
+use Rattle.age_file.specs.declared.fault.Fault.TheVariants.{NotAge, BadLine, HeaderTruncated, HeaderTooLarge, MixedPassphrase, NoMatch, WrongKey, Malformed, BadMac, NonceTruncated, ChunkShort, EmptyFinal, BadChunk, TooManyChunks, Read, Write, OutOfMemory, NoRecipients, Refused}
+use Rattle.age_file.specs.declared.limits.Fresh.{Fresh}
+use Rattle.age_file.specs.AgeFile.{AgeFile, Bounds, is_mixed}
+
+-- these stanzas, then those that come behind them
+abbrev pub before : List StanzaParts → Result (List StanzaParts) Fault → Result (List StanzaParts) Fault
+before stanzas (Ok more) = Ok (stanzas ++ more)
+before stanzas (Err fault) = Err fault
+
+-- what the recipients from number i on give in order: their stanzas joined, or the first refusal
+abbrev pub gathered_from : ℕ → List (Result (List StanzaParts) ℕ) → Result (List StanzaParts) Fault
+gathered_from i [] = Ok []
+gathered_from i (Ok stanzas ∷ more) = before stanzas (gathered_from (i + 1) more)
+gathered_from i (Err code ∷ more) = Err (Refused i code)
+
+-- what all recipients give
+abbrev pub gathered : List (Result (List StanzaParts) ℕ) → Result (List StanzaParts) Fault
+gathered wrapped = gathered_from 0 wrapped
+
+-- the header of a new file: its stanzas, of which none is a `scrypt` stanza beside another, and its text, within the limit
+pub record IsHeading (limits : Bounds) (k : FileKey) (given : Result (List StanzaParts) Fault) (stanzas : List StanzaParts) (text : List ℕ) : Type 0 where
+  pub gives : given ≡ Ok stanzas
+  pub unmixed : is_mixed stanzas ≡ false
+  pub head : Head stanzas (header_mac k.0 stanzas) text
+  pub fits : length text ≤ limits.max_header
+
+-- a header that would be longer than the limit
+pub record IsTooLarge (limits : Bounds) (k : FileKey) (given : Result (List StanzaParts) Fault) : Type 0 where
+  pub stanzas : List StanzaParts
+  pub text : List ℕ
+  pub gives : given ≡ Ok stanzas
+  pub unmixed : is_mixed stanzas ≡ false
+  pub head : Head stanzas (header_mac k.0 stanzas) text
+  pub exceeds : limits.max_header < length text
+
+-- the first fault for which there is no header: a refusal, no stanza at all, a `scrypt` stanza beside another, too great a length
+abbrev pub IsRefusal : Bounds → FileKey → Result (List StanzaParts) Fault → Fault → Type 0
+IsRefusal limits k given (Refused i code) = given ≡ Err (Refused i code)
+IsRefusal limits k given NoRecipients = given ≡ Ok []
+IsRefusal limits k given MixedPassphrase = (stanzas : List StanzaParts) × (given ≡ Ok stanzas) × (is_mixed stanzas ≡ true)
+IsRefusal limits k given HeaderTooLarge = IsTooLarge limits k given
+IsRefusal limits k given _ = ⊥
+
+-- the file that was written: that of these stanzas, this plaintext, and the file key and nonce that were handed in
+pub record NewFile (limits : Bounds) (fresh : Fresh) (given : Result (List StanzaParts) Fault) (plain : List ℕ) (gained : List ℕ) : Type 0 where
+  pub stanzas : List StanzaParts
+  pub text : List ℕ
+  pub heading : IsHeading limits fresh.file_key given stanzas text
+  pub spelled : gained ≡ text ++ payload fresh.file_key fresh.nonce plain
+  pub file : AgeFile limits fresh.file_key stanzas plain gained
+
+-- what was written of a plaintext of too many chunks: the header, the nonce, and the sealed chunks with an index below max_chunks - 1
+pub record CutFile (limits : Bounds) (fresh : Fresh) (given : Result (List StanzaParts) Fault) (plain : List ℕ) (gained : List ℕ) : Type 0 where
+  pub stanzas : List StanzaParts
+  pub text : List ℕ
+  pub heading : IsHeading limits fresh.file_key given stanzas text
+  pub too_many : limits.max_chunks < length (chunks plain)
+  pub spelled : gained ≡ text ++ (fresh.nonce ++ concat (take (limits.max_chunks - 1) (sealed_chunks fresh.file_key fresh.nonce plain)))
+
+-- a beginning of the header and payload was written
+pub record BegunFile (limits : Bounds) (fresh : Fresh) (given : Result (List StanzaParts) Fault) (plain : List ℕ) (old new : Option (List ℕ)) : Type 0 where
+  pub stanzas : List StanzaParts
+  pub text : List ℕ
+  pub heading : IsHeading limits fresh.file_key given stanzas text
+  pub part : WritesPart old new (text ++ payload fresh.file_key fresh.nonce plain)
+
+-- What `encrypt` answers and writes, `given` being what the recipients give, and the source giving `plain`.
+abbrev pub EncryptsText : Bounds → Fresh → Result (List StanzaParts) Fault → List ℕ → Option (List ℕ) → Option (List ℕ) → Result Done Fault → Type 0
+EncryptsText limits fresh given plain old new (Ok done) =
+    (gained : List ℕ) × NewFile limits fresh given plain gained × Appends old new gained
+    × (done.bytes ≡ length plain) × (done.chunks ≡ length (chunks plain))
+EncryptsText limits fresh given plain old new (Err TooManyChunks) = (gained : List ℕ) × CutFile limits fresh given plain gained × Appends old new gained
+EncryptsText limits fresh given plain old new (Err Read) = BegunFile limits fresh given plain old new
+EncryptsText limits fresh given plain old new (Err Write) = BegunFile limits fresh given plain old new
+EncryptsText limits fresh given plain old new (Err fault) = ⊤
+
+-- the same of a source that may leave its bytes untold
+abbrev pub EncryptsGiven : Bounds → Fresh → Result (List StanzaParts) Fault → Option (List ℕ) → Option (List ℕ) → Option (List ℕ) → Result Done Fault → Type 0
+EncryptsGiven limits fresh given None old new r = ⊤
+EncryptsGiven limits fresh given (Some plain) old new r = EncryptsText limits fresh given plain old new r
+
+-- a fault with which no header was made names the first reason; want of memory says nothing
+abbrev pub RefusesFirst : Bounds → FileKey → Result (List StanzaParts) Fault → Fault → Type 0
+RefusesFirst limits k given TooManyChunks = ⊤
+RefusesFirst limits k given Read = ⊤
+RefusesFirst limits k given Write = ⊤
+RefusesFirst limits k given OutOfMemory = ⊤
+RefusesFirst limits k given fault = IsRefusal limits k given fault
+
+-- what gathering the stanzas of recipients answers
+abbrev pub Gathers : Result (List StanzaParts) Fault → Result (Vec StanzaParts Global) Fault → Type 0
+Gathers given (Ok stanzas) = given ≡ Ok stanzas.items
+Gathers given (Err fault) = (fault ≡ OutOfMemory) ⊎ ((i : ℕ) × (code : ℕ) × (fault ≡ Refused i code) × (given ≡ Err (Refused i code)))
+
+-- with which faults no header is made, and why
+abbrev pub FailsHeading : Bounds → FileKey → Result (List StanzaParts) Fault → Fault → Type 0
+FailsHeading limits k given fault =
+    (fault ≡ OutOfMemory)
+    ⊎ (((i : ℕ) × (code : ℕ) × (fault ≡ Refused i code) × IsRefusal limits k given (Refused i code))
+    ⊎ (((fault ≡ NoRecipients) × IsRefusal limits k given NoRecipients)
+    ⊎ (((fault ≡ MixedPassphrase) × IsRefusal limits k given MixedPassphrase)
+    ⊎ ((fault ≡ HeaderTooLarge) × IsRefusal limits k given HeaderTooLarge))))

@@ -1,0 +1,362 @@
+//! Whole files through callers' devices, recipients and identities.
+
+mod devices;
+mod objects;
+
+use crate::{Done, Fault, Fresh, Limits, decrypt, encrypt};
+use age_header::{MemSink, MemSource};
+use age_recipient::{
+    FileKey, Identity, KeyIdentity, KeyRecipient, PassIdentity, PassRecipient, Recipient,
+};
+use devices::{Drops, Holds};
+use objects::{Curve, Held, Long, Plug, Refuses};
+use std::alloc::{AllocError, Global};
+use std::test::Fail;
+
+const FRESH: Fresh = Fresh {
+    file_key: FileKey([0, 1, 2, 3, 4, 5, 6, 7, 8, 9, 10, 11, 12, 13, 14, 15]),
+    nonce: [
+        0x10, 0x11, 0x12, 0x13, 0x14, 0x15, 0x16, 0x17, 0x18, 0x19, 0x1a, 0x1b, 0x1c, 0x1d, 0x1e,
+        0x1f,
+    ],
+};
+
+const SALT: [u8; 16] = [
+    0x20, 0x21, 0x22, 0x23, 0x24, 0x25, 0x26, 0x27, 0x28, 0x29, 0x2a, 0x2b, 0x2c, 0x2d, 0x2e, 0x2f,
+];
+
+const PASS: &[u8] = b"correct horse";
+
+type Recipients = Vec<Box<dyn Recipient>>;
+
+type Identities = Vec<Box<dyn Identity>>;
+
+/// The passphrase's recipient, with work factor 10.
+fn with_passphrase(alloc: Global) -> Result<Recipients, Fail> {
+    let mut recipients: Recipients = Vec::new(alloc);
+    recipients.push(Box::new(alloc, PassRecipient::new(alloc, PASS, SALT, 10)?)?)?;
+    Ok(recipients)
+}
+
+/// A recipient of the key of 32 such bytes.
+fn with_key(alloc: Global, byte: u8) -> Result<Recipients, Fail> {
+    let mut recipients: Recipients = Vec::new(alloc);
+    recipients.push(Box::new(alloc, KeyRecipient::new([byte; 32], SALT))?)?;
+    Ok(recipients)
+}
+
+/// The identity of the key of 32 such bytes.
+fn key_of(alloc: Global, byte: u8) -> Result<Identities, Fail> {
+    let mut identities: Identities = Vec::new(alloc);
+    identities.push(Box::new(alloc, KeyIdentity::new([byte; 32]))?)?;
+    Ok(identities)
+}
+
+/// What encrypting gives for these recipients, and what was written.
+fn encrypted(
+    alloc: Global,
+    plain: &[u8],
+    recipients: &Recipients,
+    limits: &Limits,
+) -> (Result<Done, Fault>, Vec<u8>) {
+    let mut out = MemSink::new(Vec::new(alloc));
+    let answer = encrypt(
+        alloc,
+        &mut MemSource::new(plain),
+        &mut out,
+        recipients.as_slice(),
+        &FRESH,
+        limits,
+    );
+    (answer, out.into_vec())
+}
+
+/// What decrypting gives to these identities, and what was written.
+fn decrypted(
+    alloc: Global,
+    file: &[u8],
+    identities: &Identities,
+    limits: &Limits,
+) -> (Result<Done, Fault>, Vec<u8>) {
+    let mut out = MemSink::new(Vec::new(alloc));
+    let answer = decrypt(
+        alloc,
+        &mut MemSource::new(file),
+        &mut out,
+        identities.as_slice(),
+        limits,
+    );
+    (answer, out.into_vec())
+}
+
+fn sevens(alloc: Global, len: usize) -> Result<Vec<u8>, AllocError> {
+    let mut bytes = Vec::new(alloc);
+    bytes.resize(len, 7)?;
+    Ok(bytes)
+}
+
+/// A byte at a time in both directions, the last chunk being full.
+#[test]
+fn byte_by_byte(rt: HostRuntime) -> Result<(), Fail> {
+    let alloc = rt.alloc();
+    let limits = Limits::default();
+    let plain = sevens(alloc, 65_536)?;
+    let recipients = with_passphrase(alloc)?;
+    let done = Ok(Done {
+        bytes: 65_536,
+        chunks: 1,
+    });
+    let (answer, file) = encrypted(alloc, plain.as_slice(), &recipients, &limits);
+    assert!(rt; answer == done);
+    assert_eq!(rt; file.len(), 65_718);
+    let mut source = Drops::new(plain.as_slice(), 0);
+    let mut sink = Holds::new(Vec::new(alloc), 100_000);
+    let answer = encrypt(
+        alloc,
+        &mut source,
+        &mut sink,
+        recipients.as_slice(),
+        &FRESH,
+        &limits,
+    );
+    assert!(rt; answer == done);
+    assert!(rt; sink.bytes == file);
+    let mut identities: Identities = Vec::new(alloc);
+    identities.push(Box::new(alloc, PassIdentity::new(alloc, PASS, 22)?)?)?;
+    let mut source = Drops::new(file.as_slice(), 0);
+    let mut sink = Holds::new(Vec::new(alloc), 100_000);
+    let answer = decrypt(
+        alloc,
+        &mut source,
+        &mut sink,
+        identities.as_slice(),
+        &limits,
+    );
+    assert!(rt; answer == done);
+    assert!(rt; sink.bytes == plain);
+    Ok(())
+}
+
+/// A sink that takes 100 bytes, and sources that fail at a read.
+#[test]
+fn failing_devices(rt: HostRuntime) -> Result<(), Fail> {
+    let alloc = rt.alloc();
+    let limits = Limits::default();
+    let recipients = with_key(alloc, 3)?;
+    let identities = key_of(alloc, 3)?;
+    let (_, file) = encrypted(alloc, b"", &recipients, &limits);
+    let mut sink = Holds::new(Vec::new(alloc), 100);
+    let answer = encrypt(
+        alloc,
+        &mut MemSource::new(b""),
+        &mut sink,
+        recipients.as_slice(),
+        &FRESH,
+        &limits,
+    );
+    assert!(rt; answer == Err(Fault::Write));
+    assert!(rt; sink.bytes.len() == 100 && file.as_slice().starts_with(sink.bytes.as_slice()));
+    for failing in [1, 2, 157, 180] {
+        let mut source = Drops::new(file.as_slice(), failing);
+        let mut sink = Holds::new(Vec::new(alloc), 100);
+        let answer = decrypt(
+            alloc,
+            &mut source,
+            &mut sink,
+            identities.as_slice(),
+            &limits,
+        );
+        assert!(rt; answer == Err(Fault::Read));
+        assert!(rt; sink.bytes.is_empty());
+    }
+    let mut source = Drops::new(b"abc", 2);
+    let mut sink = Holds::new(Vec::new(alloc), 100);
+    let answer = encrypt(
+        alloc,
+        &mut source,
+        &mut sink,
+        recipients.as_slice(),
+        &FRESH,
+        &limits,
+    );
+    assert!(rt; answer == Err(Fault::Read));
+    assert!(rt; sink.bytes.is_empty());
+    Ok(())
+}
+
+/// More chunks than are allowed, in both directions.
+#[test]
+fn too_many_chunks(rt: HostRuntime) -> Result<(), Fail> {
+    let alloc = rt.alloc();
+    let Some(one) = Limits::new(65_536, 1) else {
+        unreachable!();
+    };
+    let plain = sevens(alloc, 65_537)?;
+    let recipients = with_key(alloc, 3)?;
+    let (answer, begun) = encrypted(alloc, plain.as_slice(), &recipients, &one);
+    assert!(rt; answer == Err(Fault::TooManyChunks));
+    assert_eq!(rt; begun.len(), 172);
+    let (_, file) = encrypted(alloc, plain.as_slice(), &recipients, &Limits::default());
+    assert!(rt; file.as_slice().starts_with(begun.as_slice()));
+    let (answer, front) = decrypted(alloc, file.as_slice(), &key_of(alloc, 3)?, &one);
+    assert!(rt; answer == Err(Fault::TooManyChunks));
+    assert_eq!(rt; front.len(), 65_536);
+    Ok(())
+}
+
+/// What is refused before the first byte, and the greatest header.
+#[test]
+fn refused_recipients(rt: HostRuntime) -> Result<(), Fail> {
+    let alloc = rt.alloc();
+    let Some(limits) = Limits::new(1_024, 1) else {
+        unreachable!();
+    };
+    let none: Recipients = Vec::new(alloc);
+    let mut mixed = with_passphrase(alloc)?;
+    mixed.push(Box::new(alloc, KeyRecipient::new([3; 32], SALT))?)?;
+    let mut refuses = with_key(alloc, 3)?;
+    refuses.push(Box::new(alloc, Refuses { code: 7 })?)?;
+    let mut fits: Recipients = Vec::new(alloc);
+    fits.push(Box::new(
+        alloc,
+        Long {
+            text: letters(alloc, 949)?,
+        },
+    )?)?;
+    let mut exceeds: Recipients = Vec::new(alloc);
+    exceeds.push(Box::new(
+        alloc,
+        Long {
+            text: letters(alloc, 950)?,
+        },
+    )?)?;
+    for (recipients, fault) in [
+        (&none, Fault::NoRecipients),
+        (&mixed, Fault::MixedPassphrase),
+        (&refuses, Fault::Refused(1, 7)),
+        (&exceeds, Fault::HeaderTooLarge),
+    ] {
+        let (answer, out) = encrypted(alloc, b"", recipients, &limits);
+        assert!(rt; answer == Err(fault));
+        assert!(rt; out.is_empty());
+    }
+    let (answer, out) = encrypted(alloc, b"", &fits, &limits);
+    assert!(rt;
+        answer
+            == Ok(Done {
+                bytes: 0,
+                chunks: 1
+            })
+    );
+    assert_eq!(rt; out.len(), 1_024 + 32);
+    Ok(())
+}
+
+fn letters(alloc: Global, count: usize) -> Result<String, Fail> {
+    let mut text = String::new(alloc);
+    for _ in 0..count {
+        text.push('a')?;
+    }
+    Ok(text)
+}
+
+/// Several keyed recipients, and a caller's in front of one.
+#[test]
+fn several_recipients(rt: HostRuntime) -> Result<(), Fail> {
+    let alloc = rt.alloc();
+    let limits = Limits::default();
+    let done = Ok(Done {
+        bytes: 0,
+        chunks: 1,
+    });
+    let mut two = with_key(alloc, 3)?;
+    two.push(Box::new(alloc, KeyRecipient::new([4; 32], SALT))?)?;
+    let (answer, file) = encrypted(alloc, b"", &two, &limits);
+    assert!(rt; answer == done);
+    assert_eq!(rt; file.len(), 274);
+    for (byte, expected) in [(3, done), (4, done), (5, Err(Fault::WrongKey))] {
+        let (answer, _) = decrypted(alloc, file.as_slice(), &key_of(alloc, byte)?, &limits);
+        assert!(rt; answer == expected);
+    }
+    let (answer, _) = decrypted(alloc, file.as_slice(), &Vec::new(alloc), &limits);
+    assert!(rt; answer == Err(Fault::NoMatch));
+    Ok(())
+}
+
+/// Stanzas of a caller's types go through both directions as they are.
+#[test]
+fn foreign_stanzas(rt: HostRuntime) -> Result<(), Fail> {
+    let alloc = rt.alloc();
+    let limits = Limits::default();
+    let done = Ok(Done {
+        bytes: 0,
+        chunks: 1,
+    });
+    let mut recipients: Recipients = Vec::new(alloc);
+    recipients.push(Box::new(alloc, Plug)?)?;
+    recipients.push(Box::new(alloc, KeyRecipient::new([3; 32], SALT))?)?;
+    let (answer, file) = encrypted(alloc, b"", &recipients, &limits);
+    assert!(rt; answer == done);
+    assert_eq!(rt; file.len(), 262);
+    let plug =
+        b"age-encryption.org/v1\n-> plug\nAAAAAAAAAAAAAAAAAAAAAAAAAAAAAAAAAAAAAAAAAAAAAAAAAAAAAAAAAAAAAAAA\n\n-> ";
+    assert!(rt; file.as_slice().starts_with(plug));
+    let (answer, _) = decrypted(alloc, file.as_slice(), &key_of(alloc, 3)?, &limits);
+    assert!(rt; answer == done);
+    // without the three lines of the first stanza
+    let mut cut = Vec::from_slice(alloc, b"age-encryption.org/v1\n-> ")?;
+    let (_, rest) = file.as_slice().split_at(plug.len().min(file.len()));
+    cut.extend_from_slice(rest)?;
+    let (answer, _) = decrypted(alloc, cut.as_slice(), &key_of(alloc, 3)?, &limits);
+    assert!(rt; answer == Err(Fault::BadMac));
+    Ok(())
+}
+
+/// A file of the usual tool's shape, for whoever has its key.
+#[test]
+fn foreign_identity(rt: HostRuntime) -> Result<(), Fail> {
+    let alloc = rt.alloc();
+    let limits = Limits::default();
+    let mut recipients: Recipients = Vec::new(alloc);
+    recipients.push(Box::new(alloc, Curve)?)?;
+    let (answer, file) = encrypted(alloc, b"hello", &recipients, &limits);
+    assert!(rt;
+        answer
+            == Ok(Done {
+                bytes: 5,
+                chunks: 1
+            })
+    );
+    let shape =
+        b"age-encryption.org/v1\n-> X25519 AAAAAAAAAAAAAAAAAAAAAAAAAAAAAAAAAAAAAAAAAAA\nAAAAAAAAAAAAAAAAAAAAAAAAAAAAAAAAAAAAAAAAAAA\n-> abc-grease x\n\n--- ";
+    assert!(rt; file.as_slice().starts_with(shape));
+    let mut identities: Identities = Vec::new(alloc);
+    identities.push(Box::new(alloc, PassIdentity::new(alloc, PASS, 22)?)?)?;
+    let (answer, _) = decrypted(alloc, file.as_slice(), &identities, &limits);
+    assert!(rt; answer == Err(Fault::NoMatch));
+    identities.push(Box::new(
+        alloc,
+        Held {
+            key: FRESH.file_key,
+        },
+    )?)?;
+    let (answer, plain) = decrypted(alloc, file.as_slice(), &identities, &limits);
+    assert!(rt;
+        answer
+            == Ok(Done {
+                bytes: 5,
+                chunks: 1
+            })
+    );
+    assert!(rt; plain.as_slice() == b"hello".as_slice());
+    let mut wrong: Identities = Vec::new(alloc);
+    wrong.push(Box::new(
+        alloc,
+        Held {
+            key: FileKey([0; 16]),
+        },
+    )?)?;
+    let (answer, _) = decrypted(alloc, file.as_slice(), &wrong, &limits);
+    assert!(rt; answer == Err(Fault::BadMac));
+    Ok(())
+}

@@ -1,0 +1,105 @@
+//! Recipients and identities of a caller.
+
+use age_header::Stanza;
+use age_recipient::{FileKey, Identity, Recipient, Unwrapped, WrapFault};
+use std::alloc::{AllocError, Global};
+
+/// Gives a stanza of a type that nobody else knows.
+#[derive(Drop)]
+pub(super) struct Plug;
+
+impl Recipient for Plug {
+    ghost use Rattle.std.specs.Prelude.{Ok, [], ◌∷◌, codes, replicate};
+
+    ghost wraps = { λ _ _. Ok (record { args = codes "plug" ∷ []; body = replicate 48 0 } ∷ []) };
+
+    fn wrap(&self, alloc: Global, _key: &FileKey) -> Result<Vec<Stanza>, WrapFault> {
+        let Ok(stanza) = Stanza::new(alloc, &["plug"], &[0; 48]) else {
+            return Err(WrapFault::Memory);
+        };
+        match vec![in alloc; stanza] {
+            Ok(stanzas) => Ok(stanzas),
+            Err(_) => Err(WrapFault::Memory),
+        }
+    }
+}
+
+/// Gives a stanza with one argument of so many letters, so that a header has a length.
+#[derive(Drop)]
+pub(super) struct Long {
+    pub(super) text: String,
+}
+
+impl Recipient for Long {
+    ghost use Rattle.std.specs.Prelude.{Ok, [], ◌∷◌};
+    ghost use Rattle.std.specs.String.{string_bytes};
+
+    ghost wraps = { λ long _. Ok (record { args = string_bytes long.text ∷ []; body = [] } ∷ []) };
+
+    fn wrap(&self, alloc: Global, _key: &FileKey) -> Result<Vec<Stanza>, WrapFault> {
+        let Ok(stanza) = Stanza::new(alloc, &[self.text.as_str()], &[]) else {
+            return Err(WrapFault::Memory);
+        };
+        match vec![in alloc; stanza] {
+            Ok(stanzas) => Ok(stanzas),
+            Err(_) => Err(WrapFault::Memory),
+        }
+    }
+}
+
+/// Gives what the usual tool writes for an X25519 key, and a stanza of an unknown type behind it.
+#[derive(Drop)]
+pub(super) struct Curve;
+
+impl Recipient for Curve {
+    ghost use Rattle.std.specs.Prelude.{Ok, [], ◌∷◌, codes, replicate};
+
+    ghost wraps = { λ _ _. Ok (record { args = codes "X25519" ∷ codes "AAAAAAAAAAAAAAAAAAAAAAAAAAAAAAAAAAAAAAAAAAA" ∷ []; body = replicate 32 0 }
+        ∷ record { args = codes "abc-grease" ∷ codes "x" ∷ []; body = [] } ∷ []) };
+
+    fn wrap(&self, alloc: Global, _key: &FileKey) -> Result<Vec<Stanza>, WrapFault> {
+        let point = "AAAAAAAAAAAAAAAAAAAAAAAAAAAAAAAAAAAAAAAAAAA";
+        let Ok(curve) = Stanza::new(alloc, &["X25519", point], &[0; 32]) else {
+            return Err(WrapFault::Memory);
+        };
+        let Ok(grease) = Stanza::new(alloc, &["abc-grease", "x"], &[]) else {
+            return Err(WrapFault::Memory);
+        };
+        match vec![in alloc; curve, grease] {
+            Ok(stanzas) => Ok(stanzas),
+            Err(_) => Err(WrapFault::Memory),
+        }
+    }
+}
+
+/// Gives no stanza, and refuses where it has a number.
+#[derive(Drop)]
+pub(super) struct Refuses {
+    pub(super) code: u32,
+}
+
+impl Recipient for Refuses {
+    ghost use Rattle.std.specs.Prelude.{Err};
+
+    ghost wraps = { λ refuses _. Err refuses.code };
+
+    fn wrap(&self, _alloc: Global, _key: &FileKey) -> Result<Vec<Stanza>, WrapFault> {
+        Err(WrapFault::Refused(self.code))
+    }
+}
+
+/// Holds the file key of one file already, as an agent might.
+#[derive(Drop)]
+pub(super) struct Held {
+    pub(super) key: FileKey,
+}
+
+impl Identity for Held {
+    ghost use Rattle.age_recipient.specs.declared.unwrapped.Unwrapped.TheVariants.{Key};
+
+    ghost meaning = { λ held _. Key held.key };
+
+    fn unwrap(&self, _alloc: Global, _stanzas: &[Stanza]) -> Result<Unwrapped, AllocError> {
+        Ok(Unwrapped::Key(self.key))
+    }
+}

@@ -1,0 +1,413 @@
+#!/bin/bash
+# Runs `agep encrypt` and `agep decrypt` as built: the bytes that they write, their lines and statuses, the order of their
+# checks, and what their output holds after a fault. The last line is 'N passed, M failed'.
+source "$(dirname "$0")/checks.bash"
+
+# The files that all of this works with. The seed is the bytes 0 to 47, the key the first 32 of them.
+make_files() {
+    local i
+    for i in {0..47}; do
+        printf '%b' "\\x$(printf %02x "$i")"
+    done >seed
+    head -c 32 seed >key
+    head -c 32 /dev/zero >other.key
+    printf 'correct horse' >pass
+    printf 'correct hors' >other.pass
+    head -c 131073 /dev/zero | tr '\0' 'a' >long
+    : >empty
+    head -c 65536 long >full
+    head -c 65537 long >two_chunks
+}
+
+encrypt() {
+    run encrypt "$@"
+}
+
+decrypt() {
+    run decrypt "$@"
+}
+
+# Whether the run before wrote just this file's bytes to standard output, and ended well.
+has_written() {
+    has_said 0 "" && cmp -s out "$1"
+}
+
+# Whether the run before ended with this fault, and wrote the first so many bytes of `long`.
+has_written_front() {
+    has_said 1 "agep: $2" && [[ $(wc -c <out) == "$1" ]] && cmp -s -n "$1" out long
+}
+
+# Whether the file `plain`, encrypted with these words, makes a file of this size, and comes back from it with the
+# first two of them; by names and through pipes.
+comes_back() {
+    local size=$1
+    shift
+    rm -f made back
+    encrypt "$@" -s seed -o made plain
+    has_ended 0 "" && [[ $(wc -c <made) == "$size" ]] && encrypt "$@" -s seed <plain && has_written made &&
+        decrypt "$1" "$2" -o back made && has_ended 0 "" && cmp -s back plain &&
+        decrypt "$1" "$2" <made && has_written plain
+}
+
+sizes() {
+    local row size passphrase_size key_size
+    for row in "0 182 188" "1 183 189" "65535 65717 65723" "65536 65718 65724" "65537 65735 65741" \
+        "131072 131270 131276" "131073 131287 131293"; do
+        read -r size passphrase_size key_size <<<"$row"
+        head -c "$size" long >'plain'
+        comes_back "$passphrase_size" -p pass -w 10
+        check "$size bytes with a passphrase: a file of $passphrase_size bytes, and back"
+        comes_back "$key_size" -k key
+        check "$size bytes with a key: a file of $key_size bytes, and back"
+    done
+}
+
+# The bytes that Python makes by the RFCs.
+by_reference() {
+    local plain
+    if ! python3 -c 'import hashlib; hashlib.scrypt' 2>/dev/null; then
+        echo "skipped: the bytes beside those that Python makes, since it is missing"
+        return
+    fi
+    for plain in empty key full two_chunks; do
+        "$root/tests/reference.py" -p pass -w 10 -s seed <"$plain" >expected
+        encrypt -p pass -w 10 -s seed "$plain"
+        has_written expected
+        check "$plain and a passphrase: the file that Python makes"
+        "$root/tests/reference.py" -k key -s seed <"$plain" >expected
+        encrypt -k key -s seed "$plain"
+        has_written expected
+        check "$plain and a key: the file that Python makes"
+    done
+    "$root/tests/reference.py" -k key -s seed --empty-final <full >made
+    decrypt -k key made
+    has_written_front 65536 "chunk 1 is empty"
+    check "a sealed empty chunk after a full one"
+}
+
+# The first bytes of a file: its header's lines up to the body, and its nonce.
+first_bytes() {
+    encrypt -p pass -w 10 -s seed empty
+    head -c 58 out | cmp -s - <(printf 'age-encryption.org/v1\n-> scrypt ICEiIyQlJicoKSorLC0uLw 10\n') &&
+        [[ $(tail -c 32 out | head -c 16 | od -An -tx1 | tr -d ' ') == 101112131415161718191a1b1c1d1e1f ]]
+    check "the lines of a passphrase's header, and the nonce behind it"
+    encrypt -k key -s seed empty
+    head -c 64 out | cmp -s - <(printf 'age-encryption.org/v1\n-> example.org/key ICEiIyQlJicoKSorLC0uLw\n')
+    check "the lines of a key's header"
+}
+
+# What is made without -w, -s and -o, and a file of another tool's.
+defaults() {
+    echo hello >hello
+    encrypt -p pass hello
+    [[ $(wc -c <out) == 188 ]] && has_said 0 "" && mv out made && run inspect made &&
+        grep -qE '^   0       32 scrypt [A-Za-z0-9+/]{22} 18$' out && decrypt -p pass made && has_written hello
+    check "hello and LF at the default work factor: 188 bytes, and back"
+    encrypt -k key hello
+    mv out made
+    encrypt -k key hello
+    ! cmp -s out made && decrypt -k key made && has_written hello
+    check "the default seed makes another file each time"
+    decrypt -p pass "$data/passphrase.age"
+    has_written hello
+    check "passphrase.age, made by age"
+    encrypt -p pass -w 10 -s seed -o made two_chunks
+    decrypt -p pass -m 10 made
+    has_written two_chunks
+    check "work factor 10, where 10 is accepted"
+    decrypt -p pass -m 9 made
+    has_ended 1 "agep: malformed stanza: work factor is too high"
+    check "work factor 10, where 9 is accepted"
+}
+
+# One LF at the end of a passphrase is no part of it.
+passphrases() {
+    local row
+    encrypt -p pass -w 1 -o made hello
+    for row in '0 correct horse\n' '1 correct horse\n\n' '1 correct horse\r\n' '1 correct horse ' '1 \ncorrect horse' '1 ' '1 \n'; do
+        printf '%b' "${row#* }" >near
+        decrypt -p near made
+        if [[ ${row%% *} == 0 ]]; then has_written hello; else has_ended 1 "agep: wrong passphrase or key"; fi
+        check "status ${row%% *} with the passphrase file ${row#* }"
+    done
+    printf '\n' >lf
+    encrypt -p empty -w 1 -o made hello
+    decrypt -p lf made
+    has_written hello
+    check "the empty passphrase"
+    { head -c 65535 /dev/zero && echo; } >longest
+    head -c 65535 /dev/zero >same
+    encrypt -p longest -w 1 -o made hello
+    decrypt -p same made
+    has_written hello
+    check "a passphrase file of 65,536 bytes, the last of them LF"
+    printf x >>longest
+    encrypt -p longest -w 1 hello
+    has_ended 1 "agep: passphrase file is too long"
+    check "a passphrase file of 65,537 bytes"
+    { head -c 65536 /dev/zero && echo; } >longest
+    decrypt -p longest made
+    has_ended 1 "agep: passphrase file is too long"
+    check "a passphrase file of 65,537 bytes, the last of them LF"
+}
+
+# Which secret fits which file.
+keys() {
+    encrypt -p pass -w 1 -o made hello
+    decrypt -p other.pass made
+    has_ended 1 "agep: wrong passphrase or key"
+    check "another passphrase"
+    decrypt -k key made
+    has_ended 1 "agep: no key fits this file"
+    check "a key on a passphrase's file"
+    encrypt -k key -o made hello
+    decrypt -k other.key made
+    has_ended 1 "agep: wrong passphrase or key"
+    check "another key"
+    decrypt -p pass made
+    has_ended 1 "agep: no key fits this file"
+    check "a passphrase on a key's file"
+    decrypt -p pass "$data/three_recipients.age"
+    has_ended 1 "agep: no key fits this file"
+    check "a passphrase on a file for other recipients"
+    decrypt -k key "$data/three_recipients.age"
+    has_ended 1 "agep: no key fits this file"
+    check "a key on a file for other recipients"
+}
+
+# Headers that are read, and refused for their stanzas; bytes that are no header.
+bad_headers() {
+    local row salt=AAAAAAAAAAAAAAAAAAAAAA body=AAAAAAAAAAAAAAAAAAAAAAAAAAAAAAAAAAAAAAAAAAA
+    for row in "argument count|scrypt $salt|$body" "salt|scrypt ${salt%A} 10|$body" "salt|scrypt $salt== 10|$body" \
+        "work factor|scrypt $salt 015|$body" "work factor|scrypt $salt 0|$body" "work factor|scrypt $salt +9|$body" \
+        "work factor is too high|scrypt $salt 23|$body" \
+        "work factor is too high|scrypt $salt 1000000000000000000000000000000000000000|$body" \
+        "body length|scrypt $salt 10|${body%A}" "argument count|example.org/key|$body" \
+        "salt|example.org/key ${salt%A}|$body" "body length|example.org/key $salt|${body%A}"; do
+        IFS='|' read -r fault arguments text <<<"$row"
+        printf 'age-encryption.org/v1\n-> %s\n%s\n--- %s\n' "$arguments" "$text" "$body" >made
+        if [[ $arguments == scrypt* ]]; then decrypt -p pass made; else decrypt -k key made; fi
+        has_ended 1 "agep: malformed stanza: $fault"
+        check "malformed stanza: $fault: $arguments"
+    done
+    for row in "-> scrypt $salt 10\n$body\n-> scrypt $salt 10\n$body\n" "-> x-grease\n\n-> scrypt $salt 10\n$body\n"; do
+        printf 'age-encryption.org/v1\n%b--- %s\n' "$row" "$body" >made
+        decrypt -p pass made
+        has_ended 1 "agep: a passphrase stanza must stand alone"
+        check "a passphrase stanza beside another: ${row:0:16}"
+    done
+    for row in 'header is cut short|' 'not an age file|age-encryption.org/v2\n' 'bad header line 2|age-encryption.org/v1\n->\n'; do
+        printf '%b' "${row#*|}" >made
+        decrypt -k key made
+        has_ended 1 "agep: ${row%%|*}"
+        check "decrypt: ${row%%|*}"
+    done
+    decrypt -p pass -H 65533 "$data/recipients_668.age"
+    has_ended 1 "agep: header is too large"
+    check "decrypt: a header of 65,534 bytes, where 65,533 are allowed"
+    decrypt -p pass -H 65534 "$data/recipients_668.age"
+    has_ended 1 "agep: no key fits this file"
+    check "decrypt: a header of 65,534 bytes, where so many are allowed"
+}
+
+# A file of empty plaintext cut short, and with its MAC changed: nothing is written.
+cut_files() {
+    local row
+    encrypt -p pass -w 10 -s seed -o whole empty
+    for row in "0 header is" "149 header is" "150 payload nonce is" "165 payload nonce is" "166 chunk 0 is" "181 chunk 0 is"; do
+        head -c "${row%% *}" whole >made
+        decrypt -p pass made
+        has_ended 1 "agep: ${row#* } cut short"
+        check "cut to ${row%% *} bytes: ${row#* } cut short"
+    done
+    LC_ALL=C sed 's/^--- R/--- S/' whole >made
+    decrypt -p pass made
+    ! cmp -s whole made && has_ended 1 "agep: header check failed"
+    check "the first sign of the MAC changed"
+}
+
+# A file of two chunks, damaged behind its header: what is written is the plaintext of the chunks before the damage.
+damaged_files() {
+    local row
+    encrypt -p pass -w 10 -s seed -o whole two_chunks
+    cp whole made && printf x >>made
+    decrypt -p pass made
+    has_written_front 65536 "chunk 1 is damaged"
+    check "two chunks and one byte more: the first chunk, then a fault"
+    for row in "182 0 chunk 0 is damaged" "65717 0 chunk 0 is damaged" "65718 0 chunk 0 is damaged" \
+        "65719 65536 chunk 1 is cut short" "65733 65536 chunk 1 is cut short" "65734 65536 chunk 1 is empty"; do
+        read -r size front fault <<<"$row"
+        head -c "$size" whole >made
+        decrypt -p pass made
+        has_written_front "$front" "$fault"
+        check "two chunks cut to $size bytes: $front bytes, then: $fault"
+        rm -f back
+        decrypt -p pass -o back made
+        has_ended 1 "agep: $fault" && [[ $(wc -c <back) == "$front" ]] && cmp -s -n "$front" back long
+        check "two chunks cut to $size bytes: OUT is left as it stands"
+    done
+    { head -c 65734 whole && printf '\xff'; } >made
+    decrypt -p pass made
+    has_written_front 65536 "chunk 1 is damaged"
+    check "the last byte changed: the first chunk, then a fault"
+}
+
+# The words' own faults, in the order in which they are looked for. OUT is made last of all.
+order() {
+    local command
+    head -c 31 seed >short.key
+    head -c 33 seed >long.key
+    head -c 47 seed >short.seed
+    rm -f made
+    for command in encrypt decrypt; do
+        run "$command" -o made nowhere
+        has_ended 1 "agep: give one of -p and -k" && [[ ! -e made ]]
+        check "$command: neither of -p and -k"
+        run "$command" -p nowhere -k nowhere -o made nowhere
+        has_ended 1 "agep: give one of -p and -k" && [[ ! -e made ]]
+        check "$command: both of -p and -k"
+        run "$command" -p absent -o made nowhere
+        has_ended 1 "agep: cannot open absent" && [[ ! -e made ]]
+        check "$command: no passphrase file"
+        run "$command" -k absent -o made nowhere
+        has_ended 1 "agep: cannot open absent" && [[ ! -e made ]]
+        check "$command: no key file"
+        for name in short.key long.key empty; do
+            run "$command" -k "$name" -o made nowhere
+            has_ended 1 "agep: key file must hold 32 bytes" && [[ ! -e made ]]
+            check "$command: a key file of $(wc -c <"$name") bytes"
+        done
+        run "$command" -p "$work" -o made nowhere
+        has_ended 1 "agep: read failed" && [[ ! -e made ]]
+        check "$command: a directory as passphrase file"
+        run "$command" -k "$work" -o made nowhere
+        has_ended 1 "agep: read failed" && [[ ! -e made ]]
+        check "$command: a directory as key file"
+        run "$command" -k key -o made nowhere
+        has_ended 1 "agep: cannot open nowhere" && [[ ! -e made ]]
+        check "$command: no IN"
+        run "$command" -k key -o nowhere/made hello
+        has_ended 1 "agep: cannot create nowhere/made"
+        check "$command: OUT in a folder that does not exist"
+        run "$command" -k key -o "$work" hello
+        has_ended 1 "agep: cannot create $work"
+        check "$command: a directory as OUT"
+        run "$command" -k key -o nowhere/made nowhere
+        has_ended 1 "agep: cannot open nowhere"
+        check "$command: IN is opened before OUT is made"
+        run "$command" -k key "$work"
+        has_ended 1 "agep: read failed"
+        check "$command: a directory as IN"
+    done
+    run encrypt -k absent -s absent.seed hello
+    has_ended 1 "agep: cannot open absent"
+    check "the key file is read before the seed file"
+    run encrypt -k key -s absent.seed -o made nowhere
+    has_ended 1 "agep: cannot open absent.seed" && [[ ! -e made ]]
+    check "no seed file"
+    for name in short.seed empty; do
+        run encrypt -k key -s "$name" -o made nowhere
+        has_ended 1 "agep: seed file must hold 48 bytes" && [[ ! -e made ]]
+        check "a seed file of $(wc -c <"$name") bytes"
+    done
+    run encrypt -k key -s "$work" -o made nowhere
+    has_ended 1 "agep: read failed" && [[ ! -e made ]]
+    check "a directory as seed file"
+}
+
+outputs() {
+    echo old >made
+    decrypt -p pass -o made hello
+    has_ended 1 "agep: not an age file" && [[ -e made && ! -s made ]]
+    check "a refused file leaves OUT empty"
+    cp hello both
+    encrypt -k key -s seed -o both both
+    has_ended 0 "" && decrypt -k key both && has_written empty
+    check "an OUT that names IN is emptied before it is read"
+    encrypt -k key -o whole two_chunks
+    for words in "encrypt -k key two_chunks" "decrypt -k key whole"; do
+        # shellcheck disable=SC2086
+        run $words -o /dev/full
+        has_ended 1 "agep: write failed"
+        check "a full device as OUT: $words"
+        # shellcheck disable=SC2086
+        "$agep" $words >/dev/full 2>err
+        echo $? >status
+        has_said 1 "agep: write failed"
+        check "a full device as standard output: $words"
+        # shellcheck disable=SC2086
+        run_into_closed_pipe $words
+        has_said 1 "agep: write failed"
+        check "a closed pipe: $words"
+        # shellcheck disable=SC2086
+        "$agep" $words >&- 2>err
+        echo $? >status
+        has_said 1 "agep: write failed"
+        check "a closed standard output: $words"
+    done
+    cat <whole | decrypt -k key
+    has_written two_chunks
+    check "from a pipe"
+}
+
+# Words that are refused, with the first line of what is said, and the texts of help.
+words() {
+    local row
+    for row in "encrypt -p pass -w 31|error: invalid value '31' for '--work <N>': 31 is not in 1..=30" \
+        "encrypt -p pass -w 0|error: invalid value '0' for '--work <N>': 0 is not in 1..=30" \
+        "decrypt -p pass -m 31|error: invalid value '31' for '--max-work <N>': 31 is not in 1..=30" \
+        "decrypt -p pass -m 0|error: invalid value '0' for '--max-work <N>': 0 is not in 1..=30" \
+        "encrypt -H 1023|error: invalid value '1023' for '--max-header <N>': 1023 is not in 1024..=16777216" \
+        "decrypt -w 10|error: unexpected argument '-w' found" \
+        "encrypt -m 10|error: unexpected argument '-m' found" \
+        "decrypt -p a -p b|error: the argument '--passphrase <FILE>' cannot be used multiple times" \
+        "encrypt a b|error: unexpected argument 'b' found"; do
+        # shellcheck disable=SC2086,SC2090
+        run ${row%%|*}
+        [[ $(cat status) == 2 && $(head -n 1 err) == "${row#*|}" && ! -s out ]]
+        check "status 2: agep ${row%%|*}"
+    done
+    run encrypt --help
+    grep -q 'a seed used twice repeats keys' out && grep -q 'an OUT that names IN destroys it' out &&
+        grep -q 'a refused file leaves it empty' out && grep -q 'default: 18' out && grep -q 'default: /dev/urandom' out && has_said 0 ""
+    check "help on encrypt, with its warnings"
+    run decrypt --help
+    grep -q 'a refused file leaves it empty, and an OUT that names IN destroys it' out && grep -q 'default: 22' out && has_said 0 ""
+    check "help on decrypt, with its warnings"
+}
+
+# Want of memory: of the table for scrypt, and of each growth in turn.
+memory() {
+    (
+        ulimit -v 100000
+        encrypt -p pass -w 18 hello
+    )
+    has_ended 1 "agep: out of memory"
+    check "no memory for scrypt at work factor 18"
+    if ! has_refuser; then
+        echo "skipped: growths refused in turn, since there is no C compiler"
+        return
+    fi
+    each_growth encrypt -p pass -w 1 -s seed hello
+    encrypt -p pass -w 1 -s seed -o made hello
+    each_growth decrypt -p pass made
+    each_growth encrypt -k key -s seed hello
+    encrypt -k key -s seed -o made hello
+    each_growth decrypt -k key made
+}
+
+make_files
+sizes
+by_reference
+first_bytes
+defaults
+passphrases
+keys
+bad_headers
+cut_files
+damaged_files
+order
+outputs
+words
+memory
+finish

@@ -1,0 +1,41 @@
+#!/usr/bin/env python3
+"""Runs a command on a terminal of its own, and types a passphrase at each of its prompts.
+
+usage: tests/type_passphrase.py PASSPHRASE_FILE COMMAND..
+
+Ends with the command's status, and shows on standard error what it said where that is not 0.
+"""
+
+import os
+import pty
+import sys
+import time
+
+
+def main():
+    with open(sys.argv[1], "rb") as file:
+        line = file.read().removesuffix(b"\n") + b"\n"
+    process, terminal = pty.fork()
+    if process == 0:
+        os.execvp(sys.argv[2], sys.argv[2:])
+    said = b""
+    answered = 0
+    while True:
+        try:
+            piece = os.read(terminal, 1024)
+        except OSError:  # the command is gone
+            break
+        if not piece:
+            break
+        said += piece
+        if said.count(b": ") > answered:
+            answered += 1
+            time.sleep(0.1)  # until the command no longer echoes
+            os.write(terminal, line)
+    status = os.waitstatus_to_exitcode(os.waitpid(process, 0)[1])
+    if status != 0:
+        sys.stderr.buffer.write(said)
+    sys.exit(status)
+
+
+main()
