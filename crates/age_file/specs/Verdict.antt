@@ -27,14 +27,14 @@ of_header header.TooLarge = HeaderTooLarge
 of_header header.Read = Read
 of_header header.Memory = OutOfMemory
 
--- of finding its key
+-- a file's name of why its key was not found
 abbrev pub of_unlock : UnlockFault → Fault
 of_unlock unlock.NoMatch = NoMatch
 of_unlock unlock.WrongKey = WrongKey
 of_unlock (unlock.Malformed fault) = Malformed fault
 of_unlock unlock.Memory = OutOfMemory
 
--- of its payload
+-- a file's name of the fault of its payload
 abbrev pub of_stream : StreamFault → Fault
 of_stream stream.NonceTruncated = NonceTruncated
 of_stream (stream.ChunkShort i) = ChunkShort i

@@ -9,7 +9,7 @@ use age_header::HeaderFault;
 use age_recipient::UnlockFault;
 use age_stream::StreamFault;
 
-/// Of a header.
+/// A file's name of the fault of its header.
 pub(crate) fn header_fault(fault: HeaderFault) -> Fault
     ensures { result ≡ of_header fault }
 {
@@ -23,7 +23,7 @@ pub(crate) fn header_fault(fault: HeaderFault) -> Fault
     }
 }
 
-/// Of finding its key.
+/// A file's name of why its key was not found.
 pub(crate) fn unlock_fault(fault: UnlockFault) -> Fault
     ensures name { result ≡ of_unlock fault }
     ensures inside { IsInside result }
@@ -36,7 +36,7 @@ pub(crate) fn unlock_fault(fault: UnlockFault) -> Fault
     }
 }
 
-/// Of a payload.
+/// A file's name of the fault of its payload.
 pub(crate) fn stream_fault(fault: StreamFault) -> Fault
     ensures { result ≡ of_stream fault }
 {

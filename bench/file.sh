@@ -1,0 +1,43 @@
+#!/bin/bash
+# Whole files: how fast agep encrypts and decrypts with a key, beside age with an X25519 key where that is installed, in the same run.
+# Usage: bench/file.sh [MIB [RUNS]]
+set -eu
+mib=${1:-256}
+runs=${2:-3}
+root=$(cd "$(dirname "$0")/.." && pwd -P)
+"$root/agep" --version >/dev/null
+agep=$root/crates/agep/out/agep
+work=$(mktemp -d)
+trap 'rm -rf "$work"' EXIT
+cd "$work"
+
+head -c "$((mib << 20))" /dev/zero >plain
+head -c 32 /dev/urandom >key
+
+# The least time of some runs of this command, as throughput, with the most memory that one took.
+measure() {
+    local name=$1 run best="" memory="" seconds kib
+    shift
+    for ((run = 0; run < runs; run++)); do
+        read -r seconds kib < <({ /usr/bin/time -f '%e %M' "$@" >/dev/null; } 2>&1)
+        if [[ -z $best ]] || awk "BEGIN { exit !($seconds < $best) }"; then
+            best=$seconds
+        fi
+        memory=$kib
+    done
+    awk -v name="$name" -v s="$best" -v m="$mib" -v k="$memory" 'BEGIN {
+        printf "%-16s %8.0f MiB/s %8.2f s %10.1f MiB of memory\n", name, m / (s > 0 ? s : 0.01), s, k / 1024 }'
+}
+
+measure "agep encrypt" "$agep" encrypt -k key -o agep.age plain
+measure "agep decrypt" "$agep" decrypt -k key -o agep.out agep.age
+cmp plain agep.out
+if command -v age >/dev/null; then
+    age-keygen -o identity 2>/dev/null
+    recipient=$(sed -n 's/^# public key: //p' identity)
+    measure "age encrypt" age -r "$recipient" -o age.age plain
+    measure "age decrypt" age -d -i identity -o age.out age.age
+else
+    echo "age is not installed: no peer"
+fi
+echo "checksum $(sha256sum <agep.out | cut -c1-16)"
