@@ -15,6 +15,7 @@ make_files() {
     printf 'correct hors' >other.pass
     seq 30000 | head -c 131073 >long
     : >empty
+    echo hello >hello
     head -c 65536 long >full
     head -c 65537 long >two_chunks
 }
@@ -98,7 +99,6 @@ first_bytes() {
 
 # What is made without -w, -s and -o, and a file of another tool's.
 defaults() {
-    echo hello >hello
     encrypt -p pass hello
     [[ $(wc -c <out) == 188 ]] && has_said 0 "" && mv out made && run inspect made &&
         grep -qE '^   0       32 scrypt [A-Za-z0-9+/]{22} 18$' out && decrypt -p pass made && has_written hello

@@ -10,7 +10,7 @@ use std::io::{BufReader, BufWriter, Read, Write};
 /// So many bytes go through each system call: a header of the default limit takes one read.
 const BUFFER_LEN: usize = 65_536;
 
-/// As many chunks as the format's engine takes.
+/// The most chunks that the engine takes, which is its default.
 const MAX_CHUNKS: u64 = 4_294_967_296;
 
 /// The limits of this job.
@@ -30,7 +30,7 @@ pub(crate) fn source_of<'a, R: Read + Drop>(
 ) -> Result<ReadSource<BufReader<R>>, Fault<'a>> {
     match BufReader::with_capacity(alloc, BUFFER_LEN, input) {
         Ok(buffered) => Ok(ReadSource::new(buffered)),
-        Err(_) => Err(Fault::File(age_file::Fault::OutOfMemory)),
+        Err(_) => Err(Fault::Engine(age_file::Fault::OutOfMemory)),
     }
 }
 
@@ -41,7 +41,7 @@ pub(crate) fn buffer_of<'a, W: Write + Drop>(
 ) -> Result<BufWriter<W>, Fault<'a>> {
     match BufWriter::with_capacity(alloc, BUFFER_LEN, out) {
         Ok(buffered) => Ok(buffered),
-        Err(_) => Err(Fault::File(age_file::Fault::OutOfMemory)),
+        Err(_) => Err(Fault::Engine(age_file::Fault::OutOfMemory)),
     }
 }
 
@@ -54,8 +54,8 @@ pub(crate) fn end<'a, W: Write + Drop>(
     // Dropped as a whole it would try once more to write what a failure left.
     let (_out, _unwritten) = buffered.into_parts();
     match fault {
-        _ if !is_written => Err(Fault::File(age_file::Fault::Write)),
-        Some(fault) => Err(Fault::File(fault)),
+        _ if !is_written => Err(Fault::Engine(age_file::Fault::Write)),
+        Some(fault) => Err(Fault::Engine(fault)),
         None => Ok(()),
     }
 }

@@ -51,6 +51,6 @@ fn pass_identity<'a>(alloc: Global, job: &Job, passphrase: &[u8]) -> Result<Pass
     match PassIdentity::new(alloc, passphrase, job.max_work) {
         Ok(identity) => Ok(identity),
         Err(PassError::WorkFactor) => unreachable!(),
-        Err(PassError::Memory) => Err(Fault::File(age_file::Fault::OutOfMemory)),
+        Err(PassError::Memory) => Err(Fault::Engine(age_file::Fault::OutOfMemory)),
     }
 }

@@ -57,6 +57,6 @@ fn pass_recipient<'a>(
     match PassRecipient::new(alloc, passphrase, salt, job.work) {
         Ok(recipient) => Ok(recipient),
         Err(PassError::WorkFactor) => unreachable!(),
-        Err(PassError::Memory) => Err(Fault::File(age_file::Fault::OutOfMemory)),
+        Err(PassError::Memory) => Err(Fault::Engine(age_file::Fault::OutOfMemory)),
     }
 }

@@ -6,8 +6,8 @@ use std::fmt;
 /// Why a command ends without its work done. Its text is what follows `agep: ` on standard error.
 #[derive(Clone, Copy, Debug, Drop, PartialEq, Eq)]
 pub(crate) enum Fault<'a> {
-    /// A file was not made, not read, or is not as it should be.
-    File(age_file::Fault),
+    /// What the engine answers; a device or memory may fail outside it too.
+    Engine(age_file::Fault),
     /// The words name a passphrase file and a key file, or neither.
     KeyChoice,
     CannotOpen(&'a str),
@@ -20,26 +20,26 @@ pub(crate) enum Fault<'a> {
 
 impl From<age_file::Fault> for Fault<'_> {
     fn from(fault: age_file::Fault) -> Self {
-        Fault::File(fault)
+        Fault::Engine(fault)
     }
 }
 
 impl From<AllocError> for Fault<'_> {
     fn from(_error: AllocError) -> Self {
-        Fault::File(age_file::Fault::OutOfMemory)
+        Fault::Engine(age_file::Fault::OutOfMemory)
     }
 }
 
 impl<T: Drop> From<AllocFailed<T>> for Fault<'_> {
     fn from(_error: AllocFailed<T>) -> Self {
-        Fault::File(age_file::Fault::OutOfMemory)
+        Fault::Engine(age_file::Fault::OutOfMemory)
     }
 }
 
 impl fmt::Display for Fault<'_> {
     fn fmt<W: fmt::Write>(&self, f: &mut fmt::Formatter<W>) -> fmt::Result {
         match self {
-            Fault::File(fault) => write!(f, "{fault}"),
+            Fault::Engine(fault) => write!(f, "{fault}"),
             Fault::KeyChoice => f.write_str("give one of -p and -k"),
             Fault::CannotOpen(name) => write!(f, "cannot open {name}"),
             Fault::CannotCreate(name) => write!(f, "cannot create {name}"),

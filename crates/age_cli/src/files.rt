@@ -24,7 +24,7 @@ pub(crate) fn read_front<'a, R: Read, const N: usize>(
     match file.read_exact(&mut bytes) {
         Ok(()) => Ok(bytes),
         Err(error) if error.kind() == ErrorKind::UnexpectedEof => Err(short),
-        Err(_) => Err(Fault::File(age_file::Fault::Read)),
+        Err(_) => Err(Fault::Engine(age_file::Fault::Read)),
     }
 }
 
@@ -39,6 +39,6 @@ pub(crate) fn read_just<'a, F: Files, const N: usize>(
     match file.read(&mut [0u8; 1]) {
         Ok(0) => Ok(bytes),
         Ok(_) => Err(length),
-        Err(_) => Err(Fault::File(age_file::Fault::Read)),
+        Err(_) => Err(Fault::Engine(age_file::Fault::Read)),
     }
 }

@@ -151,10 +151,10 @@ fn answer_refusal<W: Write, E: Write>(fault: &WordsFault, out: &mut W, err: &mut
             }
             match write!(out, "{error}").and_then(|()| out.flush()) {
                 Ok(()) => DONE,
-                Err(_) => report(Fault::File(age_file::Fault::Write), err),
+                Err(_) => report(Fault::Engine(age_file::Fault::Write), err),
             }
         }
-        WordsFault::Memory => report(Fault::File(age_file::Fault::OutOfMemory), err),
+        WordsFault::Memory => report(Fault::Engine(age_file::Fault::OutOfMemory), err),
         WordsFault::Lost => {
             let _ = writeln!(err, "agep: bad command line");
             REFUSED

@@ -47,9 +47,9 @@ fn read_passphrase<'a, F: Files + AllocGlobal>(
     match file.take(MOST_PASSPHRASE + 1).read_to_end(&mut passphrase) {
         Ok(_) => {}
         Err(error) if error.kind() == ErrorKind::OutOfMemory => {
-            return Err(Fault::File(age_file::Fault::OutOfMemory));
+            return Err(Fault::Engine(age_file::Fault::OutOfMemory));
         }
-        Err(_) => return Err(Fault::File(age_file::Fault::Read)),
+        Err(_) => return Err(Fault::Engine(age_file::Fault::Read)),
     }
     if passphrase.len() as u64 > MOST_PASSPHRASE {
         return Err(Fault::PassphraseLength);

@@ -18,8 +18,11 @@ const DEFAULT_MAX_WORK: u8 = 22;
 
 /// The job that the words ask for, the program's name first.
 ///
-/// Each number of the job lies in its range. `Refused` has `clap`'s own text for words that name no
-/// job, and for help and the version.
+/// Each number of the job lies in its range.
+///
+/// # Errors
+/// `Refused` with `clap`'s own text for words that name no job, and for help and the version; `Memory` where a growth was
+/// refused; `Lost` where `clap` took a word and then gave no value in range for it.
 pub fn read_words(alloc: Global, words: &[&str]) -> Result<Job, WordsFault>
     ensures ranges { IfOk result IsInRange }
 {

@@ -55,10 +55,10 @@ header-opens : (limits : Bounds) (answers : Answering) (come rest : Option (List
 header-opens limits answers None rest g h = tt
 header-opens limits answers (Some b) rest header.Read h = tt
 header-opens limits answers (Some b) rest header.Memory h = tt
-header-opens limits answers (Some b) rest header.NotAge h = record { header = Err header.NotAge; of_header = h; is = refl }
-header-opens limits answers (Some b) rest (header.BadLine n) h = record { header = Err (header.BadLine n); of_header = h; is = refl }
-header-opens limits answers (Some b) rest header.Truncated h = record { header = Err header.Truncated; of_header = h; is = refl }
-header-opens limits answers (Some b) rest header.TooLarge h = record { header = Err header.TooLarge; of_header = h; is = refl }
+header-opens limits answers (Some b) rest header.NotAge h = record { header = Err header.NotAge; header_verdict = h; is = refl }
+header-opens limits answers (Some b) rest (header.BadLine n) h = record { header = Err (header.BadLine n); header_verdict = h; is = refl }
+header-opens limits answers (Some b) rest header.Truncated h = record { header = Err header.Truncated; header_verdict = h; is = refl }
+header-opens limits answers (Some b) rest header.TooLarge h = record { header = Err header.TooLarge; header_verdict = h; is = refl }
 
 pub inspect-opens : (limits : Bounds) (answers : Answering) (come rest : Option (List ℕ)) (fault : Fault) → Inspects limits come rest (Err fault) → OpensFile limits answers come (Err fault)
 inspect-opens limits answers come rest fault (Ok parts, is, h) = absurd (cc)
@@ -91,7 +91,7 @@ locked-opens limits answers (Some b) rest h fault i (inr key) =
     let is = headed limits b rest h i in
     stops-opens limits answers b fault (record {
       header = Ok (record { stanzas = h.stanzas; mac = h.mac; text = is.text });
-      of_header = is.verdict;
+      header_verdict = is.verdict;
       is = ap (read_under limits (drop (length is.text) b)) key;
     })
 
@@ -107,7 +107,7 @@ opened-opens limits answers (Some b) rest h k payload opened i (inr key) read o 
       read_under limits payload (Ok k),
       record {
         header = Ok (record { stanzas = h.stanzas; mac = h.mac; text = is.text });
-        of_header = is.verdict;
+        header_verdict = is.verdict;
         is = ap (λ x. read_under limits x (Ok k)) whole ∙ ap (read_under limits (drop (length is.text) b)) key;
       },
       o,
@@ -141,7 +141,8 @@ pub gives-decrypts : (limits : Bounds) (answers : Answering) (b : List ℕ) (old
     → Decrypts limits answers (Some b) old new r
 gives-decrypts limits answers b old new (Ok done) h = h
 gives-decrypts limits answers b old new (Err Read) h = gives-part limits answers b old new (Err Read) h
-gives-decrypts limits answers b old new (Err Write) h = gives-part limits answers b old new (Err Write) h
+gives-decrypts limits answers b old new (Err Write) (v, is, tells, h) =
+    (v, is, (length v.front, subst (Appends old new) (sym (take_all (length v.front) v.front (omega arith))) h))
 gives-decrypts limits answers b old new (Err OutOfMemory) h = tt
 gives-decrypts limits answers b old new (Err NotAge) h = h
 gives-decrypts limits answers b old new (Err (BadLine n)) h = h
@@ -171,7 +172,7 @@ pub opened-part : (limits : Bounds) (answers : Answering) (come old new : Option
     → WritesPart old new opened.plain.items → Decrypts limits answers come old new (Err Write)
 opened-part limits answers None old new opened h wrote = tt
 opened-part limits answers (Some b) old new opened h wrote =
-    part-whole limits answers b old new h.0 h.1 (subst (WritesPart old new) h.2.1 wrote)
+    (h.0, h.1, subst (WritesPart old new) h.2.1 wrote)
 
 -- a fault before any plaintext
 stops-decrypts : (limits : Bounds) (answers : Answering) (b : List ℕ) (old : Option (List ℕ)) (fault : Fault) → IsVerdict limits answers b (stops fault)

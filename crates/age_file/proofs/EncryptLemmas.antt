@@ -4,6 +4,7 @@ use Rattle.std.proofs.lemmas.List.{append-nil}
 use Rattle.std.specs.Prelude.{IsErrOf}
 use Rattle.std.specs.List.{concat}
 use Rattle.std.specs.Io.KnownBytes.{Appends}
+use Rattle.std.proofs.KnownBytes.{Appends-nil}
 use Rattle.age_header.specs.Device.{Writes, WritesPart}
 use Rattle.age_header.specs.Header.{StanzaParts, Head}
 use Rattle.age_header.specs.Mac.{header_mac}
@@ -16,7 +17,7 @@ use Rattle.age_stream.specs.declared.fault.StreamFault.TheVariants.{Memory as Pa
 use Rattle.age_stream.specs.Calls.{GivesPayload}
 use Rattle.age_stream.specs.Payload.{chunks, payload, sealed_chunks}
 use Rattle.age_file.specs.declared.fault.Fault.{Fault}
-use Rattle.age_file.specs.declared.fault.Fault.TheVariants.{TooManyChunks, Write}
+use Rattle.age_file.specs.declared.fault.Fault.TheVariants.{TooManyChunks, Read, Write, OutOfMemory}
 use Rattle.age_file.specs.declared.limits.Fresh.{Fresh}
 use Rattle.age_file.specs.AgeFile.{AgeFile, Bounds}
 use Rattle.age_file.specs.NewFile.{BegunFile, CutFile, EncryptsGiven, EncryptsText, IsHeading, NewFile}
@@ -30,7 +31,7 @@ many_not_memory h = cc
 -- it is enough to look at a source that tells its bytes, and they were read
 pub encrypts_told : (limits : Bounds) (fresh : Fresh) (given : Result (List StanzaParts) Fault) (plain : List ℕ) (told old new : Option (List ℕ)) (r : Result Done Fault)
     → IfSome told (λ b. plain ≡ b) → EncryptsText limits fresh given plain old new r → EncryptsGiven limits fresh given told old new r
-encrypts_told limits fresh given plain None old new r is h = tt
+encrypts_told limits fresh given plain None old new r is h = (plain, h)
 encrypts_told limits fresh given plain (Some b) old new r is h = subst (λ (z : List ℕ). EncryptsText limits fresh given z old new r) is h
 
 -- the header that was made is the header that was written
@@ -127,3 +128,20 @@ pub sealed_cut : (max : ℕ) (k : FileKey) (nonce plain sealed none : List ℕ) 
 sealed_cut max k nonce plain sealed none r is empty (inl memory) = absurd (many_not_memory (sym is ∙ memory.0))
 sealed_cut max k nonce plain sealed none r is empty (inr gives) =
     subst (λ (z : List ℕ). GivesPayload max k nonce plain z sealed (Err SealedTooMany)) empty (subst (GivesPayload max k nonce plain none sealed) is gives)
+
+-- a header was made, and the plaintext could not be read
+unread : (limits : Bounds) (fresh : Fresh) (given : Result (List StanzaParts) Fault) (stanzas : List StanzaParts) (text : List ℕ) (told old : Option (List ℕ))
+    → IsHeading limits fresh.file_key given stanzas text → EncryptsGiven limits fresh given told old old (Err Read)
+unread limits fresh given stanzas text None old heading = ([], record { stanzas = stanzas; text = text; heading = heading; part = (0, Appends-nil old) })
+unread limits fresh given stanzas text (Some plain) old heading = record { stanzas = stanzas; text = text; heading = heading; part = (0, Appends-nil old) }
+
+unheld : (limits : Bounds) (fresh : Fresh) (given : Result (List StanzaParts) Fault) (told old : Option (List ℕ)) → EncryptsGiven limits fresh given told old old (Err OutOfMemory)
+unheld limits fresh given None old = ([], tt)
+unheld limits fresh given (Some plain) old = tt
+
+pub encrypts_unread : (limits : Bounds) (fresh : Fresh) (given : Result (List StanzaParts) Fault) (stanzas : List StanzaParts) (text : List ℕ) (told old : Option (List ℕ)) (fault : Fault)
+    → IsHeading limits fresh.file_key given stanzas text → (fault ≡ Read) ⊎ (fault ≡ OutOfMemory) → EncryptsGiven limits fresh given told old old (Err fault)
+encrypts_unread limits fresh given stanzas text told old fault heading (inl is) =
+    subst (λ (f : Fault). EncryptsGiven limits fresh given told old old (Err f)) (sym is) (unread limits fresh given stanzas text told old heading)
+encrypts_unread limits fresh given stanzas text told old fault heading (inr is) =
+    subst (λ (f : Fault). EncryptsGiven limits fresh given told old old (Err f)) (sym is) (unheld limits fresh given told old)

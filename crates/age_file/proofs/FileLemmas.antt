@@ -140,7 +140,7 @@ file-whole limits answers b p stanzas k file chosen =
     ∙ payload-ok k body p limits.max_chunks (record { nonce = file.nonce; nonce_len = file.nonce_len; spelled = refl; count = file.chunks_fit }) in
     record {
       header = Ok found;
-      of_header = headers.found_begins b limits.max_header found begins;
+      header_verdict = headers.found_begins b limits.max_header found begins;
       is = sym (ap (read_under limits (drop (length file.header) b)) (key-unlocked answers (parts found) k (record { unmixed = file.unmixed; chosen = chosen; mac = refl }))
           ∙ ap renamed reads);
     }
@@ -148,13 +148,13 @@ file-whole limits answers b p stanzas k file chosen =
 pub both_ways : (limits : Bounds) (answers : Answering) (b p : List ℕ) → IsVerdict limits answers b (whole p)
     ↔ ((stanzas : List StanzaParts) × (k : FileKey) × AgeFile limits k stanzas p b × (choice (answers stanzas) ≡ Ok k))
 both_ways limits answers b p = (
-  (λ v. let i = judged-file limits answers b p v.header v.of_header v.is in (i.stanzas, i.key, i.file, i.chosen)),
+  (λ v. let i = judged-file limits answers b p v.header v.header_verdict v.is in (i.stanzas, i.key, i.file, i.chosen)),
   (λ h. file-whole limits answers b p h.0 h.1 h.2 h.3),
 )
 
 pub one_verdict : (limits : Bounds) (answers : Answering) (b : List ℕ) (v w : Reading Fault) → IsVerdict limits answers b v → IsVerdict limits answers b w → v ≡ w
 one_verdict limits answers b v w h k =
-    h.is ∙ ap (judged limits answers b) (headers.one_verdict b limits.max_header h.header k.header h.of_header k.of_header) ∙ sym k.is
+    h.is ∙ ap (judged limits answers b) (headers.one_verdict b limits.max_header h.header k.header h.header_verdict k.header_verdict) ∙ sym k.is
 
 -- one identity that means the key
 pub opens-whole : (limits : Bounds) (meaning : List StanzaParts → Unwrapped) (k : FileKey) (stanzas : List StanzaParts) (p b : List ℕ)

@@ -10,9 +10,7 @@ use Rattle.age_stream.specs.declared.fault.StreamFault.TheVariants as stream
 use Rattle.age_stream.specs.Calls.{GivesReading}
 use Rattle.age_stream.specs.Payload.{chunks, pieces, is_end, payload_key}
 use Rattle.age_stream.specs.Reading.{Reading, stops, whole, outcome, outcomes, first_fault, front, reading_from, payload_reading, opened_at}
-use Rattle.age_stream.proofs.CutLemmas.{cut-at_most}
-use Rattle.age_stream.proofs.PayloadLemmas.{ok-payload, pieces-each}
-use Rattle.age_stream.proofs.StepLemmas.{length-each}
+use Rattle.age_stream.proofs.PayloadLemmas.{whole-count}
 use Rattle.age_file.specs.declared.fault.Fault.{Fault}
 use Rattle.age_file.specs.AgeFile.{Bounds}
 use Rattle.age_file.specs.Decrypt.{Tells}
@@ -96,14 +94,6 @@ says-early stream.Write plain (inl h) = absurd h
 says-early stream.Write plain (inr h) = absurd (cc)
 says-early stream.Memory plain (inl h) = absurd h
 says-early stream.Memory plain (inr h) = absurd (cc)
-
--- a payload that reads whole has as many pieces as chunks
-whole-count : (k : FileKey) (max : ℕ) (b p : List ℕ) → payload_reading k max b ≡ whole p → length (pieces (drop 16 b)) ≡ length (chunks p)
-whole-count k max b p e =
-    let i = ok-payload k b p max e in
-    let key : List ℕ = payload_key k i.nonce in
-    ap (λ x. length (pieces x)) (ap (drop 16) i.spelled ∙ drop_at i.nonce _ 16 i.nonce_len)
-    ∙ ap length (pieces-each key (chunks p) (cut-at_most 65536 p (omega arith))) ∙ length-each key 0 (chunks p)
 
 reading-whole : (r : Reading StreamFault) → r.fault ≡ None → r ≡ whole r.front
 reading-whole r e = ap (λ x. record { front = r.front; fault = x }) e

@@ -12,14 +12,14 @@ pub record Bounds : Type 0 where
   pub max_header : ℕ
   pub max_chunks : ℕ
 
--- the bounds that there are
+-- the bounds that `Limits` may hold
 pub record IsBounds (limits : Bounds) : Type 0 where
   pub header_low : 1024 ≤ limits.max_header
   pub header_high : limits.max_header ≤ 16777216
   pub chunks_low : 1 ≤ limits.max_chunks
   pub chunks_high : limits.max_chunks ≤ 4294967296
 
--- arguments of type `scrypt`, which the first one says
+-- whether the first argument, the type, is `scrypt`
 abbrev pub is_scrypt : List (List ℕ) → Bool
 is_scrypt [] = false
 is_scrypt (kind ∷ _) = bytes_eq kind (codes "scrypt")

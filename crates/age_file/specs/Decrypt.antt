@@ -21,7 +21,11 @@ abbrev pub GivesVerdict : Bounds → Answering → List ℕ → Option (List ℕ
 GivesVerdict limits answers b old new r =
     (verdict : Reading Fault) × IsVerdict limits answers b verdict × Tells verdict r × Appends old new verdict.front
 
--- a beginning of the verdict's plaintext was written
+-- the verdict's plaintext was begun
+abbrev pub BeginsVerdict : Bounds → Answering → List ℕ → Option (List ℕ) → Option (List ℕ) → Type 0
+BeginsVerdict limits answers b old new = (verdict : Reading Fault) × IsVerdict limits answers b verdict × WritesPart old new verdict.front
+
+-- no more than a beginning of a verdict's plaintext was written
 abbrev pub GivesPart : Bounds → Answering → List ℕ → Option (List ℕ) → Option (List ℕ) → Type 0
 GivesPart limits answers b old new = (verdict : Reading Fault) → IsVerdict limits answers b verdict → WritesPart old new verdict.front
 
@@ -30,7 +34,7 @@ GivesPart limits answers b old new = (verdict : Reading Fault) → IsVerdict lim
 abbrev pub Decrypts : Bounds → Answering → Option (List ℕ) → Option (List ℕ) → Option (List ℕ) → Result Done Fault → Type 0
 Decrypts limits answers None old new r = ⊤
 Decrypts limits answers (Some b) old new (Err Read) = GivesPart limits answers b old new
-Decrypts limits answers (Some b) old new (Err Write) = GivesPart limits answers b old new
+Decrypts limits answers (Some b) old new (Err Write) = BeginsVerdict limits answers b old new
 Decrypts limits answers (Some b) old new (Err OutOfMemory) = ⊤
 Decrypts limits answers (Some b) old new r = GivesVerdict limits answers b old new r
 

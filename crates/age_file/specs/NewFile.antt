@@ -86,12 +86,12 @@ EncryptsText limits fresh given plain old new (Err Read) = BegunFile limits fres
 EncryptsText limits fresh given plain old new (Err Write) = BegunFile limits fresh given plain old new
 EncryptsText limits fresh given plain old new (Err fault) = ⊤
 
--- the same of a source that may leave its bytes untold
+-- The same of a source that may leave its bytes untold: then of some bytes.
 abbrev pub EncryptsGiven : Bounds → Fresh → Result (List StanzaParts) Fault → Option (List ℕ) → Option (List ℕ) → Option (List ℕ) → Result Done Fault → Type 0
-EncryptsGiven limits fresh given None old new r = ⊤
+EncryptsGiven limits fresh given None old new r = (plain : List ℕ) × EncryptsText limits fresh given plain old new r
 EncryptsGiven limits fresh given (Some plain) old new r = EncryptsText limits fresh given plain old new r
 
--- a fault with which no header was made names the first reason; want of memory says nothing
+-- a fault with which no header was made names the first reason; what else is answered says nothing of it
 abbrev pub RefusesFirst : Bounds → FileKey → Result (List StanzaParts) Fault → Fault → Type 0
 RefusesFirst limits k given TooManyChunks = ⊤
 RefusesFirst limits k given Read = ⊤

@@ -45,7 +45,7 @@ of_stream stream.Read = Read
 of_stream stream.Write = Write
 of_stream stream.Memory = OutOfMemory
 
--- what identities answer to each list of stanzas
+-- what identities answer to each list of stanzas: one answer for each identity, in order
 abbrev pub Answering : Type 0
 Answering = List StanzaParts → List Unwrapped
 
@@ -68,7 +68,7 @@ read_under limits rest (Ok k) = record {
   fault = option_map of_stream (payload_reading k limits.max_chunks rest).fault;
 }
 
--- b, whose header verdict is known
+-- what b comes to, given its header verdict
 abbrev pub judged : Bounds → Answering → List ℕ → Result Found HeaderFault → Reading Fault
 judged limits answers b (Err fault) = stops (of_header fault)
 judged limits answers b (Ok found) =
@@ -77,5 +77,5 @@ judged limits answers b (Ok found) =
 -- The verdict on b: the first fault, if there is one, and the plaintext of the chunks before it.
 pub record IsVerdict (limits : Bounds) (answers : Answering) (b : List ℕ) (verdict : Reading Fault) : Type 0 where
   pub header : Result Found HeaderFault
-  pub of_header : HeaderVerdict b limits.max_header header
+  pub header_verdict : HeaderVerdict b limits.max_header header
   pub is : verdict ≡ judged limits answers b header

@@ -69,6 +69,7 @@ fn gather(
     Ok(all)
 }
 
+/// What one recipient gives; of a box in a list a contract can speak here.
 fn wrap_by(
     alloc: Global,
     recipient: &Box<dyn Recipient>,

@@ -12,8 +12,8 @@ ghost use Rattle.age_file.specs.Verdict.{Answering, IsVerdict};
 
 use age_recipient::Matched;
 
-/// The verdict is a plaintext exactly on the age files of this plaintext for the file key that the identities choose. Bytes have one
-/// verdict.
+/// The verdict is a plaintext exactly on the age files of this plaintext for the file key that the identities choose. Bytes have at
+/// most one verdict.
 pub fn ok_is_age_file()
     ensures ok { (limits : Bounds) (answers : Answering) (b plain : List ℕ) → IsVerdict limits answers b (whole plain)
         ↔ ((stanzas : List StanzaParts) × (k : FileKey) × AgeFile limits k stanzas plain b × (choice (answers stanzas) ≡ Ok k)) }

@@ -16,7 +16,7 @@ use age_recipient::{FileKey, Identity};
 use age_stream::{Done, StreamFault, open_payload};
 use std::alloc::Global;
 
-/// Decrypts a file (C2SP `age.md`): writes its plaintext, chunk by chunk as each was verified.
+/// Decrypts a file (C2SP `age.md`), all that the source still gives: writes the plaintext of the chunks that were verified.
 ///
 /// # Errors
 /// The first that applies of `NotAge`, `BadLine`, `HeaderTruncated`, `HeaderTooLarge` as `inspect` says; `MixedPassphrase`; `NoMatch`,

@@ -260,7 +260,7 @@ fn letters(alloc: Global, count: usize) -> Result<String, Fail> {
     Ok(text)
 }
 
-/// Several keyed recipients, and a caller's in front of one.
+/// Several keyed recipients, and identities with and without one of their keys.
 #[test]
 fn several_recipients(rt: HostRuntime) -> Result<(), Fail> {
     let alloc = rt.alloc();

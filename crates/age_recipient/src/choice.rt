@@ -68,6 +68,7 @@ fn first_decided(
     Ok(rest)
 }
 
+/// What one identity answers; of a box in a list a contract can speak here.
 fn ask(
     alloc: Global,
     identity: &Box<dyn Identity>,

@@ -12,6 +12,9 @@ pub trait Identity: Drop {
     ghost meaning: { Self → List StanzaParts → Unwrapped };
 
     /// What this identity makes of a header's stanzas.
+    ///
+    /// # Errors
+    /// Where it has no memory to go on.
     fn unwrap(&self, alloc: Global, stanzas: &[Stanza]) -> Result<Unwrapped, AllocError>
         ensures { IfOk result (λ answer. answer ≡ meaning self.now stanzas.now) };
 }

@@ -22,6 +22,9 @@ pub trait Recipient: Drop {
     ghost wraps: { Self → FileKey → Result (List StanzaParts) ℕ };
 
     /// The stanzas that hold the file key for this recipient.
+    ///
+    /// # Errors
+    /// `Refused` with the number that the recipient means, `Memory` where it has none to go on.
     fn wrap(&self, alloc: Global, key: &FileKey) -> Result<Vec<Stanza>, WrapFault>
         ensures { WrapsAs (wraps self.now key.now) result };
 }

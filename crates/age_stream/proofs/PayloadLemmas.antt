@@ -1,5 +1,5 @@
 -- What reads to its end is a payload, and the other way round.
-use Rattle.std.proofs.Common.{◌≡◌, ◌↔◌, ◌⊎◌, ℕ, List, [], ◌∷◌, ◌++◌, ◌+◌, ◌<◌, ◌≤◌, ◌&&◌, length, take, drop, map, sym, ◌∙◌, ap, arith, nat_lt, nat_le, nat_eq, cond, true, false, Bool, refl, length-append, subst, inl, inr, Option, Some, None, Result, Ok, Err}
+use Rattle.std.proofs.Common.{◌≡◌, ◌↔◌, ◌⊎◌, ℕ, List, [], ◌∷◌, ◌++◌, ◌+◌, ◌<◌, ◌≤◌, ◌&&◌, length, take, drop, map, sym, ◌∙◌, ap, arith, nat_lt, nat_le, nat_eq, cond, true, false, Bool, refl, suc, length-append, subst, inl, inr, Option, Some, None, Result, Ok, Err}
 use Rattle.std.specs.Prelude.{ok_or}
 use Rattle.std.specs.List.{concat}
 use Rattle.std.proofs.lemmas.Bool.{le-ltb, lt-ltb, cases_lt, leb-false, lt-leb, and_parts, false_from_ne_true, ltb-true, eqb-true, true≢false, false≢true, and_from, eq-eqb, cond-false, cond-true}
@@ -10,7 +10,7 @@ use Rattle.age_stream.specs.declared.fault.StreamFault.TheVariants.{NonceTruncat
 use Rattle.age_stream.specs.Cutting.{IsCut, IsFilled}
 use Rattle.age_cipher.specs.Sealing.{sealed, opened}
 use Rattle.age_stream.specs.Payload.{chunks, pieces, place, is_end, sealed_from, payload_key, payload}
-use Rattle.age_stream.specs.Reading.{Reading, outcome, outcomes, first_fault, front, stops, reading_from, payload_reading}
+use Rattle.age_stream.specs.Reading.{Reading, outcome, outcomes, first_fault, front, stops, reading_from, payload_reading, whole}
 use Rattle.age_stream.proofs.CutLemmas.{is_cut, one-cut, filled-cut, AtMost, cut-at_most}
 use Rattle.age_cipher.proofs.OpeningLemmas.{length-sealed, opened_is}
 use Rattle.age_recipient.specs.declared.key.FileKey.{FileKey}
@@ -251,3 +251,15 @@ ok_is_payload_both k b p max = (
   (λ h. let i = ok-payload k b p max h in (i.nonce, i.nonce_len, i.spelled, i.count)),
   (λ h. payload-ok k b p max (record { nonce = h.0; nonce_len = h.1; spelled = h.2; count = h.3 })),
 )
+
+pub length-each : (key : List ℕ) (i : ℕ) (ts : List (List ℕ)) → length (sealed_from key i ts) ≡ length ts
+length-each key i [] = refl
+length-each key i (t ∷ ts) = ap suc (length-each key (i + 1) ts)
+
+-- a payload that reads whole has as many pieces as chunks
+pub whole-count : (k : FileKey) (max : ℕ) (b p : List ℕ) → payload_reading k max b ≡ whole p → length (pieces (drop 16 b)) ≡ length (chunks p)
+whole-count k max b p e =
+    let i = ok-payload k b p max e in
+    let key : List ℕ = payload_key k i.nonce in
+    ap (λ x. length (pieces x)) (ap (drop 16) i.spelled ∙ drop_at i.nonce _ 16 i.nonce_len)
+    ∙ ap length (pieces-each key (chunks p) (cut-at_most 65536 p (omega arith))) ∙ length-each key 0 (chunks p)

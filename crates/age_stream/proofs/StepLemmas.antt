@@ -8,6 +8,7 @@ use Rattle.std.specs.List.{concat}
 use Rattle.age_stream.specs.Reading.{Reading}
 use Rattle.age_stream.specs.Calls.{GivesOutcome, GivesSealed}
 use Rattle.age_stream.proofs.CutLemmas.{cut-last}
+use Rattle.age_stream.proofs.PayloadLemmas.{length-each}
 use Rattle.age_stream.proofs.ReadingLemmas.{then_read, cut-step, is_end-cut, cut-some}
 
 ok-err : {A F : Type 0} (u : A) (f : F) → ◌≡◌ {A = Result A F} (Ok u) (Err f) → ⊥
@@ -60,10 +61,6 @@ sealed-last key i p le = ap (sealed_from key i) (cut-last 65536 p le)
 pub concat-append : (xs ys : List (List ℕ)) → concat (xs ++ ys) ≡ concat xs ++ concat ys
 concat-append [] ys = refl
 concat-append (x ∷ xs) ys = ap (λ t. x ++ t) (concat-append xs ys) ∙ sym (append_assoc x (concat xs) (concat ys))
-
-pub length-each : (key : List ℕ) (i : ℕ) (ts : List (List ℕ)) → length (sealed_from key i ts) ≡ length ts
-length-each key i [] = refl
-length-each key i (t ∷ ts) = ap suc (length-each key (i + 1) ts)
 
 pub count-first : (p : List ℕ) → 65536 < length p → length (chunks p) ≡ length (chunks (drop 65536 p)) + 1
 count-first p lt = ap length (cut-step 65536 p (omega arith) lt) ∙ one

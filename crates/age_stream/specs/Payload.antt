@@ -7,7 +7,7 @@ use Rattle.age_kdf.specs.Hkdf.{hkdf}
 use Rattle.age_recipient.specs.declared.key.FileKey.{FileKey}
 use Rattle.age_stream.specs.Cutting.{cut}
 
--- a plaintext's chunks: 65,536 bytes each, the last fewer; an empty plaintext is one empty chunk
+-- a plaintext's chunks: 65,536 bytes each, the last 1 to 65,536; an empty plaintext is one empty chunk
 abbrev pub chunks : List ℕ → List (List ℕ)
 chunks plain = cut 65536 plain
 

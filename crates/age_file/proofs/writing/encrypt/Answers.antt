@@ -1,8 +1,13 @@
 use Rattle.std.proofs.Common.{rules, ◌≡◌, length, [], Ok, Err}
 use Rattle.age_stream.specs.Calls.{GivesPayload}
 use Rattle.age_stream.specs.declared.fault.StreamFault.TheVariants.{TooManyChunks}
-use Rattle.age_file.proofs.EncryptLemmas.{encrypts_told, encrypts_all, encrypts_cut, encrypts_part, made, sealed_done, sealed_cut}
+use Rattle.age_file.proofs.EncryptLemmas.{encrypts_unread, encrypts_told, encrypts_all, encrypts_cut, encrypts_part, made, sealed_done, sealed_cut}
 use Rattle.age_file.proofs.writing.encrypt.Goals as goal
+
+pub returns-in-Err-clause-answer : goal.returns-in-Err-clause-answer
+returns-in-Err-clause-answer g c =
+    let heading = c.in_ok-header.ensures.ok in
+    encrypts_unread _ _ _ _ heading.1.0 _ _ _ heading.1.1 c.in-Err.ensures.fault
 
 pub returns-in-Ok-write_file-clause-answer : goal.returns-in-Ok-write_file-clause-answer
 returns-in-Ok-write_file-clause-answer g c =
