@@ -196,9 +196,12 @@ bad_headers() {
         has_ended 1 "agep: a passphrase stanza must stand alone"
         check "a passphrase stanza beside another: ${row:0:16}"
     done
-    for row in 'header is cut short|' 'not an age file|age-encryption.org/v2\n' 'bad header line 2|age-encryption.org/v1\n->\n'; do
+    { printf 'age-encryption.org/v1\n-> ' && printf 'a%.0s' {1..999}; } >long.line
+    for row in 'header is cut short|' 'header is cut short|age-enc' 'not an age file|age-encryption.org/v2\n' \
+        'bad header line 2|age-encryption.org/v1\n->\n' "bad header line 2|age-encryption.org/v1\n--- $body\n" \
+        "header is too large|$(cat long.line)" "header is cut short|$(head -c 1023 long.line)"; do
         printf '%b' "${row#*|}" >made
-        decrypt -k key made
+        decrypt -k key -H 1024 made
         has_ended 1 "agep: ${row%%|*}"
         check "decrypt: ${row%%|*}"
     done
