@@ -89,6 +89,11 @@ fn decrypted(
     (answer, out.into_vec())
 }
 
+/// The answer on so many bytes in one chunk.
+fn done(bytes: u64) -> Result<Done, Fault> {
+    Ok(Done { bytes, chunks: 1 })
+}
+
 fn sevens(alloc: Global, len: usize) -> Result<Vec<u8>, AllocError> {
     let mut bytes = Vec::new(alloc);
     bytes.resize(len, 7)?;
@@ -102,10 +107,7 @@ fn byte_by_byte(rt: HostRuntime) -> Result<(), Fail> {
     let limits = Limits::default();
     let plain = sevens(alloc, 65_536)?;
     let recipients = with_passphrase(alloc)?;
-    let done = Ok(Done {
-        bytes: 65_536,
-        chunks: 1,
-    });
+    let done = done(65_536);
     let (answer, file) = encrypted(alloc, plain.as_slice(), &recipients, &limits);
     assert!(rt; answer == done);
     assert_eq!(rt; file.len(), 65_718);
@@ -137,13 +139,12 @@ fn byte_by_byte(rt: HostRuntime) -> Result<(), Fail> {
     Ok(())
 }
 
-/// A sink that takes 100 bytes, and sources that fail at a read.
+/// A sink that takes 100 bytes.
 #[test]
-fn failing_devices(rt: HostRuntime) -> Result<(), Fail> {
+fn failing_sink(rt: HostRuntime) -> Result<(), Fail> {
     let alloc = rt.alloc();
     let limits = Limits::default();
     let recipients = with_key(alloc, 3)?;
-    let identities = key_of(alloc, 3)?;
     let (_, file) = encrypted(alloc, b"", &recipients, &limits);
     let mut sink = Holds::new(Vec::new(alloc), 100);
     let answer = encrypt(
@@ -156,6 +157,17 @@ fn failing_devices(rt: HostRuntime) -> Result<(), Fail> {
     );
     assert!(rt; answer == Err(Fault::Write));
     assert!(rt; sink.bytes.len() == 100 && file.as_slice().starts_with(sink.bytes.as_slice()));
+    Ok(())
+}
+
+/// Sources that fail at a read: of the header, of the payload, of a plaintext. Nothing is written.
+#[test]
+fn failing_sources(rt: HostRuntime) -> Result<(), Fail> {
+    let alloc = rt.alloc();
+    let limits = Limits::default();
+    let recipients = with_key(alloc, 3)?;
+    let identities = key_of(alloc, 3)?;
+    let (_, file) = encrypted(alloc, b"", &recipients, &limits);
     for failing in [1, 2, 157, 180] {
         let mut source = Drops::new(file.as_slice(), failing);
         let mut sink = Holds::new(Vec::new(alloc), 100);
@@ -216,20 +228,8 @@ fn refused_recipients(rt: HostRuntime) -> Result<(), Fail> {
     mixed.push(Box::new(alloc, KeyRecipient::new([3; 32], SALT))?)?;
     let mut refuses = with_key(alloc, 3)?;
     refuses.push(Box::new(alloc, Refuses { code: 7 })?)?;
-    let mut fits: Recipients = Vec::new(alloc);
-    fits.push(Box::new(
-        alloc,
-        Long {
-            text: letters(alloc, 949)?,
-        },
-    )?)?;
-    let mut exceeds: Recipients = Vec::new(alloc);
-    exceeds.push(Box::new(
-        alloc,
-        Long {
-            text: letters(alloc, 950)?,
-        },
-    )?)?;
+    let fits = with_letters(alloc, 949)?;
+    let exceeds = with_letters(alloc, 950)?;
     for (recipients, fault) in [
         (&none, Fault::NoRecipients),
         (&mixed, Fault::MixedPassphrase),
@@ -241,23 +241,20 @@ fn refused_recipients(rt: HostRuntime) -> Result<(), Fail> {
         assert!(rt; out.is_empty());
     }
     let (answer, out) = encrypted(alloc, b"", &fits, &limits);
-    assert!(rt;
-        answer
-            == Ok(Done {
-                bytes: 0,
-                chunks: 1
-            })
-    );
+    assert!(rt; answer == done(0));
     assert_eq!(rt; out.len(), 1_024 + 32);
     Ok(())
 }
 
-fn letters(alloc: Global, count: usize) -> Result<String, Fail> {
+/// A recipient whose stanza has one argument of so many letters.
+fn with_letters(alloc: Global, count: usize) -> Result<Recipients, Fail> {
     let mut text = String::new(alloc);
     for _ in 0..count {
         text.push('a')?;
     }
-    Ok(text)
+    let mut recipients: Recipients = Vec::new(alloc);
+    recipients.push(Box::new(alloc, Long { text })?)?;
+    Ok(recipients)
 }
 
 /// Several keyed recipients, and identities with and without one of their keys.
@@ -265,10 +262,7 @@ fn letters(alloc: Global, count: usize) -> Result<String, Fail> {
 fn several_recipients(rt: HostRuntime) -> Result<(), Fail> {
     let alloc = rt.alloc();
     let limits = Limits::default();
-    let done = Ok(Done {
-        bytes: 0,
-        chunks: 1,
-    });
+    let done = done(0);
     let mut two = with_key(alloc, 3)?;
     two.push(Box::new(alloc, KeyRecipient::new([4; 32], SALT))?)?;
     let (answer, file) = encrypted(alloc, b"", &two, &limits);
@@ -288,10 +282,7 @@ fn several_recipients(rt: HostRuntime) -> Result<(), Fail> {
 fn foreign_stanzas(rt: HostRuntime) -> Result<(), Fail> {
     let alloc = rt.alloc();
     let limits = Limits::default();
-    let done = Ok(Done {
-        bytes: 0,
-        chunks: 1,
-    });
+    let done = done(0);
     let mut recipients: Recipients = Vec::new(alloc);
     recipients.push(Box::new(alloc, Plug)?)?;
     recipients.push(Box::new(alloc, KeyRecipient::new([3; 32], SALT))?)?;
@@ -320,13 +311,7 @@ fn foreign_identity(rt: HostRuntime) -> Result<(), Fail> {
     let mut recipients: Recipients = Vec::new(alloc);
     recipients.push(Box::new(alloc, Curve)?)?;
     let (answer, file) = encrypted(alloc, b"hello", &recipients, &limits);
-    assert!(rt;
-        answer
-            == Ok(Done {
-                bytes: 5,
-                chunks: 1
-            })
-    );
+    assert!(rt; answer == done(5));
     let shape =
         b"age-encryption.org/v1\n-> X25519 AAAAAAAAAAAAAAAAAAAAAAAAAAAAAAAAAAAAAAAAAAA\nAAAAAAAAAAAAAAAAAAAAAAAAAAAAAAAAAAAAAAAAAAA\n-> abc-grease x\n\n--- ";
     assert!(rt; file.as_slice().starts_with(shape));
@@ -334,28 +319,14 @@ fn foreign_identity(rt: HostRuntime) -> Result<(), Fail> {
     identities.push(Box::new(alloc, PassIdentity::new(alloc, PASS, 22)?)?)?;
     let (answer, _) = decrypted(alloc, file.as_slice(), &identities, &limits);
     assert!(rt; answer == Err(Fault::NoMatch));
-    identities.push(Box::new(
-        alloc,
-        Held {
-            key: FRESH.file_key,
-        },
-    )?)?;
+    let key = FRESH.file_key;
+    identities.push(Box::new(alloc, Held { key })?)?;
     let (answer, plain) = decrypted(alloc, file.as_slice(), &identities, &limits);
-    assert!(rt;
-        answer
-            == Ok(Done {
-                bytes: 5,
-                chunks: 1
-            })
-    );
+    assert!(rt; answer == done(5));
     assert!(rt; plain.as_slice() == b"hello".as_slice());
+    let key = FileKey([0; 16]);
     let mut wrong: Identities = Vec::new(alloc);
-    wrong.push(Box::new(
-        alloc,
-        Held {
-            key: FileKey([0; 16]),
-        },
-    )?)?;
+    wrong.push(Box::new(alloc, Held { key })?)?;
     let (answer, _) = decrypted(alloc, file.as_slice(), &wrong, &limits);
     assert!(rt; answer == Err(Fault::BadMac));
     Ok(())
