@@ -1,5 +1,6 @@
 mod HmacLemmas
 mod ListLemmas
+mod DiagonalLemmas
 mod OutputBlocks
 mod HkdfLemmas
 mod Pbkdf2Lemmas

@@ -2,6 +2,7 @@ pub mod Hmac
 pub mod Hkdf
 pub mod Pbkdf2
 pub mod Salsa
+pub mod Diagonals
 pub mod BlockMix
 pub mod RoMix
 pub mod Scrypt

@@ -1,58 +1,123 @@
-// The Salsa20/8 core (RFC 7914, section 3).
+// The Salsa20/8 core (RFC 7914, section 3), four steps at a time: vector k holds four of the sixteen words, one of each
+// column and one of each row, so that the four columns, and after rotations the four rows, are lanes.
 
-ghost use Rattle.std.specs.Prelude.{◌≡◌, ◌<◌};
+ghost use Rattle.std.specs.Prelude.{◌≡◌, ℕ, ◌<◌, slice_index, bit_xor};
+ghost use Rattle.std.specs.Int.{w32, rotate_left};
 ghost use Rattle.std.specs.Simd.Lanes.{zip2};
-ghost use Rattle.age_kdf.specs.Salsa.{add32, step, quarter, columns, rows, salsa8};
+ghost use Rattle.age_kdf.specs.Salsa.{add32, columns, rows, salsa8};
+ghost use Rattle.age_kdf.specs.Diagonals.{stepped, quartered, spread, turned};
 
-// x[b] ^= R(x[a] + x[d], k), R being the rotation to the left.
-#[inline(always)]
-fn step(x: &mut [u32; 16], b: usize, a: usize, d: usize, k: u32)
-    requires { (a < 16) × (b < 16) × (d < 16) }
-    ensures { x.new ≡ step x.old b a d k }
-{
-    x[b] ^= x[a].wrapping_add(x[d]).rotate_left(k);
-}
+use std::simd::u32x4;
 
-// The four steps on the words at places `a`, `b`, `c` and `d`.
 #[inline(always)]
-fn quarter(x: &mut [u32; 16], a: usize, b: usize, c: usize, d: usize)
-    requires { (a < 16) × (b < 16) × (c < 16) × (d < 16) }
-    ensures { x.new ≡ quarter a b c d x.old }
+fn sum(x: u32x4, y: u32x4) -> u32x4
+    ensures { (j : ℕ) → j < 4 → slice_index result j ≡ add32 (slice_index x j) (slice_index y j) }
 {
-    step(x, b, a, d, 7);
-    step(x, c, b, a, 9);
-    step(x, d, c, b, 13);
-    step(x, a, d, c, 18);
+    x + y
 }
 
 #[inline(always)]
-fn columns(x: &mut [u32; 16])
-    ensures { x.new ≡ columns x.old }
+fn rotated(x: u32x4, k: u32) -> u32x4
+    requires { (0 < k) × (k < 32) }
+    ensures { (j : ℕ) → j < 4 → slice_index result j ≡ rotate_left w32 (slice_index x j) k }
 {
-    quarter(x, 0, 4, 8, 12);
-    quarter(x, 5, 9, 13, 1);
-    quarter(x, 10, 14, 2, 6);
-    quarter(x, 15, 3, 7, 11);
+    (x << u32x4::splat(k)) | (x >> u32x4::splat(32 - k))
 }
 
 #[inline(always)]
-fn rows(x: &mut [u32; 16])
-    ensures { x.new ≡ rows x.old }
+fn xor(x: u32x4, y: u32x4) -> u32x4
+    ensures { (j : ℕ) → j < 4 → slice_index result j ≡ bit_xor (slice_index x j) (slice_index y j) }
 {
-    quarter(x, 0, 1, 2, 3);
-    quarter(x, 5, 6, 7, 4);
-    quarter(x, 10, 11, 8, 9);
-    quarter(x, 15, 12, 13, 14);
+    x ^ y
 }
 
-// Adds the words of `y` to those of `x`.
+// b ^ R(a + d, k) in every lane, R being the rotation to the left.
 #[inline(always)]
-fn add_words(x: &mut [u32; 16], y: &[u32; 16])
-    ensures { x.new ≡ zip2 add32 x.old y.now }
+fn step(b: u32x4, a: u32x4, d: u32x4, k: u32) -> u32x4
+    requires { (0 < k) × (k < 32) }
+    ensures { (j : ℕ) → j < 4 → slice_index result j ≡ stepped (slice_index b j) (slice_index a j) (slice_index d j) k }
 {
-    'words: for i in 0..16 {
-        x[i] = x[i].wrapping_add(y[i]);
-    }
+    xor(b, rotated(sum(a, d), k))
+}
+
+// The four steps in every lane.
+#[inline(always)]
+fn quarter(a: u32x4, b: u32x4, c: u32x4, d: u32x4) -> (u32x4, u32x4, u32x4, u32x4)
+    ensures { (j : ℕ) → j < 4
+        → (slice_index result.0 j, slice_index result.1 j, slice_index result.2 j, slice_index result.3 j)
+        ≡ quartered (slice_index a j) (slice_index b j) (slice_index c j) (slice_index d j) }
+{
+    let b1 = step(b, a, d, 7);
+    let c1 = step(c, b1, a, 9);
+    let d1 = step(d, c1, b1, 13);
+    let a1 = step(a, d1, c1, 18);
+    (a1, b1, c1, d1)
+}
+
+// Each lane moved down by one, two or three places.
+#[inline(always)]
+fn turned_1(v: u32x4) -> u32x4
+    ensures { result ≡ turned 1 v }
+{
+    v.swizzle([1, 2, 3, 0])
+}
+
+#[inline(always)]
+fn turned_2(v: u32x4) -> u32x4
+    ensures { result ≡ turned 2 v }
+{
+    v.swizzle([2, 3, 0, 1])
+}
+
+#[inline(always)]
+fn turned_3(v: u32x4) -> u32x4
+    ensures { result ≡ turned 3 v }
+{
+    v.swizzle([3, 0, 1, 2])
+}
+
+#[inline(always)]
+fn columns(s: [u32x4; 4]) -> [u32x4; 4]
+    ensures { spread result ≡ columns (spread s) }
+{
+    let [a, b, c, d] = s;
+    let (a, b, c, d) = quarter(a, b, c, d);
+    [a, b, c, d]
+}
+
+#[inline(always)]
+fn rows(s: [u32x4; 4]) -> [u32x4; 4]
+    ensures { spread result ≡ rows (spread s) }
+{
+    let [a, b, c, d] = s;
+    let (a, d, c, b) = quarter(a, turned_1(d), turned_2(c), turned_3(b));
+    [a, turned_1(b), turned_2(c), turned_3(d)]
+}
+
+#[inline(always)]
+fn diagonals(x: &[u32; 16]) -> [u32x4; 4]
+    ensures { spread result ≡ x.now }
+{
+    [
+        u32x4::from_array([x[0], x[5], x[10], x[15]]),
+        u32x4::from_array([x[4], x[9], x[14], x[3]]),
+        u32x4::from_array([x[8], x[13], x[2], x[7]]),
+        u32x4::from_array([x[12], x[1], x[6], x[11]]),
+    ]
+}
+
+// The sums of the words, in their order.
+#[inline(always)]
+fn sums(s: [u32x4; 4], t: [u32x4; 4]) -> [u32; 16]
+    ensures { result ≡ zip2 add32 (spread s) (spread t) }
+{
+    let [x0, x5, x10, x15] = sum(s[0], t[0]).to_array();
+    let [x4, x9, x14, x3] = sum(s[1], t[1]).to_array();
+    let [x8, x13, x2, x7] = sum(s[2], t[2]).to_array();
+    let [x12, x1, x6, x11] = sum(s[3], t[3]).to_array();
+    [
+        x0, x1, x2, x3, x4, x5, x6, x7, x8, x9, x10, x11, x12, x13, x14, x15,
+    ]
 }
 
 /// Salsa20/8 of 16 words.
@@ -60,10 +125,10 @@ fn add_words(x: &mut [u32; 16], y: &[u32; 16])
 pub(crate) fn salsa8(x: &mut [u32; 16])
     ensures { x.new ≡ salsa8 x.old }
 {
-    let mut y = *x;
+    let first = diagonals(x);
+    let mut s = first;
     'rounds: for _round in 0..4u32 {
-        columns(&mut y);
-        rows(&mut y);
+        s = rows(columns(s));
     }
-    add_words(x, &y);
+    *x = sums(first, s);
 }

@@ -1,6 +1,7 @@
-use Rattle.age_kdf.specs.Salsa.{quarter}
+use Rattle.std.proofs.Common.{refl}
+use Rattle.age_kdf.specs.Diagonals.{quartered}
 use Rattle.age_kdf.proofs.salsa.quarter.Goals as goal
 
 pub returns : goal.returns
-unfolding quarter
-returns c = rw (← c.step.ensures, ← c.step-2.ensures, ← c.step-3.ensures) c.step-4.ensures
+unfolding quartered
+returns c = λ j inside. rw (c.step-a1.ensures j inside, c.step-d1.ensures j inside, c.step-c1.ensures j inside, c.step-b1.ensures j inside) refl

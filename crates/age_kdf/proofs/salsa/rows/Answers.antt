@@ -1,6 +1,15 @@
-use Rattle.age_kdf.specs.Salsa.{rows}
+use Rattle.std.proofs.Common.{[], slice_index, slice_index_or, ◌∙◌}
+use Rattle.age_kdf.specs.Diagonals.{quartered}
+use Rattle.age_kdf.proofs.DiagonalLemmas.{rows_spread}
 use Rattle.age_kdf.proofs.salsa.rows.Goals as goal
 
 pub returns : goal.returns
-unfolding rows
-returns c = rw (← c.quarter.ensures, ← c.quarter-2.ensures, ← c.quarter-3.ensures) c.quarter-4.ensures
+returns c =
+    let s = c.args.s in
+    let a = slice_index_or s 0 [] in
+    let d = c.turned_1.ensures in
+    let e = c.turned_2.ensures in
+    let b = c.turned_3.ensures in
+    rw (c.turned_1-2.ensures, c.turned_2-2.ensures, c.turned_3-2.ensures)
+    (rows_spread a (slice_index_or s 1 []) (slice_index_or s 2 []) (slice_index_or s 3 []) _ _ _ _
+    (λ j inside. c.quarter.ensures j inside ∙ (λ i. quartered (slice_index a j) (slice_index (d i) j) (slice_index (e i) j) (slice_index (b i) j))))

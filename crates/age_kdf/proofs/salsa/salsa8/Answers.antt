@@ -1,4 +1,4 @@
-use Rattle.std.proofs.Common.{◌≡◌, arith, ◌∙◌, ap, refl, add-one}
+use Rattle.std.proofs.Common.{◌≡◌, arith, ◌∙◌, ap, ap₂, refl, add-one}
 use Rattle.std.specs.Simd.Lanes.{zip2}
 use Rattle.age_kdf.specs.Salsa.{salsa8, double_rounds, rows, columns, add32}
 use Rattle.age_kdf.proofs.salsa.salsa8.Goals as goal
@@ -10,11 +10,11 @@ rounds-init c = refl
 pub rounds-preserved : goal.rounds-preserved
 unfolding double_rounds
 rounds-preserved c =
-    rw add-one (c.rows.ensures ∙ ap rows (c.columns.ensures ∙ ap columns c.rounds.invariant))
+    rw add-one (c.rows-s.ensures ∙ ap rows (c.columns.ensures ∙ ap columns c.rounds.invariant))
 
 pub returns : goal.returns
 unfolding salsa8
 returns c =
     let end : c.rounds._round ≡ 4 = omega arith in
-    c.add_words.ensures
-    ∙ ap (zip2 add32 c.args.x.now) (c.rounds.invariant ∙ ap (λ n. double_rounds n c.args.x.now) end)
+    c.sums.ensures
+    ∙ ap₂ (zip2 add32) c.diagonals-first.ensures (c.rounds.invariant ∙ ap₂ double_rounds end c.diagonals-first.ensures)
