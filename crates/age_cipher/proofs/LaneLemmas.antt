@@ -1,13 +1,11 @@
 -- Vectors, seen lane by lane.
-use Rattle.std.proofs.Common.{◌≡◌, ℕ, zero, suc, ◌+◌, ◌-◌, ◌*◌, ◌/◌, ◌%◌, ◌^◌, ◌<◌, List, [], ◌∷◌, length, set, replicate, slice_index, slice_index_or, bit_or, bit_xor, arith, refl, sym, ap, ap₂, ◌∙◌}
+use Rattle.std.proofs.Common.{◌≡◌, ℕ, zero, suc, ◌-◌, ◌*◌, ◌/◌, ◌%◌, ◌^◌, ◌<◌, List, [], length, set, replicate, slice_index, slice_index_or, bit_or, bit_xor, arith, refl, sym, ap, ap₂, ◌∙◌}
 use Rattle.std.specs.Int.{w32, rotate_left}
 use Rattle.std.specs.Simd.Lanes.{zip2}
 use Rattle.std.proofs.lemmas.List.{get_or-map, map-set, length-map, length-set}
 use Rattle.std.proofs.lemmas.List.FromFn.{fill_by_all}
-use Rattle.std.proofs.lemmas.Simd.{get_or-zip2, get_or-replicate, length-zip2}
-use Rattle.std.specs.List.{flat_map}
-use Rattle.age_cipher.specs.Numbers.{le_bytes}
-use Rattle.age_cipher.specs.ChaCha20.{add_words, add_xor_rotate, start, mixed, block}
+use Rattle.std.proofs.lemmas.Simd.{get_or-zip2, get_or-replicate, length-zip2, length-replicate}
+use Rattle.age_cipher.specs.ChaCha20.{add_words, add_xor_rotate, start}
 use Rattle.age_cipher.specs.Lanes.{lane}
 
 -- a word of a lane is a lane of a word
@@ -20,22 +18,33 @@ pub lane-set : (state : List (List ℕ)) (j k : ℕ) (vector : List ℕ)
     → lane j (set state k vector) ≡ set (lane j state) k (slice_index vector j)
 lane-set state j k vector = map-set (λ v. slice_index v j) state k vector
 
+-- what holds of 0 to 3
+pub four_cases : (P : ℕ → Type 0) → P 0 → P 1 → P 2 → P 3 → (j : ℕ) → j < 4 → P j
+four_cases P p0 p1 p2 p3 zero h = p0
+four_cases P p0 p1 p2 p3 (suc zero) h = p1
+four_cases P p0 p1 p2 p3 (suc (suc zero)) h = p2
+four_cases P p0 p1 p2 p3 (suc (suc (suc zero))) h = p3
+four_cases P p0 p1 p2 p3 (suc (suc (suc (suc n)))) h = absurd (omega arith)
+
+-- an operator with one number in each of n lanes
+pub with_splat : (n : ℕ) (f : ℕ → ℕ → ℕ) (x : List ℕ) (m j : ℕ) → length x ≡ n → j < n
+    → slice_index (zip2 f x (replicate n m)) j ≡ f (slice_index x j) m
+with_splat n f x m j long inside =
+    get_or-zip2 f x (replicate n m) j 0 0 0 (omega arith) (omega (arith, length-replicate n m)) ∙ ap (f (slice_index x j)) (get_or-replicate n j m 0 inside)
+
 -- two shifts of each lane and an or rotate it
-pub shifts_rotate : (x : List ℕ) (by j : ℕ) → length x ≡ 4 → 0 < by → by < 32 → j < 4
-    → slice_index (zip2 bit_or (zip2 (λ a n. a * 2 ^ n % 2 ^ 32) x (replicate 4 by)) (zip2 (λ a n. a / 2 ^ n) x (replicate 4 (32 - by)))) j
+pub shifts_rotate : (n : ℕ) (x : List ℕ) (by j : ℕ) → length x ≡ n → 0 < by → by < 32 → j < n
+    → slice_index (zip2 bit_or (zip2 (λ a n. a * 2 ^ n % 2 ^ 32) x (replicate n by)) (zip2 (λ a n. a / 2 ^ n) x (replicate n (32 - by)))) j
     ≡ rotate_left w32 (slice_index x j) by
-shifts_rotate x by j long low high inside =
+shifts_rotate n x by j long low high inside =
     let left : ℕ → ℕ → ℕ = λ a n. a * 2 ^ n % 2 ^ 32 in
     let right : ℕ → ℕ → ℕ = λ a n. a / 2 ^ n in
-    let here : j < length x = omega arith in
-    let up = get_or-zip2 left x (replicate 4 by) j 0 0 0 here inside ∙ ap (left (slice_index x j)) (get_or-replicate 4 j by 0 inside) in
-    let down = get_or-zip2 right x (replicate 4 (32 - by)) j 0 0 0 here inside ∙ ap (right (slice_index x j)) (get_or-replicate 4 j (32 - by) 0 inside) in
-    let up_long : j < length (zip2 left x (replicate 4 by)) = omega (arith, length-zip2 left x (replicate 4 by) long) in
-    let down_long : j < length (zip2 right x (replicate 4 (32 - by))) = omega (arith, length-zip2 right x (replicate 4 (32 - by)) long) in
+    let here : (f : ℕ → ℕ → ℕ) (m : ℕ) → j < length (zip2 f x (replicate n m)) = λ f m.
+    omega (arith, length-zip2 f x (replicate n m) (long ∙ sym (length-replicate n m))) in
     let same : by % 32 ≡ by = omega arith in
     let rest : (32 - by) % 32 ≡ 32 - by = omega arith in
-    get_or-zip2 bit_or (zip2 left x (replicate 4 by)) (zip2 right x (replicate 4 (32 - by))) j 0 0 0 up_long down_long
-    ∙ ap₂ bit_or up down ∙ rw (same, rest) refl
+    get_or-zip2 bit_or (zip2 left x (replicate n by)) (zip2 right x (replicate n (32 - by))) j 0 0 0 (here left by) (here right (32 - by))
+    ∙ ap₂ bit_or (with_splat n left x by j long inside) (with_splat n right x (32 - by) j long inside) ∙ rw (same, rest) refl
 
 -- one line of the quarter round, in lane j
 pub lane-line : (state : List (List ℕ)) (a b d by j : ℕ) (sum turned : List ℕ)
@@ -55,14 +64,6 @@ lane-line state a b d by j sum turned a_in b_in d_in es et =
     ∙ ap (set (lane j next) d) (et ∙ ap₂ (λ x y. rotate_left w32 (bit_xor x y) by) (sym (lane-word next j d d_still)) (sym (lane-word next j a a_still)))
     ∙ ap f first
 
--- the counters of the four lanes
-pub counters : (counter j : ℕ) → j < 4 → slice_index (counter ∷ (counter + 1) ∷ (counter + 2) ∷ (counter + 3) ∷ []) j ≡ counter + j
-counters counter zero h = omega arith
-counters counter (suc zero) h = omega arith
-counters counter (suc (suc zero)) h = omega arith
-counters counter (suc (suc (suc zero))) h = omega arith
-counters counter (suc (suc (suc (suc n)))) h = absurd (omega arith)
-
 -- sixteen words that are those of lane j
 pub lane-is : (state : List (List ℕ)) (words : List ℕ) (j : ℕ) → length state ≡ 16 → length words ≡ 16
     → ((k : ℕ) → k < 16 → slice_index words k ≡ slice_index (slice_index_or state k []) j) → words ≡ lane j state
@@ -75,8 +76,3 @@ lane-is state words j state_long words_long each =
 pub start-set : (key nonce : List ℕ) (a b : ℕ) → set (start key nonce a) 12 b ≡ start key nonce b
 unfolding start
 start-set key nonce a b = refl
-
--- a block is its words' bytes
-pub block-bytes : (key nonce : List ℕ) (counter : ℕ) → flat_map (λ word. le_bytes 4 word) (mixed (start key nonce counter)) ≡ block key nonce counter
-unfolding block
-block-bytes key nonce counter = refl

@@ -3,5 +3,6 @@ pub mod ChaCha20
 pub mod Poly1305
 pub mod Authenticator
 pub mod Limbs
+pub mod LimbLanes
 pub mod Sealing
 pub mod Lanes

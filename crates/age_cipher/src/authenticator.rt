@@ -3,7 +3,8 @@ ghost use Rattle.std.specs.Prelude.{◌≡◌, ℕ, ◌+◌, ◌≤◌, List, []
 ghost use Rattle.age_cipher.specs.Poly1305.{poly1305};
 ghost use Rattle.age_cipher.specs.Authenticator.{answer};
 
-use crate::limbs::{Limbs, clamp, last_block, tag_bytes, whole_block, whole_blocks};
+use crate::fours::whole_blocks;
+use crate::limbs::{Limbs, clamp, last_block, tag_bytes, whole_block};
 use std::marker::Model;
 
 /// The one-time authenticator Poly1305 (RFC 8439, 2.5), fed a message in pieces.

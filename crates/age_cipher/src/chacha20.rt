@@ -4,7 +4,7 @@ ghost use Rattle.std.specs.List.{flat_map};
 ghost use Rattle.age_cipher.specs.Numbers.{le, le_bytes};
 ghost use Rattle.age_cipher.specs.ChaCha20.{add_xor_rotate, quarter_round, double_round, ten_double_rounds, start, mixed, block, xored};
 
-use crate::lanes::{FOUR_BLOCKS, four_blocks};
+use crate::blocks::{EIGHT_BLOCKS, FOUR_BLOCKS, xor_eight_blocks, xor_four_blocks};
 
 /// The bytes of a block.
 const BLOCK: usize = 64;
@@ -151,8 +151,13 @@ pub fn chacha20_xor(key: &[u8; 32], nonce: &[u8; 12], counter: u32, buf: &mut [u
 {
     let mut at = 0;
     let mut number = counter;
-    'fours: while buf.len() - at >= FOUR_BLOCKS {
-        xor_at(buf, at, at + FOUR_BLOCKS, &four_blocks(key, nonce, number));
+    'eights: while buf.len() - at >= EIGHT_BLOCKS {
+        xor_eight_blocks(key, nonce, number, buf, at);
+        at += EIGHT_BLOCKS;
+        number = number.wrapping_add(8);
+    }
+    if buf.len() - at >= FOUR_BLOCKS {
+        xor_four_blocks(key, nonce, number, buf, at);
         at += FOUR_BLOCKS;
         number = number.wrapping_add(4);
     }

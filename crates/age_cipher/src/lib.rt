@@ -6,9 +6,12 @@
 
 mod aead;
 mod authenticator;
+mod blocks;
 mod chacha20;
+mod fours;
 mod lanes;
 pub mod laws;
+mod limb_lanes;
 mod limbs;
 
 pub use crate::aead::{MAX_TEXT, open_in_place, seal_in_place};

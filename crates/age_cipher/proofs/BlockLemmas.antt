@@ -1,0 +1,138 @@
+-- Vectors as rows, words as bytes, and texts xored piece by piece.
+use Rattle.std.proofs.Common.{◌≡◌, ℕ, suc, ◌+◌, ◌-◌, ◌*◌, ◌/◌, ◌%◌, ◌^◌, ◌<◌, ◌≤◌, List, [], ◌∷◌, ◌++◌, length, take, drop, map, slice_index, slice_index_or, bit_xor, ◌⊎◌, inl, inr, arith, refl, sym, ap, ap₂, ◌∙◌}
+use Rattle.std.specs.Simd.Lanes.{number_l, digits_l, Each1, zip2, put_chunk}
+use Rattle.std.specs.List.{range_with_len}
+use Rattle.std.proofs.lemmas.List.{length-append, get_or_append_left, get_or-append_right, length-map}
+use Rattle.std.proofs.lemmas.List.FromFn.{fill_by_all}
+use Rattle.std.proofs.lemmas.Grind.{flat_map-append}
+use Rattle.std.proofs.lemmas.Bool.{cases_lt}
+use Rattle.std.proofs.lemmas.Simd.{length-zip2, length-chunk, get_or-zip2, get_or-chunk, get_or-put_chunk_below, get_or-put_chunk_at, get_or-put_chunk_above}
+use Rattle.age_cipher.specs.Numbers.{le_bytes}
+use Rattle.age_cipher.specs.ChaCha20.{start, mixed, block, stream_byte}
+use Rattle.age_cipher.specs.Lanes.{lane, bytes, IsXoredAt}
+use Rattle.age_cipher.proofs.LaneLemmas.{lane-word}
+
+-- a list of four, written out
+pub four_long : (x : List ℕ) → length x ≡ 4 → x ≡ slice_index x 0 ∷ slice_index x 1 ∷ slice_index x 2 ∷ slice_index x 3 ∷ []
+four_long x long = fill_by_all (λ k. slice_index x k) x 4 0 long (λ k h. refl)
+
+-- lane j of sixteen vectors, written out
+pub lane_written : (state : List (List ℕ)) (j : ℕ) → length state ≡ 16
+    → map (λ k. slice_index (slice_index_or state k []) j) (range_with_len 0 16) ≡ lane j state
+lane_written state j long =
+    sym (fill_by_all (λ k. slice_index (slice_index_or state k []) j) (lane j state) 16 0 (length-map state (λ v. slice_index v j) ∙ long) (λ k h. lane-word state j k (omega arith)))
+
+-- lane i of sixteen vectors, and lane j of sixteen others
+pub same_lanes : (x y : List (List ℕ)) (i j : ℕ) → length x ≡ 16 → length y ≡ 16
+    → ((k : ℕ) → k < 16 → slice_index (slice_index_or x k []) i ≡ slice_index (slice_index_or y k []) j) → lane i x ≡ lane j y
+same_lanes x y i j x_long y_long each =
+    fill_by_all (λ k. slice_index (slice_index_or y k []) j) (lane i x) 16 0 (length-map x (λ v. slice_index v i) ∙ x_long)
+    (λ k below. lane-word x i k (omega arith) ∙ each k below) ∙ lane_written y j y_long
+
+-- the bytes of a vector of words
+pub digits-bytes : (words : List ℕ) → Each1 (λ w. w < 2 ^ 32) words
+    → digits_l 256 (4 * length words) (number_l (2 ^ 32) words) ≡ bytes words
+digits-bytes [] below = refl
+digits-bytes (w ∷ words) below =
+    let rest = number_l (2 ^ 32) words in
+    let e : 4 * suc (length words) ≡ suc (suc (suc (suc (4 * length words)))) = omega arith in
+    let b0 : (w + 2 ^ 32 * rest) % 256 ≡ w % 256 = omega arith in
+    let b1 : (w + 2 ^ 32 * rest) / 256 % 256 ≡ w / 256 % 256 = omega arith in
+    let b2 : (w + 2 ^ 32 * rest) / 256 / 256 % 256 ≡ w / 256 ^ 2 % 256 = omega arith in
+    let b3 : (w + 2 ^ 32 * rest) / 256 / 256 / 256 % 256 ≡ w / 256 ^ 3 % 256 = omega arith in
+    let left : (w + 2 ^ 32 * rest) / 256 / 256 / 256 / 256 ≡ rest = omega (arith, below.0) in
+    rw (e, b0, b1, b2, b3, left) (ap (λ bs. w % 256 ∷ w / 256 % 256 ∷ w / 256 ^ 2 % 256 ∷ w / 256 ^ 3 % 256 ∷ bs) (digits-bytes words below.1))
+
+-- a word has four bytes
+pub length-bytes : (words : List ℕ) → length (bytes words) ≡ 4 * length words
+length-bytes [] = refl
+length-bytes (w ∷ words) = omega (arith, length-bytes words)
+
+-- the bytes of four vectors of words
+pub bytes_of_four : (a b c d : List ℕ) → bytes (a ++ (b ++ (c ++ d))) ≡ bytes a ++ (bytes b ++ (bytes c ++ bytes d))
+bytes_of_four a b c d =
+    let f : ℕ → List ℕ = λ word. le_bytes 4 word in
+    rw (flat_map-append f a (b ++ (c ++ d)), flat_map-append f b (c ++ d), flat_map-append f c d) refl
+
+-- two pieces xored one after the other
+pub xored_on : (at next : ℕ) (s t old mid new : List ℕ) → next ≡ at + length s → IsXoredAt at s old mid → IsXoredAt next t mid new → IsXoredAt at (s ++ t) old new
+xored_on at next s t old mid new e first then =
+    let inside : (j : ℕ) → j < length (s ++ t) → (j < length s) ⊎ (length s ≤ j) → slice_index new (at + j) ≡ bit_xor (slice_index old (at + j)) (slice_index (s ++ t) j) = λ j below here. elim here [
+      | inl low ↦ then.0 (at + j) (omega arith) ∙ first.1 j low ∙ ap (bit_xor (slice_index old (at + j))) (sym (get_or_append_left s t 0 j low))
+      | inr high ↦
+          let k = j - length s in
+          let place : at + j ≡ next + k = omega arith in
+          ap (slice_index new) place ∙ then.1 k (omega (arith, length-append s t))
+          ∙ ap₂ bit_xor (ap (slice_index mid) (sym place) ∙ first.2 (at + j) (omega arith)) (sym (get_or-append_right s t (length s) j 0 refl (omega arith)))
+    ] in (
+      λ j below. then.0 j (omega arith) ∙ first.0 j below,
+      λ j below. inside j below (cases_lt j (length s)),
+      λ j above. then.2 j (omega (arith, length-append s t)) ∙ first.2 j (omega (arith, length-append s t)),
+    )
+
+-- a vector of a buffer xored with another
+pub chunk_xored : (at : ℕ) (buf digits stream : List ℕ) → digits ≡ stream → length stream ≡ 16 → at + 16 ≤ length buf
+    → IsXoredAt at stream buf (put_chunk at buf (zip2 bit_xor (take 16 (drop at buf)) digits))
+chunk_xored at buf digits stream e long room =
+    let chunk_long : length (take 16 (drop at buf)) ≡ 16 = length-chunk at 16 buf room in
+    let mixed = zip2 bit_xor (take 16 (drop at buf)) stream in
+    let mixed_long : length mixed ≡ 16 = length-zip2 bit_xor (take 16 (drop at buf)) stream (chunk_long ∙ sym long) ∙ chunk_long in
+    rw e (
+      λ j below. get_or-put_chunk_below at buf mixed j 0 below,
+      λ j below. get_or-put_chunk_at at buf mixed j 0 (omega arith) (omega arith)
+          ∙ get_or-zip2 bit_xor (take 16 (drop at buf)) stream j 0 0 0 (omega arith) below
+          ∙ ap (λ b. bit_xor b (slice_index stream j)) (get_or-chunk at 16 buf j 0 (omega arith)),
+      λ j above. get_or-put_chunk_above at buf mixed j 0 (omega arith),
+    )
+
+-- a list is the key stream's first n bytes, from the block `counter` on
+abbrev pub IsStream : List ℕ → List ℕ → ℕ → ℕ → List ℕ → Type 0
+IsStream key nonce counter n stream =
+    (length stream ≡ n) × ((j : ℕ) → j < n → slice_index stream j ≡ stream_byte key nonce counter j)
+
+-- the bytes of a block's words are the stream for one block
+pub block-stream : (key nonce : List ℕ) (counter : ℕ) (words : List ℕ) → words ≡ mixed (start key nonce counter) → IsStream key nonce counter 64 (bytes words)
+unfolding block mixed
+block-stream key nonce counter words e = rw e (
+  refl,
+  λ j below.
+      let none : j / 64 ≡ 0 = omega arith in
+      let same : j % 64 ≡ j = omega arith in
+      let here : counter + 0 ≡ counter = omega arith in
+      rw (none, same, here) refl,
+)
+
+-- a stream of m blocks, and the stream behind it
+pub stream_on : (key nonce : List ℕ) (counter next m n : ℕ) (front back : List ℕ) → next ≡ counter + m
+    → IsStream key nonce counter (64 * m) front → IsStream key nonce next n back → IsStream key nonce counter (64 * m + n) (front ++ back)
+stream_on key nonce counter next m n front back e one two =
+    let cases : (j : ℕ) → j < 64 * m + n → (j < 64 * m) ⊎ (64 * m ≤ j) → slice_index (front ++ back) j ≡ stream_byte key nonce counter j = λ j below here. elim here [
+      | inl low ↦ get_or_append_left front back 0 j (omega (arith, one.0)) ∙ one.1 j low
+      | inr high ↦
+          let block_number : next + (j - 64 * m) / 64 ≡ counter + j / 64 = omega arith in
+          let place : (j - 64 * m) % 64 ≡ j % 64 = omega arith in
+          get_or-append_right front back (64 * m) j 0 one.0 high ∙ two.1 (j - 64 * m) (omega arith)
+          ∙ ap₂ (λ b i. slice_index (block key nonce b) i) block_number place
+    ] in (
+      omega (arith, length-append front back, one.0, two.0),
+      λ j below. cases j below (cases_lt j (64 * m)),
+    )
+
+-- four blocks' stream
+pub four_stream : (key nonce : List ℕ) (counter : ℕ) (a b c d : List ℕ)
+    → a ≡ mixed (start key nonce counter) → b ≡ mixed (start key nonce (counter + 1))
+    → c ≡ mixed (start key nonce (counter + 2)) → d ≡ mixed (start key nonce (counter + 3))
+    → IsStream key nonce counter 256 (bytes a ++ (bytes b ++ (bytes c ++ bytes d)))
+four_stream key nonce counter a b c d ea eb ec ed =
+    stream_on key nonce counter (counter + 1) 1 192 _ _ (omega arith) (block-stream key nonce counter a ea)
+    (stream_on key nonce (counter + 1) (counter + 2) 1 128 _ _ (omega arith) (block-stream key nonce (counter + 1) b eb)
+    (stream_on key nonce (counter + 2) (counter + 3) 1 64 _ _ (omega arith) (block-stream key nonce (counter + 2) c ec) (block-stream key nonce (counter + 3) d ed)))
+
+-- xored with a list that is the stream, byte by byte
+pub xored_with_stream : (key nonce : List ℕ) (counter at n : ℕ) (stream old new : List ℕ)
+    → IsStream key nonce counter n stream → IsXoredAt at stream old new → (j : ℕ) → at ≤ j → j < at + n
+    → slice_index new j ≡ bit_xor (slice_index old j) (stream_byte key nonce counter (j - at))
+xored_with_stream key nonce counter at n stream old new is xored j low high =
+    let place : at + (j - at) ≡ j = omega arith in
+    ap (slice_index new) (sym place) ∙ xored.1 (j - at) (omega (arith, is.0))
+    ∙ ap₂ bit_xor (ap (slice_index old) place) (is.1 (j - at) (omega arith))
