@@ -1,7 +1,9 @@
 mod ArgumentLemmas
 mod Base64Joined
 mod Base64Lemmas
+mod FillLemmas
 mod FrontPaths
+pub mod GivenLemmas
 mod LengthLemmas
 mod LineLemmas
 mod OneReading
@@ -17,3 +19,4 @@ pub mod WriteLemmas
 pub mod OneVerdict
 mod HeadFacts
 pub mod Decoding
+pub mod SomeVerdict

@@ -144,3 +144,9 @@ found_begins b max x h =
       is = text;
       head = h.head;
     }
+
+-- a header that was found is found in every text that it begins
+pub found_again : (b : List ℕ) (max : ℕ) (x : Found) → Finds b max x → (rest : List ℕ) → Finds (x.text ++ rest) max x
+found_again b max x h rest =
+    let w = begins_found b max x h in
+    found_begins (x.text ++ rest) max x (record { rest = rest; head = w.head; front = refl; fits = w.fits })

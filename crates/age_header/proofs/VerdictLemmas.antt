@@ -1,5 +1,5 @@
 -- What a reader's progress decides, in the header verdict's own words.
-use Rattle.std.proofs.Common.{inl, inr, ◌≡◌, ◌≢◌, ◌⊎◌, ℕ, ◌+◌, ◌-◌, ◌<◌, ◌≤◌, List, [], ◌∷◌, ◌++◌, length, length-append, length-take, take, drop, refl, sym, ap, arith, append_assoc, ◌∙◌, subst, codes, Some, None, IfSome, min, zero, suc, Bool, true, not, ◌&&◌, ◌==◌}
+use Rattle.std.proofs.Common.{inl, inr, ◌≡◌, ◌≢◌, ◌⊎◌, ℕ, ◌+◌, ◌-◌, ◌<◌, ◌≤◌, List, [], ◌∷◌, ◌++◌, length, length-append, length-take, take, drop, refl, sym, ap, arith, append_assoc, ◌∙◌, subst, codes, Some, None, min, zero, suc, Bool, true, not, ◌&&◌, ◌==◌}
 use Rattle.std.proofs.lemmas.List.{append-nil, append_cancel_left, same_from_push, take_all, take-take, take_at}
 use Rattle.std.proofs.lemmas.Bool.{cases_lt, and_parts, both_ways, not-true, eq-eqb}
 use Rattle.std.proofs.lemmas.List.Concat.{flat_map-append}
@@ -14,10 +14,10 @@ use Rattle.age_header.specs.declared.lines.LineEnd.{LineEnd}
 use Rattle.age_header.specs.declared.lines.LineEnd.TheVariants.{Lf, Input, Room}
 use Rattle.age_header.specs.Lines.{taken, IsEnd, IsOutside}
 use Rattle.age_header.specs.Base64.{B64}
-use Rattle.age_header.specs.Header.{StanzaParts, Head, line, version_line}
+use Rattle.age_header.specs.Header.{HeaderParts, StanzaParts, Head, line, version_line}
 use Rattle.age_header.specs.Steps.{State, between, Step, Leads}
 use Rattle.age_header.specs.Reader.{Refuses, Answers}
-use Rattle.age_header.specs.Verdict.{IsLineText, lines_text, IsViable, IsHeader, AreLines, Decides, BeginsAsAge, IsUndecided}
+use Rattle.age_header.specs.Verdict.{IsLineText, lines_text, IsViable, IsHeader, AreLines, Decides, BeginsAsAge, IsUndecided, Finds, HeaderVerdict, IsFault}
 use Rattle.age_header.proofs.PathLemmas.{leads_viable, leads_no_header, leads_spell, same_lines, version_text}
 use Rattle.age_header.proofs.OneReading.{head_path, end_text}
 use Rattle.age_header.proofs.LineLemmas.{lines_front, line_split}
@@ -192,30 +192,78 @@ age_front b n first end max is ends age =
       sym version_is_line ∙ whole ∙ ap (λ (z : List ℕ). z ++ drop (length t) version_line) front ∙ append_assoc first r.0 (drop (length t) version_line),
     )
 
--- not the front of the version line's text
-pub no_front : (a new : Option (List ℕ)) (first : List ℕ) (end : LineEnd) (max : ℕ) → Consumes a new (taken first end) → IsLineText first
-    → IsEnd end (length first) (min max 22) new → ((x : List ℕ) → version_text ≢ first ++ x) → IfSome a (λ b. Refuses b max NotAge)
-no_front None new first end max took text ends none = tt
-no_front (Some b) None first end max took text ends none = absurd took
-no_front (Some b) (Some n) first end max took text ends none = λ age.
+-- ---- what holds of the bytes that come, whatever they are, is answered of a source
+
+-- a fault after these bytes
+answered : (a new : Option (List ℕ)) (x : List ℕ) (max : ℕ) (e : HeaderFault) → Consumes a new x
+    → ((b n : List ℕ) → b ≡ x ++ n → Refuses b max e) → Answers a new max (Err e)
+answered None new x max e took told = (x, told x [] (sym (append-nil x)))
+answered (Some b) None x max e took told = absurd took
+answered (Some b) (Some n) x max e took told = told b n took
+
+-- a fault at the end of the input
+answered_at_end : (a new : Option (List ℕ)) (x : List ℕ) (max : ℕ) (e : HeaderFault) → Consumes a new x → IsAtEnd new
+    → ((b : List ℕ) → b ≡ x → Refuses b max e) → Answers a new max (Err e)
+answered_at_end None new x max e took end told = (x, told x refl)
+answered_at_end (Some b) None x max e took end told = absurd took
+answered_at_end (Some b) (Some n) x max e took end told = told b (took ∙ ap (λ (z : List ℕ). x ++ z) end ∙ append-nil x)
+
+-- a header
+answered_header : (a new : Option (List ℕ)) (x : List ℕ) (max : ℕ) (h : HeaderParts) → Consumes a new x
+    → ((b n : List ℕ) → b ≡ x ++ n → HeaderVerdict b max (Ok (record { stanzas = h.stanzas; mac = h.mac; text = x })))
+    → Answers a new max (Ok h)
+answered_header None new x max h took told = (x, (x, told x [] (sym (append-nil x)), tt))
+answered_header (Some b) None x max h took told = absurd took
+answered_header (Some b) (Some n) x max h took told = (x, told b n took, took)
+
+refused : (b : List ℕ) (max : ℕ) (e : HeaderFault) → IsOutside e → Refuses b max e
+refused b max Read h = tt
+refused b max Memory h = tt
+refused b max NotAge h = absurd h
+refused b max (BadLine n) h = absurd h
+refused b max Truncated h = absurd h
+refused b max TooLarge h = absurd h
+
+-- what a line's own fault says
+pub outside : (a new : Option (List ℕ)) (max : ℕ) (e : HeaderFault) → IsOutside e → Answers a new max (Err e)
+outside None new max e h = ([], refused [] max e h)
+outside (Some b) new max e h = refused b max e h
+
+-- ---- the first line
+
+no_front_told : (b n first : List ℕ) (end : LineEnd) (max : ℕ) → b ≡ taken first end ++ n → IsLineText first
+    → IsEnd end (length first) (min max 22) (Some n) → ((x : List ℕ) → version_text ≢ first ++ x) → BeginsAsAge (take max b) → ⊥
+no_front_told b n first end max took text ends none age =
     let w = age_front b n first end max took ends age in
     let r = front_text version_text first w.0 text w.1 in
     none r.0 r.1
 
+-- not the front of the version line's text
+pub no_front : (a new : Option (List ℕ)) (first : List ℕ) (end : LineEnd) (max : ℕ) → Consumes a new (taken first end) → IsLineText first
+    → IsEnd end (length first) (min max 22) new → ((x : List ℕ) → version_text ≢ first ++ x) → Answers a new max (Err NotAge)
+no_front a new first Lf max took text ends none =
+    answered a new (first ++ 10 ∷ []) max NotAge took (λ b n is. no_front_told b n first Lf max is text ends none)
+no_front a new first Input max took text ends none =
+    answered_at_end a new first max NotAge took ends.1
+    (λ b is. no_front_told b [] first Input max (is ∙ sym (append-nil first)) text (ends.0, refl) none)
+no_front a new first Room max took text ends none =
+    answered a new first max NotAge took (λ b n is. no_front_told b n first Room max is text ends none)
+
 -- a line that ends too early
 pub short_line : (a new : Option (List ℕ)) (first rest : List ℕ) (max : ℕ) → Consumes a new (first ++ 10 ∷ []) → IsLineText first
-    → length first < min max 22 → version_text ≡ first ++ rest → rest ≢ [] → IfSome a (λ b. Refuses b max NotAge)
-short_line None new first rest max took text ends is more = tt
-short_line (Some b) None first rest max took text ends is more = absurd took
-short_line (Some b) (Some n) first rest max took text ends is more = λ age.
-    let t : List ℕ = take 22 (take max b) in
-    let whole : version_line ≡ t ++ drop (length t) version_line = starts_with_rest version_line t age in
-    let x : List ℕ = take (min max 22 - length (first ++ 10 ∷ [])) n in
-    let front : t ≡ first ++ 10 ∷ x = cap_front b max ∙ lf_front b n first max took ends in
-    let e : version_text ++ 10 ∷ [] ≡ first ++ 10 ∷ (x ++ drop (length t) version_line) =
-    sym version_is_line ∙ whole ∙ ap (λ (z : List ℕ). z ++ drop (length t) version_line) front ∙ append_assoc first (10 ∷ x) (drop (length t) version_line) in
-    let cut = line_split version_text first [] _ version_is_text text e in
-    more (append_cancel_left first rest [] (sym is ∙ cut.0 ∙ sym (append-nil first)))
+    → length first < min max 22 → version_text ≡ first ++ rest → rest ≢ [] → Answers a new max (Err NotAge)
+short_line a new first rest max took text ends is more = answered a new (first ++ 10 ∷ []) max NotAge took told
+  where
+    told : (b n : List ℕ) → b ≡ (first ++ 10 ∷ []) ++ n → BeginsAsAge (take max b) → ⊥
+    told b n came age =
+        let t : List ℕ = take 22 (take max b) in
+        let whole : version_line ≡ t ++ drop (length t) version_line = starts_with_rest version_line t age in
+        let x : List ℕ = take (min max 22 - length (first ++ 10 ∷ [])) n in
+        let front : t ≡ first ++ 10 ∷ x = cap_front b max ∙ lf_front b n first max came ends in
+        let e : version_text ++ 10 ∷ [] ≡ first ++ 10 ∷ (x ++ drop (length t) version_line) =
+        sym version_is_line ∙ whole ∙ ap (λ (z : List ℕ). z ++ drop (length t) version_line) front ∙ append_assoc first (10 ∷ x) (drop (length t) version_line) in
+        let cut = line_split version_text first [] _ version_is_text text e in
+        more (append_cancel_left first rest [] (sym is ∙ cut.0 ∙ sym (append-nil first)))
 
 front_age : (first rest : List ℕ) → version_text ≡ first ++ rest → length first ≤ 22 → BeginsAsAge first
 front_age first rest is low =
@@ -232,29 +280,30 @@ front_size first rest is = omega (arith, ap length is, version_text_size, length
 
 -- a first line that goes on, at the end of the input or under the limit
 pub short_input : (a new : Option (List ℕ)) (first rest : List ℕ) (max : ℕ) → Consumes a new first → IsLineText first
-    → (length first < min max 22) × IsAtEnd new → version_text ≡ first ++ rest → IfSome a (λ b. Refuses b max Truncated)
-short_input None new first rest max took text ends is = tt
-short_input (Some b) None first rest max took text ends is = absurd took
-short_input (Some b) (Some n) first rest max took text ends is =
-    let all : b ≡ first = took ∙ ap (λ (z : List ℕ). first ++ z) ends.1 ∙ append-nil first in
-    let size : length first < min max 22 = ends.0 in
-    let low : length first ≤ max = omega arith in
-    let cap : take max b ≡ first = ap (λ (z : List ℕ). take max z) all ∙ take_all max first low in
-    let age : BeginsAsAge first = front_age first rest is (omega arith) in
-    let same : length b ≡ length first = ap length all in
-    (subst (λ (z : List ℕ). BeginsAsAge z) (sym cap) age, subst (λ (z : List ℕ). IsUndecided z) (sym cap) (line_open first text), omega arith)
+    → (length first < min max 22) × IsAtEnd new → version_text ≡ first ++ rest → Answers a new max (Err Truncated)
+short_input a new first rest max took text ends is = answered_at_end a new first max Truncated took ends.1 told
+  where
+    told : (b : List ℕ) → b ≡ first → IsFault b max Truncated
+    told b all =
+        let size : length first < min max 22 = ends.0 in
+        let low : length first ≤ max = omega arith in
+        let cap : take max b ≡ first = ap (λ (z : List ℕ). take max z) all ∙ take_all max first low in
+        let age : BeginsAsAge first = front_age first rest is (omega arith) in
+        let same : length b ≡ length first = ap length all in
+        (subst (λ (z : List ℕ). BeginsAsAge z) (sym cap) age, subst (λ (z : List ℕ). IsUndecided z) (sym cap) (line_open first text), omega arith)
 
 pub short_room : (a new : Option (List ℕ)) (first rest : List ℕ) (max : ℕ) → Consumes a new first → IsLineText first
-    → length first ≡ min max 22 → version_text ≡ first ++ rest → IfSome a (λ b. Refuses b max TooLarge)
-short_room None new first rest max took text ends is = tt
-short_room (Some b) None first rest max took text ends is = absurd took
-short_room (Some b) (Some n) first rest max took text ends is =
-    let sum = front_size first rest is in
-    let size : length first ≡ max = omega arith in
-    let cap : take max b ≡ first = ap (λ (z : List ℕ). take max z) took ∙ take_at first n max size in
-    let age : BeginsAsAge first = front_age first rest is (omega arith) in
-    let whole : length b ≡ length first + length n = ap length took ∙ length-append first n in
-    (subst (λ (z : List ℕ). BeginsAsAge z) (sym cap) age, subst (λ (z : List ℕ). IsUndecided z) (sym cap) (line_open first text), omega arith)
+    → length first ≡ min max 22 → version_text ≡ first ++ rest → Answers a new max (Err TooLarge)
+short_room a new first rest max took text ends is = answered a new first max TooLarge took told
+  where
+    told : (b n : List ℕ) → b ≡ first ++ n → IsFault b max TooLarge
+    told b n came =
+        let sum = front_size first rest is in
+        let size : length first ≡ max = omega arith in
+        let cap : take max b ≡ first = ap (λ (z : List ℕ). take max z) came ∙ take_at first n max size in
+        let age : BeginsAsAge first = front_age first rest is (omega arith) in
+        let whole : length b ≡ length first + length n = ap length came ∙ length-append first n in
+        (subst (λ (z : List ℕ). BeginsAsAge z) (sym cap) age, subst (λ (z : List ℕ). IsUndecided z) (sym cap) (line_open first text), omega arith)
 
 -- the version line
 pub version_taken : (a new : Option (List ℕ)) (first rest : List ℕ) (max : ℕ) → Consumes a new (first ++ 10 ∷ []) → length first < min max 22
@@ -265,56 +314,51 @@ version_taken a new first rest max took ends is none =
     let same : first ++ 10 ∷ [] ≡ version_line = sym (version_is_line ∙ ap (λ (z : List ℕ). z ++ 10 ∷ []) (is ∙ ap (λ (z : List ℕ). first ++ z) none ∙ append-nil first)) in
     (omega arith, subst (λ (z : List ℕ). Consumes a new z) same took)
 
--- what a line's own fault says
-pub outside : (a : Option (List ℕ)) (max : ℕ) (e : HeaderFault) → IsOutside e → IfSome a (λ b. Refuses b max e)
-outside None max e h = tt
-outside (Some b) max Read h = tt
-outside (Some b) max Memory h = tt
-outside (Some b) max NotAge h = absurd h
-outside (Some b) max (BadLine n) h = absurd h
-outside (Some b) max Truncated h = absurd h
-outside (Some b) max TooLarge h = absurd h
+-- ---- a line behind the version line
 
 -- what a line at the end of the input, or under the limit, says of a path
 pub path_truncated : (a mid new : Option (List ℕ)) (max room count : ℕ) (s : State) (text : List ℕ) → Reached a mid max room count s
-    → Consumes mid new text → IsLineText text → (length text < room) × IsAtEnd new → IfSome a (λ b. Refuses b max Truncated)
-path_truncated None mid new max room count s text p took is ends = tt
-path_truncated (Some b) None new max room count s text p took is ends = absurd p.taken
-path_truncated (Some b) (Some m) None max room count s text p took is ends = absurd took
-path_truncated (Some b) (Some m) (Some n) max room count s text p took is ends =
-    let front : List ℕ = version_line ++ lines_text p.ls in
-    let rest : m ≡ text = took ∙ ap (λ (z : List ℕ). text ++ z) ends.1 ∙ append-nil text in
-    let all : b ≡ front ++ text = p.taken ∙ ap (λ (z : List ℕ). front ++ z) rest in
-    let size : length b ≡ 22 + length (lines_text p.ls) + length text =
-    ap length all ∙ length-append front text ∙ ap (λ (z : ℕ). z + length text) (length-append version_line (lines_text p.ls) ∙ ap (λ (z : ℕ). z + length (lines_text p.ls)) version_size) in
-    let fits : length text < room = ends.0 in
-    let sum : room + 22 + length (lines_text p.ls) ≡ max = p.size in
-    let low : length b < max = omega arith in
-    let cap : take max b ≡ b = take_all max b (omega arith) in
-    let open' : IsUndecided b = path_open p.ls s b text p.each p.leads all is in
-    let wide : 22 ≤ max = omega arith in
-    let begun : take max b ≡ take max (version_line ++ (lines_text p.ls ++ text)) = ap (λ (z : List ℕ). take max z) (all ∙ append_assoc version_line (lines_text p.ls) text) in
-    (subst (λ (z : List ℕ). BeginsAsAge z) (sym begun) (begins (lines_text p.ls ++ text) max wide), subst (λ (z : List ℕ). IsUndecided z) (sym cap) open', low)
+    → Consumes mid new text → IsLineText text → (length text < room) × IsAtEnd new → Answers a new max (Err Truncated)
+path_truncated a mid new max room count s text p took is ends =
+    answered_at_end a new (front ++ text) max Truncated (Consumes-trans a mid new front text p.taken took) ends.1 told
+  where
+    front : List ℕ
+    front = version_line ++ lines_text p.ls
+
+    told : (b : List ℕ) → b ≡ front ++ text → IsFault b max Truncated
+    told b all =
+        let size : length b ≡ 22 + length (lines_text p.ls) + length text =
+        ap length all ∙ length-append front text ∙ ap (λ (z : ℕ). z + length text) (length-append version_line (lines_text p.ls) ∙ ap (λ (z : ℕ). z + length (lines_text p.ls)) version_size) in
+        let fits : length text < room = ends.0 in
+        let sum : room + 22 + length (lines_text p.ls) ≡ max = p.size in
+        let low : length b < max = omega arith in
+        let cap : take max b ≡ b = take_all max b (omega arith) in
+        let open' : IsUndecided b = path_open p.ls s b text p.each p.leads all is in
+        let wide : 22 ≤ max = omega arith in
+        let begun : take max b ≡ take max (version_line ++ (lines_text p.ls ++ text)) = ap (λ (z : List ℕ). take max z) (all ∙ append_assoc version_line (lines_text p.ls) text) in
+        (subst (λ (z : List ℕ). BeginsAsAge z) (sym begun) (begins (lines_text p.ls ++ text) max wide), subst (λ (z : List ℕ). IsUndecided z) (sym cap) open', low)
 
 pub path_too_large : (a mid new : Option (List ℕ)) (max room count : ℕ) (s : State) (text : List ℕ) → Reached a mid max room count s
-    → Consumes mid new text → IsLineText text → length text ≡ room → IfSome a (λ b. Refuses b max TooLarge)
-path_too_large None mid new max room count s text p took is ends = tt
-path_too_large (Some b) None new max room count s text p took is ends = absurd p.taken
-path_too_large (Some b) (Some m) None max room count s text p took is ends = absurd took
-path_too_large (Some b) (Some m) (Some n) max room count s text p took is ends =
-    let front : List ℕ = version_line ++ lines_text p.ls in
-    let all : b ≡ (front ++ text) ++ n = p.taken ∙ ap (λ (z : List ℕ). front ++ z) took ∙ sym (append_assoc front text n) in
-    let size : length (front ++ text) ≡ 22 + length (lines_text p.ls) + length text =
-    length-append front text ∙ ap (λ (z : ℕ). z + length text) (length-append version_line (lines_text p.ls) ∙ ap (λ (z : ℕ). z + length (lines_text p.ls)) version_size) in
-    let sum : room + 22 + length (lines_text p.ls) ≡ max = p.size in
-    let whole : length (front ++ text) ≡ max = omega arith in
-    let cap : take max b ≡ front ++ text = ap (λ (z : List ℕ). take max z) all ∙ take_at (front ++ text) n max whole in
-    let open' : IsUndecided (front ++ text) = path_open p.ls s (front ++ text) text p.each p.leads refl is in
-    let wide : 22 ≤ max = omega arith in
-    let begun : take max b ≡ take max (version_line ++ (lines_text p.ls ++ (text ++ n))) =
-    ap (λ (z : List ℕ). take max z) (all ∙ append_assoc front text n ∙ append_assoc version_line (lines_text p.ls) (text ++ n)) in
-    let long : length b ≡ length (front ++ text) + length n = ap length all ∙ length-append (front ++ text) n in
-    (subst (λ (z : List ℕ). BeginsAsAge z) (sym begun) (begins (lines_text p.ls ++ (text ++ n)) max wide), subst (λ (z : List ℕ). IsUndecided z) (sym cap) open', omega arith)
+    → Consumes mid new text → IsLineText text → length text ≡ room → Answers a new max (Err TooLarge)
+path_too_large a mid new max room count s text p took is ends =
+    answered a new (front ++ text) max TooLarge (Consumes-trans a mid new front text p.taken took) told
+  where
+    front : List ℕ
+    front = version_line ++ lines_text p.ls
+
+    told : (b n : List ℕ) → b ≡ (front ++ text) ++ n → IsFault b max TooLarge
+    told b n all =
+        let size : length (front ++ text) ≡ 22 + length (lines_text p.ls) + length text =
+        length-append front text ∙ ap (λ (z : ℕ). z + length text) (length-append version_line (lines_text p.ls) ∙ ap (λ (z : ℕ). z + length (lines_text p.ls)) version_size) in
+        let sum : room + 22 + length (lines_text p.ls) ≡ max = p.size in
+        let whole : length (front ++ text) ≡ max = omega arith in
+        let cap : take max b ≡ front ++ text = ap (λ (z : List ℕ). take max z) all ∙ take_at (front ++ text) n max whole in
+        let open' : IsUndecided (front ++ text) = path_open p.ls s (front ++ text) text p.each p.leads refl is in
+        let wide : 22 ≤ max = omega arith in
+        let begun : take max b ≡ take max (version_line ++ (lines_text p.ls ++ (text ++ n))) =
+        ap (λ (z : List ℕ). take max z) (all ∙ append_assoc front text n ∙ append_assoc version_line (lines_text p.ls) (text ++ n)) in
+        let long : length b ≡ length (front ++ text) + length n = ap length all ∙ length-append (front ++ text) n in
+        (subst (λ (z : List ℕ). BeginsAsAge z) (sym begun) (begins (lines_text p.ls ++ (text ++ n)) max wide), subst (λ (z : List ℕ). IsUndecided z) (sym cap) open', omega arith)
 
 -- One more whole line: where the lines through it are a header or not viable, they decide.
 record Further (b n : List ℕ) (max : ℕ) (ls : List (List ℕ)) (text : List ℕ) : Type 0 where
@@ -326,22 +370,27 @@ record Further (b n : List ℕ) (max : ℕ) (ls : List (List ℕ)) (text : List 
 pub lines_push : (ls : List (List ℕ)) (text : List ℕ) → lines_text (ls ++ text ∷ []) ≡ lines_text ls ++ line text
 lines_push ls text = flat_map-append line ls (text ∷ []) ∙ ap (λ (z : List ℕ). lines_text ls ++ z) (append-nil (line text))
 
-further : (b m n : List ℕ) (max room count : ℕ) (s : State) (text : List ℕ) (p : Reached (Some b) (Some m) max room count s)
-    → m ≡ line text ++ n → length text < room → Further b n max p.ls text
-further b m n max room count s text p took low =
-    let front : List ℕ = version_line ++ lines_text p.ls in
-    let same = whole_lines (p.ls ++ text ∷ []) in
-    let pushed : version_line ++ lines_text (p.ls ++ text ∷ []) ≡ front ++ line text =
-    ap (λ (z : List ℕ). version_line ++ z) (lines_push p.ls text) ∙ sym (append_assoc version_line (lines_text p.ls) (line text)) in
-    let all : b ≡ (front ++ line text) ++ n = p.taken ∙ ap (λ (z : List ℕ). front ++ z) took ∙ sym (append_assoc front (line text) n) in
-    let size : length (lines_text (version_text ∷ (p.ls ++ text ∷ []))) ≡ 22 + length (lines_text p.ls) + (length text + 1) =
-    ap length (same ∙ pushed) ∙ length-append front (line text)
-    ∙ ap (λ (z : ℕ). z + length (line text)) (length-append version_line (lines_text p.ls) ∙ ap (λ (z : ℕ). z + length (lines_text p.ls)) version_size)
-    ∙ ap (λ (z : ℕ). 22 + length (lines_text p.ls) + z) (length-append text (10 ∷ [])) in
-    let sum : room + 22 + length (lines_text p.ls) ≡ max = p.size in
+pushed : (ls : List (List ℕ)) (text : List ℕ) → lines_text (version_text ∷ (ls ++ text ∷ [])) ≡ (version_line ++ lines_text ls) ++ line text
+pushed ls text =
+    whole_lines (ls ++ text ∷ []) ∙ ap (λ (z : List ℕ). version_line ++ z) (lines_push ls text) ∙ sym (append_assoc version_line (lines_text ls) (line text))
+
+-- what was taken with one more line
+took_line : (a mid new : Option (List ℕ)) (max room count : ℕ) (s : State) (text : List ℕ) (p : Reached a mid max room count s)
+    → Consumes mid new (text ++ 10 ∷ []) → Consumes a new (lines_text (version_text ∷ (p.ls ++ text ∷ [])))
+took_line a mid new max room count s text p took =
+    subst (λ (z : List ℕ). Consumes a new z) (sym (pushed p.ls text)) (Consumes-trans a mid new (version_line ++ lines_text p.ls) (line text) p.taken took)
+
+further : (b n : List ℕ) (max room : ℕ) (ls : List (List ℕ)) (text : List ℕ) → b ≡ lines_text (version_text ∷ (ls ++ text ∷ [])) ++ n
+    → room + 22 + length (lines_text ls) ≡ max → length text < room → Further b n max ls text
+further b n max room ls text all sum low =
+    let front : List ℕ = version_line ++ lines_text ls in
+    let size : length (lines_text (version_text ∷ (ls ++ text ∷ []))) ≡ 22 + length (lines_text ls) + (length text + 1) =
+    ap length (pushed ls text) ∙ length-append front (line text)
+    ∙ ap (λ (z : ℕ). z + length (line text)) (length-append version_line (lines_text ls) ∙ ap (λ (z : ℕ). z + length (lines_text ls)) version_size)
+    ∙ ap (λ (z : ℕ). 22 + length (lines_text ls) + z) (length-append text (10 ∷ [])) in
     record {
-      all = all ∙ ap (λ (z : List ℕ). z ++ n) (sym (same ∙ pushed));
-      same = same;
+      all = all;
+      same = whole_lines (ls ++ text ∷ []);
       fits = omega arith;
       wide = omega arith;
     }
@@ -376,88 +425,91 @@ pub path_header : (a mid new : Option (List ℕ)) (max room count : ℕ) (s : St
     → Reached a mid max room count s → Consumes mid new (text ++ 10 ∷ []) → IsLineText text → length text < room
     → s ≡ between ss → ss ≢ [] → text ≡ codes "--- " ++ signs → B64 mac signs → length mac ≡ 32
     → Answers a new max (Ok (record { stanzas = ss; mac = mac }))
-path_header None mid new max room count s text ss mac signs p took is low at some end h size = tt
-path_header (Some b) None new max room count s text ss mac signs p took is low at some end h size = absurd p.taken
-path_header (Some b) (Some m) None max room count s text ss mac signs p took is low at some end h size = absurd took
-path_header (Some b) (Some m) (Some n) max room count s text ss mac signs p took is low at some end h size =
-    let f = further b m n max room count s text p took low in
-    let whole : List (List ℕ) = version_text ∷ (p.ls ++ text ∷ []) in
-    let leads : Leads (between []) p.ls (between ss) = subst (λ (z : State). Leads (between []) p.ls z) at p.leads in
-    let head : Head ss mac (version_line ++ lines_text (p.ls ++ text ∷ [])) = record {
+path_header a mid new max room count s text ss mac signs p took is low at some end h size =
+    answered_header a new (lines_text whole) max (record { stanzas = ss; mac = mac }) (took_line a mid new max room count s text p took) told
+  where
+    whole : List (List ℕ)
+    whole = version_text ∷ (p.ls ++ text ∷ [])
+
+    head : Head ss mac (version_line ++ lines_text (p.ls ++ text ∷ []))
+    head = record {
       body = lines_text p.ls;
       signs = signs;
       some = some;
-      stanza_text = leads_spell (between []) (between ss) p.ls [] leads refl;
+      stanza_text = leads_spell (between []) (between ss) p.ls [] (subst (λ (z : State). Leads (between []) p.ls z) at p.leads) refl;
       mac_len = size;
       mac_text = h;
       spelled = ap (λ (z : List ℕ). version_line ++ z) (lines_push p.ls text ∙ ap (λ (z : List ℕ). lines_text p.ls ++ line z) end)
           ∙ sym (append_assoc version_line (lines_text p.ls) (line (codes "--- " ++ signs)));
-    } in (
-      lines_text whole,
-      record {
-        lines = whole;
-        begun = age b n max p.ls text f;
-        decides = decides b n max p.ls s text f p.each p.leads is (inl (ss, mac, head));
-        is = refl;
-        head = subst (λ (z : List ℕ). Head ss mac z) (sym f.same) head;
-      },
-      f.all,
-    )
+    }
+
+    told : (b n : List ℕ) → b ≡ lines_text whole ++ n → Finds b max (record { stanzas = ss; mac = mac; text = lines_text whole })
+    told b n all =
+        let f = further b n max room p.ls text all p.size low in
+        record {
+          lines = whole;
+          begun = age b n max p.ls text f;
+          decides = decides b n max p.ls s text f p.each p.leads is (inl (ss, mac, head));
+          is = refl;
+          head = subst (λ (z : List ℕ). Head ss mac z) (sym f.same) head;
+        }
 
 -- a line that leads nowhere and is no end line
 pub path_bad : (a mid new : Option (List ℕ)) (max room count : ℕ) (s : State) (text : List ℕ)
     → Reached a mid max room count s → Consumes mid new (text ++ 10 ∷ []) → IsLineText text → length text < room
     → ((ss : List StanzaParts) (mac signs : List ℕ) → ss ≢ [] → s ≡ between ss → length mac ≡ 32 → text ≡ codes "--- " ++ signs → B64 mac signs → ⊥)
     → ((t : State) → Step s text t → ⊥)
-    → IfSome a (λ b. Refuses b max (BadLine (count + 1)))
-path_bad None mid new max room count s text p took is low end none = tt
-path_bad (Some b) None new max room count s text p took is low end none = absurd p.taken
-path_bad (Some b) (Some m) None max room count s text p took is low end none = absurd took
-path_bad (Some b) (Some m) (Some n) max room count s text p took is low end none =
-    let f = further b m n max room count s text p took low in
-    let ls : List (List ℕ) = p.ls ++ text ∷ [] in
-    let whole : List (List ℕ) = version_text ∷ ls in
-    let each : AllByRecursion IsLineText ls = Lines-append p.ls (text ∷ []) p.each (is, tt) in
-    let no_header : IsHeader (version_line ++ lines_text ls) → ⊥ = λ g. not_header g in
-    let no_view : IsViable (version_line ++ lines_text ls) → ⊥ = λ g. not_viable g in
-    let size : length whole ≡ count + 1 = ap suc (length-append p.ls (text ∷ [])) ∙ omega (arith, p.lines) in (
-      age b n max p.ls text f,
-      (
-        whole,
-        size,
-        decides b n max p.ls s text f p.each p.leads is (inr no_view),
-        λ g. no_header (subst (λ (z : List ℕ). IsHeader z) f.same g),
-      ),
-    )
+    → Answers a new max (Err (BadLine (count + 1)))
+path_bad a mid new max room count s text p took is low end none =
+    answered a new (lines_text (version_text ∷ ls)) max (BadLine (count + 1)) (took_line a mid new max room count s text p took) told
   where
-    not_header : IsHeader (version_line ++ lines_text (p.ls ++ text ∷ [])) → ⊥
+    ls : List (List ℕ)
+    ls = p.ls ++ text ∷ []
+
+    each : AllByRecursion IsLineText ls
+    each = Lines-append p.ls (text ∷ []) p.each (is, tt)
+
+    not_header : IsHeader (version_line ++ lines_text ls) → ⊥
     not_header g =
         let q = head_path g.0 g.1 _ g.2 in
-        let e : lines_text (p.ls ++ text ∷ []) ≡ lines_text (q.lines ++ end_text q.signs ∷ []) = append_cancel_left version_line _ _ q.is in
-        let same = same_lines (p.ls ++ text ∷ []) (q.lines ++ end_text q.signs ∷ []) (Lines-append p.ls (text ∷ []) p.each (is, tt)) q.each e in
+        let e : lines_text ls ≡ lines_text (q.lines ++ end_text q.signs ∷ []) = append_cancel_left version_line _ _ q.is in
+        let same = same_lines ls (q.lines ++ end_text q.signs ∷ []) each q.each e in
         let cut = same_from_push p.ls q.lines text (end_text q.signs) same in
         let there : Leads (between []) p.ls (between g.0) = subst (λ (z : List (List ℕ)). Leads (between []) z (between g.0)) (sym cut.0) q.leads in
         end g.0 g.1 q.signs g.2.some (Leads-once (between []) s (between g.0) p.ls p.leads there) g.2.mac_len cut.1 q.mac_text
 
-    not_viable : IsViable (version_line ++ lines_text (p.ls ++ text ∷ [])) → ⊥
+    not_viable : IsViable (version_line ++ lines_text ls) → ⊥
     not_viable (inl e) = no_nil _ e
       where
         no_nil : (x : List ℕ) → version_line ++ x ≡ [] → ⊥
         no_nil x e = absurd (omega (arith, ap length e, length-append version_line x, version_size))
     not_viable (inr v) =
         let q = front_path _ v in
-        let e : lines_text (p.ls ++ text ∷ []) ≡ lines_text q.lines = append_cancel_left version_line _ _ q.is in
-        let same = same_lines (p.ls ++ text ∷ []) q.lines (Lines-append p.ls (text ∷ []) p.each (is, tt)) q.each e in
+        let e : lines_text ls ≡ lines_text q.lines = append_cancel_left version_line _ _ q.is in
+        let same = same_lines ls q.lines each q.each e in
         let cut = Leads-split (between []) q.state p.ls (text ∷ []) (subst (λ (z : List (List ℕ)). Leads (between []) z q.state) (sym same) q.leads) in
         let here : cut.0 ≡ s = Leads-once (between []) cut.0 s p.ls cut.1 p.leads in
         none cut.2.0 (subst (λ (z : State). Step z text cut.2.0) here cut.2.1)
+
+    told : (b n : List ℕ) → b ≡ lines_text (version_text ∷ ls) ++ n → IsFault b max (BadLine (count + 1))
+    told b n all =
+        let f = further b n max room p.ls text all p.size low in
+        let size : length (version_text ∷ ls) ≡ count + 1 = ap suc (length-append p.ls (text ∷ [])) ∙ omega (arith, p.lines) in (
+          age b n max p.ls text f,
+          (
+            version_text ∷ ls,
+            size,
+            decides b n max p.ls s text f p.each p.leads is (inr not_viable),
+            λ g. not_header (subst (λ (z : List ℕ). IsHeader z) f.same g),
+          ),
+        )
 
 -- a line that leads on
 pub path_more : (a mid new : Option (List ℕ)) (max room count : ℕ) (s t : State) (text : List ℕ)
     → Reached a mid max room count s → Consumes mid new (text ++ 10 ∷ []) → IsLineText text → length text < room → Step s text t
     → Reached a new max (room - (length text + 1)) (count + 1) t
 path_more a mid new max room count s t text p took is low step =
-    let pushed : (version_line ++ lines_text p.ls) ++ line text ≡ version_line ++ lines_text (p.ls ++ text ∷ []) =
+    let moved : (version_line ++ lines_text p.ls) ++ line text ≡ version_line ++ lines_text (p.ls ++ text ∷ []) =
     append_assoc version_line (lines_text p.ls) (line text) ∙ ap (λ (z : List ℕ). version_line ++ z) (sym (lines_push p.ls text)) in
     let size : length (lines_text (p.ls ++ text ∷ [])) ≡ length (lines_text p.ls) + (length text + 1) =
     ap length (lines_push p.ls text) ∙ length-append (lines_text p.ls) (line text) ∙ ap (λ (z : ℕ). length (lines_text p.ls) + z) (length-append text (10 ∷ [])) in
@@ -465,7 +517,7 @@ path_more a mid new max room count s t text p took is low step =
       ls = p.ls ++ text ∷ [];
       each = Lines-append p.ls (text ∷ []) p.each (is, tt);
       leads = Leads-append (between []) s t p.ls (text ∷ []) p.leads (t, step, refl);
-      taken = subst (λ (z : List ℕ). Consumes a new z) pushed (Consumes-trans a mid new _ (line text) p.taken took);
+      taken = subst (λ (z : List ℕ). Consumes a new z) moved (Consumes-trans a mid new _ (line text) p.taken took);
       size = omega (arith, p.size);
       lines = omega (arith, p.lines, length-append p.ls (text ∷ []));
     }
@@ -487,8 +539,3 @@ lines_le (l ∷ ls) = omega (arith, lines_le ls, length-append (line l) (lines_t
 
 pub path_lines : (a mid : Option (List ℕ)) (max room count : ℕ) (s : State) → Reached a mid max room count s → count < max
 path_lines a mid max room count s p = omega (arith, lines_le p.ls, p.size, p.lines)
-
--- a fault, as the verdict says it
-pub fault_answers : (a new : Option (List ℕ)) (max : ℕ) (e : HeaderFault) → IfSome a (λ b. Refuses b max e) → Answers a new max (Err e)
-fault_answers None new max e h = tt
-fault_answers (Some b) new max e h = h

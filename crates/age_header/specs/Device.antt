@@ -1,6 +1,7 @@
 -- What a read or a write does to the bytes that a device tells, and to its count of failures.
-use Rattle.std.specs.Prelude.{◌≡◌, ℕ, ◌+◌, ◌-◌, ◌^◌, ◌<◌, min, List, length, take, ⊤, MatchResult}
+use Rattle.std.specs.Prelude.{◌≡◌, ℕ, ◌+◌, ◌-◌, ◌^◌, ◌<◌, ◌≤◌, min, List, length, take, ⊤, MatchResult}
 use Rattle.std.specs.declared.option.Option.{Option}
+use Rattle.std.specs.declared.option.Option.TheVariants.{None, Some}
 use Rattle.std.specs.declared.result.Result.{Result}
 use Rattle.std.specs.Io.KnownBytes.{Consumes, Appends, Keeps, IsAtEnd}
 
@@ -25,3 +26,12 @@ WritesPart old new text = (n : ℕ) × Appends old new (take n text)
 -- on Ok the text was written, on an Err a beginning of it
 abbrev pub Writes : {A E : Type 0} → Option (List ℕ) → Option (List ℕ) → Result A E → List ℕ → Type 0
 Writes old new r text = MatchResult r (λ _. Appends old new text) (λ _. WritesPart old new text)
+
+-- A source may still give these bytes: just those that it tells, or any where it tells none.
+abbrev pub MayGive : Option (List ℕ) → List ℕ → Type 0
+MayGive None bytes = ⊤
+MayGive (Some told) bytes = told ≡ bytes
+
+-- the source gave at most n bytes
+abbrev pub GaveAtMost : ℕ → Option (List ℕ) → Option (List ℕ) → Type 0
+GaveAtMost n old new = (given : List ℕ) × Consumes old new given × (length given ≤ n)

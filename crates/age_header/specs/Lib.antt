@@ -1,9 +1,11 @@
 pub mod Arguments
 pub mod Base64
 pub mod Device
+pub mod Filling
 pub mod Header
 pub mod Lines
 pub mod Mac
+pub mod MemSink
 pub mod Progress
 pub mod Reader
 pub mod Stanza

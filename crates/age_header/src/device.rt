@@ -1,10 +1,11 @@
 //! Where bytes come from and where they go to. A device counts its failures, so that a caller can tell a fault of
 //! the outside from one of the bytes, and may tell its bytes to proofs.
 
-ghost use Rattle.std.specs.Prelude.{◌≡◌, ◌≤◌, ◌+◌, ◌-◌, ◌^◌, ℕ, List, Some, length, min, IfOk};
+ghost use Rattle.std.specs.Prelude.{◌≡◌, ◌<◌, ◌≤◌, ◌+◌, ◌-◌, ◌^◌, ℕ, List, Some, length, min, vec_capacity, vec_len, IfOk, OnErr};
 ghost use Rattle.std.specs.declared.option.Option.{Option};
 ghost use Rattle.std.specs.Io.{ReadsAtMost};
 ghost use Rattle.age_header.specs.Device.{Counts, Gives, Takes, Writes};
+ghost use Rattle.age_header.specs.MemSink.{spare_of};
 
 use std::io::{Read, Write};
 
@@ -113,7 +114,8 @@ impl<'a> Source for MemSource<'a> {
     }
 }
 
-/// A sink that appends to its vector. A refused growth is a failure.
+/// A sink that appends to its vector. It takes a piece whole, and fails only where its vector has no room for the piece and
+/// the allocation is refused.
 #[derive(Drop)]
 pub struct MemSink {
     out: Vec<u8>,
@@ -125,6 +127,7 @@ impl MemSink {
     pub fn new(out: Vec<u8>) -> MemSink
         ensures bytes { ⟦<MemSink as Sink>⟧.taken result ≡ Some out.items }
         ensures count { ⟦<MemSink as Sink>⟧.failed result ≡ 0 }
+        ensures spare { spare_of result ≡ vec_capacity out - vec_len out }
     {
         MemSink { out, failures: 0 }
     }
@@ -143,7 +146,14 @@ impl Sink for MemSink {
 
     ghost taken = { λ s. Some s.out.items };
 
-    fn write(&mut self, piece: &[u8]) -> Result<usize, DeviceFault> {
+    fn write(&mut self, piece: &[u8]) -> Result<usize, DeviceFault>
+        ensures bound { IfOk result (λ n. n ≤ length piece.now) }
+        ensures count { Counts self.old.failures self.new.failures result }
+        ensures bytes { Takes (Some self.old.out.items) (Some self.new.out.items) result piece.now }
+        ensures whole { IfOk result (λ n. n ≡ length piece.now) }
+        ensures full { OnErr result (spare_of self.old < length piece.now) }
+        ensures spare { IfOk result (λ n. spare_of self.old ≤ spare_of self.new + n) }
+    {
         match self.out.extend_from_slice(piece) {
             Ok(()) => Ok(piece.len()),
             Err(_) => Err(count_failure(&mut self.failures)),

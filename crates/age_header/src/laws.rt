@@ -22,9 +22,10 @@ pub fn one_reading()
     ensures front { (ss ts : List StanzaParts) (m n h x : List ℕ) → Head ss m h → Head ts n (h ++ x) → x ≡ [] }
 {}
 
-/// Bytes have at most one header verdict under a limit, and it is a header exactly where they begin with that header and the
-/// limit holds it.
+/// Bytes have one header verdict under a limit, and it is a header exactly where they begin with that header and the limit
+/// holds it.
 pub fn one_verdict()
+    ensures some { (b : List ℕ) (max : ℕ) → (r : Result Found HeaderFault) × HeaderVerdict b max r }
     ensures one { (b : List ℕ) (max : ℕ) (r q : Result Found HeaderFault) → HeaderVerdict b max r → HeaderVerdict b max q → r ≡ q }
     ensures header { (b : List ℕ) (max : ℕ) (found : Found) → HeaderVerdict b max (Ok found) ↔ BeginsWith b max found }
 {}

@@ -4,6 +4,7 @@
 mod arguments;
 mod device;
 mod fault;
+mod filling;
 mod header;
 pub mod laws;
 mod lines;
@@ -19,6 +20,7 @@ mod writer;
 
 pub use device::{DeviceFault, MemSink, MemSource, ReadSource, Sink, Source, WriteSink, write_all};
 pub use fault::HeaderFault;
+pub use filling::fill_from;
 pub use header::Header;
 pub use reader::HeaderReader;
 pub use signing::{mac_of, signed_text};

@@ -1,10 +1,10 @@
 //! Reading a header, line by line.
 
-ghost use Rattle.std.specs.Prelude.{◌≡◌, ◌≤◌, ◌++◌, ℕ, List, length, codes, None, IfOk, IfErr, OnOk, IfSome, IfNone};
+ghost use Rattle.std.specs.Prelude.{◌≡◌, ◌≤◌, ◌++◌, ℕ, List, length, codes, None, Err, IfOk, IfErr, OnOk, IfSome, IfNone};
 ghost use Rattle.std.specs.Io.KnownBytes.{Consumes};
 ghost use Rattle.age_header.specs.Base64.{B64};
 ghost use Rattle.age_header.specs.Header.{version_line};
-ghost use Rattle.age_header.specs.Reader.{Answers, CountsRead, Refuses};
+ghost use Rattle.age_header.specs.Reader.{Answers, CountsRead};
 ghost use Rattle.age_header.specs.Text.{IsPlain};
 
 use crate::arguments::behind;
@@ -38,7 +38,6 @@ impl Model for HeaderReader {
 
 impl HeaderReader {
     ghost use Rattle.age_header.specs.Reader.{fault_of};
-    ghost use Rattle.std.specs.Prelude.{Err};
 
     /// A reader of headers of at most so many bytes, which keeps no fault.
     pub fn new(max: usize) -> HeaderReader
@@ -115,7 +114,7 @@ fn read_header<S: Source>(alloc: Global, input: &mut S, max: usize) -> Result<He
 fn read_version<S: Source>(alloc: Global, input: &mut S, max: usize) -> Result<(), HeaderFault>
     ensures count { CountsRead (S.failed input.old) (S.failed input.new) result }
     ensures ok { OnOk result ((22 ≤ max) × Consumes (S.to_come input.old) (S.to_come input.new) version_line) }
-    ensures err { IfErr result (λ e. IfSome (S.to_come input.old) (λ b. Refuses b max e)) }
+    ensures err { IfErr result (λ e. Answers (S.to_come input.old) (S.to_come input.new) max (Err e)) }
 {
     let (first, end) = read_line(alloc, input, max.min(22))?;
     let Some(rest) = behind(VERSION, first.as_slice()) else {

@@ -1,5 +1,9 @@
 use Rattle.age_header.proofs.OneVerdict.{one_verdict, begins_found, found_begins}
+use Rattle.age_header.proofs.SomeVerdict.{some_verdict}
 use Rattle.age_header.proofs.laws.one_verdict.Goals as goal
+
+pub returns-clause-some : goal.returns-clause-some
+returns-clause-some c = some_verdict
 
 pub returns-clause-one : goal.returns-clause-one
 returns-clause-one c = one_verdict

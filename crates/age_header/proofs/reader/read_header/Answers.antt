@@ -3,7 +3,7 @@ use Rattle.std.proofs.lemmas.Bool.{iff_false}
 use Rattle.std.proofs.lemmas.Grind.{common_steps}
 use Rattle.age_header.specs.Base64.{B64}
 use Rattle.age_header.specs.Steps.{Step}
-use Rattle.age_header.proofs.VerdictLemmas.{path_truncated, path_too_large, path_header, path_bad, path_more, path_lines, fault_answers}
+use Rattle.age_header.proofs.VerdictLemmas.{path_truncated, path_too_large, path_header, path_bad, path_more, path_lines}
 use Rattle.age_header.proofs.reader.read_header.Goals as goal
 use Rattle.age_header.proofs.reader.read_header.Goals.{then-is_whole+in-Ok-None, else-is_whole}
 
@@ -12,14 +12,14 @@ returns-in-Input-clause-verdict g c =
     let text : List ℕ = c.in_ok-text.text.items in
     let bytes = rw c.in-Input.is at c.in_ok-text.ensures.bytes in
     let end = rw c.in-Input.is at c.in_ok-text.ensures.end in
-    fault_answers _ _ c.args.max _ (path_truncated _ _ _ c.args.max c.lines.room c.lines.lines c.lines.progress text c.lines.invariant.path bytes c.in_ok-text.ensures.text end)
+    path_truncated _ _ _ c.args.max c.lines.room c.lines.lines c.lines.progress text c.lines.invariant.path bytes c.in_ok-text.ensures.text end
 
 pub returns-in-Room-clause-verdict : goal.returns-in-Room-clause-verdict
 returns-in-Room-clause-verdict g c =
     let text : List ℕ = c.in_ok-text.text.items in
     let bytes = rw c.in-Room.is at c.in_ok-text.ensures.bytes in
     let end = rw c.in-Room.is at c.in_ok-text.ensures.end in
-    fault_answers _ _ c.args.max _ (path_too_large _ _ _ c.args.max c.lines.room c.lines.lines c.lines.progress text c.lines.invariant.path bytes c.in_ok-text.ensures.text end)
+    path_too_large _ _ _ c.args.max c.lines.room c.lines.lines c.lines.progress text c.lines.invariant.path bytes c.in_ok-text.ensures.text end
 
 pub overflow_add-lines : goal.overflow_add-lines
 overflow_add-lines g c =
@@ -44,7 +44,7 @@ returns-in-Ok-None-step-clause-verdict g c =
     let bytes = rw c.in-Lf.is at c.in_ok-text.ensures.bytes in
     let low = rw c.in-Lf.is at c.in_ok-text.ensures.end in
     let none = rw c.in-Ok-None-step.field-0-is at c.in-Ok-None-step.ensures.none in
-    fault_answers _ _ c.args.max _ (path_bad _ _ _ c.args.max c.lines.room c.lines.lines c.lines.progress text
+    path_bad _ _ _ c.args.max c.lines.room c.lines.lines c.lines.progress text
     c.lines.invariant.path bytes c.in_ok-text.ensures.text low
     (λ ss mac signs some at n is h. elim c.if-is_whole.branch [
       | then-is_whole+in-Ok-None w ↦
@@ -52,7 +52,7 @@ returns-in-Ok-None-step-clause-verdict g c =
           end mac signs n (w.as_slice.ensures.value ∙ is) h
       | else-is_whole w ↦ iff_false c.is_whole.ensures w.if-is_whole.false (ss, some, at)
     ])
-    (λ t step. none t (subst (λ (x : List ℕ). Step c.lines.progress x t) (sym c.as_slice-in-lines.ensures.value) step)))
+    (λ t step. none t (subst (λ (x : List ℕ). Step c.lines.progress x t) (sym c.as_slice-in-lines.ensures.value) step))
 
 pub lines-preserved : goal.lines-preserved
 lines-preserved g c =

@@ -1,0 +1,46 @@
+//! Reading until a buffer is full.
+
+ghost use Rattle.std.specs.Prelude.{◌≡◌, ◌<◌, ◌≤◌, length, IfOk};
+ghost use Rattle.std.specs.Io.KnownBytes.{IsAtEnd};
+ghost use Rattle.age_header.specs.Device.{Counts};
+ghost use Rattle.age_header.specs.Filling.{Filled, Got};
+
+use crate::device::{DeviceFault, Source};
+
+/// Reads into `buf` after its first `start` bytes, in as many reads as it takes, until it is full or the source is at its end.
+/// Returns how many bytes of `buf` are filled then, the first `start` counted.
+///
+/// # Errors
+/// A read failed. It is not tried again, and the bytes that were read before it are lost.
+pub fn fill_from<S: Source>(
+    input: &mut S,
+    buf: &mut [u8],
+    start: usize,
+) -> Result<usize, DeviceFault>
+    requires { start ≤ length buf.old }
+    ensures len { length buf.new ≡ length buf.old }
+    ensures bytes { IfOk result (λ n. Filled start n buf.old buf.new (S.to_come input.old) (S.to_come input.new)) }
+    ensures end { IfOk result (λ n. n < length buf.old → IsAtEnd (S.to_come input.new)) }
+    ensures count { Counts (S.failed input.old) (S.failed input.new) result }
+{
+    let mut at = start;
+    while at < buf.len() {
+        match read_after(input, buf, at) {
+            Ok(0) => return Ok(at),
+            Ok(n) => at += n,
+            Err(fault) => return Err(fault),
+        }
+    }
+    Ok(at)
+}
+
+/// One read into `buf` after its first `at` bytes.
+fn read_after<S: Source>(input: &mut S, buf: &mut [u8], at: usize) -> Result<usize, DeviceFault>
+    requires { at ≤ length buf.old }
+    ensures len { length buf.new ≡ length buf.old }
+    ensures bytes { IfOk result (λ n. Got at n buf.old buf.new (S.to_come input.old) (S.to_come input.new)) }
+    ensures count { Counts (S.failed input.old) (S.failed input.new) result }
+{
+    let (_, rest) = buf.split_at_mut(at);
+    input.read(rest)
+}

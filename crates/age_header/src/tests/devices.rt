@@ -1,0 +1,76 @@
+//! A call that failed is counted once and not tried again, though it was interrupted.
+
+use crate::{ReadSource, Sink, Source, WriteSink, write_all};
+use std::io;
+use std::io::{ErrorKind, Read, Write};
+use std::test::Fail;
+
+/// Is interrupted at its first call, and then gives its bytes.
+#[derive(Drop)]
+struct LateReader<'a> {
+    rest: &'a [u8],
+    calls: u64,
+}
+
+impl Read for LateReader<'_> {
+    fn read(&mut self, buf: &mut [u8]) -> io::Result<usize> {
+        self.calls = self.calls.saturating_add(1);
+        if self.calls == 1 {
+            return Err(io::Error::from(ErrorKind::Interrupted));
+        }
+        self.rest.read(buf)
+    }
+}
+
+/// Is interrupted at its first call, and then takes what it is given.
+#[derive(Drop)]
+struct LateWriter {
+    taken: Vec<u8>,
+    calls: u64,
+}
+
+impl Write for LateWriter {
+    fn write(&mut self, piece: &[u8]) -> io::Result<usize> {
+        self.calls = self.calls.saturating_add(1);
+        if self.calls == 1 {
+            return Err(io::Error::from(ErrorKind::Interrupted));
+        }
+        self.taken.write(piece)
+    }
+
+    fn flush(&mut self) -> io::Result<()> {
+        Ok(())
+    }
+}
+
+#[test]
+fn a_read_is_not_tried_again(rt: HostRuntime) -> Result<(), Fail> {
+    let mut source = ReadSource::new(LateReader {
+        rest: b"abc",
+        calls: 0,
+    });
+    let mut buf = [0; 4];
+    assert!(rt; source.read(&mut buf).is_err());
+    assert_eq!(rt; source.failures(), 1);
+    assert_eq!(rt; source.read(&mut buf), Ok(3));
+    assert_eq!(rt; buf, *b"abc\0");
+    assert_eq!(rt; source.failures(), 1);
+    assert_eq!(rt; source.into_inner().calls, 2);
+    Ok(())
+}
+
+#[test]
+fn a_write_is_not_tried_again(rt: HostRuntime) -> Result<(), Fail> {
+    let mut sink = WriteSink::new(LateWriter {
+        taken: Vec::new(rt.alloc()),
+        calls: 0,
+    });
+    assert!(rt; write_all(&mut sink, b"abc").is_err());
+    assert_eq!(rt; sink.failures(), 1);
+    assert!(rt; write_all(&mut sink, b"abc").is_ok());
+    assert_eq!(rt; sink.failures(), 1);
+    let writer = sink.into_inner();
+    assert_eq!(rt; writer.calls, 2);
+    assert_eq!(rt; writer.taken.as_slice(), b"abc".as_slice());
+    Ok(())
+}
