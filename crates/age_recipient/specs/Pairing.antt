@@ -1,6 +1,8 @@
 -- The laws of the pairs: what the recipient wraps the identity unwraps. They stand here since an impl names the proof of its law.
-use Rattle.std.proofs.Common.{inl, inr, ◌≡◌, ◌∙◌, ℕ, zero, suc, ◌+◌, ◌-◌, ◌<◌, ◌≤◌, ◌&&◌, Bool, true, List, [], ◌∷◌, length, map, nat_eq, nat_le, refl, sym, ap, arith, subst, Ok, Err, Some}
+use Rattle.std.proofs.Common.{inl, inr, ◌≡◌, ◌∙◌, ℕ, zero, suc, ◌+◌, ◌<◌, ◌≤◌, ◌&&◌, Bool, true, List, [], ◌∷◌, length, map, nat_eq, nat_le, refl, sym, ap, subst, Ok, Err, Some}
 use Rattle.std.proofs.lemmas.Bool.{and_parts, eqb-true, eq-eqb, le-leb, cases_lt}
+use Rattle.std.proofs.Math.Dec.{lit≤}
+use Rattle.std.proofs.Math.Nat.{le_antisymm, le_trans, lt_of_le_of_lt, not-le_of_lt, not-suc-le-zero}
 use Rattle.std.proofs.lemmas.Fmt.{decimal-digits_of}
 use Rattle.std.specs.Fmt.{decimal}
 use Rattle.std.specs.Int.Digits.{digits_of}
@@ -24,13 +26,19 @@ abbrev all_below : (ℕ → Bool) → ℕ → Bool
 all_below f zero = true
 all_below f (suc n) = f n && all_below f n
 
+below_suc : (n k : ℕ) → k < suc n → k ≤ n
+below_suc n k low = elim (cases_lt n k) [
+  | inl above ↦ absurd (not-le_of_lt low above)
+  | inr le ↦ le
+]
+
 all_below_at : (f : ℕ → Bool) (n k : ℕ) → all_below f n ≡ true → k < n → f k ≡ true
-all_below_at f zero k e low = absurd (omega arith)
+all_below_at f zero k e low = absurd (not-suc-le-zero low)
 all_below_at f (suc n) k e low =
     let p = and_parts (f n) (all_below f n) e in
     elim (cases_lt k n) [
       | inl less ↦ all_below_at f n k p.1 less
-      | inr more ↦ let same : k ≡ n = omega arith in subst (λ (z : ℕ). f z ≡ true) (sym same) p.0
+      | inr more ↦ subst (λ (z : ℕ). f z ≡ true) (le_antisymm more (below_suc n k low)) p.0
     ]
 
 -- a text is a work factor, and spells this number
@@ -43,12 +51,12 @@ digits_text n = map (λ d. 48 + d) (digits_of 10 n)
 
 -- the decimal text of a work factor spells it
 spelled : (work : ℕ) → 1 ≤ work → work ≤ 30 → is_spelled (decimal work) work ≡ true
-spelled work low high =
-    let table : all_below (λ k. is_spelled (digits_text (k + 1)) (k + 1)) 30 ≡ true = refl in
-    let at = all_below_at (λ k. is_spelled (digits_text (k + 1)) (k + 1)) 30 (work - 1) table (omega arith) in
-    let same : work - 1 + 1 ≡ work = omega arith in
-    let text : decimal work ≡ digits_text work = decimal-digits_of work (omega arith) (omega arith) in
-    rw text (subst (λ (z : ℕ). is_spelled (digits_text z) z ≡ true) same at)
+spelled zero low high = absurd (not-suc-le-zero low)
+spelled (suc n) low high =
+    let table : all_below (λ k. is_spelled (digits_text (suc k)) (suc k)) 30 ≡ true = refl in
+    let at = all_below_at (λ k. is_spelled (digits_text (suc k)) (suc k)) 30 n table high in
+    let text : decimal (suc n) ≡ digits_text (suc n) = decimal-digits_of (suc n) low (lt_of_le_of_lt high (lit≤ tt)) in
+    rw text at
 
 -- a sealed key is unsealed
 pub unsealed-sealed : (wrap_key : List ℕ) (key : FileKey) → unsealed wrap_key (sealed_key wrap_key key) ≡ Key key
@@ -58,7 +66,7 @@ unsealed-sealed wrap_key key = rw (opened-sealed wrap_key zero_nonce [] key.0) r
 -- a sealed key has 32 bytes
 sealed_whole : (wrap_key : List ℕ) (key : FileKey) → IsFileKey key → nat_eq (length (sealed_key wrap_key key)) 32 ≡ true
 sealed_whole wrap_key key is =
-    eq-eqb (length (sealed_key wrap_key key)) 32 (length-sealed wrap_key zero_nonce [] key.0 ∙ omega (arith, is.len))
+    eq-eqb (length (sealed_key wrap_key key)) 32 (length-sealed wrap_key zero_nonce [] key.0 ∙ ap (λ n. n + 16) is.len)
 
 -- a salt's signs spell it
 salt_spelled : (salt : List ℕ) → IsSalt salt → salt_of (decoded (signs_of salt)) ≡ Some salt
@@ -72,7 +80,7 @@ pass_opens pass salt work max key is_salt fits is_key =
     let low : 1 ≤ work = fits.low in
     let within : work ≤ max = fits.within in
     let high : max ≤ 30 = fits.top in
-    let text = and_parts (is_work_factor (decimal work)) (nat_eq (number_from 0 (decimal work)) work) (spelled work low (omega arith)) in
+    let text = and_parts (is_work_factor (decimal work)) (nat_eq (number_from 0 (decimal work)) work) (spelled work low (le_trans within high)) in
     let number : number_from 0 (decimal work) ≡ work = eqb-true (number_from 0 (decimal work)) work text.1 in
     let top : nat_le work max ≡ true = le-leb work max within in
     rw (salt_spelled salt is_salt, text.0, number, top, sealed_whole (pass_key pass salt work) key is_key)

@@ -1,8 +1,8 @@
 //! Passphrases (C2SP `age.md`, "The scrypt recipient type").
 
-ghost use Rattle.std.specs.Prelude.{◌≡◌, ◌≤◌, ◌++◌, Some, map, IfOk};
+ghost use Rattle.std.specs.Prelude.{◌≡◌, ◌≤◌, ◌++◌, Some, map, length, true, IfOk, IfErr};
 ghost use Rattle.std.specs.String.{string_bytes};
-ghost use Rattle.age_recipient.specs.Passphrase.{arguments_answer, pass_answer, pass_key, pass_stanza, salted_answer};
+ghost use Rattle.age_recipient.specs.Passphrase.{arguments_answer, is_work_factor, number_from, pass_answer, pass_key, pass_stanza, salted_answer};
 
 use crate::key::FileKey;
 use crate::sealing::{seal_key, unseal_key};
@@ -103,7 +103,7 @@ fn arguments_answer(
     }
 }
 
-/// What a stanza with this salt gives.
+/// What a stanza with this salt gives. Memory is taken, and scrypt run, only for a work factor and a body that are well formed.
 fn salted_answer(
     alloc: Global,
     pass: &[u8],
@@ -113,7 +113,8 @@ fn salted_answer(
     salt: &[u8; 16],
 ) -> Result<Unwrapped, AllocError>
     requires { max ≤ 30 }
-    ensures { IfOk result (λ answer. answer ≡ salted_answer pass.now max work.now body.now (Some salt.now)) }
+    ensures answer { IfOk result (λ answer. answer ≡ salted_answer pass.now max work.now body.now (Some salt.now)) }
+    ensures memory { IfErr result (λ _. (is_work_factor work.now ≡ true) × (number_from 0 work.now ≤ max) × (length body.now ≡ 32)) }
 {
     if !is_work_factor(work) {
         return Ok(Unwrapped::Malformed(StanzaFault::WorkFactorText));
