@@ -100,3 +100,7 @@ cut-at_most size p pos = elim (is_cut size p pos).sizes [
   | inl e ↦ subst (AtMost size) (sym e) (omega arith)
   | inr filled ↦ filled-at_most size (cut size p) filled
 ]
+
+pub concat-append : (xs ys : List (List ℕ)) → concat (xs ++ ys) ≡ concat xs ++ concat ys
+concat-append [] ys = refl
+concat-append (x ∷ xs) ys = ap (λ t. x ++ t) (concat-append xs ys) ∙ sym (append_assoc x (concat xs) (concat ys))

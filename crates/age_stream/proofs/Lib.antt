@@ -1,7 +1,10 @@
 pub mod CutLemmas
+pub mod OpeningLemmas
 pub mod OutcomeLemmas
 pub mod PayloadLemmas
 pub mod PlaceLemmas
+pub mod ReaderLemmas
 pub mod ReadingLemmas
-pub mod StepLemmas
+pub mod SealingLemmas
 pub mod TailLemmas
+pub mod WritingLemmas

@@ -73,3 +73,13 @@ cut-count size (suc n) p pos (inr lt) le =
     let rest : length (cut size (drop size p)) ≡ n + 1 = cut-count size n (drop size p) pos (inr (omega arith)) (omega arith) in
     let all : length (cut size p) ≡ suc (length (cut size (drop size p))) = ap length (cut-step size p pos more) in
     omega arith
+
+-- a piece more, and the last
+pub count-more : (c : List ℕ) → 65552 < length c → length (pieces c) ≡ length (pieces (drop 65552 c)) + 1
+count-more c lt = ap length (cut-step 65552 c (omega arith) lt) ∙ one
+  where
+    one : suc (length (pieces (drop 65552 c))) ≡ length (pieces (drop 65552 c)) + 1
+    one = omega arith
+
+pub count-last : (c : List ℕ) → length c ≤ 65552 → length (pieces c) ≡ 1
+count-last c le = ap length (cut-last 65552 c le)

@@ -60,3 +60,11 @@ abbrev pub payload_reading : FileKey → ℕ → List ℕ → Reading StreamFaul
 payload_reading k max text =
     if nat_lt (length text) 16 then stops NonceTruncated
     else reading_from (payload_key k (take 16 text)) max 0 (drop 16 text)
+
+-- what the first piece of c gives as piece i; it is the last where no byte follows it
+abbrev pub first_outcome : List ℕ → ℕ → ℕ → List ℕ → Result (List ℕ) StreamFault
+first_outcome key max i c = outcome key max i (nat_le (length c) 65552) (take 65552 c)
+
+-- what follows the first piece of c, where anything does
+abbrev pub after_first : List ℕ → Option (List ℕ)
+after_first c = if nat_le (length c) 65552 then None else Some (drop 65552 c)

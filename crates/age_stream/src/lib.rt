@@ -1,16 +1,25 @@
-//! The payload of age v1 files: a nonce, then a plaintext's chunks, each sealed at its place.
+//! The payload of age v1 files: a nonce, then a plaintext's chunks, each sealed at its place. It is written and read one chunk at a
+//! time, in the memory of one `ChunkBuf`.
 #![tactic(auto)]
 
+mod buffer;
 mod done;
 mod fault;
 pub mod laws;
+mod opening;
 mod place;
-mod reading;
+mod reader;
+mod refused;
 mod sealing;
 #[cfg(test)]
 mod tests;
+mod writer;
 
+pub use buffer::ChunkBuf;
 pub use done::Done;
 pub use fault::StreamFault;
-pub use reading::open_payload;
-pub use sealing::seal_payload;
+pub use opening::ChunkOpener;
+pub use reader::StreamReader;
+pub use refused::Refused;
+pub use sealing::ChunkSealer;
+pub use writer::StreamWriter;

@@ -1,97 +1,255 @@
-//! Writing a payload: each chunk sealed at its place.
-ghost use Rattle.std.specs.Prelude.{◌≡◌, ◌≤◌, ◌+◌, ◌*◌, ◌^◌, ◌<◌, ◌⊎◌, ◌++◌, [], length, take, drop, vec_len, vec_capacity, IsErrOf};
+//! Sealing a payload's chunks, one after another.
+ghost use Rattle.std.specs.Prelude.{◌≡◌, ◌⊎◌, ◌<◌, ◌≤◌, ◌+◌, ◌-◌, ◌++◌, ℕ, List, [], length, take, Some, None, Ok, Err, IfOk, OnOk, OnErr, IfErr, IfSome, IfNone, MatchResult};
+ghost use Rattle.std.specs.Io.KnownBytes.{Appends, IsAtEnd};
 ghost use Rattle.age_cipher.specs.Sealing.{sealed};
-ghost use Rattle.age_stream.specs.Calls.{GivesPayload, GivesSealed};
-ghost use Rattle.age_stream.specs.Payload.{chunks};
+ghost use Rattle.age_header.specs.Device.{Counts, Writes};
+ghost use Rattle.age_header.specs.Filling.{Filled};
+ghost use Rattle.age_stream.specs.Counts.{CountsRead, CountsWrite};
+ghost use Rattle.age_stream.specs.Sealing.{IsFed, PutsFull, SealsAll, Stopped, TakesAll, FinishesBy};
+ghost use Rattle.age_stream.specs.Payload.{payload_key, place};
 
+use crate::buffer::ChunkBuf;
 use crate::done::Done;
 use crate::fault::StreamFault;
 use crate::place::{chunk_nonce, payload_key};
 use age_cipher::seal_in_place;
+use age_header::{DeviceFault, Sink, Source, fill_from, write_all};
 use age_recipient::FileKey;
+use std::marker::Model;
 
-/// Seals a plaintext into its payload (C2SP `age.md`, "Payload"), which `out` gains. Every growth is made first. The file key and
-/// the nonce must serve one plaintext only.
-///
-/// The caller allows at least one chunk.
-///
-/// # Errors
-/// `TooManyChunks` where the plaintext has more than `max_chunks` chunks: `out` gains the nonce and the sealed chunks with
-/// an index below `max_chunks - 1`. `Memory` where a growth was refused: `out` stays as it was.
-pub fn seal_payload(
-    key: &FileKey,
-    nonce: &[u8; 16],
-    plain: &[u8],
+/// Seals the chunks of a plaintext in order, each in the same memory. A full chunk is held until more text comes, since the last
+/// one is sealed in another way. It keeps a fault, and returns it from then on without asking its devices.
+#[derive(Drop)]
+pub struct ChunkSealer {
+    key: [u8; 32],
     max_chunks: u64,
-    out: &mut Vec<u8>,
-) -> Result<Done, StreamFault>
-    requires { 1 ≤ max_chunks }
-    ensures { (IsErrOf result StreamFault.Memory × (out.new.items ≡ out.old.items))
-        ⊎ GivesPayload max_chunks key.now nonce.now plain.now out.old.items out.new.items result }
-{
-    if out.reserve(16 + sealed_len(plain)).is_err() || out.extend_from_slice(nonce).is_err() {
-        return Err(StreamFault::Memory);
-    }
-    match seal_chunks(&payload_key(key, nonce), max_chunks, plain, out) {
-        Some(chunks) => Ok(Done {
-            bytes: plain.len() as u64,
-            chunks,
-        }),
-        None => Err(StreamFault::TooManyChunks),
-    }
+    index: u64,
+    buf: Vec<u8>,
+    len: usize,
+    fault: Option<StreamFault>,
 }
 
-/// How many bytes the sealed chunks of a plaintext have.
-fn sealed_len(plain: &[u8]) -> usize
-    ensures len { result ≡ length plain.now + 16 * length (chunks plain.now) }
-    ensures fits { result < 2 ^ 63 + 2 ^ 52 }
-{
-    plain.len() + 16 * (1 + plain.len().saturating_sub(1) / 65_536)
+impl Model for ChunkSealer {
+    ghost use Rattle.std.specs.Prelude.{◌≡◌, ◌≤◌, ◌<◌, length, take};
+    ghost use Rattle.age_stream.specs.Sealing.{SealerState};
+
+    ghost Value = { SealerState };
+
+    ghost view = { λ s. record { key = s.key; max_chunks = s.max_chunks; index = s.index; held = take s.len s.buf.items; fault = s.fault } };
+
+    ghost invariant = { λ s. (length s.buf.items ≡ 65553) × (s.len ≤ 65536) × (s.index < s.max_chunks) × (s.max_chunks ≤ 4294967296) };
 }
 
-/// Seals all chunks, and answers their number, or none where there are too many.
-fn seal_chunks(key: &[u8; 32], max_chunks: u64, plain: &[u8], out: &mut Vec<u8>) -> Option<u64>
-    requires some { 1 ≤ max_chunks }
-    requires room { vec_len out.old + length plain.now + 16 * length (chunks plain.now) ≤ vec_capacity out.old }
-    ensures { GivesSealed max_chunks key.now plain.now out.old.items out.new.items result }
-{
-    let mut rest = plain;
-    let mut i: u64 = 0;
-    while rest.len() > 65_536 {
-        if i + 1 >= max_chunks {
-            return None;
+impl ChunkSealer {
+    ghost use Rattle.age_stream.specs.Sealing.{at_start};
+
+    /// A sealer of the payload with this nonce under this file key, before chunk 0.
+    pub fn new(key: &FileKey, nonce: &[u8; 16], max_chunks: u64, buf: ChunkBuf) -> ChunkSealer
+        requires low { 1 ≤ max_chunks }
+        requires high { max_chunks ≤ 4294967296 }
+        ensures { result ≡ at_start (payload_key key.now nonce.now) max_chunks }
+    {
+        ChunkSealer {
+            key: payload_key(key, nonce),
+            max_chunks,
+            index: 0,
+            buf: buf.into_bytes(),
+            len: 0,
+            fault: None,
         }
-        let (chunk, more) = rest.split_at(65_536);
-        put_sealed(key, &chunk_nonce(i, false), chunk, out);
-        rest = more;
-        i += 1;
     }
-    put_sealed(key, &chunk_nonce(i, true), rest, out);
-    Some(i + 1)
+
+    /// Takes all that the source still gives, and writes the chunks that are full and not the last.
+    pub fn write_from<S: Source, W: Sink>(
+        &mut self,
+        plain: &mut S,
+        out: &mut W,
+    ) -> Result<(), StreamFault>
+        ensures kept { IfSome self.old.fault (λ f. (result ≡ Err f) × (self.new ≡ self.old) × (plain.new ≡ plain.old) × (out.new ≡ out.old)) }
+        ensures takes { IfNone self.old.fault (TakesAll self.old self.new (S.to_come plain.old) (S.to_come plain.new)
+            (W.taken out.old) (W.taken out.new) result) }
+        ensures reads { IfNone self.old.fault (CountsRead (S.failed plain.old) (S.failed plain.new) result) }
+        ensures writes { IfNone self.old.fault (CountsWrite (W.failed out.old) (W.failed out.new) result) }
+    {
+        if let Some(fault) = self.fault {
+            return Err(fault);
+        }
+        match feed(
+            plain,
+            out,
+            &self.key,
+            self.max_chunks,
+            &mut self.index,
+            self.buf.as_mut_slice(),
+            self.len,
+        ) {
+            Ok(len) => {
+                self.len = len;
+                Ok(())
+            }
+            Err(fault) => {
+                self.fault = Some(fault);
+                Err(fault)
+            }
+        }
+    }
+
+    /// Takes all that the source still gives, and writes all its chunks. Returns how much was sealed.
+    pub fn seal_all<S: Source, W: Sink>(
+        self,
+        plain: &mut S,
+        out: &mut W,
+    ) -> Result<Done, StreamFault>
+        requires { self.fault ≡ None }
+        ensures seals { SealsAll self (S.to_come plain.old) (S.to_come plain.new) (W.taken out.old) (W.taken out.new) result }
+        ensures reads { CountsRead (S.failed plain.old) (S.failed plain.new) result }
+        ensures writes { CountsWrite (W.failed out.old) (W.failed out.new) result }
+    {
+        let mut sealer = self;
+        match sealer.write_from(plain, out) {
+            Ok(()) => sealer.finish(out),
+            Err(fault) => Err(fault),
+        }
+    }
+
+    /// Seals what is held as the last chunk, and writes it. Returns how much was sealed in all.
+    pub fn finish<W: Sink>(self, out: &mut W) -> Result<Done, StreamFault>
+        ensures kept { IfSome self.fault (λ f. (result ≡ Err f) × (out.new ≡ out.old)) }
+        ensures text { IfNone self.fault (FinishesBy self (W.taken out.old) (W.taken out.new) result) }
+        ensures writes { IfNone self.fault (CountsWrite (W.failed out.old) (W.failed out.new) result) }
+    {
+        let ChunkSealer {
+            key,
+            max_chunks: _,
+            index,
+            buf,
+            len,
+            fault,
+        } = self;
+        if let Some(fault) = fault {
+            return Err(fault);
+        }
+        let mut buf = buf;
+        match put_sealed(out, &key, index, true, buf.as_mut_slice(), len) {
+            Ok(()) => Ok(Done {
+                bytes: 65_536 * index + len as u64,
+                chunks: index + 1,
+            }),
+            Err(_) => Err(StreamFault::Write),
+        }
+    }
 }
 
-/// Puts a sealed chunk behind `out`, which has room for it.
-fn put_sealed(key: &[u8; 32], nonce: &[u8; 12], chunk: &[u8], out: &mut Vec<u8>)
-    requires size { length chunk.now ≤ 65536 }
-    requires room { vec_len out.old + length chunk.now + 16 ≤ vec_capacity out.old }
-    ensures sealed { out.new.items ≡ out.old.items ++ sealed key.now nonce.now [] chunk.now }
-    ensures grows { vec_len out.new ≡ vec_len out.old + length chunk.now + 16 }
-    ensures capacity { vec_capacity out.old ≤ vec_capacity out.new }
+/// Takes all that the source still gives, after the first `len` bytes, and writes the chunks that are full and not the last.
+/// Returns how many bytes are held then.
+fn feed<S: Source, W: Sink>(
+    plain: &mut S,
+    out: &mut W,
+    key: &[u8; 32],
+    max: u64,
+    index: &mut u64,
+    bytes: &mut [u8],
+    len: usize,
+) -> Result<usize, StreamFault>
+    requires size { length bytes.old ≡ 65553 }
+    requires held { len ≤ 65536 }
+    requires within { index.old < max }
+    ensures size { length bytes.new ≡ 65553 }
+    ensures within { index.new < max }
+    ensures len { IfOk result (λ n. n ≤ 65536) }
+    ensures fed { MatchResult result
+        (λ n. IsFed key.now index.old index.new (take len bytes.old) (take n bytes.new) (S.to_come plain.old) (S.to_come plain.new) (W.taken out.old) (W.taken out.new) × IsAtEnd (S.to_come plain.new))
+        (Stopped key.now max index.old index.new (take len bytes.old) (S.to_come plain.old) (S.to_come plain.new) (W.taken out.old) (W.taken out.new)) }
+    ensures reads { CountsRead (S.failed plain.old) (S.failed plain.new) result }
+    ensures writes { CountsWrite (W.failed out.old) (W.failed out.new) result }
 {
-    let start = out.len();
-    let _ = out.extend_from_slice(chunk);
-    let tag = seal_behind(key, nonce, out.as_mut_slice(), start);
-    let _ = out.extend_from_slice(&tag);
+    let mut held = len;
+    loop {
+        let n = match fill_chunk(plain, bytes, held) {
+            Ok(n) => n,
+            Err(_) => return Err(StreamFault::Read),
+        };
+        if n <= 65_536 {
+            return Ok(n);
+        }
+        if let Err(fault) = put_full(out, key, max, index, bytes) {
+            return Err(fault);
+        }
+        held = 1;
+    }
 }
 
-/// Seals what stands from `start` on, and answers the tag.
-fn seal_behind(key: &[u8; 32], nonce: &[u8; 12], bytes: &mut [u8], start: usize) -> [u8; 16]
-    requires within { start ≤ length bytes.old }
-    requires size { length bytes.old ≤ start + 65536 }
-    ensures sealed { bytes.new ++ result ≡ take start bytes.old ++ sealed key.now nonce.now [] (drop start bytes.old) }
-    ensures front { take start bytes.new ≡ take start bytes.old }
-    ensures len { length bytes.new ≡ length bytes.old }
+/// Reads after the first `held` bytes until there are a full chunk and one byte, or the source is at its end.
+fn fill_chunk<S: Source>(plain: &mut S, bytes: &mut [u8], held: usize) -> Result<usize, DeviceFault>
+    requires size { length bytes.old ≡ 65553 }
+    requires held { held ≤ 65536 }
+    ensures size { length bytes.new ≡ 65553 }
+    ensures bytes { IfOk result (λ n. (n ≤ 65537) × Filled held n bytes.old bytes.new (S.to_come plain.old) (S.to_come plain.new)) }
+    ensures end { IfOk result (λ n. n ≤ 65536 → IsAtEnd (S.to_come plain.new)) }
+    ensures count { Counts (S.failed plain.old) (S.failed plain.new) result }
 {
-    let (_, tail) = bytes.split_at_mut(start);
-    seal_in_place(key, nonce, b"", tail)
+    let (front, _) = bytes.split_at_mut(65_537);
+    fill_from(plain, front, held)
+}
+
+/// Writes the full chunk that stands in front, as one that is not the last, and moves the byte that follows it to the front.
+fn put_full<W: Sink>(
+    out: &mut W,
+    key: &[u8; 32],
+    max: u64,
+    index: &mut u64,
+    bytes: &mut [u8],
+) -> Result<(), StreamFault>
+    requires size { length bytes.old ≡ 65553 }
+    requires within { index.old < max }
+    ensures size { length bytes.new ≡ 65553 }
+    ensures within { index.new < max }
+    ensures puts { PutsFull key.now max index.old index.new bytes.old bytes.new (W.taken out.old) (W.taken out.new) result }
+    ensures writes { CountsWrite (W.failed out.old) (W.failed out.new) result }
+{
+    if *index + 1 >= max {
+        return Err(StreamFault::TooManyChunks);
+    }
+    let next = bytes[65_536];
+    match put_sealed(out, key, *index, false, bytes, 65_536) {
+        Ok(()) => {
+            bytes[0] = next;
+            *index += 1;
+            Ok(())
+        }
+        Err(_) => Err(StreamFault::Write),
+    }
+}
+
+/// Seals the first `len` bytes where they stand, and writes them with their tag.
+fn put_sealed<W: Sink>(
+    out: &mut W,
+    key: &[u8; 32],
+    i: u64,
+    last: bool,
+    bytes: &mut [u8],
+    len: usize,
+) -> Result<(), DeviceFault>
+    requires size { length bytes.old ≡ 65553 }
+    requires len { len ≤ 65536 }
+    ensures size { length bytes.new ≡ 65553 }
+    ensures text { Writes (W.taken out.old) (W.taken out.new) result (sealed key.now (place i last) [] (take len bytes.old)) }
+    ensures count { Counts (W.failed out.old) (W.failed out.new) result }
+{
+    let (piece, _) = bytes.split_at_mut(len + 16);
+    seal_front(key, &chunk_nonce(i, last), piece);
+    write_all(out, piece)
+}
+
+/// Seals all but the last 16 bytes where they stand; the last 16 become the tag.
+fn seal_front(key: &[u8; 32], nonce: &[u8; 12], piece: &mut [u8])
+    requires low { 16 ≤ length piece.old }
+    requires high { length piece.old ≤ 65552 }
+    ensures len { length piece.new ≡ length piece.old }
+    ensures sealed { piece.new ≡ sealed key.now nonce.now [] (take (length piece.old - 16) piece.old) }
+{
+    let len = piece.len() - 16;
+    let (text, end) = piece.split_at_mut(len);
+    let tag = seal_in_place(key, nonce, b"", text);
+    end.copy_from_slice(&tag);
 }

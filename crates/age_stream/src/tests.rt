@@ -1,9 +1,11 @@
-//! Payloads with known bytes, and each fault of a payload.
+//! Payloads that are written piece by piece, and read chunk by chunk.
 
-use crate::{Done, StreamFault, open_payload, seal_payload};
-use age_cipher::seal_in_place;
-use age_kdf::hkdf;
+mod devices;
+
+use crate::{ChunkBuf, Done, StreamFault, StreamReader, StreamWriter};
+use age_header::{MemSink, MemSource, Sink};
 use age_recipient::FileKey;
+use devices::{Full, Short};
 use std::alloc::{AllocError, Global};
 use std::test::Fail;
 
@@ -15,20 +17,26 @@ const NONCE: [u8; 16] = [
 
 const MOST: u64 = 4_294_967_296;
 
-/// The last bytes of payloads under that key and nonce, made with Python's cryptography: the tag of an empty plaintext, of
-/// 65,536 bytes 7 as the last chunk, and the last chunk of 65,537 bytes 7.
-const EMPTY_TAG: [u8; 16] = [
+/// The payload of the empty plaintext under that key and nonce, and the last chunk of 131,073 bytes 7, both by
+/// tests/reference.py.
+const EMPTY: [u8; 32] = [
+    0x10, 0x11, 0x12, 0x13, 0x14, 0x15, 0x16, 0x17, 0x18, 0x19, 0x1a, 0x1b, 0x1c, 0x1d, 0x1e, 0x1f,
     0x50, 0x15, 0x09, 0x65, 0x52, 0xfe, 0x30, 0x35, 0x66, 0x48, 0x70, 0x85, 0x54, 0xcb, 0x9c, 0x28,
 ];
 
-const FULL_TAG: [u8; 16] = [
-    0x4b, 0xf0, 0x3f, 0x7a, 0x87, 0x14, 0x84, 0x35, 0xc5, 0xe9, 0x48, 0x95, 0xe7, 0x25, 0xf9, 0x97,
+const THIRD_CHUNK: [u8; 17] = [
+    0xb4, 0xb9, 0x41, 0x07, 0xe3, 0x03, 0x3b, 0x13, 0xda, 0x9e, 0x23, 0x21, 0x65, 0x91, 0x26, 0x19,
+    0x1b,
 ];
 
-const SECOND_CHUNK: [u8; 17] = [
-    0x5c, 0x49, 0xcf, 0x59, 0xd0, 0x13, 0xbe, 0xff, 0x8a, 0x95, 0xfa, 0x85, 0x12, 0x41, 0x53, 0x3f,
-    0xcb,
-];
+/// So many bytes, each its place modulo 251.
+fn plain_of(alloc: Global, len: usize) -> Result<Vec<u8>, AllocError> {
+    let mut bytes = Vec::new(alloc);
+    for at in 0..len {
+        bytes.push((at % 251) as u8)?;
+    }
+    Ok(bytes)
+}
 
 /// So many bytes 7.
 fn sevens(alloc: Global, len: usize) -> Result<Vec<u8>, AllocError> {
@@ -37,106 +45,136 @@ fn sevens(alloc: Global, len: usize) -> Result<Vec<u8>, AllocError> {
     Ok(bytes)
 }
 
-/// The payload of so many bytes 7.
-fn payload_of(alloc: Global, len: usize) -> Result<Vec<u8>, Fail> {
-    let plain = sevens(alloc, len)?;
-    let mut payload = Vec::new(alloc);
-    let _ = seal_payload(&KEY, &NONCE, plain.as_slice(), MOST, &mut payload);
-    Ok(payload)
-}
-
-/// What opening gives behind two bytes that are there already, and how much it gains.
-fn opened(
+/// The payload of this plaintext, which is written in pieces of so many bytes.
+fn written(
     alloc: Global,
-    payload: &[u8],
-    max_chunks: u64,
-) -> Result<(Result<Done, StreamFault>, usize), Fail> {
-    let mut out = Vec::from_slice(alloc, b"ab")?;
-    let answer = open_payload(&KEY, payload, max_chunks, &mut out);
-    Ok((answer, out.len() - 2))
+    plain: &[u8],
+    size: usize,
+) -> Result<(Result<Done, StreamFault>, Vec<u8>), Fail> {
+    let mut sink = MemSink::new(Vec::new(alloc));
+    let mut writer = StreamWriter::new(alloc, &KEY, &NONCE, &mut sink, MOST)?;
+    let mut rest = plain;
+    for _ in 0..plain.len() {
+        if rest.is_empty() {
+            break;
+        }
+        let (piece, more) = rest.split_at(size.min(rest.len()));
+        let _ = writer.write_piece(piece);
+        rest = more;
+    }
+    let done = writer.finish();
+    Ok((done, sink.into_vec()))
 }
 
-/// Payloads as another tool makes them, and what is read of them.
+/// The plaintext of a payload, read from a source that gives so many bytes at a time, and the number of its chunks.
+fn read(alloc: Global, payload: &[u8], most: usize) -> Result<(Vec<u8>, u64), Fail> {
+    let mut source = Short::new(payload, most);
+    let mut reader = StreamReader::new(alloc, &KEY, &mut source, MOST)?;
+    let mut text = Vec::new(alloc);
+    for chunks in 0..u64::MAX {
+        match reader.next_chunk()? {
+            Some(chunk) => text.extend_from_slice(chunk)?,
+            None => return Ok((text, chunks)),
+        }
+    }
+    Err(Fail::from(StreamFault::TooManyChunks))
+}
+
+/// The empty payload, by both constructors; an empty piece writes nothing.
 #[test]
-fn known_payloads(rt: HostRuntime) -> Result<(), Fail> {
+fn empty_payloads(rt: HostRuntime) -> Result<(), Fail> {
     let alloc = rt.alloc();
-    let known: [(usize, usize, u64, &[u8]); 3] = [
-        (0, 32, 1, &EMPTY_TAG),
-        (65_536, 65_568, 1, &FULL_TAG),
-        (65_537, 65_585, 2, &SECOND_CHUNK),
-    ];
-    for (len, payload_len, chunks, end) in known {
-        let plain = sevens(alloc, len)?;
-        let done = Ok(Done {
-            bytes: len as u64,
-            chunks,
-        });
-        let mut payload = Vec::new(alloc);
-        let sealed = seal_payload(&KEY, &NONCE, plain.as_slice(), MOST, &mut payload);
-        assert!(rt; sealed == done);
-        assert_eq!(rt; payload.len(), payload_len);
-        assert!(rt; payload.as_slice().starts_with(&NONCE));
-        assert!(rt; payload.as_slice().ends_with(end));
-        let mut text = Vec::new(alloc);
-        assert!(rt; open_payload(&KEY, payload.as_slice(), MOST, &mut text) == done);
+    let done = Ok(Done {
+        bytes: 0,
+        chunks: 1,
+    });
+    let (answer, payload) = written(alloc, b"", 1)?;
+    assert!(rt; answer == done);
+    assert_eq!(rt; payload.as_slice(), EMPTY.as_slice());
+    let buf = ChunkBuf::new(alloc)?;
+    let mut sink = MemSink::new(Vec::new(alloc));
+    let mut writer = StreamWriter::with_buf(&KEY, &NONCE, &mut sink, 1, buf)?;
+    let piece = writer.write_piece(b"");
+    let answer = writer.finish();
+    assert!(rt; piece == Ok(()));
+    assert!(rt; answer == done);
+    assert_eq!(rt; sink.into_vec().as_slice(), EMPTY.as_slice());
+    Ok(())
+}
+
+/// A writer that is abandoned after an empty piece has written the nonce alone.
+#[test]
+fn abandoned_writer(rt: HostRuntime) -> Result<(), Fail> {
+    let alloc = rt.alloc();
+    let mut sink = MemSink::new(Vec::new(alloc));
+    let mut writer = StreamWriter::new(alloc, &KEY, &NONCE, &mut sink, MOST)?;
+    let piece = writer.write_piece(b"");
+    writer.abandon();
+    assert!(rt; piece == Ok(()));
+    assert_eq!(rt; sink.into_vec().as_slice(), NONCE.as_slice());
+    Ok(())
+}
+
+/// Of the empty payload one empty chunk is lent, and then none.
+#[test]
+fn empty_chunk(rt: HostRuntime) -> Result<(), Fail> {
+    let mut source = MemSource::new(&EMPTY);
+    let mut reader = StreamReader::new(rt.alloc(), &KEY, &mut source, 1)?;
+    assert!(rt; reader.next_chunk()?.is_some_and(|chunk| chunk.is_empty()));
+    assert!(rt; reader.next_chunk()?.is_none());
+    assert!(rt; reader.next_chunk()?.is_none());
+    Ok(())
+}
+
+/// A plaintext of three chunks, written in pieces of other sizes, and read back from short reads.
+#[test]
+fn pieces_of_other_sizes(rt: HostRuntime) -> Result<(), Fail> {
+    let alloc = rt.alloc();
+    let plain = plain_of(alloc, 131_073)?;
+    for size in [1_000, 65_537] {
+        let (_, payload) = written(alloc, plain.as_slice(), size)?;
+        let (text, chunks) = read(alloc, payload.as_slice(), 65_551)?;
         assert!(rt; text == plain);
+        assert_eq!(rt; chunks, 3);
     }
     Ok(())
 }
 
-/// Payloads that are lengthened and cut: what is answered, and how much is gained before it.
+/// How many chunks a plaintext has about a chunk's end, and how long its payload is.
 #[test]
-fn damaged_payloads(rt: HostRuntime) -> Result<(), Fail> {
+fn chunk_counts(rt: HostRuntime) -> Result<(), Fail> {
     let alloc = rt.alloc();
-    let mut payload = payload_of(alloc, 65_537)?;
-    payload.push(b'x')?;
-    let cuts = [
-        (65_586, StreamFault::BadChunk(1), 65_536),
-        (65_584, StreamFault::EmptyFinal(1), 65_536),
-        (65_583, StreamFault::ChunkShort(1), 65_536),
-        (65_569, StreamFault::ChunkShort(1), 65_536),
-        (65_568, StreamFault::BadChunk(0), 0),
-        (32, StreamFault::BadChunk(0), 0),
-        (31, StreamFault::ChunkShort(0), 0),
-        (16, StreamFault::ChunkShort(0), 0),
-        (15, StreamFault::NonceTruncated, 0),
-    ];
-    for (len, fault, gained) in cuts {
-        payload.truncate(len);
-        assert!(rt; opened(alloc, payload.as_slice(), MOST)? == (Err(fault), gained));
+    for (len, chunks) in [
+        (65_535, 1),
+        (65_536, 1),
+        (65_537, 2),
+        (131_072, 2),
+        (131_073, 3),
+    ] {
+        let plain = sevens(alloc, len)?;
+        let (done, payload) = written(alloc, plain.as_slice(), len)?;
+        let bytes = len as u64;
+        assert!(rt; done == Ok(Done { bytes, chunks }));
+        assert_eq!(rt; payload.len() as u64, 16 + bytes + 16 * chunks);
+        assert!(rt; len < 131_073 || payload.as_slice().ends_with(&THIRD_CHUNK));
     }
     Ok(())
 }
 
-/// An empty chunk sealed as the last one behind a full one: its tag is right, and yet it may not stand there.
+/// A failed write is returned again, and the sink isn't asked again.
 #[test]
-fn sealed_empty_last_chunk(rt: HostRuntime) -> Result<(), Fail> {
-    let alloc = rt.alloc();
-    let mut key = [0; 32];
-    hkdf(&KEY.0, &NONCE, b"payload", &mut key);
-    let mut chunk = [7; 65_536];
-    let tag = seal_in_place(&key, &[0; 12], b"", &mut chunk);
-    let mut payload = Vec::from_slice(alloc, &NONCE)?;
-    payload.extend_from_slice(&chunk)?;
-    payload.extend_from_slice(&tag)?;
-    let place = [0, 0, 0, 0, 0, 0, 0, 0, 0, 0, 1, 1];
-    payload.extend_from_slice(&seal_in_place(&key, &place, b"", &mut []))?;
-    assert!(rt;
-        opened(alloc, payload.as_slice(), MOST)? == (Err(StreamFault::EmptyFinal(1)), 65_536)
-    );
-    Ok(())
-}
-
-/// More chunks than are allowed, in both directions.
-#[test]
-fn too_many_chunks(rt: HostRuntime) -> Result<(), Fail> {
+fn kept_write_fault(rt: HostRuntime) -> Result<(), Fail> {
     let alloc = rt.alloc();
     let plain = sevens(alloc, 65_537)?;
-    let mut payload = Vec::new(alloc);
-    let sealed = seal_payload(&KEY, &NONCE, plain.as_slice(), 1, &mut payload);
-    assert!(rt; sealed == Err(StreamFault::TooManyChunks));
-    assert!(rt; payload.as_slice() == NONCE.as_slice());
-    let whole = payload_of(alloc, 65_537)?;
-    assert!(rt; opened(alloc, whole.as_slice(), 1)? == (Err(StreamFault::TooManyChunks), 65_536));
+    let mut sink = Full::new(16);
+    let mut writer = StreamWriter::new(alloc, &KEY, &NONCE, &mut sink, MOST)?;
+    let first = writer.write_piece(plain.as_slice());
+    let second = writer.write_piece(plain.as_slice());
+    let last = writer.finish();
+    assert!(rt; first == Err(StreamFault::Write));
+    assert!(rt; second == Err(StreamFault::Write));
+    assert!(rt; last == Err(StreamFault::Write));
+    assert_eq!(rt; sink.asked, 2);
+    assert_eq!(rt; sink.failures(), 1);
     Ok(())
 }

@@ -1,0 +1,34 @@
+-- A reader of a payload: what its constructors and its calls do.
+use Rattle.std.specs.Prelude.{ℕ, List, ◌≡◌, ◌⊎◌, IfErr, IsErrOf, Bool, true, false, Option, None, Some, Result, Ok, Err}
+use denote.Ref.{MutBor}
+use Rattle.age_header.specs.Device.{GaveAtMost}
+use Rattle.age_recipient.specs.declared.key.FileKey.{FileKey}
+use Rattle.age_stream.specs.declared.fault.StreamFault.{StreamFault}
+use Rattle.age_stream.specs.declared.fault.StreamFault.TheVariants.{Read}
+use Rattle.age_stream.specs.declared.reader.StreamReader.{StreamReader}
+use Rattle.age_stream.specs.Counts.{CountsRead, CountsReadFault}
+use Rattle.age_stream.specs.Opening.{Advances, OpenerState, Starts}
+
+-- the nonce was not read: the source gave fewer than 16 bytes, or failed, and then one failure more was counted
+abbrev pub MissesNonce : FileKey → ℕ → Option (List ℕ) → Option (List ℕ) → ℕ → ℕ → StreamFault → Type 0
+MissesNonce key max from to before after fault = Starts key max from to (Err fault) × CountsReadFault before after fault
+    × ((fault ≡ Read) ⊎ GaveAtMost 16 from to)
+
+-- whether a piece was lent, or the fault
+abbrev pub lent : {A : Type 0} → Result (Option A) StreamFault → Result Bool StreamFault
+lent (Ok None) = Ok false
+lent (Ok (Some piece)) = Ok true
+lent (Err fault) = Err fault
+
+-- One call of a reader that keeps no fault, which asks its source at most for the next piece: a failed read is counted, and a fault is
+-- kept. Else the call is one of its opener.
+abbrev pub Lends : OpenerState → OpenerState → Option (List ℕ) → Option (List ℕ) → ℕ → ℕ → Result Bool StreamFault → Type 0
+Lends old new from to before after r = IfErr r (λ fault. new.fault ≡ Some fault) × CountsRead before after r
+    × (IsErrOf r Read ⊎ Advances old new from to r)
+
+-- the source of a reader, and its opener
+abbrev pub source_of : {S B : Type 0} → StreamReader S B → MutBor S
+source_of reader = reader.input
+
+abbrev pub opener_of : {S B : Type 0} → StreamReader S B → B
+opener_of reader = reader.opener

@@ -1,0 +1,340 @@
+//! Opening a payload's pieces, one after another.
+ghost use Rattle.std.specs.Prelude.{◌≡◌, ◌≢◌, ◌⊎◌, ◌<◌, ◌≤◌, ◌+◌, ◌-◌, ◌++◌, ◌&&◌, ℕ, List, [], length, take, drop, Some, None, Ok, Err, IfOk, OnOk, IfErr, IfSome, IfNone, IsErrOf, nat_lt, nat_eq, true};
+ghost use Rattle.std.specs.Bool.{OnTrue, OnFalse};
+ghost use Rattle.std.specs.Io.KnownBytes.{Keeps};
+ghost use Rattle.age_cipher.specs.Sealing.{opened};
+ghost use Rattle.age_header.specs.Device.{GaveAtMost, MayGive};
+ghost use Rattle.age_stream.specs.Counts.{CountsRead, CountsWrite};
+ghost use Rattle.age_stream.specs.Opening.{Advances, EndsAt, GivesNonce, GivesText, IsAtPiece, Opens, Starts, WritesAll, WritesPayload};
+ghost use Rattle.age_stream.specs.Reading.{outcome};
+
+use crate::buffer::ChunkBuf;
+use crate::done::Done;
+use crate::fault::StreamFault;
+use crate::place::{chunk_nonce, payload_key};
+use age_cipher::open_in_place;
+use age_header::{Sink, Source, fill_from, write_all};
+use age_recipient::FileKey;
+use std::marker::Model;
+
+/// Opens the pieces of a payload in order, each in the same memory. It keeps a fault, and returns it from then on without asking
+/// its source.
+#[derive(Drop)]
+pub struct ChunkOpener {
+    key: [u8; 32],
+    max_chunks: u64,
+    index: u64,
+    buf: Vec<u8>,
+    len: usize,
+    ahead: usize,
+    more: bool,
+    fault: Option<StreamFault>,
+}
+
+impl Model for ChunkOpener {
+    ghost use Rattle.std.specs.Prelude.{◌≡◌, ◌≤◌, length, take, drop};
+    ghost use Rattle.age_stream.specs.Opening.{OpenerState, held_of};
+
+    ghost Value = { OpenerState };
+
+    ghost view = { λ o. record {
+      key = o.key;
+      max_chunks = o.max_chunks;
+      index = o.index;
+      held = held_of o.more (take o.ahead (drop 65552 o.buf.items));
+      text = take o.len o.buf.items;
+      fault = o.fault;
+    } };
+
+    ghost invariant = { λ o. (length o.buf.items ≡ 65553) × (o.ahead ≤ 1) × (o.len ≤ 65536)
+        × (o.index ≤ o.max_chunks) × (o.max_chunks ≤ 4294967296) };
+}
+
+impl ChunkOpener {
+    ghost use Rattle.age_stream.specs.Opening.{OpenerState};
+
+    /// Reads the nonce of a payload, and stands before piece 0 then.
+    ///
+    /// # Errors
+    /// `NonceTruncated` where the source gives fewer than 16 bytes, `Read` where it failed.
+    pub fn start<S: Source>(
+        key: &FileKey,
+        source: &mut S,
+        max_chunks: u64,
+        buf: ChunkBuf,
+    ) -> Result<ChunkOpener, StreamFault>
+        requires { max_chunks ≤ 4294967296 }
+        ensures starts { Starts key.now max_chunks (S.to_come source.old) (S.to_come source.new) result }
+        ensures gave { IsErrOf result StreamFault.Read ⊎ GaveAtMost 16 (S.to_come source.old) (S.to_come source.new) }
+        ensures count { CountsRead (S.failed source.old) (S.failed source.new) result }
+    {
+        let nonce = match read_nonce(source) {
+            Ok(nonce) => nonce,
+            Err(fault) => return Err(fault),
+        };
+        Ok(ChunkOpener {
+            key: payload_key(key, &nonce),
+            max_chunks,
+            index: 0,
+            buf: buf.into_bytes(),
+            len: 0,
+            ahead: 0,
+            more: true,
+            fault: None,
+        })
+    }
+
+    /// Opens a payload, all that the source still gives (C2SP `age.md`, "Payload"), and writes the text of each piece as soon as it
+    /// is verified.
+    ///
+    /// # Errors
+    /// `NonceTruncated` where there are fewer than 16 bytes. Then, piece by piece, the first that applies: `TooManyChunks` where its
+    /// number reaches `max_chunks`, `ChunkShort` where it is shorter than a tag, `EmptyFinal` where it is the last, not the first, and a
+    /// tag alone, `BadChunk` where nothing seals to it at its place: the text of the pieces before it was written. `Read` and `Write`
+    /// where a device failed: a beginning of the text was written.
+    pub fn open_all<S: Source, W: Sink>(
+        key: &FileKey,
+        source: &mut S,
+        max_chunks: u64,
+        buf: ChunkBuf,
+        out: &mut W,
+    ) -> Result<Done, StreamFault>
+        requires { max_chunks ≤ 4294967296 }
+        ensures payload { WritesPayload key.now max_chunks (S.to_come source.old) (W.taken out.old) (W.taken out.new) result }
+        ensures ends { IfErr result (λ f. (f ≡ StreamFault.Read) ⊎ ((f ≡ StreamFault.NonceTruncated)
+            ⊎ EndsAt max_chunks 16 (S.to_come source.old) (S.to_come source.new) (W.taken out.old) (W.taken out.new) f)) }
+        ensures quiet { IfErr result (λ f. f ≡ StreamFault.NonceTruncated → Keeps (W.taken out.old) (W.taken out.new)) }
+        ensures reads { CountsRead (S.failed source.old) (S.failed source.new) result }
+        ensures writes { CountsWrite (W.failed out.old) (W.failed out.new) result }
+    {
+        match ChunkOpener::start(key, source, max_chunks, buf) {
+            Ok(opener) => {
+                let mut opener = opener;
+                opener.write_pieces(source, out)
+            }
+            Err(fault) => Err(fault),
+        }
+    }
+
+    /// The text of the piece that was opened last; empty before the first, and after a fault.
+    pub fn text(&self) -> &[u8]
+        ensures text { result.now ≡ self.now.text }
+        ensures len { length result.now ≤ 65536 }
+    {
+        &self.buf.as_slice()[..self.len]
+    }
+
+    /// How much was opened, with all pieces opened.
+    fn done(&self, bytes: u64) -> Done
+        ensures { result ≡ record { bytes = bytes; chunks = self.now.index } }
+    {
+        Done {
+            bytes,
+            chunks: self.index,
+        }
+    }
+
+    /// Keeps a failed write.
+    fn failed(&mut self) -> StreamFault
+        ensures { result ≡ StreamFault.Write }
+    {
+        self.fault = Some(StreamFault::Write);
+        StreamFault::Write
+    }
+
+    /// Reads and opens the next piece; false after the last.
+    pub fn advance<S: Source>(&mut self, source: &mut S) -> Result<bool, StreamFault>
+        ensures kept { IfSome self.old.fault (λ f. (result ≡ Err f) × (source.new ≡ source.old) × (self.new ≡ self.old)) }
+        ensures keeps { IfNone self.old.fault (IfErr result (λ f. self.new.fault ≡ Some f)) }
+        ensures count { IfNone self.old.fault (CountsRead (S.failed source.old) (S.failed source.new) result) }
+        ensures opens { IfNone self.old.fault (IsErrOf result StreamFault.Read
+            ⊎ Advances self.old self.new (S.to_come source.old) (S.to_come source.new) result) }
+    {
+        if let Some(fault) = self.fault {
+            return Err(fault);
+        }
+        if !self.more {
+            return Ok(false);
+        }
+        match next_piece(
+            source,
+            self.buf.as_mut_slice(),
+            &self.key,
+            self.max_chunks,
+            self.index,
+            self.ahead,
+        ) {
+            Ok(piece) => {
+                self.len = piece.len;
+                self.more = piece.more;
+                self.ahead = 1;
+                self.index += 1;
+                Ok(true)
+            }
+            Err(fault) => {
+                self.len = 0;
+                self.fault = Some(fault);
+                Err(fault)
+            }
+        }
+    }
+
+    /// Opens all pieces, and writes the text of each as soon as it is verified. Returns how much was opened.
+    fn write_pieces<S: Source, W: Sink>(
+        &mut self,
+        source: &mut S,
+        out: &mut W,
+    ) -> Result<Done, StreamFault>
+        requires unkept { self.old.fault ≡ None }
+        requires first { self.old.index ≡ 0 }
+        ensures writes_all { WritesAll self.old (S.to_come source.old) (W.taken out.old) (W.taken out.new) result }
+        ensures ends { IfErr result (λ f. (f ≡ StreamFault.Read)
+            ⊎ EndsAt self.old.max_chunks 0 (S.to_come source.old) (S.to_come source.new) (W.taken out.old) (W.taken out.new) f) }
+        ensures reads { CountsRead (S.failed source.old) (S.failed source.new) result }
+        ensures writes { CountsWrite (W.failed out.old) (W.failed out.new) result }
+    {
+        let mut bytes = 0;
+        loop {
+            match self.advance(source) {
+                Ok(true) => {}
+                Ok(false) => return Ok(self.done(bytes)),
+                Err(fault) => return Err(fault),
+            }
+            match write_all(out, self.text()) {
+                Ok(()) => bytes += self.text().len() as u64,
+                Err(_) => return Err(self.failed()),
+            }
+        }
+    }
+}
+
+/// How long the text of a piece is, and whether another piece follows.
+#[derive(Clone, Copy)]
+struct Piece {
+    len: usize,
+    more: bool,
+}
+
+/// Reads the next piece, and opens it as piece i. The buffer ends with `ahead` bytes of it, and then with the byte that follows it.
+fn next_piece<S: Source>(
+    source: &mut S,
+    bytes: &mut [u8],
+    key: &[u8; 32],
+    max: u64,
+    i: u64,
+    ahead: usize,
+) -> Result<Piece, StreamFault>
+    requires size { length bytes.old ≡ 65553 }
+    requires ahead { ahead ≤ 1 }
+    requires index { i ≤ max }
+    ensures len { length bytes.new ≡ 65553 }
+    ensures count { CountsRead (S.failed source.old) (S.failed source.new) result }
+    ensures opens { IsErrOf result StreamFault.Read ⊎ ((d : List ℕ) → MayGive (S.to_come source.new) d → (c : List ℕ)
+        × MayGive (S.to_come source.old) c × Opens key.now max i (take ahead (drop 65552 bytes.old) ++ c) bytes.new d result) }
+    ensures gave { IsErrOf result StreamFault.Read ⊎ GaveAtMost (65553 - ahead) (S.to_come source.old) (S.to_come source.new) }
+    ensures at { IfErr result (λ f. (f ≡ StreamFault.Read) ⊎ IsAtPiece max i f) }
+    ensures size { IfOk result (λ piece. (piece.len ≤ 65536) × (piece.more ≡ true → piece.len ≡ 65536)) }
+    ensures within { OnOk result (i < max) }
+{
+    carry(bytes, ahead);
+    let Ok(n) = fill_from(source, bytes, ahead) else {
+        return Err(StreamFault::Read);
+    };
+    if n < 65_553 {
+        match open_piece(key, max, i, true, bytes, n) {
+            Ok(len) => Ok(Piece { len, more: false }),
+            Err(fault) => Err(fault),
+        }
+    } else {
+        match open_piece(key, max, i, false, bytes, 65_552) {
+            Ok(len) => Ok(Piece { len, more: true }),
+            Err(fault) => Err(fault),
+        }
+    }
+}
+
+/// The 16 bytes of a payload's nonce.
+fn read_nonce<S: Source>(source: &mut S) -> Result<[u8; 16], StreamFault>
+    ensures nonce { GivesNonce (S.to_come source.old) (S.to_come source.new) result }
+    ensures gave { IsErrOf result StreamFault.Read ⊎ GaveAtMost 16 (S.to_come source.old) (S.to_come source.new) }
+    ensures count { CountsRead (S.failed source.old) (S.failed source.new) result }
+{
+    let mut nonce = [0; 16];
+    match fill_from(source, &mut nonce, 0) {
+        Ok(16) => Ok(nonce),
+        Ok(_) => Err(StreamFault::NonceTruncated),
+        Err(_) => Err(StreamFault::Read),
+    }
+}
+
+/// Moves what was read ahead to the front.
+fn carry(bytes: &mut [u8], ahead: usize)
+    requires size { length bytes.old ≡ 65553 }
+    requires ahead { ahead ≤ 1 }
+    ensures len { length bytes.new ≡ 65553 }
+    ensures front { take ahead bytes.new ≡ take ahead (drop 65552 bytes.old) }
+{
+    let (front, end) = bytes.split_at_mut(65_552);
+    let (first, _) = front.split_at_mut(ahead);
+    let (next, _) = end.split_at(ahead);
+    first.copy_from_slice(next);
+}
+
+/// Opens the first `end` bytes where they stand, as piece i; the length of their text, which is then in front.
+fn open_piece(
+    key: &[u8; 32],
+    max: u64,
+    i: u64,
+    last: bool,
+    bytes: &mut [u8],
+    end: usize,
+) -> Result<usize, StreamFault>
+    requires high { end ≤ length bytes.old }
+    requires size { end ≤ 65552 }
+    requires index { i ≤ max }
+    ensures len { length bytes.new ≡ length bytes.old }
+    ensures behind { drop end bytes.new ≡ drop end bytes.old }
+    ensures size { IfOk result (λ n. n ≡ end - 16) }
+    ensures text { GivesText (outcome key.now max i last (take end bytes.old)) bytes.new result }
+    ensures within { OnOk result (i < max) }
+    ensures at { IfErr result (IsAtPiece max i) }
+{
+    if i >= max {
+        return Err(StreamFault::TooManyChunks);
+    }
+    if end < 16 {
+        return Err(StreamFault::ChunkShort(i));
+    }
+    if is_empty_final(last, i, end) {
+        return Err(StreamFault::EmptyFinal(i));
+    }
+    if open_front(key, &chunk_nonce(i, last), bytes, end) {
+        Ok(end - 16)
+    } else {
+        Err(StreamFault::BadChunk(i))
+    }
+}
+
+/// Whether the piece is the last, not the first, and a tag alone.
+fn is_empty_final(last: bool, i: u64, len: usize) -> bool
+    ensures { result ≡ (last && nat_lt 0 i && nat_eq len 16) }
+{
+    last && i > 0 && len == 16
+}
+
+/// Opens the first `end` bytes where they stand.
+fn open_front(key: &[u8; 32], nonce: &[u8; 12], bytes: &mut [u8], end: usize) -> bool
+    requires low { 16 ≤ end }
+    requires high { end ≤ length bytes.old }
+    requires size { end ≤ 65552 }
+    ensures len { length bytes.new ≡ length bytes.old }
+    ensures behind { drop end bytes.new ≡ drop end bytes.old }
+    ensures opened { OnTrue result (opened key.now nonce.now [] (take end bytes.old) ≡ Some (take (end - 16) bytes.new)) }
+    ensures refused { OnFalse result (opened key.now nonce.now [] (take end bytes.old) ≡ None) }
+{
+    let (front, _) = bytes.split_at_mut(end);
+    let (text, mac) = front.split_at_mut(end - 16);
+    let mut tag = [0u8; 16];
+    tag.copy_from_slice(mac);
+    open_in_place(key, nonce, b"", text, &tag)
+}

@@ -1,0 +1,137 @@
+//! Reading a payload chunk by chunk from a caller's source.
+ghost use Rattle.std.specs.Prelude.{◌≡◌, ◌⊎◌, ◌≤◌, ℕ, List, [], Ok, Err, Some, None, IfOk, IfErr, IfSome, IfNone, IsErrOf, ⊤};
+ghost use Rattle.std.specs.Borrow.{sem, follows_so};
+ghost use Rattle.age_header.specs.Device.{GaveAtMost};
+ghost use Rattle.age_stream.specs.Counts.{CountsRead};
+ghost use Rattle.age_stream.specs.Opening.{Advances, Starts};
+ghost use Rattle.age_stream.specs.Reader.{Lends, MissesNonce, lent};
+ghost use mathlib.Core.Option.{none};
+ghost use mir.Syntax.{named};
+
+use crate::buffer::ChunkBuf;
+use crate::fault::StreamFault;
+use crate::opening::ChunkOpener;
+use crate::refused::Refused;
+use age_header::Source;
+use age_recipient::FileKey;
+use std::alloc::Global;
+
+/// Reads a payload from a caller's source, and lends its chunks in order, each once it is verified. It keeps a fault, and returns it
+/// from then on without asking the source.
+#[derive(Drop)]
+pub struct StreamReader<'a, S, B = ChunkOpener> {
+    input: &'a mut S,
+    opener: B,
+}
+
+impl<'a, S: Source> StreamReader<'a, S> {
+    ghost use Rattle.age_stream.specs.contracts.opening.ChunkOpener.{the_row as opener_row};
+    ghost use Rattle.age_stream.specs.contracts.reader.StreamReader.{the_row};
+
+    /// A reader of this source, from which the opener read the nonce before. It reads nothing.
+    pub fn over(input: &'a mut S, opener: ChunkOpener) -> StreamReader<'a, S>
+        ensures same_reference { result.input.ghost_name ≡ input.entry.ghost_name }
+        ensures kept { result.input.now ≡ input.old }
+        ensures opener { result.opener ≡ opener }
+    {
+        StreamReader { input, opener }
+    }
+
+    /// As `new`, but hands the source back with the fault.
+    ///
+    /// # Errors
+    /// `Memory` where the allocation was refused: nothing was read. `NonceTruncated` where the source gives fewer than 16 bytes,
+    /// `Read` where it failed.
+    pub fn started(
+        alloc: Global,
+        key: &FileKey,
+        input: &'a mut S,
+        max_chunks: u64,
+    ) -> Result<StreamReader<'a, S>, Refused<'a, S, StreamFault>>
+        requires { max_chunks ≤ 4294967296 }
+        ensures same_reference { IfOk result (λ reader. reader.input.ghost_name ≡ input.entry.ghost_name) }
+        ensures starts { IfOk result (λ reader. Starts key.now max_chunks (S.to_come input.old) (S.to_come reader.input.now) (Ok reader.opener)) }
+        ensures gave { IfOk result (λ reader. GaveAtMost 16 (S.to_come input.old) (S.to_come reader.input.now)) }
+        ensures uncounted { IfOk result (λ reader. S.failed reader.input.now ≡ S.failed input.old) }
+        ensures handed_back { IfErr result (λ refused. refused.device.ghost_name ≡ input.entry.ghost_name) }
+        ensures misses { IfErr result (λ refused. ((refused.fault ≡ StreamFault.Memory) × (refused.device.now ≡ input.old))
+            ⊎ MissesNonce key.now max_chunks (S.to_come input.old) (S.to_come refused.device.now)
+            (S.failed input.old) (S.failed refused.device.now) refused.fault) }
+    {
+        let Ok(buf) = ChunkBuf::new(alloc) else {
+            return Err(Refused::of(input, StreamFault::Memory));
+        };
+        match ChunkOpener::start(key, input, max_chunks, buf) {
+            Ok(opener) => Ok(StreamReader::over(input, opener)),
+            Err(fault) => Err(Refused::of(input, fault)),
+        }
+    }
+
+    /// A reader of the payload that the source still gives, under this file key. It takes its memory, and then reads the nonce. Of the
+    /// source after an error `started` says more.
+    ///
+    /// # Errors
+    /// `Memory` where the allocation was refused: nothing was read. `NonceTruncated` where the source gives fewer than 16 bytes,
+    /// `Read` where it failed.
+    pub fn new(
+        alloc: Global,
+        key: &FileKey,
+        input: &'a mut S,
+        max_chunks: u64,
+    ) -> Result<StreamReader<'a, S>, StreamFault>
+        requires { max_chunks ≤ 4294967296 }
+        ensures same_reference { IfOk result (λ reader. reader.input.ghost_name ≡ input.entry.ghost_name) }
+        ensures starts { IfOk result (λ reader. Starts key.now max_chunks (S.to_come input.old) (S.to_come reader.input.now) (Ok reader.opener)) }
+        ensures gave { IfOk result (λ reader. GaveAtMost 16 (S.to_come input.old) (S.to_come reader.input.now)) }
+        ensures uncounted { IfOk result (λ reader. S.failed reader.input.now ≡ S.failed input.old) }
+        ensures misses { IfErr result (λ fault. (last : S) × (((fault ≡ StreamFault.Memory) × (last ≡ input.old))
+            ⊎ MissesNonce key.now max_chunks (S.to_come input.old) (S.to_come last) (S.failed input.old) (S.failed last) fault)) }
+    {
+        match StreamReader::started(alloc, key, input, max_chunks) {
+            Ok(reader) => Ok(reader),
+            Err(refused) => Err(refused.fault()),
+        }
+    }
+
+    /// The text of the piece that was opened last.
+    fn chunk(&self) -> &[u8]
+        ensures { result.now ≡ self.now.opener.text }
+    {
+        self.opener.text()
+    }
+
+    /// Reads and opens the next piece; false after the last.
+    fn advance(&mut self) -> Result<bool, StreamFault>
+        ensures same_reference { self.new.input.ghost_name ≡ self.old.input.ghost_name }
+        ensures kept { IfSome self.old.opener.fault (λ f. (result ≡ Err f) × (self.new.opener ≡ self.old.opener)
+            × (self.new.input.now ≡ self.old.input.now)) }
+        ensures keeps { IfNone self.old.opener.fault (IfErr result (λ f. self.new.opener.fault ≡ Some f)) }
+        ensures count { IfNone self.old.opener.fault (CountsRead (S.failed self.old.input.now) (S.failed self.new.input.now) result) }
+        ensures opens { IfNone self.old.opener.fault (IsErrOf result StreamFault.Read
+            ⊎ Advances self.old.opener self.new.opener (S.to_come self.old.input.now) (S.to_come self.new.input.now) result) }
+    {
+        self.opener.advance(self.input)
+    }
+
+    /// Lends the next chunk of the plaintext, once it is verified; None after the last. Of an empty plaintext one empty chunk is lent.
+    ///
+    /// # Errors
+    /// The first that applies to piece i: `TooManyChunks` where i reaches `max_chunks`, `ChunkShort` where it is shorter than a tag,
+    /// `EmptyFinal` where it is the last, not the first, and a tag alone, `BadChunk` where nothing seals to it at its place. `Read` where
+    /// the source failed.
+    pub fn next_chunk(&mut self) -> Result<Option<&[u8]>, StreamFault>
+        ensures* after { sem 𝓛 (follows_so (the_row (record { mir = named 1; lft = [] }) S.row opener_row) (the_row (record { mir = named 1; lft = [] }) S.row opener_row)
+            self.entry.ghost_name none (λ _ _. ⊤) (λ last. (last.input.ghost_name ≡ self.old.input.ghost_name)
+            × IfSome self.old.opener.fault (λ f. (last.opener ≡ self.old.opener) × (last.input.now ≡ self.old.input.now))
+            × IfNone self.old.opener.fault (Lends self.old.opener last.opener (S.to_come self.old.input.now) (S.to_come last.input.now)
+            (S.failed self.old.input.now) (S.failed last.input.now) (lent result))
+            × IfOk result (λ o. IfSome o (λ piece. piece.now ≡ last.opener.text)))) }
+        ensures kept { IfSome self.old.opener.fault (λ f. result ≡ Err f) }
+    {
+        if self.advance()? {
+            Ok(Some(self.chunk()))
+        } else {
+            Ok(None)
+        }
+    }
+}
