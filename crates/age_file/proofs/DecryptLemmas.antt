@@ -1,203 +1,328 @@
 -- What decrypting answers, from what its parts answer.
-use Rattle.std.proofs.Common.{◌≡◌, ◌⊎◌, ℕ, List, length, drop, sym, ◌∙◌, ap, refl, subst, arith, inl, inr, Option, Some, None, Result, Ok, Err}
-use Rattle.std.specs.Prelude.{IfSome, IfOk, IfErr}
-use Rattle.std.specs.Io.KnownBytes.{Appends, Consumes}
+use Rattle.std.proofs.Common.{◌≡◌, ◌⊎◌, ◌+◌, ◌*◌, ◌/◌, ◌≤◌, ℕ, List, [], ◌++◌, length, drop, sym, ◌∙◌, ap, refl, subst, arith, inl, inr, Option, Some, None, Result, Ok, Err}
+use Rattle.std.specs.Prelude.{option_map}
+use Rattle.std.specs.Io.KnownBytes.{Appends, Keeps}
 use Rattle.std.proofs.KnownBytes.{Appends-nil}
 use Rattle.std.proofs.lemmas.List.{drop_at, take_all}
 use Rattle.age_header.specs.declared.fault.HeaderFault.{HeaderFault}
 use Rattle.age_header.specs.declared.fault.HeaderFault.TheVariants as header
-use Rattle.age_header.specs.Device.{WritesPart}
+use Rattle.age_header.specs.Device.{GaveAtMost, MayGive}
 use Rattle.age_header.specs.Header.{HeaderParts}
-use Rattle.age_header.specs.Reader.{Answers}
+use Rattle.age_header.specs.Reader.{Answers, Refuses}
 use Rattle.age_header.specs.Verdict.{HeaderVerdict}
+use Rattle.age_header.proofs.GivenLemmas.{gave-more, may-some}
+use Rattle.age_header.proofs.OneVerdict.{found_again}
+use Rattle.age_header.proofs.SomeVerdict.{some_verdict}
 use Rattle.age_recipient.specs.declared.key.FileKey.{FileKey}
 use Rattle.age_stream.specs.declared.done.Done.{Done}
-use Rattle.age_stream.specs.Reading.{Reading, stops}
+use Rattle.age_stream.specs.declared.fault.StreamFault.{StreamFault}
+use Rattle.age_stream.specs.declared.fault.StreamFault.TheVariants as stream
+use Rattle.age_stream.specs.Counts.{CountsReadFault, CountsWriteFault}
+use Rattle.age_stream.specs.Opening.{EndsAt, IsAtPiece, WritesPayload, WritesReading}
+use Rattle.age_stream.specs.Payload.{pieces}
+use Rattle.age_stream.specs.Reading.{Reading, payload_reading, stops}
 use Rattle.age_file.specs.declared.fault.Fault.{Fault}
 use Rattle.age_file.specs.declared.fault.Fault.TheVariants.{NotAge, BadLine, HeaderTruncated, HeaderTooLarge, MixedPassphrase, NoMatch, WrongKey, Malformed, BadMac, NonceTruncated, ChunkShort, EmptyFinal, BadChunk, TooManyChunks, Read, Write, OutOfMemory, NoRecipients, Refused}
-use Rattle.age_file.specs.declared.reading.Opened.{Opened}
 use Rattle.age_file.specs.AgeFile.{Bounds}
-use Rattle.age_file.specs.Decrypt.{Decrypts, GivesPart, GivesVerdict, Opens, OpensFile}
+use Rattle.age_file.specs.Decrypt.{BeginsVerdict, Decrypts, DecryptsText, GivesVerdict, Takes, TookThrough, payload_pieces}
+use Rattle.age_file.specs.Device.{CountsRead, CountsWrite, IsLate}
 use Rattle.age_file.specs.Inspect.{Inspects}
-use Rattle.age_file.specs.Verdict.{Answering, IsVerdict, of_header, read_under, unlocked}
-use Rattle.age_file.proofs.FileLemmas.{one_verdict, parts}
-
--- ---- a whole file
-
--- a verdict that stops, unless memory was wanting or a read failed
-pub stops-opens : (limits : Bounds) (answers : Answering) (b : List ℕ) (fault : Fault) → IsVerdict limits answers b (stops fault) → OpensFile limits answers (Some b) (Err fault)
-stops-opens limits answers b Read v = tt
-stops-opens limits answers b OutOfMemory v = tt
-stops-opens limits answers b NotAge v = v
-stops-opens limits answers b (BadLine n) v = v
-stops-opens limits answers b HeaderTruncated v = v
-stops-opens limits answers b HeaderTooLarge v = v
-stops-opens limits answers b MixedPassphrase v = v
-stops-opens limits answers b NoMatch v = v
-stops-opens limits answers b WrongKey v = v
-stops-opens limits answers b (Malformed s) v = v
-stops-opens limits answers b BadMac v = v
-stops-opens limits answers b NonceTruncated v = v
-stops-opens limits answers b (ChunkShort i) v = v
-stops-opens limits answers b (EmptyFinal i) v = v
-stops-opens limits answers b (BadChunk i) v = v
-stops-opens limits answers b TooManyChunks v = v
-stops-opens limits answers b Write v = v
-stops-opens limits answers b NoRecipients v = v
-stops-opens limits answers b (Refused i code) v = v
+use Rattle.age_file.specs.Verdict.{Answering, IsVerdict, judged, of_header, of_stream, read_under, unlocked}
 
 err-err : {A : Type 0} (f g : Fault) → ◌≡◌ {A = Result A Fault} (Err f) (Err g) → f ≡ g
 err-err f g e = cc
 
--- a header's fault
-header-opens : (limits : Bounds) (answers : Answering) (come rest : Option (List ℕ)) (g : HeaderFault) → Answers come rest limits.max_header (Err g)
-    → OpensFile limits answers come (Err (of_header g))
-header-opens limits answers None rest g h = tt
-header-opens limits answers (Some b) rest header.Read h = tt
-header-opens limits answers (Some b) rest header.Memory h = tt
-header-opens limits answers (Some b) rest header.NotAge h = record { header = Err header.NotAge; header_verdict = h; is = refl }
-header-opens limits answers (Some b) rest (header.BadLine n) h = record { header = Err (header.BadLine n); header_verdict = h; is = refl }
-header-opens limits answers (Some b) rest header.Truncated h = record { header = Err header.Truncated; header_verdict = h; is = refl }
-header-opens limits answers (Some b) rest header.TooLarge h = record { header = Err header.TooLarge; header_verdict = h; is = refl }
+-- ---- verdicts
 
-pub inspect-opens : (limits : Bounds) (answers : Answering) (come rest : Option (List ℕ)) (fault : Fault) → Inspects limits come rest (Err fault) → OpensFile limits answers come (Err fault)
-inspect-opens limits answers come rest fault (Ok parts, is, h) = absurd (cc)
-inspect-opens limits answers come rest fault (Err g, is, h) =
-    subst (λ f. OpensFile limits answers come (Err f)) (sym (err-err {A = HeaderParts} fault (of_header g) is)) (header-opens limits answers come rest g h)
+-- every text has one
+pub some-verdict : (limits : Bounds) (answers : Answering) (b : List ℕ) → (v : Reading Fault) × IsVerdict limits answers b v
+some-verdict limits answers b =
+    let h = some_verdict b limits.max_header in
+    (judged limits answers b h.0, record { header = h.0; header_verdict = h.1; is = refl })
 
--- what was found where a header was read, and what is still to come
-pub record IsHeaded (limits : Bounds) (b : List ℕ) (rest : Option (List ℕ)) (h : HeaderParts) : Type 0 where
+pub decrypts-of : (limits : Bounds) (answers : Answering) (come : Option (List ℕ)) (b : List ℕ) (old new : Option (List ℕ)) (r : Result Done Fault) → MayGive come b
+    → DecryptsText limits answers b old new r → Decrypts limits answers come old new r
+decrypts-of limits answers None b old new r may h = (b, h)
+decrypts-of limits answers (Some x) b old new r may h = subst (λ z. DecryptsText limits answers z old new r) (sym may) h
+
+-- the whole is a beginning of itself
+begins-whole : (limits : Bounds) (answers : Answering) (b : List ℕ) (old new : Option (List ℕ)) (r : Result Done Fault) → GivesVerdict limits answers b old new r → BeginsVerdict limits answers b old new
+begins-whole limits answers b old new r (v, is, tells, h) =
+    (v, is, (length v.front, subst (Appends old new) (sym (take_all (length v.front) v.front (omega arith))) h))
+
+-- a verdict that was written
+gives-decrypts : (limits : Bounds) (answers : Answering) (b : List ℕ) (old new : Option (List ℕ)) (fault : Fault) → GivesVerdict limits answers b old new (Err fault)
+    → DecryptsText limits answers b old new (Err fault)
+gives-decrypts limits answers b old new Read h = begins-whole limits answers b old new (Err Read) h
+gives-decrypts limits answers b old new Write h = begins-whole limits answers b old new (Err Write) h
+gives-decrypts limits answers b old new OutOfMemory h = tt
+gives-decrypts limits answers b old new NotAge h = h
+gives-decrypts limits answers b old new (BadLine n) h = h
+gives-decrypts limits answers b old new HeaderTruncated h = h
+gives-decrypts limits answers b old new HeaderTooLarge h = h
+gives-decrypts limits answers b old new MixedPassphrase h = h
+gives-decrypts limits answers b old new NoMatch h = h
+gives-decrypts limits answers b old new WrongKey h = h
+gives-decrypts limits answers b old new (Malformed s) h = h
+gives-decrypts limits answers b old new BadMac h = h
+gives-decrypts limits answers b old new NonceTruncated h = h
+gives-decrypts limits answers b old new (ChunkShort i) h = h
+gives-decrypts limits answers b old new (EmptyFinal i) h = h
+gives-decrypts limits answers b old new (BadChunk i) h = h
+gives-decrypts limits answers b old new TooManyChunks h = h
+gives-decrypts limits answers b old new NoRecipients h = h
+gives-decrypts limits answers b old new (Refused i code) h = h
+
+-- a fault before any plaintext
+stops-decrypts : (limits : Bounds) (answers : Answering) (b : List ℕ) (old : Option (List ℕ)) (fault : Fault) → IsVerdict limits answers b (stops fault) → DecryptsText limits answers b old old (Err fault)
+stops-decrypts limits answers b old fault v = gives-decrypts limits answers b old old fault (stops fault, v, refl, Appends-nil old)
+
+-- nothing was read or written yet
+begins-none : (limits : Bounds) (answers : Answering) (b : List ℕ) (old : Option (List ℕ)) → BeginsVerdict limits answers b old old
+begins-none limits answers b old = let v = some-verdict limits answers b in (v.0, v.1, (0, Appends-nil old))
+
+-- ---- the header
+
+header-text : (limits : Bounds) (answers : Answering) (b : List ℕ) (old : Option (List ℕ)) (g : HeaderFault) → Refuses b limits.max_header g → DecryptsText limits answers b old old (Err (of_header g))
+header-text limits answers b old header.Read h = begins-none limits answers b old
+header-text limits answers b old header.Memory h = tt
+header-text limits answers b old header.NotAge h = stops-decrypts limits answers b old NotAge (record { header = Err header.NotAge; header_verdict = h; is = refl })
+header-text limits answers b old (header.BadLine n) h = stops-decrypts limits answers b old (BadLine n) (record { header = Err (header.BadLine n); header_verdict = h; is = refl })
+header-text limits answers b old header.Truncated h = stops-decrypts limits answers b old HeaderTruncated (record { header = Err header.Truncated; header_verdict = h; is = refl })
+header-text limits answers b old header.TooLarge h = stops-decrypts limits answers b old HeaderTooLarge (record { header = Err header.TooLarge; header_verdict = h; is = refl })
+
+header-decrypts : (limits : Bounds) (answers : Answering) (come mid old : Option (List ℕ)) (g : HeaderFault) → Answers come mid limits.max_header (Err g) → Decrypts limits answers come old old (Err (of_header g))
+header-decrypts limits answers None mid old g h = (h.0, header-text limits answers h.0 old g h.1)
+header-decrypts limits answers (Some b) mid old g h = header-text limits answers b old g h
+
+pub inspect-decrypts : (limits : Bounds) (answers : Answering) (come mid old : Option (List ℕ)) (fault : Fault) → Inspects limits come mid (Err fault) → Decrypts limits answers come old old (Err fault)
+inspect-decrypts limits answers come mid old fault (Ok parts, is, h) = absurd (cc)
+inspect-decrypts limits answers come mid old fault (Err g, is, h) =
+    subst (λ f. Decrypts limits answers come old old (Err f)) (sym (err-err {A = HeaderParts} fault (of_header g) is)) (header-decrypts limits answers come mid old g h)
+
+-- the header that was read, and whatever may follow it
+pub record IsHeaded (limits : Bounds) (come mid : Option (List ℕ)) (h : HeaderParts) : Type 0 where
   pub text : List ℕ
-  pub verdict : HeaderVerdict b limits.max_header (Ok (record { stanzas = h.stanzas; mac = h.mac; text = text }))
-  pub behind : rest ≡ Some (drop (length text) b)
+  pub took : GaveAtMost (length text) come mid
+  pub may : (rest : List ℕ) → MayGive mid rest → MayGive come (text ++ rest)
+  pub verdict : (rest : List ℕ) → MayGive mid rest → HeaderVerdict (text ++ rest) limits.max_header (Ok (record { stanzas = h.stanzas; mac = h.mac; text = text }))
 
-consumed : (b text : List ℕ) (rest : Option (List ℕ)) → Consumes (Some b) rest text → rest ≡ Some (drop (length text) b)
-consumed b text None h = absurd h
-consumed b text (Some r) h = ap Some (sym (ap (drop (length text)) h ∙ drop_at text r (length text) refl))
+parts-headed : (limits : Bounds) (come mid : Option (List ℕ)) (h : HeaderParts) → Answers come mid limits.max_header (Ok h) → IsHeaded limits come mid h
+parts-headed limits None mid h (b, (text, verdict, took)) = record {
+  text = text;
+  took = (text, tt, omega arith);
+  may = λ rest m. tt;
+  verdict = λ rest m. found_again b limits.max_header (record { stanzas = h.stanzas; mac = h.mac; text = text }) verdict rest;
+}
+parts-headed limits (Some b) None h (text, verdict, took) = absurd took
+parts-headed limits (Some b) (Some r) h (text, verdict, took) = record {
+  text = text;
+  took = (text, took, omega arith);
+  may = λ rest m. took ∙ ap (λ t. text ++ t) m;
+  verdict = λ rest m. found_again b limits.max_header (record { stanzas = h.stanzas; mac = h.mac; text = text }) verdict rest;
+}
 
-headed : (limits : Bounds) (b : List ℕ) (rest : Option (List ℕ)) (h : HeaderParts) → Inspects limits (Some b) rest (Ok h) → IsHeaded limits b rest h
-headed limits b rest h (Err g, is, a) = absurd (cc)
-headed limits b rest h (Ok k, is, a) = subst (IsHeaded limits b rest) (sym (ok-ok h k is)) (record { text = a.0; verdict = a.1; behind = consumed b a.0 rest a.2 })
+pub headed : (limits : Bounds) (come mid : Option (List ℕ)) (h : HeaderParts) → Inspects limits come mid (Ok h) → IsHeaded limits come mid h
+headed limits come mid h (Err g, is, a) = absurd (cc)
+headed limits come mid h (Ok k, is, a) = subst (IsHeaded limits come mid) (sym (ok-ok h k is)) (parts-headed limits come mid k a)
   where
     ok-ok : (x y : HeaderParts) → ◌≡◌ {A = Result HeaderParts Fault} (Ok x) (Ok y) → x ≡ y
     ok-ok x y e = cc
 
+-- the verdict on a header and what follows it
+verdict-of : (limits : Bounds) (answers : Answering) (come mid : Option (List ℕ)) (h : HeaderParts) (i : IsHeaded limits come mid h) (rest : List ℕ) → MayGive mid rest
+    → IsVerdict limits answers (i.text ++ rest) (read_under limits rest (unlocked answers h))
+verdict-of limits answers come mid h i rest m = record {
+  header = Ok (record { stanzas = h.stanzas; mac = h.mac; text = i.text });
+  header_verdict = i.verdict rest m;
+  is = ap (λ x. read_under limits x (unlocked answers h)) (sym (drop_at i.text rest (length i.text) refl));
+}
+
+-- memory was refused
+pub memory-decrypts : (limits : Bounds) (answers : Answering) (come old new : Option (List ℕ)) → Decrypts limits answers come old new (Err OutOfMemory)
+memory-decrypts limits answers None old new = ([], tt)
+memory-decrypts limits answers (Some b) old new = tt
+
 -- no key
-pub locked-opens : (limits : Bounds) (answers : Answering) (come rest : Option (List ℕ)) (h : HeaderParts) (fault : Fault) → Inspects limits come rest (Ok h)
-    → (◌≡◌ {A = Result FileKey Fault} (Err fault) (Err OutOfMemory)) ⊎ (Err fault ≡ unlocked answers h) → OpensFile limits answers come (Err fault)
-locked-opens limits answers None rest h fault i key = tt
-locked-opens limits answers (Some b) rest h fault i (inl memory) = subst (λ f. OpensFile limits answers (Some b) (Err f)) (sym (err-err {A = FileKey} fault OutOfMemory memory)) tt
-locked-opens limits answers (Some b) rest h fault i (inr key) =
-    let is = headed limits b rest h i in
-    stops-opens limits answers b fault (record {
-      header = Ok (record { stanzas = h.stanzas; mac = h.mac; text = is.text });
-      header_verdict = is.verdict;
-      is = ap (read_under limits (drop (length is.text) b)) key;
-    })
+pub locked-decrypts : (limits : Bounds) (answers : Answering) (come mid old : Option (List ℕ)) (h : HeaderParts) (fault : Fault) → Inspects limits come mid (Ok h)
+    → (◌≡◌ {A = Result FileKey Fault} (Err fault) (Err OutOfMemory)) ⊎ (Err fault ≡ unlocked answers h) → Decrypts limits answers come old old (Err fault)
+locked-decrypts limits answers come mid old h fault i (inl memory) =
+    subst (λ f. Decrypts limits answers come old old (Err f)) (sym (err-err {A = FileKey} fault OutOfMemory memory)) (memory-decrypts limits answers come old old)
+locked-decrypts limits answers come mid old h fault i (inr key) =
+    let is = headed limits come mid h i in
+    let d = may-some mid in
+    decrypts-of limits answers come (is.text ++ d.0) old old (Err fault) (is.may d.0 d.1)
+    (stops-decrypts limits answers (is.text ++ d.0) old fault (subst (λ k. IsVerdict limits answers (is.text ++ d.0) (read_under limits d.0 k)) (sym key) (verdict-of limits answers come mid h is d.0 d.1)))
 
--- a key, and what follows the header opened under it
-opened-opens : (limits : Bounds) (answers : Answering) (come rest : Option (List ℕ)) (h : HeaderParts) (k : FileKey) (payload : List ℕ) (opened : Opened)
-    → Inspects limits come rest (Ok h) → (◌≡◌ {A = Result FileKey Fault} (Ok k) (Err OutOfMemory)) ⊎ (Ok k ≡ unlocked answers h) → IfSome rest (λ r. payload ≡ r)
-    → Opens (read_under limits payload (Ok k)) opened → OpensFile limits answers come (Ok opened)
-opened-opens limits answers None rest h k payload opened i key read o = tt
-opened-opens limits answers (Some b) rest h k payload opened i (inl memory) read o = absurd (cc)
-opened-opens limits answers (Some b) rest h k payload opened i (inr key) read o =
-    let is = headed limits b rest h i in
-    let whole : payload ≡ drop (length is.text) b = subst (λ (r : Option (List ℕ)). IfSome r (λ x. payload ≡ x)) is.behind read in (
-      read_under limits payload (Ok k),
-      record {
-        header = Ok (record { stanzas = h.stanzas; mac = h.mac; text = is.text });
-        header_verdict = is.verdict;
-        is = ap (λ x. read_under limits x (Ok k)) whole ∙ ap (read_under limits (drop (length is.text) b)) key;
-      },
-      o,
-    )
+-- ---- the payload
 
--- memory was wanting
-memory-opens : (limits : Bounds) (answers : Answering) (come : Option (List ℕ)) (fault : Fault) → fault ≡ OutOfMemory → OpensFile limits answers come (Err fault)
-memory-opens limits answers None fault is = tt
-memory-opens limits answers (Some b) fault is = subst (λ f. OpensFile limits answers (Some b) (Err f)) (sym is) tt
+-- what a payload comes to under its key, with a file's names of its faults
+abbrev pub file_result : Result Done StreamFault → Result Done Fault
+file_result (Ok done) = Ok done
+file_result (Err fault) = Err (of_stream fault)
 
--- a key, and what follows the header
-pub rest-opens : (limits : Bounds) (answers : Answering) (come rest : Option (List ℕ)) (h : HeaderParts) (k : FileKey) (payload : List ℕ) (r : Result Opened Fault)
-    → Inspects limits come rest (Ok h) → (◌≡◌ {A = Result FileKey Fault} (Ok k) (Err OutOfMemory)) ⊎ (Ok k ≡ unlocked answers h) → IfSome rest (λ x. payload ≡ x)
-    → IfOk r (Opens (read_under limits payload (Ok k))) → IfErr r (λ f. f ≡ OutOfMemory) → OpensFile limits answers come r
-rest-opens limits answers come rest h k payload (Ok opened) i key read o e = opened-opens limits answers come rest h k payload opened i key read o
-rest-opens limits answers come rest h k payload (Err fault) i key read o e = memory-opens limits answers come fault e
+payload-text : (limits : Bounds) (answers : Answering) (come mid : Option (List ℕ)) (h : HeaderParts) (i : IsHeaded limits come mid h) (k : FileKey) (c : List ℕ) (m : MayGive mid c) (old new : Option (List ℕ)) (r : Result Done StreamFault)
+    → Ok k ≡ unlocked answers h → WritesReading (payload_reading k limits.max_chunks c) (length (pieces (drop 16 c))) old new r → DecryptsText limits answers (i.text ++ c) old new (file_result r)
+payload-text limits answers come mid h i k c m old new r key w = go r w
+  where
+    v : Reading Fault
+    v = read_under limits c (Ok k)
 
--- ---- what is written of it
+    is : IsVerdict limits answers (i.text ++ c) v
+    is = record {
+      header = Ok (record { stanzas = h.stanzas; mac = h.mac; text = i.text });
+      header_verdict = i.verdict c m;
+      is = ap (read_under limits c) key ∙ ap (λ x. read_under limits x (unlocked answers h)) (sym (drop_at i.text c (length i.text) refl));
+    }
 
--- the whole is a beginning of itself
-part-whole : (limits : Bounds) (answers : Answering) (b : List ℕ) (old new : Option (List ℕ)) (v : Reading Fault) → IsVerdict limits answers b v
-    → WritesPart old new v.front → GivesPart limits answers b old new
-part-whole limits answers b old new v is h w other = subst (λ (x : Reading Fault). WritesPart old new x.front) (one_verdict limits answers b v w is other) h
+    count : length (pieces (drop 16 c)) ≡ length (payload_pieces (i.text ++ c) is.header)
+    count = ap (λ x. length (pieces (drop 16 x))) (sym (drop_at i.text c (length i.text) refl))
 
-gives-part : (limits : Bounds) (answers : Answering) (b : List ℕ) (old new : Option (List ℕ)) (r : Result Done Fault) → GivesVerdict limits answers b old new r → GivesPart limits answers b old new
-gives-part limits answers b old new r (v, is, tells, h) =
-    part-whole limits answers b old new v is (length v.front, subst (Appends old new) (sym (take_all (length v.front) v.front (omega arith))) h)
+    gives : (fault : StreamFault) → (payload_reading k limits.max_chunks c).fault ≡ Some fault → Appends old new v.front → GivesVerdict limits answers (i.text ++ c) old new (Err (of_stream fault))
+    gives fault f a = (v, is, ap (option_map of_stream) f, a)
 
--- a verdict that is written
-pub gives-decrypts : (limits : Bounds) (answers : Answering) (b : List ℕ) (old new : Option (List ℕ)) (r : Result Done Fault) → GivesVerdict limits answers b old new r
-    → Decrypts limits answers (Some b) old new r
-gives-decrypts limits answers b old new (Ok done) h = h
-gives-decrypts limits answers b old new (Err Read) h = gives-part limits answers b old new (Err Read) h
-gives-decrypts limits answers b old new (Err Write) (v, is, tells, h) =
-    (v, is, (length v.front, subst (Appends old new) (sym (take_all (length v.front) v.front (omega arith))) h))
-gives-decrypts limits answers b old new (Err OutOfMemory) h = tt
-gives-decrypts limits answers b old new (Err NotAge) h = h
-gives-decrypts limits answers b old new (Err (BadLine n)) h = h
-gives-decrypts limits answers b old new (Err HeaderTruncated) h = h
-gives-decrypts limits answers b old new (Err HeaderTooLarge) h = h
-gives-decrypts limits answers b old new (Err MixedPassphrase) h = h
-gives-decrypts limits answers b old new (Err NoMatch) h = h
-gives-decrypts limits answers b old new (Err WrongKey) h = h
-gives-decrypts limits answers b old new (Err (Malformed s)) h = h
-gives-decrypts limits answers b old new (Err BadMac) h = h
-gives-decrypts limits answers b old new (Err NonceTruncated) h = h
-gives-decrypts limits answers b old new (Err (ChunkShort i)) h = h
-gives-decrypts limits answers b old new (Err (EmptyFinal i)) h = h
-gives-decrypts limits answers b old new (Err (BadChunk i)) h = h
-gives-decrypts limits answers b old new (Err TooManyChunks) h = h
-gives-decrypts limits answers b old new (Err NoRecipients) h = h
-gives-decrypts limits answers b old new (Err (Refused i code)) h = h
+    go : (q : Result Done StreamFault) → WritesReading (payload_reading k limits.max_chunks c) (length (pieces (drop 16 c))) old new q → DecryptsText limits answers (i.text ++ c) old new (file_result q)
+    go (Ok done) x = (v, is, (ap (option_map of_stream) x.0, x.2, x.3 ∙ count), x.1)
+    go (Err stream.Read) x = (v, is, x)
+    go (Err stream.Write) x = (v, is, x)
+    go (Err stream.Memory) x = tt
+    go (Err stream.NonceTruncated) x = gives stream.NonceTruncated x.0 x.1
+    go (Err (stream.ChunkShort n)) x = gives (stream.ChunkShort n) x.0 x.1
+    go (Err (stream.EmptyFinal n)) x = gives (stream.EmptyFinal n) x.0 x.1
+    go (Err (stream.BadChunk n)) x = gives (stream.BadChunk n) x.0 x.1
+    go (Err stream.TooManyChunks) x = gives stream.TooManyChunks x.0 x.1
 
--- a plaintext that was written whole, and in part
-pub opened-decrypts : (limits : Bounds) (answers : Answering) (come old new : Option (List ℕ)) (opened : Opened) → OpensFile limits answers come (Ok opened)
-    → Appends old new opened.plain.items → Decrypts limits answers come old new opened.answer
-opened-decrypts limits answers None old new opened h wrote = tt
-opened-decrypts limits answers (Some b) old new opened h wrote =
-    gives-decrypts limits answers b old new opened.answer (h.0, h.1, h.2.0, subst (Appends old new) h.2.1 wrote)
+pub payload-decrypts : (limits : Bounds) (answers : Answering) (come mid old new : Option (List ℕ)) (h : HeaderParts) (k : FileKey) (max : ℕ) (r : Result Done StreamFault) → Inspects limits come mid (Ok h)
+    → (◌≡◌ {A = Result FileKey Fault} (Ok k) (Err OutOfMemory)) ⊎ (Ok k ≡ unlocked answers h) → max ≡ limits.max_chunks → WritesPayload k max mid old new r
+    → Decrypts limits answers come old new (file_result r)
+payload-decrypts limits answers come mid old new h k max r i (inl memory) same w = absurd (cc)
+payload-decrypts limits answers come mid old new h k max r i (inr key) same (c, may, x) =
+    let is = headed limits come mid h i in
+    let w = subst (λ m. WritesReading (payload_reading k m c) (length (pieces (drop 16 c))) old new r) same x in
+    decrypts-of limits answers come (is.text ++ c) old new (file_result r) (is.may c may) (payload-text limits answers come mid h is k c may old new r key w)
 
-pub opened-part : (limits : Bounds) (answers : Answering) (come old new : Option (List ℕ)) (opened : Opened) → OpensFile limits answers come (Ok opened)
-    → WritesPart old new opened.plain.items → Decrypts limits answers come old new (Err Write)
-opened-part limits answers None old new opened h wrote = tt
-opened-part limits answers (Some b) old new opened h wrote =
-    (h.0, h.1, subst (WritesPart old new) h.2.1 wrote)
+-- ---- counts, and what was taken
 
--- a fault before any plaintext
-stops-decrypts : (limits : Bounds) (answers : Answering) (b : List ℕ) (old : Option (List ℕ)) (fault : Fault) → IsVerdict limits answers b (stops fault)
-    → Decrypts limits answers (Some b) old old (Err fault)
-stops-decrypts limits answers b old fault v = gives-decrypts limits answers b old old (Err fault) (stops fault, v, refl, Appends-nil old)
+pub reads-file : (old new : ℕ) (fault : StreamFault) → CountsReadFault old new fault → CountsRead {A = Done} old new (Err (of_stream fault))
+reads-file old new stream.Read h = h
+reads-file old new stream.Write h = h
+reads-file old new stream.Memory h = h
+reads-file old new stream.NonceTruncated h = h
+reads-file old new (stream.ChunkShort i) h = h
+reads-file old new (stream.EmptyFinal i) h = h
+reads-file old new (stream.BadChunk i) h = h
+reads-file old new stream.TooManyChunks h = h
 
-pub early-decrypts : (limits : Bounds) (answers : Answering) (come old : Option (List ℕ)) (fault : Fault) → OpensFile limits answers come (Err fault)
-    → Decrypts limits answers come old old (Err fault)
-early-decrypts limits answers None old fault h = tt
-early-decrypts limits answers (Some b) old Read h = λ v is. (0, Appends-nil old)
-early-decrypts limits answers (Some b) old OutOfMemory h = tt
-early-decrypts limits answers (Some b) old NotAge h = stops-decrypts limits answers b old NotAge h
-early-decrypts limits answers (Some b) old (BadLine n) h = stops-decrypts limits answers b old (BadLine n) h
-early-decrypts limits answers (Some b) old HeaderTruncated h = stops-decrypts limits answers b old HeaderTruncated h
-early-decrypts limits answers (Some b) old HeaderTooLarge h = stops-decrypts limits answers b old HeaderTooLarge h
-early-decrypts limits answers (Some b) old MixedPassphrase h = stops-decrypts limits answers b old MixedPassphrase h
-early-decrypts limits answers (Some b) old NoMatch h = stops-decrypts limits answers b old NoMatch h
-early-decrypts limits answers (Some b) old WrongKey h = stops-decrypts limits answers b old WrongKey h
-early-decrypts limits answers (Some b) old (Malformed s) h = stops-decrypts limits answers b old (Malformed s) h
-early-decrypts limits answers (Some b) old BadMac h = stops-decrypts limits answers b old BadMac h
-early-decrypts limits answers (Some b) old NonceTruncated h = stops-decrypts limits answers b old NonceTruncated h
-early-decrypts limits answers (Some b) old (ChunkShort i) h = stops-decrypts limits answers b old (ChunkShort i) h
-early-decrypts limits answers (Some b) old (EmptyFinal i) h = stops-decrypts limits answers b old (EmptyFinal i) h
-early-decrypts limits answers (Some b) old (BadChunk i) h = stops-decrypts limits answers b old (BadChunk i) h
-early-decrypts limits answers (Some b) old TooManyChunks h = stops-decrypts limits answers b old TooManyChunks h
-early-decrypts limits answers (Some b) old Write h = stops-decrypts limits answers b old Write h
-early-decrypts limits answers (Some b) old NoRecipients h = stops-decrypts limits answers b old NoRecipients h
-early-decrypts limits answers (Some b) old (Refused i code) h = stops-decrypts limits answers b old (Refused i code) h
+pub writes-file : (old new : ℕ) (fault : StreamFault) → CountsWriteFault old new fault → CountsWrite {A = Done} old new (Err (of_stream fault))
+writes-file old new stream.Read h = h
+writes-file old new stream.Write h = h
+writes-file old new stream.Memory h = h
+writes-file old new stream.NonceTruncated h = h
+writes-file old new (stream.ChunkShort i) h = h
+writes-file old new (stream.EmptyFinal i) h = h
+writes-file old new (stream.BadChunk i) h = h
+writes-file old new stream.TooManyChunks h = h
+
+took-piece : (limits : Bounds) (come mid to old new : Option (List ℕ)) (h : HeaderParts) (i : IsHeaded limits come mid h) (fault : StreamFault) (n : ℕ) (e : EndsAt limits.max_chunks 16 mid to old new fault) → e.piece ≤ n
+    → TookThrough limits n come to
+took-piece limits come mid to old new h i fault n e le =
+    let d = may-some mid in
+    let all = gave-more come mid to (length i.text) (16 + (65552 * (e.piece + 1) + 1)) i.took e.gave in
+    record {
+      b = i.text ++ d.0;
+      may = i.may d.0 d.1;
+      found = record { stanzas = h.stanzas; mac = h.mac; text = i.text };
+      header = i.verdict d.0 d.1;
+      gave = (all.0, all.1, omega (arith, all.2));
+    }
+
+ends-takes : (limits : Bounds) (come mid to old new : Option (List ℕ)) (h : HeaderParts) (i : IsHeaded limits come mid h) (fault : StreamFault) → EndsAt limits.max_chunks 16 mid to old new fault
+    → Takes limits come to old new (of_stream fault)
+ends-takes limits come mid to old new h i stream.Read e = tt
+ends-takes limits come mid to old new h i stream.Memory e = tt
+ends-takes limits come mid to old new h i stream.NonceTruncated e = tt
+ends-takes limits come mid to old new h i stream.Write e = go e.at
+  where
+    not-piece : IsAtPiece limits.max_chunks e.piece stream.Write → ⊥
+    not-piece x = x
+
+    go : ((◌≡◌ {A = StreamFault} stream.Write stream.Write) × (65536 * e.piece ≤ length e.text)) ⊎ IsAtPiece limits.max_chunks e.piece stream.Write → Takes limits come to old new Write
+    go (inl (is, le)) = (e.text, e.written, took-piece limits come mid to old new h i stream.Write (length e.text / 65536) e (omega arith))
+    go (inr at) = absurd (not-piece at)
+ends-takes limits come mid to old new h i (stream.ChunkShort j) e = go e.at
+  where
+    not-write : ◌≡◌ {A = StreamFault} (stream.ChunkShort j) stream.Write → ⊥
+    not-write x = cc
+
+    go : ((◌≡◌ {A = StreamFault} (stream.ChunkShort j) stream.Write) × (65536 * e.piece ≤ length e.text)) ⊎ IsAtPiece limits.max_chunks e.piece (stream.ChunkShort j) → TookThrough limits j come to
+    go (inl (is, le)) = absurd (not-write is)
+    go (inr at) = took-piece limits come mid to old new h i (stream.ChunkShort j) j e (omega (arith, at))
+ends-takes limits come mid to old new h i (stream.EmptyFinal j) e = go e.at
+  where
+    not-write : ◌≡◌ {A = StreamFault} (stream.EmptyFinal j) stream.Write → ⊥
+    not-write x = cc
+
+    go : ((◌≡◌ {A = StreamFault} (stream.EmptyFinal j) stream.Write) × (65536 * e.piece ≤ length e.text)) ⊎ IsAtPiece limits.max_chunks e.piece (stream.EmptyFinal j) → TookThrough limits j come to
+    go (inl (is, le)) = absurd (not-write is)
+    go (inr at) = took-piece limits come mid to old new h i (stream.EmptyFinal j) j e (omega (arith, at))
+ends-takes limits come mid to old new h i (stream.BadChunk j) e = go e.at
+  where
+    not-write : ◌≡◌ {A = StreamFault} (stream.BadChunk j) stream.Write → ⊥
+    not-write x = cc
+
+    go : ((◌≡◌ {A = StreamFault} (stream.BadChunk j) stream.Write) × (65536 * e.piece ≤ length e.text)) ⊎ IsAtPiece limits.max_chunks e.piece (stream.BadChunk j) → TookThrough limits j come to
+    go (inl (is, le)) = absurd (not-write is)
+    go (inr at) = took-piece limits come mid to old new h i (stream.BadChunk j) j e (omega (arith, at))
+ends-takes limits come mid to old new h i stream.TooManyChunks e = go e.at
+  where
+    not-write : ◌≡◌ {A = StreamFault} stream.TooManyChunks stream.Write → ⊥
+    not-write x = cc
+
+    go : ((◌≡◌ {A = StreamFault} stream.TooManyChunks stream.Write) × (65536 * e.piece ≤ length e.text)) ⊎ IsAtPiece limits.max_chunks e.piece stream.TooManyChunks → TookThrough limits limits.max_chunks come to
+    go (inl (is, le)) = absurd (not-write is)
+    go (inr at) = took-piece limits come mid to old new h i stream.TooManyChunks limits.max_chunks e (omega (arith, at))
+
+pub payload-takes : (limits : Bounds) (come mid to old new : Option (List ℕ)) (h : HeaderParts) (fault : StreamFault) → Inspects limits come mid (Ok h)
+    → (fault ≡ stream.Read) ⊎ ((fault ≡ stream.NonceTruncated) ⊎ EndsAt limits.max_chunks 16 mid to old new fault) → Takes limits come to old new (of_stream fault)
+payload-takes limits come mid to old new h fault i (inl e) = subst (λ f. Takes limits come to old new (of_stream f)) (sym e) tt
+payload-takes limits come mid to old new h fault i (inr (inl e)) = subst (λ f. Takes limits come to old new (of_stream f)) (sym e) tt
+payload-takes limits come mid to old new h fault i (inr (inr e)) = ends-takes limits come mid to old new h (headed limits come mid h i) fault e
+
+-- before the payload nothing is said of what was taken
+pub early-takes : (limits : Bounds) (come to old new : Option (List ℕ)) (g : HeaderFault) → Takes limits come to old new (of_header g)
+early-takes limits come to old new header.Read = tt
+early-takes limits come to old new header.Memory = tt
+early-takes limits come to old new header.NotAge = tt
+early-takes limits come to old new (header.BadLine n) = tt
+early-takes limits come to old new header.Truncated = tt
+early-takes limits come to old new header.TooLarge = tt
+
+pub late-file : (max : ℕ) (from to old new : Option (List ℕ)) (fault : StreamFault)
+    → (fault ≡ stream.Read) ⊎ ((fault ≡ stream.NonceTruncated) ⊎ EndsAt max 16 from to old new fault) → (fault ≡ stream.NonceTruncated → Keeps old new)
+    → IsLate (of_stream fault) ⊎ Keeps old new
+late-file max from to old new stream.Read e k = inl tt
+late-file max from to old new stream.Write e k = inl tt
+late-file max from to old new stream.NonceTruncated e k = inr (k refl)
+late-file max from to old new (stream.ChunkShort i) e k = inl tt
+late-file max from to old new (stream.EmptyFinal i) e k = inl tt
+late-file max from to old new (stream.BadChunk i) e k = inl tt
+late-file max from to old new stream.TooManyChunks e k = inl tt
+late-file max from to old new stream.Memory e k = absurd (go e)
+  where
+    not-read : stream.Memory ≡ stream.Read → ⊥
+    not-read x = cc
+
+    not-nonce : stream.Memory ≡ stream.NonceTruncated → ⊥
+    not-nonce x = cc
+
+    not-write : stream.Memory ≡ stream.Write → ⊥
+    not-write x = cc
+
+    at-none : (e : EndsAt max 16 from to old new stream.Memory) → ((stream.Memory ≡ stream.Write) × (65536 * e.piece ≤ length e.text)) ⊎ IsAtPiece max e.piece stream.Memory → ⊥
+    at-none e (inl (is, le)) = not-write is
+    at-none e (inr at) = at
+
+    go : (stream.Memory ≡ stream.Read) ⊎ ((stream.Memory ≡ stream.NonceTruncated) ⊎ EndsAt max 16 from to old new stream.Memory) → ⊥
+    go (inl x) = not-read x
+    go (inr (inl x)) = not-nonce x
+    go (inr (inr x)) = at-none x x.at

@@ -1,38 +1,29 @@
 -- What a call of `encrypt` has written.
-use Rattle.std.proofs.Common.{◌≡◌, ◌⊎◌, ℕ, ◌+◌, ◌-◌, ◌<◌, ◌≤◌, List, [], ◌∷◌, ◌++◌, length, take, drop, refl, sym, ap, subst, inl, inr, arith, ◌∙◌, Option, None, Some, Result, Ok, Err, IfSome, append_assoc, zero, suc}
-use Rattle.std.proofs.lemmas.List.{append-nil}
-use Rattle.std.specs.Prelude.{IsErrOf}
+use Rattle.std.proofs.Common.{◌≡◌, ◌⊎◌, ℕ, ◌+◌, ◌-◌, ◌*◌, ◌<◌, ◌≤◌, List, [], ◌++◌, length, take, refl, sym, subst, inl, inr, arith, Option, None, Some, Result, Ok, Err, append_assoc}
+use Rattle.std.proofs.lemmas.List.{append-nil, length-append}
 use Rattle.std.specs.List.{concat}
 use Rattle.std.specs.Io.KnownBytes.{Appends}
-use Rattle.std.proofs.KnownBytes.{Appends-nil}
-use Rattle.age_header.specs.Device.{Writes, WritesPart}
+use Rattle.std.proofs.KnownBytes.{Appends-nil, Appends-trans, Consumes-nil}
+use Rattle.age_header.specs.Device.{GaveAtMost, MayGive, WritesPart}
 use Rattle.age_header.specs.Header.{StanzaParts, Head}
 use Rattle.age_header.specs.Mac.{header_mac}
+use Rattle.age_header.proofs.GivenLemmas.{may-some}
 use Rattle.age_header.proofs.OneText.{one_text}
-use Rattle.age_header.proofs.WriteLemmas.{done_start, done_part}
+use Rattle.age_header.proofs.WriteLemmas.{done_part}
 use Rattle.age_recipient.specs.declared.key.FileKey.{FileKey}
 use Rattle.age_stream.specs.declared.done.Done.{Done}
 use Rattle.age_stream.specs.declared.fault.StreamFault.{StreamFault}
-use Rattle.age_stream.specs.declared.fault.StreamFault.TheVariants.{Memory as PayloadMemory, TooManyChunks as SealedTooMany}
-use Rattle.age_stream.specs.Calls.{GivesPayload}
-use Rattle.age_stream.specs.Payload.{chunks, payload, sealed_chunks}
+use Rattle.age_stream.specs.declared.fault.StreamFault.TheVariants as stream
+use Rattle.age_stream.specs.Payload.{chunks, payload, payload_key, sealed_chunks}
+use Rattle.age_stream.specs.Sealing.{SealerState, SealsAll, Stopped, StopsIn, at_start}
 use Rattle.age_file.specs.declared.fault.Fault.{Fault}
 use Rattle.age_file.specs.declared.fault.Fault.TheVariants.{TooManyChunks, Read, Write, OutOfMemory}
 use Rattle.age_file.specs.declared.limits.Fresh.{Fresh}
-use Rattle.age_file.specs.AgeFile.{AgeFile, Bounds}
-use Rattle.age_file.specs.NewFile.{BegunFile, CutFile, EncryptsGiven, EncryptsText, IsHeading, NewFile}
-
-ok_not_err : (done : Done) (f : StreamFault) → ◌≡◌ {A = Result Done StreamFault} (Ok done) (Err f) → ⊥
-ok_not_err done f h = cc
-
-many_not_memory : ◌≡◌ {A = Result Done StreamFault} (Err SealedTooMany) (Err PayloadMemory) → ⊥
-many_not_memory h = cc
-
--- it is enough to look at a source that tells its bytes, and they were read
-pub encrypts_told : (limits : Bounds) (fresh : Fresh) (given : Result (List StanzaParts) Fault) (plain : List ℕ) (told old new : Option (List ℕ)) (r : Result Done Fault)
-    → IfSome told (λ b. plain ≡ b) → EncryptsText limits fresh given plain old new r → EncryptsGiven limits fresh given told old new r
-encrypts_told limits fresh given plain None old new r is h = (plain, h)
-encrypts_told limits fresh given plain (Some b) old new r is h = subst (λ (z : List ℕ). EncryptsText limits fresh given z old new r) is h
+use Rattle.age_file.specs.AgeFile.{Bounds}
+use Rattle.age_file.specs.Device.{IsLate}
+use Rattle.age_file.specs.NewFile.{BegunFile, EncryptsGiven, EncryptsText, IsHeading, RefusesFirst, TakesOf, TookChunks}
+use Rattle.age_file.specs.Verdict.{of_stream}
+use Rattle.age_file.proofs.DecryptLemmas.{file_result}
 
 -- the header that was made is the header that was written
 pub record Made (limits : Bounds) (k : FileKey) (given : Result (List StanzaParts) Fault) (text : List ℕ) : Type 0 where
@@ -45,103 +36,175 @@ made limits k given stanzas mac text written is heading head =
     let same : text ≡ written = one_text stanzas (header_mac k.0 stanzas) text written heading.head (subst (λ (m : List ℕ). Head stanzas m written) is head) in
     record { stanzas = stanzas; heading = subst (λ (t : List ℕ). IsHeading limits k given stanzas t) same heading }
 
--- a whole file
-pub encrypts_all : (limits : Bounds) (fresh : Fresh) (given : Result (List StanzaParts) Fault) (plain text sealed : List ℕ) (old new : Option (List ℕ)) (done : Done)
-    → length fresh.nonce ≡ 16 → Made limits fresh.file_key given text → GivesPayload limits.max_chunks fresh.file_key fresh.nonce plain [] sealed (Ok done)
-    → Appends old new (text ++ sealed) → EncryptsText limits fresh given plain old new (Ok done)
-encrypts_all limits fresh given plain text sealed old new done sixteen m gives wrote =
-    let body : List ℕ = payload fresh.file_key fresh.nonce plain in (
-      text ++ body,
-      record {
-        stanzas = m.stanzas;
-        text = text;
-        heading = m.heading;
-        spelled = refl;
-        file = record {
-          header = text;
-          nonce = fresh.nonce;
-          head = m.heading.head;
-          nonce_len = sixteen;
-          spelled = refl;
-          header_fits = m.heading.fits;
-          chunks_fit = gives.0;
-          unmixed = m.heading.unmixed;
-        };
-      },
-      subst (λ (z : List ℕ). Appends old new (text ++ z)) gives.1 wrote,
-      gives.2,
-      gives.3,
-    )
+-- of a plaintext that the source may give
+pub encrypts_of : (limits : Bounds) (fresh : Fresh) (given : Result (List StanzaParts) Fault) (plain : List ℕ) (from old new : Option (List ℕ)) (r : Result Done Fault)
+    → MayGive from plain → EncryptsText limits fresh given plain old new r → EncryptsGiven limits fresh given from old new r
+encrypts_of limits fresh given plain None old new r may h = (plain, h)
+encrypts_of limits fresh given plain (Some b) old new r may h = subst (λ (z : List ℕ). EncryptsText limits fresh given z old new r) (sym may) h
 
--- a file of too many chunks
-pub encrypts_cut : (limits : Bounds) (fresh : Fresh) (given : Result (List StanzaParts) Fault) (plain text sealed : List ℕ) (old new : Option (List ℕ)) (fault : StreamFault)
-    → Made limits fresh.file_key given text → GivesPayload limits.max_chunks fresh.file_key fresh.nonce plain [] sealed (Err fault)
-    → Appends old new (text ++ sealed) → EncryptsText limits fresh given plain old new (Err TooManyChunks)
-encrypts_cut limits fresh given plain text sealed old new fault m gives wrote = (
-  text ++ sealed,
-  record { stanzas = m.stanzas; text = text; heading = m.heading; too_many = gives.1; spelled = ap (λ (z : List ℕ). text ++ z) gives.2 },
-  wrote,
-)
+-- memory was refused
+pub encrypts_refused : (limits : Bounds) (fresh : Fresh) (given : Result (List StanzaParts) Fault) (from old new : Option (List ℕ)) → EncryptsGiven limits fresh given from old new (Err OutOfMemory)
+encrypts_refused limits fresh given None old new = ([], tt)
+encrypts_refused limits fresh given (Some plain) old new = tt
 
--- the first lists of a list join to a front
-concat_front : (n : ℕ) (xs : List (List ℕ)) → (rest : List ℕ) × (concat xs ≡ concat (take n xs) ++ rest)
-concat_front zero xs = (concat xs, refl)
-concat_front (suc n) [] = ([], refl)
-concat_front (suc n) (x ∷ xs) = let more = concat_front n xs in (more.0, ap (λ z. x ++ z) more.1 ∙ sym (append_assoc x (concat (take n xs)) more.0))
+-- a beginning of the header and the nonce was written
+pub encrypts_begun : (limits : Bounds) (fresh : Fresh) (given : Result (List StanzaParts) Fault) (text : List ℕ) (from old new : Option (List ℕ))
+    → Made limits fresh.file_key given text → WritesPart old new (text ++ fresh.nonce) → EncryptsGiven limits fresh given from old new (Err Write)
+encrypts_begun limits fresh given text from old new m part =
+    let plain = may-some from in
+    let front : List ℕ = text ++ fresh.nonce in
+    let rest : List ℕ = concat (sealed_chunks fresh.file_key fresh.nonce plain.0) in
+    let is : text ++ payload fresh.file_key fresh.nonce plain.0 ≡ front ++ rest = sym (append_assoc text fresh.nonce rest) in
+    encrypts_of limits fresh given plain.0 from old new (Err Write) plain.1 (record {
+      stanzas = m.stanzas;
+      text = text;
+      heading = m.heading;
+      part = done_part old old new (text ++ payload fresh.file_key fresh.nonce plain.0) (front ++ rest) front rest (record { front = []; took = Appends-nil old; is = is }) refl part;
+    })
 
--- what is sealed is a front of the payload, all of it where there are few enough chunks
-sealed_front : (max : ℕ) (k : FileKey) (nonce plain sealed : List ℕ) (r : Result Done StreamFault) → GivesPayload max k nonce plain [] sealed r
-    → (rest : List ℕ) × (payload k nonce plain ≡ sealed ++ rest)
-sealed_front max k nonce plain sealed (Ok done) gives = ([], sym gives.1 ∙ sym (append-nil sealed))
-sealed_front max k nonce plain sealed (Err fault) gives =
-    let chunks_of : List (List ℕ) = sealed_chunks k nonce plain in
-    let front = concat_front (max - 1) chunks_of in (
-      front.0,
-      ap (λ z. nonce ++ z) front.1 ∙ sym (append_assoc nonce (concat (take (max - 1) chunks_of)) front.0)
-          ∙ ap (λ z. z ++ front.0) (sym gives.2),
-    )
-
--- a beginning of a file
-pub encrypts_part : (limits : Bounds) (fresh : Fresh) (given : Result (List StanzaParts) Fault) (plain text sealed : List ℕ) (old new : Option (List ℕ)) (r : Result Done StreamFault)
-    → Made limits fresh.file_key given text → GivesPayload limits.max_chunks fresh.file_key fresh.nonce plain [] sealed r
-    → WritesPart old new (text ++ sealed) → EncryptsText limits fresh given plain old new (Err Write)
-encrypts_part limits fresh given plain text sealed old new r m gives wrote =
-    let front = sealed_front limits.max_chunks fresh.file_key fresh.nonce plain sealed r gives in
-    let body : List ℕ = payload fresh.file_key fresh.nonce plain in
-    let is : text ++ body ≡ (text ++ sealed) ++ front.0 = ap (λ (z : List ℕ). text ++ z) front.1 ∙ sym (append_assoc text sealed front.0) in
+-- a beginning of the payload was written behind them
+begun : (limits : Bounds) (fresh : Fresh) (given : Result (List StanzaParts) Fault) (text plain : List ℕ) (a b c : Option (List ℕ)) → Made limits fresh.file_key given text → Appends a b (text ++ fresh.nonce)
+    → WritesPart b c (concat (sealed_chunks fresh.file_key fresh.nonce plain)) → BegunFile limits fresh given plain a c
+begun limits fresh given text plain a b c m front part =
+    let rest : List ℕ = concat (sealed_chunks fresh.file_key fresh.nonce plain) in
     record {
       stanzas = m.stanzas;
       text = text;
       heading = m.heading;
-      part = done_part old old new (text ++ body) (text ++ body) (text ++ sealed) front.0 (done_start old (text ++ body)) is wrote;
+      part = done_part a b c (text ++ payload fresh.file_key fresh.nonce plain) rest rest []
+          (record { front = text ++ fresh.nonce; took = front; is = sym (append_assoc text fresh.nonce rest) }) (sym (append-nil rest)) part;
     }
 
--- sealing that did not want memory
-pub sealed_done : (max : ℕ) (k : FileKey) (nonce plain sealed none : List ℕ) (r : Result Done StreamFault) (done : Done) → r ≡ Ok done → none ≡ []
-    → ((IsErrOf r PayloadMemory × (sealed ≡ none)) ⊎ GivesPayload max k nonce plain none sealed r) → GivesPayload max k nonce plain [] sealed (Ok done)
-sealed_done max k nonce plain sealed none r done is empty (inl memory) = absurd (ok_not_err done PayloadMemory (sym is ∙ memory.0))
-sealed_done max k nonce plain sealed none r done is empty (inr gives) =
-    subst (λ (z : List ℕ). GivesPayload max k nonce plain z sealed (Ok done)) empty (subst (GivesPayload max k nonce plain none sealed) is gives)
+-- a whole file
+whole : (limits : Bounds) (fresh : Fresh) (given : Result (List StanzaParts) Fault) (text plain : List ℕ) (a b c : Option (List ℕ)) (done : Done) → length fresh.nonce ≡ 16
+    → Made limits fresh.file_key given text → Appends a b (text ++ fresh.nonce) → Appends b c (concat (sealed_chunks fresh.file_key fresh.nonce plain)) → 0 + length (chunks plain) ≤ limits.max_chunks
+    → done.bytes ≡ 65536 * 0 + 0 + length plain → done.chunks ≡ 0 + length (chunks plain) → EncryptsText limits fresh given plain a c (Ok done)
+whole limits fresh given text plain a b c done sixteen m front rest fits bytes count = (
+  text ++ payload fresh.file_key fresh.nonce plain,
+  record {
+    stanzas = m.stanzas;
+    text = text;
+    heading = m.heading;
+    spelled = refl;
+    file = record {
+      header = text;
+      nonce = fresh.nonce;
+      head = m.heading.head;
+      nonce_len = sixteen;
+      spelled = refl;
+      header_fits = m.heading.fits;
+      chunks_fit = omega (arith, fits);
+      unmixed = m.heading.unmixed;
+    };
+  },
+  subst (Appends a c) (append_assoc text fresh.nonce _) (Appends-trans a b c (text ++ fresh.nonce) (concat (sealed_chunks fresh.file_key fresh.nonce plain)) front rest),
+  omega (arith, bytes),
+  omega (arith, count),
+)
 
-pub sealed_cut : (max : ℕ) (k : FileKey) (nonce plain sealed none : List ℕ) (r : Result Done StreamFault) → r ≡ Err SealedTooMany → none ≡ []
-    → ((IsErrOf r PayloadMemory × (sealed ≡ none)) ⊎ GivesPayload max k nonce plain none sealed r) → GivesPayload max k nonce plain [] sealed (Err SealedTooMany)
-sealed_cut max k nonce plain sealed none r is empty (inl memory) = absurd (many_not_memory (sym is ∙ memory.0))
-sealed_cut max k nonce plain sealed none r is empty (inr gives) =
-    subst (λ (z : List ℕ). GivesPayload max k nonce plain z sealed (Err SealedTooMany)) empty (subst (GivesPayload max k nonce plain none sealed) is gives)
+-- too many chunks
+cut_short : (limits : Bounds) (fresh : Fresh) (given : Result (List StanzaParts) Fault) (text plain : List ℕ) (a b c : Option (List ℕ)) → Made limits fresh.file_key given text → Appends a b (text ++ fresh.nonce)
+    → limits.max_chunks < 0 + length (chunks plain) → Appends b c (concat (take (limits.max_chunks - 1 - 0) (sealed_chunks fresh.file_key fresh.nonce plain))) → EncryptsText limits fresh given plain a c (Err TooManyChunks)
+cut_short limits fresh given text plain a b c m front many rest =
+    let n : limits.max_chunks - 1 - 0 ≡ limits.max_chunks - 1 = omega arith in
+    let out : List ℕ = concat (take (limits.max_chunks - 1) (sealed_chunks fresh.file_key fresh.nonce plain)) in
+    let put : Appends b c out = subst (λ k. Appends b c (concat (take k (sealed_chunks fresh.file_key fresh.nonce plain)))) n rest in (
+      text ++ (fresh.nonce ++ out),
+      record { stanzas = m.stanzas; text = text; heading = m.heading; too_many = omega (arith, many); spelled = refl },
+      subst (Appends a c) (append_assoc text fresh.nonce out) (Appends-trans a b c (text ++ fresh.nonce) out front put),
+    )
 
--- a header was made, and the plaintext could not be read
-unread : (limits : Bounds) (fresh : Fresh) (given : Result (List StanzaParts) Fault) (stanzas : List StanzaParts) (text : List ℕ) (told old : Option (List ℕ))
-    → IsHeading limits fresh.file_key given stanzas text → EncryptsGiven limits fresh given told old old (Err Read)
-unread limits fresh given stanzas text None old heading = ([], record { stanzas = stanzas; text = text; heading = heading; part = (0, Appends-nil old) })
-unread limits fresh given stanzas text (Some plain) old heading = record { stanzas = stanzas; text = text; heading = heading; part = (0, Appends-nil old) }
+-- a sealer that was just made
+pub from_start : (s : SealerState) (key : List ℕ) (m max : ℕ) (from to b c : Option (List ℕ)) (r : Result Done StreamFault) → s ≡ at_start key m → m ≡ max → SealsAll s from to b c r → SealsAll (at_start key max) from to b c r
+from_start s key m max from to b c r is same h = subst (λ n. SealsAll (at_start key n) from to b c r) same (subst (λ x. SealsAll x from to b c r) is h)
 
-unheld : (limits : Bounds) (fresh : Fresh) (given : Result (List StanzaParts) Fault) (told old : Option (List ℕ)) → EncryptsGiven limits fresh given told old old (Err OutOfMemory)
-unheld limits fresh given None old = ([], tt)
-unheld limits fresh given (Some plain) old = tt
+-- the payload behind the header and the nonce
+pub encrypts_payload : (limits : Bounds) (fresh : Fresh) (given : Result (List StanzaParts) Fault) (text : List ℕ) (from to a b c : Option (List ℕ)) (r : Result Done StreamFault) → length fresh.nonce ≡ 16
+    → Made limits fresh.file_key given text → Appends a b (text ++ fresh.nonce) → SealsAll (at_start (payload_key fresh.file_key fresh.nonce) limits.max_chunks) from to b c r
+    → EncryptsGiven limits fresh given from a c (file_result r)
+encrypts_payload limits fresh given text from to a b c (Ok done) sixteen m front (plain, may, rest, fits, bytes, count) =
+    encrypts_of limits fresh given plain from a c (Ok done) may (whole limits fresh given text plain a b c done sixteen m front rest fits bytes count)
+encrypts_payload limits fresh given text from to a b c (Err fault) sixteen m front (chunk, s) = go fault s.stops
+  where
+    key : List ℕ
+    key = payload_key fresh.file_key fresh.nonce
 
-pub encrypts_unread : (limits : Bounds) (fresh : Fresh) (given : Result (List StanzaParts) Fault) (stanzas : List StanzaParts) (text : List ℕ) (told old : Option (List ℕ)) (fault : Fault)
-    → IsHeading limits fresh.file_key given stanzas text → (fault ≡ Read) ⊎ (fault ≡ OutOfMemory) → EncryptsGiven limits fresh given told old old (Err fault)
-encrypts_unread limits fresh given stanzas text told old fault heading (inl is) =
-    subst (λ (f : Fault). EncryptsGiven limits fresh given told old old (Err f)) (sym is) (unread limits fresh given stanzas text told old heading)
-encrypts_unread limits fresh given stanzas text told old fault heading (inr is) =
-    subst (λ (f : Fault). EncryptsGiven limits fresh given told old old (Err f)) (sym is) (unheld limits fresh given told old)
+    go : (f : StreamFault) → StopsIn key limits.max_chunks 0 [] s.text b c f → EncryptsGiven limits fresh given from a c (Err (of_stream f))
+    go stream.Read h = encrypts_of limits fresh given s.text from a c (Err Read) s.may (begun limits fresh given text s.text a b c m front h)
+    go stream.Write h = encrypts_of limits fresh given s.text from a c (Err Write) s.may (begun limits fresh given text s.text a b c m front h)
+    go stream.TooManyChunks h = encrypts_of limits fresh given s.text from a c (Err TooManyChunks) s.may (cut_short limits fresh given text s.text a b c m front h.0 h.1)
+    go stream.Memory h = absurd h
+    go stream.NonceTruncated h = absurd h
+    go (stream.ChunkShort i) h = absurd h
+    go (stream.EmptyFinal i) h = absurd h
+    go (stream.BadChunk i) h = absurd h
+
+-- ---- what was taken
+
+pub takes_begun : (limits : Bounds) (fresh : Fresh) (given : Result (List StanzaParts) Fault) (text : List ℕ) (from old new : Option (List ℕ)) → Made limits fresh.file_key given text
+    → WritesPart old new (text ++ fresh.nonce) → TakesOf limits fresh given from from old new Write
+takes_begun limits fresh given text from old new m part = record {
+  stanzas = m.stanzas;
+  text = text;
+  heading = m.heading;
+  written = take part.0 (text ++ fresh.nonce);
+  gained = part.1;
+  n = 0;
+  whole = omega arith;
+  gave = ([], Consumes-nil from, omega arith);
+}
+
+took : (limits : Bounds) (fresh : Fresh) (given : Result (List StanzaParts) Fault) (text : List ℕ) (from to a b c : Option (List ℕ)) (chunk : ℕ) (fault : StreamFault) → length fresh.nonce ≡ 16
+    → Made limits fresh.file_key given text → Appends a b (text ++ fresh.nonce) → Stopped (payload_key fresh.file_key fresh.nonce) limits.max_chunks 0 chunk [] from to b c fault
+    → GaveAtMost (65536 * (chunk + 1 - 0) + 1) from to → TookChunks limits fresh given from to a c
+took limits fresh given text from to a b c chunk fault sixteen m front s gave =
+    let l : length ((text ++ fresh.nonce) ++ s.wrote.0) ≡ length (text ++ fresh.nonce) + length s.wrote.0 = length-append (text ++ fresh.nonce) s.wrote.0 in
+    let h : length (text ++ fresh.nonce) ≡ length text + length fresh.nonce = length-append text fresh.nonce in
+    record {
+      stanzas = m.stanzas;
+      text = text;
+      heading = m.heading;
+      written = (text ++ fresh.nonce) ++ s.wrote.0;
+      gained = Appends-trans a b c (text ++ fresh.nonce) s.wrote.0 front s.wrote.1;
+      n = chunk;
+      whole = omega (arith, l, h, sixteen, s.wrote.2);
+      gave = (gave.0, gave.1, omega (arith, gave.2));
+    }
+
+pub takes_payload : (limits : Bounds) (fresh : Fresh) (given : Result (List StanzaParts) Fault) (text : List ℕ) (from to a b c : Option (List ℕ)) (fault : StreamFault) → length fresh.nonce ≡ 16
+    → Made limits fresh.file_key given text → Appends a b (text ++ fresh.nonce) → SealsAll (at_start (payload_key fresh.file_key fresh.nonce) limits.max_chunks) from to b c (Err fault)
+    → TakesOf limits fresh given from to a c (of_stream fault)
+takes_payload limits fresh given text from to a b c stream.Read sixteen m front s = tt
+takes_payload limits fresh given text from to a b c stream.Memory sixteen m front s = tt
+takes_payload limits fresh given text from to a b c stream.NonceTruncated sixteen m front s = tt
+takes_payload limits fresh given text from to a b c (stream.ChunkShort i) sixteen m front s = tt
+takes_payload limits fresh given text from to a b c (stream.EmptyFinal i) sixteen m front s = tt
+takes_payload limits fresh given text from to a b c (stream.BadChunk i) sixteen m front s = tt
+takes_payload limits fresh given text from to a b c stream.Write sixteen m front (chunk, s) = go s.gave
+  where
+    not-read : stream.Write ≡ stream.Read → ⊥
+    not-read e = cc
+
+    go : (stream.Write ≡ stream.Read) ⊎ GaveAtMost (65536 * (chunk + 1 - 0) + 1) from to → TookChunks limits fresh given from to a c
+    go (inl e) = absurd (not-read e)
+    go (inr gave) = took limits fresh given text from to a b c chunk stream.Write sixteen m front s gave
+takes_payload limits fresh given text from to a b c stream.TooManyChunks sixteen m front (chunk, s) = go s.gave
+  where
+    not-read : stream.TooManyChunks ≡ stream.Read → ⊥
+    not-read e = cc
+
+    go : (stream.TooManyChunks ≡ stream.Read) ⊎ GaveAtMost (65536 * (chunk + 1 - 0) + 1) from to → TookChunks limits fresh given from to a c
+    go (inl e) = absurd (not-read e)
+    go (inr gave) = took limits fresh given text from to a b c chunk stream.TooManyChunks sixteen m front s gave
+
+-- a fault of the payload names no reason against the header, and comes late
+pub refuses_none : (limits : Bounds) (fresh : Fresh) (given : Result (List StanzaParts) Fault) (from to b c : Option (List ℕ)) (fault : StreamFault)
+    → SealsAll (at_start (payload_key fresh.file_key fresh.nonce) limits.max_chunks) from to b c (Err fault) → RefusesFirst limits fresh.file_key given (of_stream fault) × IsLate (of_stream fault)
+refuses_none limits fresh given from to b c stream.Read h = (tt, tt)
+refuses_none limits fresh given from to b c stream.Write h = (tt, tt)
+refuses_none limits fresh given from to b c stream.TooManyChunks h = (tt, tt)
+refuses_none limits fresh given from to b c stream.Memory h = absurd h.1.stops
+refuses_none limits fresh given from to b c stream.NonceTruncated h = absurd h.1.stops
+refuses_none limits fresh given from to b c (stream.ChunkShort i) h = absurd h.1.stops
+refuses_none limits fresh given from to b c (stream.EmptyFinal i) h = absurd h.1.stops
+refuses_none limits fresh given from to b c (stream.BadChunk i) h = absurd h.1.stops

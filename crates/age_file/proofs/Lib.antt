@@ -2,4 +2,3 @@ mod DecryptLemmas
 mod EncryptLemmas
 mod FileLemmas
 mod GatherLemmas
-mod ReadingLemmas

@@ -1,16 +1,16 @@
 -- What a new file is: the stanzas of its recipients, its header, and its payload (C2SP age.md).
-use Rattle.std.specs.Prelude.{◌≡◌, ℕ, ◌+◌, ◌-◌, ◌<◌, ◌≤◌, ◌⊎◌, Bool, true, false, ⊤, List, [], ◌∷◌, ◌++◌, length, take, Result, Ok, Err, Option, Some, None, Vec}
+use Rattle.std.specs.Prelude.{◌≡◌, ℕ, ◌+◌, ◌-◌, ◌*◌, ◌<◌, ◌≤◌, ◌⊎◌, true, false, ⊤, List, [], ◌∷◌, ◌++◌, length, take, Result, Ok, Err, Option, Some, None, Vec}
 use Rattle.std.specs.Global.{Global}
 use Rattle.std.specs.List.{concat}
 use Rattle.std.specs.Io.KnownBytes.{Appends}
-use Rattle.age_header.specs.Device.{WritesPart}
+use Rattle.age_header.specs.Device.{GaveAtMost, WritesPart}
 use Rattle.age_header.specs.Header.{StanzaParts, Head}
 use Rattle.age_header.specs.Mac.{header_mac}
 use Rattle.age_recipient.specs.declared.key.FileKey.{FileKey}
 use Rattle.age_stream.specs.declared.done.Done.{Done}
 use Rattle.age_stream.specs.Payload.{chunks, payload, sealed_chunks}
 use Rattle.age_file.specs.declared.fault.Fault.{Fault}
-use Rattle.age_file.specs.declared.fault.Fault.TheVariants.{NotAge, BadLine, HeaderTruncated, HeaderTooLarge, MixedPassphrase, NoMatch, WrongKey, Malformed, BadMac, NonceTruncated, ChunkShort, EmptyFinal, BadChunk, TooManyChunks, Read, Write, OutOfMemory, NoRecipients, Refused}
+use Rattle.age_file.specs.declared.fault.Fault.TheVariants.{HeaderTooLarge, MixedPassphrase, TooManyChunks, Read, Write, OutOfMemory, NoRecipients, Refused}
 use Rattle.age_file.specs.declared.limits.Fresh.{Fresh}
 use Rattle.age_file.specs.AgeFile.{AgeFile, Bounds, is_mixed}
 
@@ -112,3 +112,20 @@ FailsHeading limits k given fault =
     ⊎ (((fault ≡ NoRecipients) × IsRefusal limits k given NoRecipients)
     ⊎ (((fault ≡ MixedPassphrase) × IsRefusal limits k given MixedPassphrase)
     ⊎ ((fault ≡ HeaderTooLarge) × IsRefusal limits k given HeaderTooLarge))))
+
+-- Of the source at most so much was taken: with n full sealed chunks written behind the header and the nonce, n + 2 chunks of text.
+pub record TookChunks (limits : Bounds) (fresh : Fresh) (given : Result (List StanzaParts) Fault) (from to old new : Option (List ℕ)) : Type 0 where
+  pub stanzas : List StanzaParts
+  pub text : List ℕ
+  pub heading : IsHeading limits fresh.file_key given stanzas text
+  pub written : List ℕ
+  pub gained : Appends old new written
+  pub n : ℕ
+  pub whole : 65552 * n ≤ length written - (length text + 16)
+  pub gave : GaveAtMost (65536 * (n + 2)) from to
+
+-- how much of the source was taken where encrypting ended at a write, or with too many chunks
+abbrev pub TakesOf : Bounds → Fresh → Result (List StanzaParts) Fault → Option (List ℕ) → Option (List ℕ) → Option (List ℕ) → Option (List ℕ) → Fault → Type 0
+TakesOf limits fresh given from to old new TooManyChunks = TookChunks limits fresh given from to old new
+TakesOf limits fresh given from to old new Write = TookChunks limits fresh given from to old new
+TakesOf limits fresh given from to old new _ = ⊤

@@ -12,13 +12,14 @@ ghost use Rattle.age_file.specs.Verdict.{Answering, IsVerdict};
 
 use age_recipient::Matched;
 
-/// The verdict is a plaintext exactly on the age files of this plaintext for the file key that the identities choose. Bytes have at
-/// most one verdict.
+/// The verdict is a plaintext exactly on the age files of this plaintext for the file key that the identities choose. All bytes
+/// have one verdict, and only one.
 pub fn ok_is_age_file()
     ensures ok { (limits : Bounds) (answers : Answering) (b plain : List ℕ) → IsVerdict limits answers b (whole plain)
         ↔ ((stanzas : List StanzaParts) × (k : FileKey) × AgeFile limits k stanzas plain b × (choice (answers stanzas) ≡ Ok k)) }
     ensures one { (limits : Bounds) (answers : Answering) (b : List ℕ) (v w : Reading Fault)
         → IsVerdict limits answers b v → IsVerdict limits answers b w → v ≡ w }
+    ensures some { (limits : Bounds) (answers : Answering) (b : List ℕ) → (v : Reading Fault) × IsVerdict limits answers b v }
 {}
 
 /// An age file of the stanzas in which a pair's recipient wraps its file key is its plaintext to the pair's identity.

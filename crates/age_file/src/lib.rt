@@ -1,7 +1,8 @@
 //! Whole age v1 files (C2SP `age.md`): what bytes are to given identities, and the plaintext of a file.
 #![tactic(auto)]
 
-mod devices;
+mod decryptor;
+mod encryptor;
 mod fault;
 mod gather;
 mod header;
@@ -14,14 +15,16 @@ mod tests;
 mod writing;
 
 pub use age_header::{
-    DeviceFault, Header, MemSink, MemSource, ReadSource, Sink, Source, Stanza, StanzaError,
-    WriteSink, mac_of, write_header,
+    DeviceFault, Header, HeaderFault, HeaderReader, MemSink, MemSource, ReadSource, Sink, Source,
+    Stanza, StanzaError, WriteSink, mac_of, signed_text, write_all, write_header,
 };
 pub use age_recipient::{
     FileKey, Identity, KeyIdentity, KeyPair, KeyRecipient, Matched, PassError, PassIdentity,
-    PassPair, PassRecipient, Recipient, StanzaFault, Unwrapped, WrapFault,
+    PassPair, PassRecipient, Recipient, StanzaFault, UnlockFault, Unwrapped, WrapFault, unlock,
 };
-pub use age_stream::Done;
+pub use age_stream::{Done, Refused, StreamFault, StreamReader, StreamWriter};
+pub use decryptor::Decryptor;
+pub use encryptor::Encryptor;
 pub use fault::Fault;
 pub use header::inspect;
 pub use limits::{Fresh, Limits};

@@ -2,6 +2,7 @@
 
 mod devices;
 mod objects;
+mod steps;
 
 use crate::{Done, Fault, Fresh, Limits, decrypt, encrypt};
 use age_header::{MemSink, MemSource};
@@ -9,8 +10,10 @@ use age_recipient::{
     FileKey, Identity, KeyIdentity, KeyRecipient, PassIdentity, PassRecipient, Recipient,
 };
 use devices::{Drops, Holds};
-use objects::{Curve, Held, Long, Plug, Refuses};
+use objects::{Counts, Curve, Held, Long, Plug, Refuses};
 use std::alloc::{AllocError, Global};
+use std::cell::Cell;
+use std::rc::Rc;
 use std::test::Fail;
 
 const FRESH: Fresh = Fresh {
@@ -26,6 +29,15 @@ const SALT: [u8; 16] = [
 ];
 
 const PASS: &[u8] = b"correct horse";
+
+const VERSION: &[u8] = b"age-encryption.org/v1\n";
+
+const PASSPHRASE_STANZA: &[u8] =
+    b"-> scrypt AAAAAAAAAAAAAAAAAAAAAA 10\nAAAAAAAAAAAAAAAAAAAAAAAAAAAAAAAAAAAAAAAAAAA\n";
+
+const OTHER_STANZA: &[u8] = b"-> x\n\n";
+
+const END: &[u8] = b"--- AAAAAAAAAAAAAAAAAAAAAAAAAAAAAAAAAAAAAAAAAAA\n";
 
 type Recipients = Vec<Box<dyn Recipient>>;
 
@@ -160,7 +172,8 @@ fn failing_sink(rt: HostRuntime) -> Result<(), Fail> {
     Ok(())
 }
 
-/// Sources that fail at a read: of the header, of the payload, of a plaintext. Nothing is written.
+/// Sources that fail at a read: of the header and of the payload, with nothing written; of a plaintext, with a beginning of the file
+/// written.
 #[test]
 fn failing_sources(rt: HostRuntime) -> Result<(), Fail> {
     let alloc = rt.alloc();
@@ -181,8 +194,9 @@ fn failing_sources(rt: HostRuntime) -> Result<(), Fail> {
         assert!(rt; answer == Err(Fault::Read));
         assert!(rt; sink.bytes.is_empty());
     }
+    let (_, whole) = encrypted(alloc, b"abc", &recipients, &limits);
     let mut source = Drops::new(b"abc", 2);
-    let mut sink = Holds::new(Vec::new(alloc), 100);
+    let mut sink = Holds::new(Vec::new(alloc), 1_000);
     let answer = encrypt(
         alloc,
         &mut source,
@@ -192,7 +206,7 @@ fn failing_sources(rt: HostRuntime) -> Result<(), Fail> {
         &limits,
     );
     assert!(rt; answer == Err(Fault::Read));
-    assert!(rt; sink.bytes.is_empty());
+    assert!(rt; sink.bytes.len() == 172 && whole.as_slice().starts_with(sink.bytes.as_slice()));
     Ok(())
 }
 
@@ -213,6 +227,27 @@ fn too_many_chunks(rt: HostRuntime) -> Result<(), Fail> {
     let (answer, front) = decrypted(alloc, file.as_slice(), &key_of(alloc, 3)?, &one);
     assert!(rt; answer == Err(Fault::TooManyChunks));
     assert_eq!(rt; front.len(), 65_536);
+    Ok(())
+}
+
+/// A damaged first chunk: nothing is written, and the source is read no further than one byte into the second.
+#[test]
+fn damaged_first_chunk(rt: HostRuntime) -> Result<(), Fail> {
+    let alloc = rt.alloc();
+    let limits = Limits::default();
+    let plain = sevens(alloc, 131_073)?;
+    let (_, file) = encrypted(alloc, plain.as_slice(), &with_passphrase(alloc)?, &limits);
+    assert_eq!(rt; file.len(), 131_287);
+    let mut file = file;
+    file.as_mut_slice()[166] ^= 1;
+    let mut identities: Identities = Vec::new(alloc);
+    identities.push(Box::new(alloc, PassIdentity::new(alloc, PASS, 22)?)?)?;
+    let mut source = MemSource::new(file.as_slice());
+    let mut out = MemSink::new(Vec::new(alloc));
+    let answer = decrypt(alloc, &mut source, &mut out, identities.as_slice(), &limits);
+    assert!(rt; answer == Err(Fault::BadChunk(0)));
+    assert!(rt; out.into_vec().is_empty());
+    assert!(rt; source.rest().len() >= 65_568);
     Ok(())
 }
 
@@ -329,5 +364,30 @@ fn foreign_identity(rt: HostRuntime) -> Result<(), Fail> {
     wrong.push(Box::new(alloc, Held { key })?)?;
     let (answer, _) = decrypted(alloc, file.as_slice(), &wrong, &limits);
     assert!(rt; answer == Err(Fault::BadMac));
+    Ok(())
+}
+
+/// A passphrase stanza beside another is refused before any identity is asked; where it stands alone each is asked once.
+#[test]
+fn mixed_passphrase_asks_no_identity(rt: HostRuntime) -> Result<(), Fail> {
+    let alloc = rt.alloc();
+    let limits = Limits::default();
+    let asked = Rc::new(alloc, Cell::new(0u32))?;
+    let mut identities: Identities = Vec::new(alloc);
+    for _ in 0..2 {
+        let counts = Counts {
+            asked: Rc::clone(&asked)?,
+        };
+        identities.push(Box::new(alloc, counts)?)?;
+    }
+    let alone = [VERSION, PASSPHRASE_STANZA, END].concat(alloc)?;
+    let mixed = [VERSION, PASSPHRASE_STANZA, OTHER_STANZA, END].concat(alloc)?;
+    let (answer, out) = decrypted(alloc, mixed.as_slice(), &identities, &limits);
+    assert!(rt; answer == Err(Fault::MixedPassphrase));
+    assert!(rt; out.is_empty());
+    assert_eq!(rt; asked.get(), 0);
+    let (answer, _) = decrypted(alloc, alone.as_slice(), &identities, &limits);
+    assert!(rt; answer == Err(Fault::NoMatch));
+    assert_eq!(rt; asked.get(), 2);
     Ok(())
 }

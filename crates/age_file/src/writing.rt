@@ -5,19 +5,19 @@ ghost use Rattle.std.specs.Io.KnownBytes.{Keeps};
 ghost use Rattle.age_header.specs.Device.{Counts, Writes};
 ghost use Rattle.age_header.specs.Header.{Head};
 ghost use Rattle.age_file.specs.Device.{CountsRead, CountsWrite, IsLate};
-ghost use Rattle.age_file.specs.NewFile.{EncryptsGiven, RefusesFirst, gathered};
+ghost use Rattle.age_file.specs.NewFile.{EncryptsGiven, RefusesFirst, TakesOf, gathered};
 
-use crate::devices::read_rest;
 use crate::fault::Fault;
 use crate::gather::header_for;
 use crate::limits::{Fresh, Limits};
+use crate::names::stream_fault;
 use age_header::{DeviceFault, Header, Sink, Source, write_all, write_header};
 use age_recipient::Recipient;
-use age_stream::{Done, StreamFault, seal_payload};
+use age_stream::{ChunkBuf, ChunkSealer, Done};
 use std::alloc::Global;
 
-/// Writes the age file of a plaintext, all that the source still gives, for these recipients (C2SP `age.md`). Every growth is
-/// made before the first byte goes out.
+/// Writes the age file of a plaintext, all that the source still gives, for these recipients (C2SP `age.md`). Every allocation is
+/// made before the first byte goes out, and each chunk goes out as soon as more text comes.
 ///
 /// # Errors
 /// In this order: `Refused` at the first recipient that refuses, `NoRecipients` where there is no stanza at all, `MixedPassphrase`
@@ -38,39 +38,34 @@ pub fn encrypt<S: Source, W: Sink>(
     ensures quiet { IfErr result (λ fault. IsLate fault ⊎ Keeps (W.taken out.old) (W.taken out.new)) }
     ensures reads { CountsRead (S.failed plain.old) (S.failed plain.new) result }
     ensures writes { CountsWrite (W.failed out.old) (W.failed out.new) result }
+    ensures took { IfErr result (TakesOf limits.now fresh.now (gathered (map (λ r. wraps r fresh.now.file_key) recipients.now))
+        (S.to_come plain.old) (S.to_come plain.new) (W.taken out.old) (W.taken out.new)) }
 {
     let header = header_for(alloc, recipients, &fresh.file_key, limits)?;
-    let text = match read_rest(alloc, plain) {
-        Ok(text) => text,
-        Err(fault) => return Err(fault),
+    let Ok(buf) = ChunkBuf::new(alloc) else {
+        return Err(Fault::OutOfMemory);
     };
-    let mut payload = Vec::new(alloc);
-    let sealed = seal_payload(
-        &fresh.file_key,
-        &fresh.nonce,
-        text.as_slice(),
-        limits.max_chunks(),
-        &mut payload,
-    );
-    match sealed {
-        Ok(done) => match write_file(&header, payload.as_slice(), out) {
-            Ok(()) => Ok(done),
-            Err(_) => Err(Fault::Write),
-        },
-        Err(StreamFault::TooManyChunks) => match write_file(&header, payload.as_slice(), out) {
-            Ok(()) => Err(Fault::TooManyChunks),
-            Err(_) => Err(Fault::Write),
-        },
-        Err(_) => Err(Fault::OutOfMemory),
+    match write_front(&header, &fresh.nonce, out) {
+        Ok(()) => {}
+        Err(_) => return Err(Fault::Write),
+    }
+    let sealer = ChunkSealer::new(&fresh.file_key, &fresh.nonce, limits.max_chunks(), buf);
+    match sealer.seal_all(plain, out) {
+        Ok(done) => Ok(done),
+        Err(fault) => Err(stream_fault(fault)),
     }
 }
 
-/// Writes a header, and a payload behind it.
-fn write_file<W: Sink>(header: &Header, payload: &[u8], out: &mut W) -> Result<(), DeviceFault>
+/// Writes a header, and after it the nonce of its payload.
+pub(crate) fn write_front<W: Sink>(
+    header: &Header,
+    nonce: &[u8; 16],
+    out: &mut W,
+) -> Result<(), DeviceFault>
     ensures text { (text : List ℕ) × Head header.now.stanzas header.now.mac text
-        × Writes (W.taken out.old) (W.taken out.new) result (text ++ payload.now) }
+        × Writes (W.taken out.old) (W.taken out.new) result (text ++ nonce.now) }
     ensures count { Counts (W.failed out.old) (W.failed out.new) result }
 {
     write_header(header, out)?;
-    write_all(out, payload)
+    write_all(out, nonce)
 }

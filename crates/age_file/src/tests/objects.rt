@@ -3,6 +3,8 @@
 use age_header::Stanza;
 use age_recipient::{FileKey, Identity, Recipient, Unwrapped, WrapFault};
 use std::alloc::{AllocError, Global};
+use std::cell::Cell;
+use std::rc::Rc;
 
 /// Gives a stanza of a type that nobody else knows.
 #[derive(Drop)]
@@ -85,6 +87,23 @@ impl Recipient for Refuses {
 
     fn wrap(&self, _alloc: Global, _key: &FileKey) -> Result<Vec<Stanza>, WrapFault> {
         Err(WrapFault::Refused(self.code))
+    }
+}
+
+/// Counts how often it is asked, and has no answer.
+#[derive(Drop)]
+pub(super) struct Counts {
+    pub(super) asked: Rc<Cell<u32>>,
+}
+
+impl Identity for Counts {
+    ghost use Rattle.age_recipient.specs.declared.unwrapped.Unwrapped.TheVariants.{NotMine};
+
+    ghost meaning = { λ _ _. NotMine };
+
+    fn unwrap(&self, _alloc: Global, _stanzas: &[Stanza]) -> Result<Unwrapped, AllocError> {
+        self.asked.set(self.asked.get().saturating_add(1));
+        Ok(Unwrapped::NotMine)
     }
 }
 

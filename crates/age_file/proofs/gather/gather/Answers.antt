@@ -1,4 +1,4 @@
-use Rattle.std.proofs.Common.{sym, ◌∙◌, ap, inl, inr, refl, Ok, Err, ◌++◌, ◌≡◌, rules}
+use Rattle.std.proofs.Common.{sym, ◌∙◌, ap, inr, Err, ◌++◌, ◌≡◌, rules}
 use Rattle.age_file.specs.declared.fault.Fault.TheVariants.{Refused}
 use Rattle.age_file.specs.NewFile.{before}
 use Rattle.age_file.proofs.GatherLemmas.{gathered_step, gathered_more, refusal}

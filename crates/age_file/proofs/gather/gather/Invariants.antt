@@ -1,4 +1,4 @@
-use Rattle.std.proofs.Common.{◌≡◌, List, map, drop}
+use Rattle.std.proofs.Common.{◌≡◌, map, drop}
 use Rattle.age_file.specs.NewFile.{before, gathered, gathered_from}
 use Rattle.age_file.proofs.gather.gather.Given as goal
 

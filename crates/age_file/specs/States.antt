@@ -1,0 +1,59 @@
+-- A file that is written, or read, in steps: what is kept between the steps, and what each does to its device.
+use Rattle.std.specs.Prelude.{◌≡◌, ◌⊎◌, ℕ, true, List, ◌++◌, Option, Result, Ok, Err}
+use Rattle.std.specs.Io.KnownBytes.{Appends}
+use denote.Ref.{MutBor}
+use Rattle.age_header.specs.Device.{WritesPart}
+use Rattle.age_header.specs.Header.{Head, HeaderParts}
+use Rattle.age_recipient.specs.declared.key.FileKey.{FileKey}
+use Rattle.age_stream.specs.declared.fault.StreamFault.{StreamFault}
+use Rattle.age_stream.specs.Opening.{OpenerState, Starts}
+use Rattle.age_stream.specs.Reader.{MissesNonce}
+use Rattle.age_file.specs.declared.decryptor.Decryptor.{Decryptor}
+use Rattle.age_file.specs.declared.fault.Fault.{Fault}
+use Rattle.age_file.specs.declared.fault.Fault.TheVariants.{MixedPassphrase, Write}
+use Rattle.age_file.specs.declared.limits.Fresh.{Fresh}
+use Rattle.age_file.specs.AgeFile.{Bounds, is_mixed}
+use Rattle.age_file.specs.Device.{CountsRead, CountsWrite}
+use Rattle.age_file.specs.Inspect.{Inspects}
+use Rattle.age_file.specs.Verdict.{of_stream}
+
+-- a file that is ready to be written: its header, its key and nonce, and the limits
+pub record EncryptorState : Type 0 where
+  pub header : HeaderParts
+  pub fresh : Fresh
+  pub limits : Bounds
+
+-- its header and then its nonce were written
+abbrev pub PutsFront : EncryptorState → Option (List ℕ) → Option (List ℕ) → Type 0
+PutsFront s old new = (text : List ℕ) × Head s.header.stanzas s.header.mac text × Appends old new (text ++ s.fresh.nonce)
+
+-- a write of them failed: a beginning of both was written, and one failure more was counted
+abbrev pub LosesFront : EncryptorState → Option (List ℕ) → Option (List ℕ) → ℕ → ℕ → Fault → Type 0
+LosesFront s old new before after fault = (fault ≡ Write)
+    × ((text : List ℕ) × Head s.header.stanzas s.header.mac text × WritesPart old new (text ++ s.fresh.nonce))
+    × CountsWrite {A = ℕ} before after (Err fault)
+
+-- a file whose header was read: the source that gives the rest, the header, and the limits
+abbrev pub input_of : {S H : Type 0} → Decryptor S H → MutBor S
+input_of d = d.input
+
+abbrev pub header_of : {S H : Type 0} → Decryptor S H → H
+header_of d = d.header
+
+abbrev pub limits_of : {S H : Type 0} → Decryptor S H → Bounds
+limits_of d = d.limits
+
+-- no header was read, or one with a `scrypt` stanza beside another; a failed read was counted
+abbrev pub RefusesHeader : Bounds → Option (List ℕ) → Option (List ℕ) → ℕ → ℕ → Fault → Type 0
+RefusesHeader limits from to before after fault = CountsRead {A = HeaderParts} before after (Err fault)
+    × (Inspects limits from to (Err fault)
+    ⊎ ((fault ≡ MixedPassphrase) × ((header : HeaderParts) × Inspects limits from to (Ok header) × (is_mixed header.stanzas ≡ true))))
+
+-- the nonce was read, and the opener stands before piece 0 under the key that was found
+abbrev pub StartsUnder : Bounds → Result FileKey Fault → Option (List ℕ) → Option (List ℕ) → OpenerState → Type 0
+StartsUnder limits found from to opener = (k : FileKey) × (found ≡ Ok k) × Starts k limits.max_chunks from to (Ok opener)
+
+-- a key was found, and the nonce was not read
+abbrev pub MissesUnder : Bounds → Result FileKey Fault → Option (List ℕ) → Option (List ℕ) → ℕ → ℕ → Fault → Type 0
+MissesUnder limits found from to before after fault = (k : FileKey) × (met : StreamFault) × (found ≡ Ok k) × (fault ≡ of_stream met)
+    × MissesNonce k limits.max_chunks from to before after met

@@ -1,0 +1,10 @@
+-- The names of the crates below that a caller's clauses and objects cite, passed on from one place.
+pub use Rattle.age_header.specs.Header.{StanzaParts}
+pub use Rattle.age_recipient.specs.declared.key.FileKey.{FileKey}
+pub use Rattle.age_recipient.specs.Key.{IsFileKey}
+pub use Rattle.age_recipient.specs.declared.unwrapped.StanzaFault.{StanzaFault}
+pub use Rattle.age_recipient.specs.declared.unwrapped.StanzaFault.TheVariants.{ArgCount, Salt, WorkFactorText, WorkFactorTooHigh, BodyLength}
+pub use Rattle.age_recipient.specs.declared.unwrapped.Unwrapped.{Unwrapped}
+pub use Rattle.age_recipient.specs.declared.unwrapped.Unwrapped.TheVariants.{NotMine, Failed, Key, Malformed}
+pub use Rattle.age_stream.specs.Reading.{Reading, stops, whole}
+pub use Rattle.age_stream.specs.declared.done.Done.{Done}

@@ -1,0 +1,75 @@
+//! A program that stands on `age_file` alone: it encrypts a text for a recipient of its own and decrypts it with an identity
+//! of its own.
+#![tactic(auto)]
+
+mod objects;
+
+use age_file::{
+    Fault, FileKey, Fresh, Identity, Limits, MemSink, MemSource, Recipient, decrypt, encrypt,
+};
+use objects::{Held, Plug};
+use std::alloc::Global;
+use std::{io, str};
+
+// A real caller draws these 32 bytes anew for each file.
+const FRESH: Fresh = Fresh {
+    file_key: FileKey([1; 16]),
+    nonce: [2; 16],
+};
+
+fn main(rt: HostRuntime) -> io::Result<()> {
+    match there_and_back(rt.alloc(), b"hello") {
+        Ok((file, text)) => {
+            println!(rt; "file: {} bytes", file.len())?;
+            println!(rt;
+                "text: {}",
+                str::from_utf8(text.as_slice()).unwrap_or("no UTF-8")
+            )
+        }
+        Err(fault) => println!(rt; "{fault}"),
+    }
+}
+
+/// The file of a text, and the text that is read from it.
+fn there_and_back(alloc: Global, text: &[u8]) -> Result<(Vec<u8>, Vec<u8>), Fault> {
+    let limits = Limits::default();
+    let file = encrypted(alloc, text, &limits)?;
+    let back = decrypted(alloc, file.as_slice(), &limits)?;
+    Ok((file, back))
+}
+
+fn encrypted(alloc: Global, text: &[u8], limits: &Limits) -> Result<Vec<u8>, Fault> {
+    let mut recipients: Vec<Box<dyn Recipient>> = Vec::new(alloc);
+    let Ok(plug) = Box::new(alloc, Plug) else {
+        return Err(Fault::OutOfMemory);
+    };
+    if recipients.push(plug).is_err() {
+        return Err(Fault::OutOfMemory);
+    }
+    let mut source = MemSource::new(text);
+    let mut file = MemSink::new(Vec::new(alloc));
+    encrypt(
+        alloc,
+        &mut source,
+        &mut file,
+        recipients.as_slice(),
+        &FRESH,
+        limits,
+    )?;
+    Ok(file.into_vec())
+}
+
+fn decrypted(alloc: Global, file: &[u8], limits: &Limits) -> Result<Vec<u8>, Fault> {
+    let mut identities: Vec<Box<dyn Identity>> = Vec::new(alloc);
+    let key = FRESH.file_key;
+    let Ok(held) = Box::new(alloc, Held { key }) else {
+        return Err(Fault::OutOfMemory);
+    };
+    if identities.push(held).is_err() {
+        return Err(Fault::OutOfMemory);
+    }
+    let mut source = MemSource::new(file);
+    let mut text = MemSink::new(Vec::new(alloc));
+    decrypt(alloc, &mut source, &mut text, identities.as_slice(), limits)?;
+    Ok(text.into_vec())
+}

@@ -1,0 +1,74 @@
+//! One recipient, one identity, and bytes in memory.
+
+ghost use Rattle.std.specs.Prelude.{◌≡◌, ℕ, List, [], ◌∷◌, Ok, IfOk, IfErr};
+ghost use Rattle.age_file.specs.AgeFile.{AgeFile};
+ghost use Rattle.age_file.specs.Verdict.{IsVerdict};
+ghost use Rattle.age_file.specs.Words.{StanzaParts, whole};
+ghost use Rattle.round_trip.specs.Losses.{IsMemoryFault};
+
+use age_file::{
+    Fault, Fresh, Identity, Limits, MemSink, MemSource, Recipient, decrypt, encrypt, laws,
+};
+use std::alloc::Global;
+
+/// The age file of a plaintext for one recipient.
+///
+/// # Errors
+/// Those of `encrypt`.
+pub fn encrypted(
+    alloc: Global,
+    recipient: Box<dyn Recipient>,
+    plain: &[u8],
+    fresh: &Fresh,
+    limits: &Limits,
+) -> Result<Vec<u8>, Fault>
+    ensures file { IfOk result (λ file. (stanzas : List StanzaParts)
+        × (wraps recipient fresh.now.file_key ≡ Ok stanzas)
+        × AgeFile limits.now fresh.now.file_key stanzas plain.now file.items) }
+{
+    let mut recipients: Vec<Box<dyn Recipient>> = Vec::new(alloc);
+    if recipients.push(recipient).is_err() {
+        return Err(Fault::OutOfMemory);
+    }
+    let mut source = MemSource::new(plain);
+    let mut file = MemSink::new(Vec::new(alloc));
+    match encrypt(
+        alloc,
+        &mut source,
+        &mut file,
+        recipients.as_slice(),
+        fresh,
+        limits,
+    ) {
+        Ok(_) => Ok(file.into_vec()),
+        Err(fault) => Err(fault),
+    }
+}
+
+/// The plaintext of a file for one identity.
+///
+/// # Errors
+/// Those of `decrypt`; of a file that this identity reads whole, `OutOfMemory`, or `Write` where the allocation was the sink's.
+pub fn decrypted(
+    alloc: Global,
+    identity: Box<dyn Identity>,
+    file: &[u8],
+    limits: &Limits,
+) -> Result<Vec<u8>, Fault>
+    ensures text { IfOk result (λ text. (plain : List ℕ)
+        → IsVerdict limits.now (λ s. meaning identity s ∷ []) file.now (whole plain) → text.items ≡ plain) }
+    ensures lost { IfErr result (λ fault. (plain : List ℕ)
+        → IsVerdict limits.now (λ s. meaning identity s ∷ []) file.now (whole plain) → IsMemoryFault fault) }
+{
+    laws::ok_is_age_file();
+    let mut identities: Vec<Box<dyn Identity>> = Vec::new(alloc);
+    if identities.push(identity).is_err() {
+        return Err(Fault::OutOfMemory);
+    }
+    let mut source = MemSource::new(file);
+    let mut text = MemSink::new(Vec::new(alloc));
+    match decrypt(alloc, &mut source, &mut text, identities.as_slice(), limits) {
+        Ok(_) => Ok(text.into_vec()),
+        Err(fault) => Err(fault),
+    }
+}

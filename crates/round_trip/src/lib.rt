@@ -1,0 +1,11 @@
+//! What is encrypted for the recipient of a pair comes back through its identity. The proofs use the contracts and laws of
+//! `age_file` alone.
+#![tactic(auto)]
+
+mod file;
+mod pairs;
+#[cfg(test)]
+mod tests;
+
+pub use file::{decrypted, encrypted};
+pub use pairs::{Lost, key_there_and_back, pass_there_and_back, there_and_back};

@@ -1,0 +1,125 @@
+//! There and back, for the pairs.
+
+ghost use Rattle.std.specs.Prelude.{◌≡◌, IfOk, IfErr};
+ghost use Rattle.age_file.specs.Words.{IsFileKey};
+ghost use Rattle.round_trip.specs.Losses.{IsLoss};
+
+use crate::file::{decrypted, encrypted};
+use age_file::{
+    Fault, FileKey, Fresh, Identity, KeyIdentity, KeyPair, KeyRecipient, Limits, Matched,
+    PassError, PassIdentity, PassPair, PassRecipient, Recipient, laws,
+};
+use std::alloc::Global;
+
+/// Why a plaintext did not come back.
+#[derive(Debug, Drop)]
+pub enum Lost {
+    /// The pair could not be made, or one of its parts.
+    Unpaired(PassError),
+    /// A box for the recipient or the identity was refused.
+    Memory,
+    /// Encrypting failed.
+    Encrypting(Fault),
+    /// Decrypting failed.
+    Decrypting(Fault),
+}
+
+/// What `decrypt` gives of what `encrypt` made of a plaintext, for a pair's recipient and identity: that plaintext. A pair lends
+/// its two parts and a box owns what it holds, so the boxes are handed in beside the pair.
+///
+/// # Errors
+/// `Encrypting` with a fault of `encrypt`; `Decrypting` with `OutOfMemory`, or with `Write` where the allocation was the sink's.
+pub fn there_and_back<M: Matched>(
+    alloc: Global,
+    pair: &M,
+    recipient: Box<dyn Recipient>,
+    identity: Box<dyn Identity>,
+    plain: &[u8],
+    fresh: &Fresh,
+    limits: &Limits,
+) -> Result<Vec<u8>, Lost>
+    requires recipient { (⟦<dyn Recipient as Recipient>⟧ recipient.vtable).wraps recipient.value
+        ≡ M.R.wraps (M.the_recipient pair.now) }
+    requires identity { (⟦<dyn Identity as Identity>⟧ identity.vtable).meaning identity.value
+        ≡ M.I.meaning (M.the_identity pair.now) }
+    ensures back { IfOk result (λ text. text.items ≡ plain.now) }
+    ensures lost { IfErr result IsLoss }
+{
+    laws::pair_opens(pair);
+    has_sixteen_bytes(fresh.file_key);
+    let file = match encrypted(alloc, recipient, plain, fresh, limits) {
+        Ok(file) => file,
+        Err(fault) => return Err(Lost::Encrypting(fault)),
+    };
+    match decrypted(alloc, identity, file.as_slice(), limits) {
+        Ok(text) => Ok(text),
+        Err(fault) => Err(Lost::Decrypting(fault)),
+    }
+}
+
+/// A file key has sixteen bytes: its type says so, and here a contract.
+fn has_sixteen_bytes(key: FileKey)
+    ensures { IsFileKey key }
+{
+    let FileKey(_bytes) = key;
+}
+
+/// The same for the pair of a passphrase, as `PassPair::new` makes it.
+///
+/// # Errors
+/// `Unpaired` as `PassPair::new` says, else those of `there_and_back`.
+pub fn pass_there_and_back(
+    alloc: Global,
+    pass: &[u8],
+    salt: [u8; 16],
+    work: u8,
+    max: u8,
+    plain: &[u8],
+    fresh: &Fresh,
+    limits: &Limits,
+) -> Result<Vec<u8>, Lost>
+    ensures back { IfOk result (λ text. text.items ≡ plain.now) }
+    ensures lost { IfErr result IsLoss }
+{
+    let pair = match PassPair::new(alloc, pass, salt, work, max) {
+        Ok(pair) => pair,
+        Err(error) => return Err(Lost::Unpaired(error)),
+    };
+    let recipient = match PassRecipient::new(alloc, pass, salt, work) {
+        Ok(recipient) => recipient,
+        Err(error) => return Err(Lost::Unpaired(error)),
+    };
+    let identity = match PassIdentity::new(alloc, pass, max) {
+        Ok(identity) => identity,
+        Err(error) => return Err(Lost::Unpaired(error)),
+    };
+    let (Ok(recipient), Ok(identity)) = (Box::new(alloc, recipient), Box::new(alloc, identity))
+    else {
+        return Err(Lost::Memory);
+    };
+    there_and_back(alloc, &pair, recipient, identity, plain, fresh, limits)
+}
+
+/// The same for the pair of a key.
+///
+/// # Errors
+/// Those of `there_and_back`.
+pub fn key_there_and_back(
+    alloc: Global,
+    key: [u8; 32],
+    salt: [u8; 16],
+    plain: &[u8],
+    fresh: &Fresh,
+    limits: &Limits,
+) -> Result<Vec<u8>, Lost>
+    ensures back { IfOk result (λ text. text.items ≡ plain.now) }
+    ensures lost { IfErr result IsLoss }
+{
+    let pair = KeyPair::new(key, salt);
+    let recipient = Box::new(alloc, KeyRecipient::new(key, salt));
+    let identity = Box::new(alloc, KeyIdentity::new(key));
+    let (Ok(recipient), Ok(identity)) = (recipient, identity) else {
+        return Err(Lost::Memory);
+    };
+    there_and_back(alloc, &pair, recipient, identity, plain, fresh, limits)
+}

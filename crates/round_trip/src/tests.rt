@@ -1,0 +1,54 @@
+//! These calls succeed where memory is ample, which no contract says.
+
+use crate::{Lost, key_there_and_back, pass_there_and_back};
+use age_file::{FileKey, Fresh, Limits, PassError};
+use std::process::Abort;
+use std::test::Fail;
+
+const FRESH: Fresh = Fresh {
+    file_key: FileKey([1; 16]),
+    nonce: [2; 16],
+};
+
+fn is_hello(back: &Result<Vec<u8>, Lost>) -> bool {
+    match back {
+        Ok(text) => text.as_slice() == b"hello".as_slice(),
+        Err(_) => false,
+    }
+}
+
+#[test]
+fn passphrases(rt: HostRuntime) -> Result<(), Fail> {
+    let limits = Limits::default();
+    let back = pass_there_and_back(
+        rt.alloc(),
+        b"pass",
+        [3; 16],
+        1,
+        1,
+        b"hello",
+        &FRESH,
+        &limits,
+    );
+    assert!(rt; is_hello(&back));
+    let none = pass_there_and_back(
+        rt.alloc(),
+        b"pass",
+        [3; 16],
+        2,
+        1,
+        b"hello",
+        &FRESH,
+        &limits,
+    );
+    assert!(rt; matches!(&none, Err(Lost::Unpaired(PassError::WorkFactor))));
+    Ok(())
+}
+
+#[test]
+fn keys(rt: HostRuntime) -> Result<(), Fail> {
+    let limits = Limits::default();
+    let back = key_there_and_back(rt.alloc(), [4; 32], [3; 16], b"hello", &FRESH, &limits);
+    assert!(rt; is_hello(&back));
+    Ok(())
+}
