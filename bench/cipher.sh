@@ -1,17 +1,28 @@
 #!/usr/bin/env bash
 # The cipher crate beside openssl, in one run: MB/s of user time, best and median, in chunks of 64 KiB.
-# Usage: bench/cipher.sh [MIB] [ROUNDS]. Rounds are interleaved, so that a busy machine slows both alike.
+# Usage: bench/cipher.sh [MIB] [ROUNDS] [CPU]. CPU is what the program is built for, as x86-64-v3; left out, the
+# toolchain's default. Rounds are interleaved, so that a busy machine slows both alike.
 set -euo pipefail
 mib=${1:-256}
 rounds=${2:-7}
+cpu=${3:-}
 here=$(cd "$(dirname "$0")" && pwd)
 bench=$here/../crates/cipher_bench
 scratch=$(mktemp -d)
 trap 'rm -rf "$scratch"' EXIT
 
-if ! (cd "$bench" && rt run -- seal 1 7) > "$scratch/build" 2>&1; then
+if ! (cd "$bench" && rt run ${cpu:+--cpu "$cpu"} -- seal 1 7) > "$scratch/build" 2>&1; then
     cat "$scratch/build" >&2
     exit 1
+fi
+cp "$bench/out/cipher_bench" "$scratch/program"
+
+# Poly1305's loop multiplies four blocks in 25 vectors: 25 pmuludq where a register holds four words of 64 bits, 50
+# where it holds two. Where the compiler no longer sees that the factors have 32 bits, there are three times as many.
+multiplications=$(objdump -d --no-show-raw-insn "$scratch/program" |
+    awk '/^[0-9a-f]+ <.*>:$/ { inside = /fours::whole_fours/ } inside && /pmuludq/ { n++ } END { print n + 0 }')
+if [[ $multiplications != 25 && $multiplications != 50 ]]; then
+    echo "Poly1305's loop has $multiplications pmuludq, not 25 or 50: it is slower than it was written to be" >&2
 fi
 head -c $((mib * 1048576)) /dev/zero > "$scratch/zeros"
 
@@ -22,7 +33,7 @@ rate() {
     awk -v mib="$mib" -v s="$seconds" 'BEGIN { printf "%.0f\n", mib * 1.048576 / s }'
 }
 
-ours() { rate "$bench/out/cipher_bench" "$1" "$mib" 7; }
+ours() { rate "$scratch/program" "$1" "$mib" 7; }
 
 # openssl speed reads the user time itself; the authenticator alone is no algorithm of its, so a file goes through it
 theirs() {
@@ -47,7 +58,8 @@ done
 best() { sort -n "$1" | tail -n 1; }
 median() { sort -n "$1" | awk '{ v[NR] = $1 } END { print v[int((NR + 1) / 2)] }'; }
 
-printf 'MB/s of user time, %s, %s MiB, %s rounds\n\n' "$(openssl version | cut -d' ' -f1,2)" "$mib" "$rounds"
+printf 'MB/s of user time, %s, %s, %s MiB, %s rounds, load %s, %s pmuludq\n\n' "${cpu:-default processor}" \
+    "$(openssl version | cut -d' ' -f1,2)" "$mib" "$rounds" "$(cut -d' ' -f1 /proc/loadavg)" "$multiplications"
 printf '| %-8s | %10s | %12s | %12s | %14s | %10s | %12s |\n' part best median 'openssl best' 'openssl median' 'best ratio' 'median ratio'
 printf '|---|---|---|---|---|---|---|\n'
 for part in seal open chacha20 poly1305; do

@@ -14,24 +14,27 @@ cd "$work"
 head -c "$((mib << 20))" /dev/zero >plain
 head -c 32 /dev/urandom >key
 
-# The least time of some runs of this command, as throughput, with the most memory that one took.
+# The throughput of some runs of this command, the best and the median, with the most memory that one took.
 measure() {
-    local name=$1 run best="" memory="" seconds kib
+    local name=$1 run seconds kib most=0
     shift
+    : >times
     for ((run = 0; run < runs; run++)); do
         read -r seconds kib < <({ /usr/bin/time -f '%e %M' "$@" >/dev/null; } 2>&1)
-        if [[ -z $best ]] || awk "BEGIN { exit !($seconds < $best) }"; then
-            best=$seconds
+        echo "$seconds" >>times
+        if ((kib > most)); then
+            most=$kib
         fi
-        memory=$kib
     done
-    awk -v name="$name" -v s="$best" -v m="$mib" -v k="$memory" 'BEGIN {
-        printf "%-16s %8.0f MiB/s %8.2f s %10.1f MiB of memory\n", name, m / (s > 0 ? s : 0.01), s, k / 1024 }'
+    sort -n times | awk -v name="$name" -v m="$mib" -v k="$most" '{ t[NR] = ($1 > 0 ? $1 : 0.01) } END {
+        printf "%-20s best %6.0f, median %6.0f MiB/s %10.1f MiB of memory\n", name, m / t[1], m / t[int((NR + 1) / 2)], k / 1024 }'
 }
 
 measure "agep encrypt" "$agep" encrypt -k key -o agep.age plain
 measure "agep decrypt" "$agep" decrypt -k key -o agep.out agep.age
 cmp plain agep.out
+measure "agep encrypt, pipes" sh -c 'cat plain | "$0" encrypt -k key | cat' "$agep"
+measure "agep decrypt, pipes" sh -c 'cat agep.age | "$0" decrypt -k key | cat' "$agep"
 if command -v age >/dev/null; then
     age-keygen -o identity 2>/dev/null
     recipient=$(sed -n 's/^# public key: //p' identity)

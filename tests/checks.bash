@@ -10,7 +10,7 @@ cd "$work" || exit 1
 passed=0
 failed=0
 
-# Counts the last command's success, after the words that name what it shows.
+# Counts the last command's success, after the words that name what it shows. They have no $(..), whose status would count.
 check() {
     if [[ $? -eq 0 ]]; then
         passed=$((passed + 1))
@@ -58,14 +58,14 @@ run_into_closed_pipe() {
     : >out
 }
 
-# Makes refuse.so, with which a growth of memory is refused; not where there is no C compiler.
+# Makes refuse.so, with which an allocation is refused; not where there is no C compiler.
 has_refuser() {
     [[ -e refuse.so ]] || cc -shared -fPIC -o refuse.so "$root/tests/refuse.c" -ldl 2>/dev/null
 }
 
-# Runs the program on these words with each growth of memory refused in turn, until a run meets none. Each
+# Runs the program on these words with each allocation refused in turn, until a run meets none. Each
 # either says that memory is out and shows nothing, or got on with less and answers as ever; so does the last.
-each_growth() {
+each_allocation() {
     local usual answer refused=0 ended=0
     "$agep" "$@" >out 2>err
     usual="$? $(cat out err | cksum)"
@@ -82,7 +82,7 @@ each_growth() {
         fi
     done
     [[ $ended -gt 0 && ! -e refused && "$answer" == "$usual" ]]
-    check "$refused growths refused in turn, $ended times out of memory: ${*//$data\//}"
+    check "$refused allocations refused in turn, $ended times out of memory: ${*//$data\//}"
 }
 
 if ! "$root/agep" --version >/dev/null; then

@@ -257,7 +257,7 @@ damaged_files() {
 
 # The words' own faults, in the order in which they are looked for. OUT is made last of all.
 order() {
-    local command name
+    local command name size
     head -c 31 seed >short.key
     head -c 33 seed >long.key
     head -c 47 seed >short.seed
@@ -276,9 +276,10 @@ order() {
         has_ended 1 "agep: cannot open absent" && [[ ! -e made ]]
         check "$command: no key file"
         for name in short.key long.key empty; do
+            size=$(wc -c <"$name")
             run "$command" -k "$name" -o made nowhere
             has_ended 1 "agep: key file must hold 32 bytes" && [[ ! -e made ]]
-            check "$command: a key file of $(wc -c <"$name") bytes"
+            check "$command: a key file of $size bytes"
         done
         run "$command" -p "$work" -o made nowhere
         has_ended 1 "agep: read failed" && [[ ! -e made ]]
@@ -299,7 +300,8 @@ order() {
         has_ended 1 "agep: cannot open nowhere"
         check "$command: IN is opened before OUT is made"
         run "$command" -k key "$work"
-        has_ended 1 "agep: read failed"
+        # encrypt has written the header and the nonce by then.
+        has_said 1 "agep: read failed" && [[ $(wc -c <out) == $([[ $command == encrypt ]] && echo 172 || echo 0) ]]
         check "$command: a directory as IN"
     done
     run encrypt -k absent -s absent.seed hello
@@ -309,9 +311,10 @@ order() {
     has_ended 1 "agep: cannot open absent.seed" && [[ ! -e made ]]
     check "no seed file"
     for name in short.seed empty; do
+        size=$(wc -c <"$name")
         run encrypt -k key -s "$name" -o made nowhere
         has_ended 1 "agep: seed file must hold 48 bytes" && [[ ! -e made ]]
-        check "a seed file of $(wc -c <"$name") bytes"
+        check "a seed file of $size bytes"
     done
     run encrypt -k key -s "$work" -o made nowhere
     has_ended 1 "agep: read failed" && [[ ! -e made ]]
@@ -380,24 +383,96 @@ words() {
     check "help on decrypt, with its warnings"
 }
 
-# Want of memory: of the table for scrypt, and of each growth in turn.
-memory() {
+# A header of one passphrase stanza with this work factor.
+passphrase_header() {
+    local body=AAAAAAAAAAAAAAAAAAAAAAAAAAAAAAAAAAAAAAAAAAA
+    printf 'age-encryption.org/v1\n-> scrypt AAAAAAAAAAAAAAAAAAAAAA %s\n%s\n--- %s\n' "$1" "$body" "$body"
+}
+
+# Runs the program on these words with less memory than scrypt takes at the work factor 18.
+run_in_little_memory() {
     (
         ulimit -v 100000
-        encrypt -p pass -w 18 hello
+        run "$@"
     )
+}
+
+# The least and the greatest number of each option. scrypt at the work factor 30 would take a TiB, and is refused it.
+bounds() {
+    local words
+    encrypt -k key -s seed -o made hello
+    for words in "-w 1" "-w 30" "-H 1024" "-H 16777216"; do
+        # shellcheck disable=SC2086
+        encrypt -k key -s seed $words hello
+        has_written made
+        check "encrypt takes $words"
+    done
+    for words in "-m 1" "-m 30" "-H 1024" "-H 16777216"; do
+        # shellcheck disable=SC2086
+        decrypt -k key $words made
+        has_written hello
+        check "decrypt takes $words"
+    done
+    encrypt -p pass -w 1 -s seed -o made hello
+    LC_ALL=C grep -qx -- '-> scrypt ICEiIyQlJicoKSorLC0uLw 1' made && decrypt -p pass -m 1 made && has_written hello
+    check "a file of the work factor 1, where 1 is accepted"
+    encrypt -p pass -w 2 -s seed -o made hello
+    decrypt -p pass -m 1 made
+    has_ended 1 "agep: malformed stanza: work factor is too high"
+    check "a file of the work factor 2, where 1 is accepted"
+    run_in_little_memory encrypt -p pass -w 30 hello
+    has_ended 1 "agep: out of memory"
+    check "no memory for scrypt at the work factor 30"
+    passphrase_header 30 >made
+    run_in_little_memory decrypt -p pass -m 30 made
+    has_ended 1 "agep: out of memory"
+    check "a file of the work factor 30, where 30 is accepted"
+    passphrase_header 31 >made
+    decrypt -p pass -m 30 made
+    has_ended 1 "agep: malformed stanza: work factor is too high"
+    check "a file of the work factor 31, where 30 is accepted"
+    passphrase_header 22 >made
+    run_in_little_memory decrypt -p pass made
+    has_ended 1 "agep: out of memory"
+    check "a file of the work factor 22, which is accepted without -m"
+}
+
+# Words joined and apart, by letters and by names, and a file's name behind --.
+spellings() {
+    cp hello ./-r
+    rm -f made back
+    run encrypt -ppass -w1 -sseed -H1024 -omade -- -r
+    has_ended 0 "" && run decrypt --passphrase=pass --max-work 1 --max-header=1024 --output back made &&
+        has_ended 0 "" && cmp -s back hello
+    check "a passphrase's file by letters joined to their words, and back by names"
+    rm -f made
+    run encrypt --key key --work=30 --seed seed --max-header 16777216 --output=made hello
+    has_ended 0 "" && run decrypt -kkey -m30 -H16777216 made && has_written hello
+    check "a key's file by names, and back by letters joined to their words"
+    LC_ALL=C sed '/^--- /q' made >expected
+    run inspect -rfabsent --max-header=16777216 made
+    has_written expected
+    check "two letters of inspect joined"
+    run inspect --raw --file-key absent made
+    has_written expected
+    check "the names of inspect's options"
+}
+
+# No memory: for the table of scrypt, and for each allocation in turn.
+memory() {
+    run_in_little_memory encrypt -p pass -w 18 hello
     has_ended 1 "agep: out of memory"
     check "no memory for scrypt at work factor 18"
     if ! has_refuser; then
-        echo "skipped: growths refused in turn, since there is no C compiler"
+        echo "skipped: allocations refused in turn, since there is no C compiler"
         return
     fi
-    each_growth encrypt -p pass -w 1 -s seed hello
+    each_allocation encrypt -p pass -w 1 -s seed hello
     encrypt -p pass -w 1 -s seed -o made hello
-    each_growth decrypt -p pass made
-    each_growth encrypt -k key -s seed hello
+    each_allocation decrypt -p pass made
+    each_allocation encrypt -k key -s seed hello
     encrypt -k key -s seed -o made hello
-    each_growth decrypt -k key made
+    each_allocation decrypt -k key made
 }
 
 make_files
@@ -413,5 +488,7 @@ damaged_files
 order
 outputs
 words
+bounds
+spellings
 memory
 finish

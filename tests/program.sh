@@ -108,7 +108,11 @@ limits() {
     table header >expected
     inspect header
     [[ $(wc -c <header) == 65536 ]] && cmp -s out expected && has_said 0 ""
-    check "a header of 65,536 bytes: $(sed -n 2p expected)"
+    check "a header of 65,536 bytes: 21,822 lines"
+    header_of "$(yes -- $'-> a\n' | head -n 21822)a\n\n" >header
+    inspect header
+    [[ $(wc -c <header) == 65537 ]] && has_ended 1 "agep: header is too large"
+    check "a header of 65,537 bytes"
     header_of "->$(repeated 30000 ' a')\n\n" >header
     table header >expected
     inspect header
@@ -137,6 +141,15 @@ words() {
     grep -qx 'Usage: agep inspect \[OPTIONS\] \[IN\]' out && grep -q -- '-r, --raw ' out &&
         grep -q -- '-f, --file-key <FILE> ' out && grep -q -- '-H, --max-header <N> .*\[default: 65536\]' out && has_said 0 ""
     check "help on inspect"
+    mv out expected
+    run help inspect
+    has_said 0 "" && cmp -s out expected
+    check "help on inspect by the word help"
+    run --help
+    mv out expected
+    run help
+    has_said 0 "" && cmp -s out expected && grep -q '^  encrypt ' out
+    check "help by the word help"
 }
 
 real_files() {
@@ -149,7 +162,7 @@ real_files() {
         check "$name.age: -r gives the header back byte for byte"
         inspect <"$data/$name.age"
         cmp -s out expected && [[ $(cat status) == 0 && ! -s err ]]
-        check "$name.age: the table, of $(sed -n 2p expected)"
+        check "$name.age: the table"
     done
     inspect -H 65534 "$data/recipients_668.age"
     [[ $(cat status) == 0 ]]
@@ -161,7 +174,7 @@ real_files() {
 
 # A header that `age -p` made, under its own file key and under another.
 header_check() {
-    local file=$data/passphrase.age
+    local size file=$data/passphrase.age
     LC_ALL=C sed '/^--- /q' "$file" >header
     table header | sed 's/^check none$/check good/' >expected
     inspect -f "$data/passphrase.key" "$file"
@@ -172,6 +185,25 @@ header_check() {
     inspect -f other.key "$file"
     cmp -s out expected && [[ $(cat status) == 1 && $(cat err) == "agep: header check failed" ]]
     check "passphrase.age under another file key"
+    # the last sign of a MAC has four of its bits
+    LC_ALL=C sed -E '/^--- /{s/A$/E/;t;s/.$/A/}' "$file" >changed.age
+    LC_ALL=C sed '/^--- /q' changed.age >header
+    table header | sed 's/^check none$/check bad/' >expected
+    inspect -f "$data/passphrase.key" changed.age
+    ! cmp -s "$file" changed.age && cmp -s out expected && [[ $(cat status) == 1 && $(cat err) == "agep: header check failed" ]]
+    check "passphrase.age under its file key, with the last character of its MAC changed"
+    inspect -r -f absent "$file"
+    cmp -s out <(LC_ALL=C sed '/^--- /q' "$file") && has_said 0 ""
+    check "with -r the file key file is not read"
+    for size in 0 15 17; do
+        head -c "$size" "$file" >other.key
+        inspect -f other.key nowhere.age
+        has_ended 1 "agep: file key file must hold 16 bytes"
+        check "a file key file of $size bytes"
+    done
+    inspect -f absent nowhere.age
+    has_ended 1 "agep: cannot open absent"
+    check "no file key file"
 }
 
 devices() {
@@ -211,6 +243,61 @@ devices() {
     check "a word that is no UTF-8"
 }
 
+# Whether the program, run on these words with the header as its input, says that a write failed while there is less room on
+# standard output than for its whole output, and ends well where there is just enough. It writes one byte at a time.
+writes_to_its_end() {
+    local room size=$1
+    shift
+    for room in 0 1 $((size / 2)) $((size - 1)) "$size"; do
+        ROOM=$room LD_PRELOAD=./devices.so "$agep" "$@" <header >out 2>err
+        echo $? >status
+        [[ $(wc -c <out) == "$room" ]] || return 1
+        if [[ $room == "$size" ]]; then
+            has_said 0 "" || return 1
+        else
+            has_said 1 "agep: write failed" || return 1
+        fi
+    done
+}
+
+# Devices that move one byte at a time, and fail in midstream.
+devices_in_midstream() {
+    local line
+    if ! cc -shared -fPIC -o devices.so "$root/tests/devices.c" -ldl 2>/dev/null; then
+        echo "skipped: devices that fail in midstream, since there is no C compiler"
+        return
+    fi
+    head -c 32 /dev/zero >key
+    header_of "-> a\n\n" >header
+    "$agep" encrypt -k key <header >encrypted
+    for line in "264 encrypt -k key" "76 inspect -r" "$("$agep" inspect header | wc -c) inspect" "$("$agep" --help | wc -c) --help"; do
+        # shellcheck disable=SC2086
+        writes_to_its_end $line
+        check "a device without room for ${line%% *} bytes: ${line#* }"
+    done
+    mv encrypted header
+    writes_to_its_end 76 decrypt -k key
+    check "a device without room for 76 bytes: decrypt -k key"
+    for line in "encrypt -k key" "decrypt -k key" inspect; do
+        # shellcheck disable=SC2086
+        head -c 50 header | BREAKS=1 LD_PRELOAD=./devices.so "$agep" $line >out 2>err
+        echo $? >status
+        if [[ $line == encrypt* ]]; then
+            # The header and the nonce, which are written before the plaintext is read.
+            has_said 1 "agep: read failed" && [[ $(wc -c <out) == 172 ]]
+        else
+            has_ended 1 "agep: read failed"
+        fi
+        check "an input that fails after 50 bytes: $line"
+    done
+    "$agep" --help >/dev/full 2>/dev/full
+    [[ $? -eq 1 ]]
+    check "status 1 after help that could not be written, where nobody hears of it"
+    "$agep" inspect nowhere.age 2>/dev/full
+    [[ $? -eq 1 ]]
+    check "status 1 after a fault of which nobody hears"
+}
+
 # A header of 4 MiB, read with ample memory, and in a process that may not have enough.
 memory() {
     {
@@ -226,19 +313,19 @@ memory() {
         inspect -H 16777216 great.age
     )
     has_ended 1 "agep: out of memory"
-    check "want of memory"
+    check "no memory for a header of 4 MiB"
 }
 
-growths() {
+allocations() {
     if ! has_refuser; then
-        echo "skipped: growths refused in turn, since there is no C compiler"
+        echo "skipped: allocations refused in turn, since there is no C compiler"
         return
     fi
-    each_growth inspect "$data/three_recipients.age"
-    each_growth inspect -r "$data/ssh_recipients.age"
-    each_growth inspect -f "$data/passphrase.key" "$data/passphrase.age"
-    each_growth inspect -H 12
-    each_growth help inspect
+    each_allocation inspect "$data/three_recipients.age"
+    each_allocation inspect -r "$data/ssh_recipients.age"
+    each_allocation inspect -f "$data/passphrase.key" "$data/passphrase.age"
+    each_allocation inspect -H 12
+    each_allocation help inspect
 }
 
 # How many of these calls on this descriptor the trace shows.
@@ -253,10 +340,10 @@ system_calls() {
         return
     fi
     [[ $(calls read 0) -le 2 && $(calls write 1) -le 2 ]]
-    check "a header of 65,534 bytes: $(calls read 0) reads, and -r $(calls write 1) writes"
+    check "a header of 65,534 bytes: at most two reads, and two writes with -r"
     strace -o trace -e trace=read,write "$agep" inspect <"$file" >out 2>err
     [[ $(calls read 0) -le 2 && $(calls write 1) -le 2 ]]
-    check "a header of 65,534 bytes: $(calls read 0) reads, and its table $(calls write 1) writes"
+    check "a header of 65,534 bytes: at most two reads, and two writes of its table"
 }
 
 scripts() {
@@ -280,8 +367,9 @@ words
 real_files
 header_check
 devices
+devices_in_midstream
 memory
-growths
+allocations
 system_calls
 scripts
 finish

@@ -1,4 +1,4 @@
-// Loaded before the C library, refuses the process its growth of memory with the number REFUSE (from 1),
+// Loaded before the C library, refuses the process its allocation with the number REFUSE (from 1),
 // and then makes the empty file "refused".
 #define _GNU_SOURCE
 #include <dlfcn.h>
@@ -9,9 +9,9 @@
 
 static int is_refused(void)
 {
-    static long growths;
+    static long allocations;
     const char *number = getenv("REFUSE");
-    if (number == NULL || ++growths != atol(number))
+    if (number == NULL || ++allocations != atol(number))
         return 0;
     close(open("refused", O_CREAT | O_WRONLY, 0600));
     return 1;

@@ -1,14 +1,18 @@
 //! The buffers between the files and the engine, and what every command does with them.
-ghost use Rattle.age_cli.specs.Job.{IsInRange};
+ghost use Rattle.std.specs.Prelude.{◌≡◌};
+ghost use Rattle.age_words.specs.Job.{IsInRange};
 
 use crate::fault::Fault;
-use crate::job::Job;
 use age_file::{Limits, ReadSource};
+use age_words::Job;
 use std::alloc::Global;
 use std::io::{BufReader, BufWriter, Read, Write};
 
-/// So many bytes go through each system call: a header of the default limit takes one read.
+/// So many bytes are read ahead for a header that is read byte by byte, and written at once.
 const BUFFER_LEN: usize = 65_536;
+
+/// So many bytes are read ahead of a payload: what is left of them is copied, and all that follows is read where it is opened.
+const HEADER_LEN: usize = 8_192;
 
 /// The most chunks that the engine takes, which is its default.
 const MAX_CHUNKS: u64 = 4_294_967_296;
@@ -16,6 +20,7 @@ const MAX_CHUNKS: u64 = 4_294_967_296;
 /// The limits of this job.
 pub(crate) fn limits_of(job: &Job) -> Limits
     requires { IsInRange job.now }
+    ensures { result ≡ record { max_header = job.now.max_header; max_chunks = 4294967296 } }
 {
     let Some(limits) = Limits::new(job.max_header, MAX_CHUNKS) else {
         unreachable!();
@@ -23,12 +28,28 @@ pub(crate) fn limits_of(job: &Job) -> Limits
     limits
 }
 
-/// A source over this reader.
-pub(crate) fn source_of<'a, R: Read + Drop>(
+/// A source over this reader, for a header alone.
+pub(crate) fn header_source<'a, R: Read + Drop>(
     alloc: Global,
     input: R,
 ) -> Result<ReadSource<BufReader<R>>, Fault<'a>> {
-    match BufReader::with_capacity(alloc, BUFFER_LEN, input) {
+    buffered_source(alloc, BUFFER_LEN, input)
+}
+
+/// A source over this reader, for a header and its payload.
+pub(crate) fn file_source<'a, R: Read + Drop>(
+    alloc: Global,
+    input: R,
+) -> Result<ReadSource<BufReader<R>>, Fault<'a>> {
+    buffered_source(alloc, HEADER_LEN, input)
+}
+
+fn buffered_source<'a, R: Read + Drop>(
+    alloc: Global,
+    len: usize,
+    input: R,
+) -> Result<ReadSource<BufReader<R>>, Fault<'a>> {
+    match BufReader::with_capacity(alloc, len, input) {
         Ok(buffered) => Ok(ReadSource::new(buffered)),
         Err(_) => Err(Fault::Engine(age_file::Fault::OutOfMemory)),
     }

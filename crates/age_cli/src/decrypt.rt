@@ -1,11 +1,11 @@
 //! The command `decrypt`: the plaintext of a file of the format.
-ghost use Rattle.age_cli.specs.Job.{IsInRange};
+ghost use Rattle.age_words.specs.Job.{IsInRange};
 
-use crate::buffers::{buffer_of, end, limits_of, source_of};
+use crate::buffers::{buffer_of, end, file_source, limits_of};
 use crate::fault::Fault;
-use crate::job::Job;
 use crate::secret::Secret;
 use age_file::{Identity, KeyIdentity, PassError, PassIdentity, WriteSink};
+use age_words::Job;
 use std::alloc::Global;
 use std::io::{Read, Write};
 
@@ -32,7 +32,7 @@ pub(crate) fn decrypt<'a, R: Read, W: Write>(
         }
     }
     let limits = limits_of(job);
-    let mut source = source_of(alloc, input)?;
+    let mut source = file_source(alloc, input)?;
     let mut buffered = buffer_of(alloc, out)?;
     let result = age_file::decrypt(
         alloc,

@@ -1,11 +1,11 @@
 //! The command `encrypt`: a file of the format, made of any bytes.
-ghost use Rattle.age_cli.specs.Job.{IsInRange};
+ghost use Rattle.age_words.specs.Job.{IsInRange};
 
-use crate::buffers::{buffer_of, end, limits_of, source_of};
+use crate::buffers::{buffer_of, end, limits_of};
 use crate::fault::Fault;
-use crate::job::Job;
 use crate::secret::{Secret, Seed};
-use age_file::{KeyRecipient, PassError, PassRecipient, Recipient, WriteSink};
+use age_file::{KeyRecipient, PassError, PassRecipient, ReadSource, Recipient, WriteSink};
+use age_words::Job;
 use std::alloc::Global;
 use std::io::{Read, Write};
 
@@ -32,7 +32,7 @@ pub(crate) fn encrypt<'a, R: Read, W: Write>(
         }
     }
     let limits = limits_of(job);
-    let mut source = source_of(alloc, input)?;
+    let mut source = ReadSource::new(input);
     let mut buffered = buffer_of(alloc, out)?;
     let result = age_file::encrypt(
         alloc,

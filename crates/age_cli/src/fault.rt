@@ -6,7 +6,7 @@ use std::fmt;
 /// Why a command ends without its work done. Its text is what follows `agep: ` on standard error.
 #[derive(Clone, Copy, Debug, Drop, PartialEq, Eq)]
 pub(crate) enum Fault<'a> {
-    /// What the engine answers; a device or memory may fail outside it too.
+    /// What the engine returns; a device or memory may fail outside it too.
     Engine(age_file::Fault),
     /// The words name a passphrase file and a key file, or neither.
     KeyChoice,

@@ -1,10 +1,12 @@
 //! The command `inspect`: what a header holds, as a table or as its own bytes.
-ghost use Rattle.age_cli.specs.Job.{IsInRange};
+ghost use Rattle.std.specs.Prelude.{◌≡◌, IfOk};
+ghost use Rattle.age_cli.specs.Check.{check_of};
+ghost use Rattle.age_words.specs.Job.{IsInRange};
 
-use crate::buffers::{buffer_of, end, limits_of, source_of};
+use crate::buffers::{buffer_of, end, header_source, limits_of};
 use crate::fault::Fault;
-use crate::job::Job;
 use age_file::{Header, Stanza, WriteSink, mac_of, write_header};
+use age_words::Job;
 use std::alloc::{AllocError, Global};
 use std::io::{Read, Write};
 use std::{fmt, io};
@@ -29,7 +31,7 @@ impl fmt::Display for Check {
 }
 
 /// Shows the header at the front of the input. Where there is none, nothing is written. A header that
-/// fails its check is shown before that is answered.
+/// fails its check is shown before that is returned.
 pub(crate) fn inspect<'a, R: Read, W: Write>(
     alloc: Global,
     job: &Job,
@@ -39,7 +41,7 @@ pub(crate) fn inspect<'a, R: Read, W: Write>(
 ) -> Result<(), Fault<'a>>
     requires { IsInRange job.now }
 {
-    let header = age_file::inspect(alloc, &mut source_of(alloc, input)?, &limits_of(job))?;
+    let header = age_file::inspect(alloc, &mut header_source(alloc, input)?, &limits_of(job))?;
     let check = check_of(alloc, &header, file_key)?;
     let mut buffered = buffer_of(alloc, out)?;
     let is_shown = if job.raw {
@@ -60,7 +62,9 @@ fn check_of(
     alloc: Global,
     header: &Header,
     file_key: &Option<[u8; 16]>,
-) -> Result<Check, AllocError> {
+) -> Result<Check, AllocError>
+    ensures { IfOk result (λ check. check ≡ check_of file_key.now header.now) }
+{
     match file_key {
         None => Ok(Check::None),
         Some(key) if mac_of(alloc, key, header.stanzas())? == *header.mac() => Ok(Check::Good),

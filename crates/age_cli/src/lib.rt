@@ -1,7 +1,7 @@
-//! The program `agep` as a library: its words, its commands and what it says.
+//! The program `agep` as a library: its commands and what it prints.
 //!
-//! `run` is the whole program over a reader and two writers that are handed in, so that a test can
-//! call it; the crate `agep` calls it with the standard streams.
+//! `run` is the whole program over a reader and two writers that are handed in; the crate `agep` calls it with the standard
+//! streams. The command line is read by `age_words`.
 #![tactic(auto)]
 
 mod buffers;
@@ -10,14 +10,8 @@ mod encrypt;
 mod fault;
 mod files;
 mod inspect;
-mod job;
-mod options;
 mod program;
 mod secret;
-#[cfg(test)]
-mod tests;
-mod words;
 
-pub use job::{Command, Job, WordsFault};
+pub use age_words::{Command, Job, WordsFault, read_words};
 pub use program::run;
-pub use words::read_words;

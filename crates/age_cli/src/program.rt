@@ -1,16 +1,16 @@
 //! The program, over a reader and two writers that are handed in.
 ghost use Rattle.std.specs.Prelude.{◌≡◌, ◌≤◌};
-ghost use Rattle.age_cli.specs.Job.{IsInRange};
+ghost use Rattle.age_words.specs.Job.{IsInRange};
 
 use crate::decrypt::decrypt;
 use crate::encrypt::encrypt;
 use crate::fault::Fault;
 use crate::files::{create, open, read_just};
 use crate::inspect::inspect;
-use crate::job::{Command, Job, WordsFault};
 use crate::secret::{Secret, Seed, read_secret, read_seed};
-use crate::words::read_words;
+use age_words::{Command, Job, WordsFault, read_words};
 use std::alloc::Global;
+use std::fmt::Display;
 use std::io::{Read, Write};
 use std::rt::Files;
 
@@ -21,7 +21,7 @@ const FAILED: u8 = 1;
 /// The command line was refused.
 const REFUSED: u8 = 2;
 
-/// Runs `agep` on these words, the program's name first, and answers its exit status: 0 where the
+/// Runs `agep` on these words, the program's name first, and returns its exit status: 0 where the
 /// work was done, 1 after a fault, 2 where the words were refused.
 ///
 /// `input` is read where the words name no file. `out` gets what the command gives, and the texts of
@@ -137,7 +137,15 @@ fn report<E: Write>(fault: Fault<'_>, err: &mut E) -> u8
     FAILED
 }
 
-/// Answers words that gave no job.
+/// Says on standard error why the command line was refused. That nobody hears it changes nothing.
+fn refuse<D: Display, E: Write>(why: &D, err: &mut E) -> u8
+    ensures { result ≡ 2 }
+{
+    let _ = write!(err, "{why}");
+    REFUSED
+}
+
+/// Says why the words gave no job, or shows help or the version.
 fn answer_refusal<W: Write, E: Write>(fault: &WordsFault, out: &mut W, err: &mut E) -> u8
     ensures status { result ≤ 2 }
     ensures refused { result ≡ 2 → out.new ≡ out.old }
@@ -146,8 +154,7 @@ fn answer_refusal<W: Write, E: Write>(fault: &WordsFault, out: &mut W, err: &mut
     match fault {
         WordsFault::Refused(error) => {
             if error.use_stderr() {
-                let _ = write!(err, "{error}");
-                return REFUSED;
+                return refuse(error, err);
             }
             match write!(out, "{error}").and_then(|()| out.flush()) {
                 Ok(()) => DONE,
@@ -155,9 +162,6 @@ fn answer_refusal<W: Write, E: Write>(fault: &WordsFault, out: &mut W, err: &mut
             }
         }
         WordsFault::Memory => report(Fault::Engine(age_file::Fault::OutOfMemory), err),
-        WordsFault::Lost => {
-            let _ = writeln!(err, "agep: bad command line");
-            REFUSED
-        }
+        WordsFault::Lost => refuse(&"agep: bad command line\n", err),
     }
 }

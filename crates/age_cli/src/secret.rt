@@ -2,8 +2,8 @@
 
 use crate::fault::Fault;
 use crate::files::{open, read_front, read_just};
-use crate::job::Job;
 use age_file::{FileKey, Fresh};
+use age_words::Job;
 use std::io::{ErrorKind, Read};
 use std::rt::Files;
 

@@ -46,9 +46,9 @@ pub struct Job {
 pub enum WordsFault {
     /// `clap` refused the words, or has help or the version to show.
     Refused(Error),
-    /// A growth was refused.
+    /// An allocation was refused.
     Memory,
-    /// `clap` took the words, and then had no value in range for one of them.
+    /// `clap` took the words, and then had no value in range for one of them, or met another subcommand.
     Lost,
 }
 

@@ -1,6 +1,6 @@
 -- What holds of a job that the words gave.
 use Rattle.std.specs.Prelude.{◌≤◌, ℕ}
-use Rattle.age_cli.specs.declared.job.Job.{Job}
+use Rattle.age_words.specs.declared.job.Job.{Job}
 
 -- n is from least to most, both included
 abbrev pub Lies : ℕ → ℕ → ℕ → Type 0

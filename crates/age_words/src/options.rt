@@ -1,4 +1,6 @@
 //! The commands and options that `clap` is told of. An option's id is its long name.
+ghost use Rattle.std.specs.Prelude.{◌≡◌, true, false, IfOk};
+ghost use Rattle.clap.specs.Words.{app_of};
 
 use clap::{Arg, ArgAction, Command, value_parser};
 use std::alloc::{AllocError, Global};
@@ -39,66 +41,49 @@ const ABOUT: &str = "Works on files in the age v1 format";
 const VERSION: &str = "0.1.0";
 
 /// The whole command line.
-pub(crate) fn whole_command<'a>(alloc: Global) -> Result<Command<'a>, AllocError> {
-    Command::new(alloc, "agep")
+pub(crate) fn whole_command<'a>(alloc: Global) -> Result<Command<'a>, AllocError>
+    ensures required { IfOk result (λ command. (app_of command).top.subcommand_required ≡ true) }
+    ensures plain { IfOk result (λ command. (app_of command).top.is_plain ≡ true) }
+{
+    let command = Command::new(alloc, "agep")
         .about(ABOUT)
         .version(VERSION)
-        .subcommand_required(true)
         .subcommand(encrypt_command(alloc)?)?
         .subcommand(decrypt_command(alloc)?)?
-        .subcommand(inspect_command(alloc)?)
+        .subcommand(inspect_command(alloc)?)?;
+    Ok(command.subcommand_required(true))
 }
 
-fn encrypt_command<'a>(alloc: Global) -> Result<Command<'a>, AllocError> {
-    let work = text_option(
-        alloc,
-        WORK,
-        'w',
-        "N",
-        "The passphrase's work factor, 1 to 30: each try takes 2^N KiB of memory, and time in proportion; not used with -k",
-    )
-    .value_parser(value_parser!(u64).range(LEAST_WORK as i64..=MOST_WORK as i64))
-    .default_value("18");
-    let seed = text_option(
-        alloc,
-        SEED,
-        's',
-        "SEED",
-        "The file whose first 48 bytes are the file key, the nonce and the salt: a seed used twice repeats keys",
-    )
-    .default_value(DEFAULT_SEED);
+fn encrypt_command<'a>(alloc: Global) -> Result<Command<'a>, AllocError>
+    ensures { IfOk result (λ command. (app_of command).top.is_plain ≡ true) }
+{
     Command::new(alloc, "encrypt")
         .about("Encrypt a file with a passphrase or a key: give one of -p and -k")
         .arg(pass_option(alloc))?
         .arg(key_option(alloc))?
-        .arg(work)?
-        .arg(seed)?
+        .arg(work_option(alloc))?
+        .arg(seed_option(alloc))?
         .arg(max_header_option(alloc))?
         .arg(output_option(alloc))?
         .arg(input_word(alloc))
 }
 
-fn decrypt_command<'a>(alloc: Global) -> Result<Command<'a>, AllocError> {
-    let max_work = text_option(
-        alloc,
-        MAX_WORK,
-        'm',
-        "N",
-        "The greatest work factor to accept, 1 to 30: a try takes 2^N KiB of memory; not used with -k",
-    )
-    .value_parser(value_parser!(u64).range(LEAST_WORK as i64..=MOST_WORK as i64))
-    .default_value("22");
+fn decrypt_command<'a>(alloc: Global) -> Result<Command<'a>, AllocError>
+    ensures { IfOk result (λ command. (app_of command).top.is_plain ≡ true) }
+{
     Command::new(alloc, "decrypt")
         .about("Decrypt a file with a passphrase or a key: give one of -p and -k")
         .arg(pass_option(alloc))?
         .arg(key_option(alloc))?
-        .arg(max_work)?
+        .arg(max_work_option(alloc))?
         .arg(max_header_option(alloc))?
         .arg(output_option(alloc))?
         .arg(input_word(alloc))
 }
 
-fn inspect_command<'a>(alloc: Global) -> Result<Command<'a>, AllocError> {
+fn inspect_command<'a>(alloc: Global) -> Result<Command<'a>, AllocError>
+    ensures { IfOk result (λ command. (app_of command).top.is_plain ≡ true) }
+{
     let raw = Arg::new(alloc, RAW)
         .short('r')
         .long(RAW)
@@ -119,7 +104,9 @@ fn inspect_command<'a>(alloc: Global) -> Result<Command<'a>, AllocError> {
         .arg(input_word(alloc))
 }
 
-fn pass_option<'a>(alloc: Global) -> Arg<'a> {
+fn pass_option<'a>(alloc: Global) -> Arg<'a>
+    ensures { result.global ≡ false }
+{
     text_option(
         alloc,
         PASS,
@@ -129,7 +116,9 @@ fn pass_option<'a>(alloc: Global) -> Arg<'a> {
     )
 }
 
-fn key_option<'a>(alloc: Global) -> Arg<'a> {
+fn key_option<'a>(alloc: Global) -> Arg<'a>
+    ensures { result.global ≡ false }
+{
     text_option(
         alloc,
         KEY,
@@ -139,7 +128,50 @@ fn key_option<'a>(alloc: Global) -> Arg<'a> {
     )
 }
 
-fn max_header_option<'a>(alloc: Global) -> Arg<'a> {
+fn work_option<'a>(alloc: Global) -> Arg<'a>
+    ensures { result.global ≡ false }
+{
+    text_option(
+        alloc,
+        WORK,
+        'w',
+        "N",
+        "The passphrase's work factor, 1 to 30: each try takes 2^N KiB of memory, and time in proportion; not used with -k",
+    )
+    .value_parser(value_parser!(u64).range(LEAST_WORK as i64..=MOST_WORK as i64))
+    .default_value("18")
+}
+
+fn seed_option<'a>(alloc: Global) -> Arg<'a>
+    ensures { result.global ≡ false }
+{
+    text_option(
+        alloc,
+        SEED,
+        's',
+        "SEED",
+        "The file whose first 48 bytes are the file key, the nonce and the salt: a seed used twice repeats keys",
+    )
+    .default_value(DEFAULT_SEED)
+}
+
+fn max_work_option<'a>(alloc: Global) -> Arg<'a>
+    ensures { result.global ≡ false }
+{
+    text_option(
+        alloc,
+        MAX_WORK,
+        'm',
+        "N",
+        "The greatest work factor to accept, 1 to 30: a try takes 2^N KiB of memory; not used with -k",
+    )
+    .value_parser(value_parser!(u64).range(LEAST_WORK as i64..=MOST_WORK as i64))
+    .default_value("22")
+}
+
+fn max_header_option<'a>(alloc: Global) -> Arg<'a>
+    ensures { result.global ≡ false }
+{
     text_option(
         alloc,
         MAX_HEADER,
@@ -151,7 +183,9 @@ fn max_header_option<'a>(alloc: Global) -> Arg<'a> {
     .default_value("65536")
 }
 
-fn output_option<'a>(alloc: Global) -> Arg<'a> {
+fn output_option<'a>(alloc: Global) -> Arg<'a>
+    ensures { result.global ≡ false }
+{
     text_option(
         alloc,
         OUTPUT,
@@ -161,7 +195,9 @@ fn output_option<'a>(alloc: Global) -> Arg<'a> {
     )
 }
 
-fn input_word<'a>(alloc: Global) -> Arg<'a> {
+fn input_word<'a>(alloc: Global) -> Arg<'a>
+    ensures { result.global ≡ false }
+{
     Arg::new(alloc, INPUT)
         .value_name("IN")
         .help("The file to read; standard input where it is left out")
@@ -174,7 +210,9 @@ fn text_option<'a>(
     short: char,
     value_name: &'a str,
     help: &'a str,
-) -> Arg<'a> {
+) -> Arg<'a>
+    ensures { result.global ≡ false }
+{
     Arg::new(alloc, id)
         .short(short)
         .long(id)

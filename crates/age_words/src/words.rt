@@ -1,6 +1,6 @@
 //! From the words of the command line to a job.
 ghost use Rattle.std.specs.Prelude.{IfOk};
-ghost use Rattle.age_cli.specs.Job.{IsInRange, Lies};
+ghost use Rattle.age_words.specs.Job.{IsInRange, Lies};
 
 use crate::job::{Command, Job, WordsFault};
 use crate::options::{
@@ -21,8 +21,8 @@ const DEFAULT_MAX_WORK: u8 = 22;
 /// Each number of the job lies in its range.
 ///
 /// # Errors
-/// `Refused` with `clap`'s own text for words that name no job, and for help and the version; `Memory` where a growth was
-/// refused; `Lost` where `clap` took a word and then gave no value in range for it.
+/// `Refused` with `clap`'s own text for words that name no job, and for help and the version; `Memory` where an allocation was
+/// refused; `Lost` where `clap` took the words and then had no value in range for one of them, or another subcommand.
 pub fn read_words(alloc: Global, words: &[&str]) -> Result<Job, WordsFault>
     ensures ranges { IfOk result IsInRange }
 {
@@ -31,15 +31,17 @@ pub fn read_words(alloc: Global, words: &[&str]) -> Result<Job, WordsFault>
         Some(("encrypt", matches)) => encrypt_job(alloc, matches),
         Some(("decrypt", matches)) => decrypt_job(alloc, matches),
         Some(("inspect", matches)) => inspect_job(alloc, matches),
-        _ => Err(WordsFault::Lost),
+        // `clap` adds a subcommand `help`, and does not promise that it is never entered
+        Some(_) => Err(WordsFault::Lost),
+        None => unreachable!(),
     }
 }
 
 fn encrypt_job(alloc: Global, matches: &ArgMatches<'_>) -> Result<Job, WordsFault>
     ensures ranges { IfOk result IsInRange }
 {
-    let work = number_in(matches, WORK, LEAST_WORK, MOST_WORK)?;
-    let max_header = number_in(matches, MAX_HEADER, LEAST_HEADER, MOST_HEADER)?;
+    let work = work_of(matches, WORK)?;
+    let max_header = max_header_of(matches)?;
     let Some(seed) = matches.get_str(SEED) else {
         return Err(WordsFault::Lost);
     };
@@ -47,10 +49,10 @@ fn encrypt_job(alloc: Global, matches: &ArgMatches<'_>) -> Result<Job, WordsFaul
         command: Command::Encrypt,
         pass: text_of(alloc, matches, PASS)?,
         key: text_of(alloc, matches, KEY)?,
-        work: work as u8,
+        work,
         seed: String::from_str(alloc, seed)?,
         max_work: DEFAULT_MAX_WORK,
-        max_header: max_header as usize,
+        max_header,
         output: text_of(alloc, matches, OUTPUT)?,
         raw: false,
         file_key: None,
@@ -61,16 +63,16 @@ fn encrypt_job(alloc: Global, matches: &ArgMatches<'_>) -> Result<Job, WordsFaul
 fn decrypt_job(alloc: Global, matches: &ArgMatches<'_>) -> Result<Job, WordsFault>
     ensures ranges { IfOk result IsInRange }
 {
-    let max_work = number_in(matches, MAX_WORK, LEAST_WORK, MOST_WORK)?;
-    let max_header = number_in(matches, MAX_HEADER, LEAST_HEADER, MOST_HEADER)?;
+    let max_work = work_of(matches, MAX_WORK)?;
+    let max_header = max_header_of(matches)?;
     Ok(Job {
         command: Command::Decrypt,
         pass: text_of(alloc, matches, PASS)?,
         key: text_of(alloc, matches, KEY)?,
         work: DEFAULT_WORK,
         seed: String::from_str(alloc, DEFAULT_SEED)?,
-        max_work: max_work as u8,
-        max_header: max_header as usize,
+        max_work,
+        max_header,
         output: text_of(alloc, matches, OUTPUT)?,
         raw: false,
         file_key: None,
@@ -81,7 +83,7 @@ fn decrypt_job(alloc: Global, matches: &ArgMatches<'_>) -> Result<Job, WordsFaul
 fn inspect_job(alloc: Global, matches: &ArgMatches<'_>) -> Result<Job, WordsFault>
     ensures ranges { IfOk result IsInRange }
 {
-    let max_header = number_in(matches, MAX_HEADER, LEAST_HEADER, MOST_HEADER)?;
+    let max_header = max_header_of(matches)?;
     Ok(Job {
         command: Command::Inspect,
         pass: None,
@@ -89,12 +91,28 @@ fn inspect_job(alloc: Global, matches: &ArgMatches<'_>) -> Result<Job, WordsFaul
         work: DEFAULT_WORK,
         seed: String::from_str(alloc, DEFAULT_SEED)?,
         max_work: DEFAULT_MAX_WORK,
-        max_header: max_header as usize,
+        max_header,
         output: None,
         raw: matches.get_flag(RAW),
         file_key: text_of(alloc, matches, FILE_KEY)?,
         input: text_of(alloc, matches, INPUT)?,
     })
+}
+
+/// The most bytes that a header may have.
+fn max_header_of(matches: &ArgMatches<'_>) -> Result<usize, WordsFault>
+    ensures { IfOk result (Lies 1024 16777216) }
+{
+    let max_header = number_in(matches, MAX_HEADER, LEAST_HEADER, MOST_HEADER)?;
+    Ok(max_header as usize)
+}
+
+/// The work factor that this option names.
+fn work_of(matches: &ArgMatches<'_>, id: &str) -> Result<u8, WordsFault>
+    ensures { IfOk result (Lies 1 30) }
+{
+    let work = number_in(matches, id, LEAST_WORK, MOST_WORK)?;
+    Ok(work as u8)
 }
 
 /// The number of an option, which is tested again, since `clap` promises little of what it took.

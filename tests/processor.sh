@@ -1,0 +1,40 @@
+#!/bin/bash
+# Builds the program and the cipher's tests for the level x86-64-v3 in a copy of the sources, where the processor at hand has that level:
+# runs the RFCs' vectors, and compares what the program writes with what Python makes by the RFCs. The last line is 'N passed, M failed'.
+source "$(dirname "$0")/checks.bash"
+
+if ! grep -qw avx2 /proc/cpuinfo 2>/dev/null || ! python3 -c 'import hashlib; hashlib.scrypt' 2>/dev/null; then
+    echo "skipped: no AVX2, or no python3"
+    finish
+    exit
+fi
+
+mkdir -p copy/crates
+cp "$root/agep" "$root/crates.txt" copy/
+for folder in "$root"/crates/*/; do
+    name=$(basename "$folder")
+    mkdir "copy/crates/$name"
+    for part in src specs proofs; do
+        [[ -d $folder/$part ]] && cp -R "$folder/$part" "copy/crates/$name/$part"
+    done
+done
+AGEP_CPU=x86-64-v3 ./copy/agep --version >out 2>err
+[[ $? -eq 0 && $(cat copy/crates/agep/out/built) == x86-64-v3 ]]
+check "a build for x86-64-v3"
+(cd copy/crates/age_cipher && rt test --cpu x86-64-v3) >out 2>err
+check "the cipher's vectors on x86-64-v3"
+agep=$work/copy/crates/agep/out/agep
+
+for i in {0..47}; do
+    printf '%b' "\\x$(printf %02x "$i")"
+done >seed
+head -c 32 seed >key
+for size in 0 1 63 64 65 255 256 257 511 512 513 1023 1024 1025 65535 65536 65537 131073 200000; do
+    seq 100000 | head -c "$size" >plain
+    "$agep" encrypt -k key -s seed -o file plain && "$root/tests/reference.py" -k key -s seed <plain >wanted &&
+        cmp -s file wanted
+    check "$size bytes are sealed as the RFCs say"
+    "$agep" decrypt -k key file | cmp -s - plain
+    check "$size bytes come back"
+done
+finish
