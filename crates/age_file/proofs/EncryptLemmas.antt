@@ -1,5 +1,5 @@
 -- What a call of `encrypt` has written.
-use Rattle.std.proofs.Common.{◌≡◌, ◌⊎◌, ℕ, ◌+◌, ◌-◌, ◌*◌, ◌<◌, ◌≤◌, List, [], ◌++◌, length, take, refl, sym, subst, inl, inr, arith, Option, None, Some, Result, Ok, Err, append_assoc}
+use Rattle.std.proofs.Common.{◌≡◌, ◌⊎◌, ℕ, ◌+◌, ◌-◌, ◌*◌, ◌<◌, ◌≤◌, List, [], ◌++◌, length, take, refl, sym, subst, inl, inr, arith, Option, None, IfNone, Some, Result, Ok, Err, append_assoc}
 use Rattle.std.proofs.lemmas.List.{append-nil, length-append}
 use Rattle.std.specs.List.{concat}
 use Rattle.std.specs.Io.KnownBytes.{Appends}
@@ -115,8 +115,12 @@ cut_short limits fresh given text plain a b c m front many rest =
     )
 
 -- a sealer that was just made
-pub from_start : (s : SealerState) (key : List ℕ) (m max : ℕ) (from to b c : Option (List ℕ)) (r : Result Done StreamFault) → s ≡ at_start key m → m ≡ max → SealsAll s from to b c r → SealsAll (at_start key max) from to b c r
-from_start s key m max from to b c r is same h = subst (λ n. SealsAll (at_start key n) from to b c r) same (subst (λ x. SealsAll x from to b c r) is h)
+pub from_start : (s : SealerState) (key : List ℕ) (m max : ℕ) (from to b c : Option (List ℕ)) (r : Result Done StreamFault) → s ≡ at_start key m → m ≡ max → IfNone s.fault (SealsAll s from to b c r) → SealsAll (at_start key max) from to b c r
+from_start s key m max from to b c r is same h = subst (λ n. SealsAll (at_start key n) from to b c r) same (subst (λ x. IfNone x.fault (SealsAll x from to b c r)) is h)
+
+-- of a clause of a sealer that was just made, what it says where no fault is kept
+pub just_made : (P : Type 0) (s : SealerState) (key : List ℕ) (m : ℕ) → s ≡ at_start key m → IfNone s.fault P → P
+just_made P s key m is h = subst (λ (x : SealerState). IfNone x.fault P) is h
 
 -- the payload behind the header and the nonce
 pub encrypts_payload : (limits : Bounds) (fresh : Fresh) (given : Result (List StanzaParts) Fault) (text : List ℕ) (from to a b c : Option (List ℕ)) (r : Result Done StreamFault) → length fresh.nonce ≡ 16

@@ -100,10 +100,10 @@ impl ChunkSealer {
         plain: &mut S,
         out: &mut W,
     ) -> Result<Done, StreamFault>
-        requires { self.fault ≡ None }
-        ensures seals { SealsAll self (S.to_come plain.old) (S.to_come plain.new) (W.taken out.old) (W.taken out.new) result }
-        ensures reads { CountsRead (S.failed plain.old) (S.failed plain.new) result }
-        ensures writes { CountsWrite (W.failed out.old) (W.failed out.new) result }
+        ensures kept { IfSome self.fault (λ f. (result ≡ Err f) × (plain.new ≡ plain.old) × (out.new ≡ out.old)) }
+        ensures seals { IfNone self.fault (SealsAll self (S.to_come plain.old) (S.to_come plain.new) (W.taken out.old) (W.taken out.new) result) }
+        ensures reads { IfNone self.fault (CountsRead (S.failed plain.old) (S.failed plain.new) result) }
+        ensures writes { IfNone self.fault (CountsWrite (W.failed out.old) (W.failed out.new) result) }
     {
         let mut sealer = self;
         match sealer.write_from(plain, out) {
