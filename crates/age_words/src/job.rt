@@ -13,6 +13,8 @@ pub enum Command {
     Decrypt,
     /// Shows a file's header.
     Inspect,
+    /// Gives a part of a file's plaintext.
+    Range,
 }
 
 /// A command with its options. A field whose option the command lacks has that option's default, or none.
@@ -27,7 +29,7 @@ pub struct Job {
     pub work: u8,
     /// The file whose first 48 bytes are the file key, the nonce and the salt that `encrypt` takes.
     pub seed: String,
-    /// The greatest work factor that `decrypt` takes, 1 to 30.
+    /// The greatest work factor that `decrypt` and `range` take, 1 to 30.
     pub max_work: u8,
     /// The most bytes that a header may have, 1,024 to 16,777,216.
     pub max_header: usize,
@@ -37,8 +39,12 @@ pub struct Job {
     pub raw: bool,
     /// The file that holds the file key under which `inspect` checks the header's MAC.
     pub file_key: Option<String>,
-    /// The file to read; standard input where there is none.
+    /// The file to read; standard input where there is none. `range` always has one.
     pub input: Option<String>,
+    /// The place in the plaintext from which `range` gives it, in bytes, at most 9,223,372,036,854,775,807.
+    pub at: u64,
+    /// How many bytes `range` gives at most, up to 9,223,372,036,854,775,807.
+    pub len: u64,
 }
 
 /// Why the words gave no job.

@@ -25,6 +25,10 @@ pub(crate) const FILE_KEY: &str = "file-key";
 
 pub(crate) const INPUT: &str = "input";
 
+pub(crate) const AT: &str = "at";
+
+pub(crate) const LEN: &str = "len";
+
 pub(crate) const LEAST_WORK: u64 = 1;
 
 pub(crate) const MOST_WORK: u64 = 30;
@@ -32,6 +36,9 @@ pub(crate) const MOST_WORK: u64 = 30;
 pub(crate) const LEAST_HEADER: u64 = 1024;
 
 pub(crate) const MOST_HEADER: u64 = 16_777_216;
+
+/// The last place of a range, and its greatest length.
+pub(crate) const MOST_PLACE: u64 = 9_223_372_036_854_775_807;
 
 /// The seed file where the words name none.
 pub(crate) const DEFAULT_SEED: &str = "/dev/urandom";
@@ -50,7 +57,8 @@ pub(crate) fn whole_command<'a>(alloc: Global) -> Result<Command<'a>, AllocError
         .version(VERSION)
         .subcommand(encrypt_command(alloc)?)?
         .subcommand(decrypt_command(alloc)?)?
-        .subcommand(inspect_command(alloc)?)?;
+        .subcommand(inspect_command(alloc)?)?
+        .subcommand(range_command(alloc)?)?;
     Ok(command.subcommand_required(true))
 }
 
@@ -71,14 +79,23 @@ fn encrypt_command<'a>(alloc: Global) -> Result<Command<'a>, AllocError>
 fn decrypt_command<'a>(alloc: Global) -> Result<Command<'a>, AllocError>
     ensures { IfOk result (λ command. (app_of command).top.is_plain ≡ true) }
 {
-    Command::new(alloc, "decrypt")
-        .about("Decrypt a file with a passphrase or a key: give one of -p and -k")
+    let command = Command::new(alloc, "decrypt").about(
+        "Decrypt a file with a passphrase or a key: give one of -p and -k",
+    );
+    with_opening_options(alloc, command)?.arg(input_word(alloc))
+}
+
+/// The options of the commands that open a payload.
+fn with_opening_options<'a>(alloc: Global, command: Command<'a>) -> Result<Command<'a>, AllocError>
+    requires { (app_of command).top.is_plain ≡ true }
+    ensures { IfOk result (λ command. (app_of command).top.is_plain ≡ true) }
+{
+    command
         .arg(pass_option(alloc))?
         .arg(key_option(alloc))?
         .arg(max_work_option(alloc))?
         .arg(max_header_option(alloc))?
-        .arg(output_option(alloc))?
-        .arg(input_word(alloc))
+        .arg(output_option(alloc))
 }
 
 fn inspect_command<'a>(alloc: Global) -> Result<Command<'a>, AllocError>
@@ -102,6 +119,33 @@ fn inspect_command<'a>(alloc: Global) -> Result<Command<'a>, AllocError>
         .arg(file_key)?
         .arg(max_header_option(alloc))?
         .arg(input_word(alloc))
+}
+
+fn range_command<'a>(alloc: Global) -> Result<Command<'a>, AllocError>
+    ensures { IfOk result (λ command. (app_of command).top.is_plain ≡ true) }
+{
+    let command = Command::new(alloc, "range").about(
+        "Decrypt a part of a file with a passphrase or a key: give one of -p and -k",
+    );
+    with_opening_options(alloc, command)?
+        .arg(place_word(
+            alloc,
+            AT,
+            "AT",
+            "The place of the first byte, counted from 0 in the plaintext",
+        ))?
+        .arg(place_word(
+            alloc,
+            LEN,
+            "LEN",
+            "The most bytes to write; fewer where the plaintext ends before",
+        ))?
+        .arg(required_word(
+            alloc,
+            INPUT,
+            "IN",
+            "The file to read: a pipe or a terminal cannot be read by places",
+        ))
 }
 
 fn pass_option<'a>(alloc: Global) -> Arg<'a>
@@ -201,6 +245,24 @@ fn input_word<'a>(alloc: Global) -> Arg<'a>
     Arg::new(alloc, INPUT)
         .value_name("IN")
         .help("The file to read; standard input where it is left out")
+        .action(ArgAction::Set)
+}
+
+fn place_word<'a>(alloc: Global, id: &'a str, value_name: &'a str, help: &'a str) -> Arg<'a>
+    ensures { result.global ≡ false }
+{
+    required_word(alloc, id, value_name, help).value_parser(value_parser!(u64).range(
+        0..=MOST_PLACE as i64,
+    ))
+}
+
+fn required_word<'a>(alloc: Global, id: &'a str, value_name: &'a str, help: &'a str) -> Arg<'a>
+    ensures { result.global ≡ false }
+{
+    Arg::new(alloc, id)
+        .value_name(value_name)
+        .help(help)
+        .required(true)
         .action(ArgAction::Set)
 }
 

@@ -4,8 +4,8 @@ ghost use Rattle.age_words.specs.Job.{IsInRange, Lies};
 
 use crate::job::{Command, Job, WordsFault};
 use crate::options::{
-    DEFAULT_SEED, FILE_KEY, INPUT, KEY, LEAST_HEADER, LEAST_WORK, MAX_HEADER, MAX_WORK,
-    MOST_HEADER, MOST_WORK, OUTPUT, PASS, RAW, SEED, WORK, whole_command,
+    AT, DEFAULT_SEED, FILE_KEY, INPUT, KEY, LEAST_HEADER, LEAST_WORK, LEN, MAX_HEADER, MAX_WORK,
+    MOST_HEADER, MOST_PLACE, MOST_WORK, OUTPUT, PASS, RAW, SEED, WORK, whole_command,
 };
 use clap::ArgMatches;
 use std::alloc::{AllocError, Global};
@@ -13,12 +13,12 @@ use std::alloc::{AllocError, Global};
 /// The work factor that `encrypt` writes where the words name none.
 const DEFAULT_WORK: u8 = 18;
 
-/// The greatest work factor that `decrypt` takes where the words name none.
+/// The greatest work factor that `decrypt` and `range` take where the words name none.
 const DEFAULT_MAX_WORK: u8 = 22;
 
 /// The job that the words ask for, the program's name first.
 ///
-/// Each number of the job lies in its range.
+/// Each number of the job lies in its range, and a range has a file to read.
 ///
 /// # Errors
 /// `Refused` with `clap`'s own text for words that name no job, and for help and the version; `Memory` where an allocation was
@@ -31,6 +31,7 @@ pub fn read_words(alloc: Global, words: &[&str]) -> Result<Job, WordsFault>
         Some(("encrypt", matches)) => encrypt_job(alloc, matches),
         Some(("decrypt", matches)) => decrypt_job(alloc, matches),
         Some(("inspect", matches)) => inspect_job(alloc, matches),
+        Some(("range", matches)) => range_job(alloc, matches),
         // `clap` adds a subcommand `help`, and does not promise that it is never entered
         Some(_) => Err(WordsFault::Lost),
         None => unreachable!(),
@@ -57,6 +58,8 @@ fn encrypt_job(alloc: Global, matches: &ArgMatches<'_>) -> Result<Job, WordsFaul
         raw: false,
         file_key: None,
         input: text_of(alloc, matches, INPUT)?,
+        at: 0,
+        len: 0,
     })
 }
 
@@ -77,6 +80,8 @@ fn decrypt_job(alloc: Global, matches: &ArgMatches<'_>) -> Result<Job, WordsFaul
         raw: false,
         file_key: None,
         input: text_of(alloc, matches, INPUT)?,
+        at: 0,
+        len: 0,
     })
 }
 
@@ -96,6 +101,35 @@ fn inspect_job(alloc: Global, matches: &ArgMatches<'_>) -> Result<Job, WordsFaul
         raw: matches.get_flag(RAW),
         file_key: text_of(alloc, matches, FILE_KEY)?,
         input: text_of(alloc, matches, INPUT)?,
+        at: 0,
+        len: 0,
+    })
+}
+
+fn range_job(alloc: Global, matches: &ArgMatches<'_>) -> Result<Job, WordsFault>
+    ensures ranges { IfOk result IsInRange }
+{
+    let max_work = work_of(matches, MAX_WORK)?;
+    let max_header = max_header_of(matches)?;
+    let at = number_in(matches, AT, 0, MOST_PLACE)?;
+    let len = number_in(matches, LEN, 0, MOST_PLACE)?;
+    let Some(input) = matches.get_str(INPUT) else {
+        return Err(WordsFault::Lost);
+    };
+    Ok(Job {
+        command: Command::Range,
+        pass: text_of(alloc, matches, PASS)?,
+        key: text_of(alloc, matches, KEY)?,
+        work: DEFAULT_WORK,
+        seed: String::from_str(alloc, DEFAULT_SEED)?,
+        max_work,
+        max_header,
+        output: text_of(alloc, matches, OUTPUT)?,
+        raw: false,
+        file_key: None,
+        input: Some(String::from_str(alloc, input)?),
+        at,
+        len,
     })
 }
 

@@ -7,13 +7,4 @@ abbrev plain : App → Bool
 plain a = a.top.is_plain
 
 pub returns : goal.returns
-returns c =
-    let first : plain (app_of c.about.result) ≡ true = search rules in
-    IfOk-weaker c.arg-6.result _ _ (λ command h.
-    ap plain (h.shape (search rules))
-    ∙ ap plain (c.in_ok-arg-5.ensures.shape (search rules))
-    ∙ ap plain (c.in_ok-arg-4.ensures.shape (search rules))
-    ∙ ap plain (c.in_ok-arg-3.ensures.shape (search rules))
-    ∙ ap plain (c.in_ok-arg-2.ensures.shape (search rules))
-    ∙ ap plain (c.in_ok-arg.ensures.shape (search rules))
-    ∙ first) c.arg-6.ensures
+returns c = IfOk-weaker c.arg.result _ _ (λ command h. ap plain (h.shape (search rules)) ∙ c.in_ok-with_opening_options.ensures) c.arg.ensures

@@ -11,7 +11,8 @@ returns-clause-plain c =
     let last : plain (app_of c.subcommand_required.result) ≡ plain (app_of c.in_ok-command.command) = search rules in
     let first : plain (app_of c.version.result) ≡ true = search rules in
     last
-    ∙ ap plain (c.in_ok-command.ensures.shape (third_is_false _ _ _ _ c.in_ok-inspect_command.ensures))
+    ∙ ap plain (c.in_ok-command.ensures.shape (third_is_false _ _ _ _ c.in_ok-range_command.ensures))
+    ∙ ap plain (c.in_ok-subcommand-3.ensures.shape (third_is_false _ _ _ _ c.in_ok-inspect_command.ensures))
     ∙ ap plain (c.in_ok-subcommand-2.ensures.shape (third_is_false _ _ _ _ c.in_ok-decrypt_command.ensures))
     ∙ ap plain (c.in_ok-subcommand.ensures.shape (third_is_false _ _ _ _ c.in_ok-encrypt_command.ensures))
     ∙ first

@@ -1,0 +1,17 @@
+use Rattle.std.proofs.Common.{rules, ap, ◌≡◌, ◌∙◌, true, Bool}
+use Rattle.std.proofs.lemmas.Result.{IfOk-weaker}
+use Rattle.clap.specs.Words.{App, app_of}
+use Rattle.age_words.proofs.options.with_opening_options.Goals as goal
+
+abbrev plain : App → Bool
+plain a = a.top.is_plain
+
+pub returns : goal.returns
+returns c =
+    IfOk-weaker c.arg-5.result _ _ (λ command h.
+    ap plain (h.shape (search rules))
+    ∙ ap plain (c.in_ok-arg-4.ensures.shape (search rules))
+    ∙ ap plain (c.in_ok-arg-3.ensures.shape (search rules))
+    ∙ ap plain (c.in_ok-arg-2.ensures.shape (search rules))
+    ∙ ap plain (c.in_ok-arg.ensures.shape (search rules))
+    ∙ c.requires) c.arg-5.ensures
