@@ -2,12 +2,21 @@
 
 use crate::fault::Fault;
 use std::fs;
-use std::io::{ErrorKind, Read};
+use std::io::{ErrorKind, Read, Seek, SeekFrom};
 use std::rt::Files;
 
 /// The file of this name, open to be read.
 pub(crate) fn open<'a, F: Files>(rt: &F, name: &'a str) -> Result<F::File, Fault<'a>> {
     fs::open(rt, name).map_err(|_| Fault::CannotOpen(name))
+}
+
+/// The file of this name, open to be read by places, as a pipe or a terminal cannot be.
+pub(crate) fn open_by_places<'a, F: Files>(rt: &F, name: &'a str) -> Result<F::File, Fault<'a>> {
+    let mut file = open(rt, name)?;
+    match file.seek(SeekFrom::Start(0)) {
+        Ok(_) => Ok(file),
+        Err(_) => Err(Fault::CannotOpen(name)),
+    }
 }
 
 /// The file of this name, made anew or emptied, to be written.

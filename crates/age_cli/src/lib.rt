@@ -9,8 +9,10 @@ mod decrypt;
 mod encrypt;
 mod fault;
 mod files;
+mod identities;
 mod inspect;
 mod program;
+mod range;
 mod secret;
 
 pub use age_words::{Command, Job, WordsFault, read_words};

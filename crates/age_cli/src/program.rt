@@ -5,9 +5,11 @@ ghost use Rattle.age_words.specs.Job.{IsInRange};
 use crate::decrypt::decrypt;
 use crate::encrypt::encrypt;
 use crate::fault::Fault;
-use crate::files::{create, open, read_just};
+use crate::files::{create, open, open_by_places, read_just};
 use crate::inspect::inspect;
+use crate::range::range;
 use crate::secret::{Secret, Seed, read_secret, read_seed};
+use age_file::FileAt;
 use age_words::{Command, Job, WordsFault, read_words};
 use std::alloc::Global;
 use std::fmt::Display;
@@ -46,7 +48,7 @@ pub fn run<F: Files + AllocGlobal, R: Read, W: Write, E: Write>(
     }
 }
 
-/// A command with all that it needs besides its input.
+/// A command with all that it needs besides its input, from which it reads from the front to the end.
 #[derive(Drop)]
 enum Task {
     Encrypt(Secret, Seed),
@@ -64,7 +66,15 @@ fn perform<'a, F: Files + AllocGlobal, R: Read, W: Write>(
 ) -> Result<(), Fault<'a>>
     requires { IsInRange job.now }
 {
-    let task = prepare(rt, job)?;
+    let task = match job.command {
+        Command::Encrypt => {
+            let secret = read_secret(rt, job)?;
+            Task::Encrypt(secret, read_seed(rt, job.seed.as_str())?)
+        }
+        Command::Decrypt => Task::Decrypt(read_secret(rt, job)?),
+        Command::Inspect => Task::Inspect(read_file_key(rt, job)?),
+        Command::Range => return perform_range(rt, job, out),
+    };
     match &job.input {
         Some(name) => {
             let mut file = open(rt, name.as_str())?;
@@ -74,22 +84,34 @@ fn perform<'a, F: Files + AllocGlobal, R: Read, W: Write>(
     }
 }
 
-/// Reads the files of the job's secrets.
-fn prepare<'a, F: Files + AllocGlobal>(rt: &F, job: &'a Job) -> Result<Task, Fault<'a>> {
-    match job.command {
-        Command::Encrypt => {
-            let secret = read_secret(rt, job)?;
-            let seed = read_seed(rt, job.seed.as_str())?;
-            Ok(Task::Encrypt(secret, seed))
+/// The file key under which the header is to be checked.
+fn read_file_key<'a, F: Files>(rt: &F, job: &'a Job) -> Result<Option<[u8; 16]>, Fault<'a>> {
+    match &job.file_key {
+        Some(name) if !job.raw => Ok(Some(read_just(rt, name.as_str(), Fault::FileKeyLength)?)),
+        _ => Ok(None),
+    }
+}
+
+/// As `perform`, for a range, whose input is read by places.
+fn perform_range<'a, F: Files + AllocGlobal, W: Write>(
+    rt: &F,
+    job: &'a Job,
+    out: &mut W,
+) -> Result<(), Fault<'a>>
+    requires range { IsInRange job.now }
+    requires command { job.now.command ≡ Command.Range }
+{
+    let secret = read_secret(rt, job)?;
+    let Some(name) = &job.input else {
+        unreachable!();
+    };
+    let mut input = FileAt::new(open_by_places(rt, name.as_str())?);
+    match &job.output {
+        Some(name) => {
+            let mut file = create(rt, name.as_str())?;
+            range(rt.alloc(), job, &secret, &mut input, &mut file)
         }
-        Command::Decrypt => Ok(Task::Decrypt(read_secret(rt, job)?)),
-        Command::Inspect => match &job.file_key {
-            Some(name) if !job.raw => {
-                let file_key = read_just(rt, name.as_str(), Fault::FileKeyLength)?;
-                Ok(Task::Inspect(Some(file_key)))
-            }
-            _ => Ok(Task::Inspect(None)),
-        },
+        None => range(rt.alloc(), job, &secret, &mut input, out),
     }
 }
 

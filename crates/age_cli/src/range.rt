@@ -1,0 +1,73 @@
+//! The command `range`: a part of the plaintext of a file of the format.
+ghost use Rattle.std.specs.Prelude.{◌≤◌, ◌≡◌, length};
+ghost use Rattle.age_words.specs.Job.{IsInRange};
+
+use crate::buffers::{buffer_of, end, limits_of};
+use crate::fault::Fault;
+use crate::identities::identities_of;
+use crate::secret::Secret;
+use age_file::{RangeReader, ReadAt, Sink, WriteSink, open_ranges, write_all};
+use age_words::Job;
+use std::alloc::Global;
+use std::io::Write;
+
+/// The most bytes of a chunk's plaintext.
+const CHUNK_LEN: u64 = 65_536;
+
+/// Writes the plaintext of the input from the job's place on, at most as many bytes as the job asks for. Before a fault of a
+/// chunk the plaintext up to that chunk is written.
+pub(crate) fn range<'a, D: ReadAt, W: Write>(
+    alloc: Global,
+    job: &Job,
+    secret: &Secret,
+    input: &mut D,
+    out: &mut W,
+) -> Result<(), Fault<'a>>
+    requires { IsInRange job.now }
+{
+    let identities = identities_of(alloc, job, secret)?;
+    let limits = limits_of(job);
+    let mut piece = vec![in alloc; 0u8; 65_536]?;
+    let mut buffered = buffer_of(alloc, out)?;
+    let result = match open_ranges(alloc, input, identities.as_slice(), &limits) {
+        Ok(mut reader) => write_range(
+            &mut reader,
+            job.at,
+            job.len,
+            piece.as_mut_slice(),
+            &mut WriteSink::new(&mut buffered),
+        ),
+        Err(fault) => Err(fault),
+    };
+    end(buffered, result.err())
+}
+
+/// Writes at most `len` bytes from place `at` on. No read crosses the end of a chunk: so what a failed one leaves in the buffer
+/// is nothing.
+fn write_range<D: ReadAt, W: Sink>(
+    reader: &mut RangeReader<'_, D>,
+    at: u64,
+    len: u64,
+    piece: &mut [u8],
+    out: &mut W,
+) -> Result<(), age_file::Fault>
+    requires at { at ≤ 9223372036854775807 }
+    requires len { len ≤ 9223372036854775807 }
+    requires piece { length piece.old ≡ 65536 }
+{
+    let mut at = at;
+    let mut left = len;
+    while left > 0 {
+        let most = left.min(CHUNK_LEN - at % CHUNK_LEN) as usize;
+        let n = reader.read_range(at, &mut piece[..most])?;
+        if n == 0 {
+            break;
+        }
+        if write_all(out, &piece[..n]).is_err() {
+            return Err(age_file::Fault::Write);
+        }
+        at += n as u64;
+        left -= n as u64;
+    }
+    Ok(())
+}
