@@ -8,3 +8,6 @@ returns-in-Ok-clause-puts g c =
 
 pub returns-in-Err-clause-puts : goal.returns-in-Err-clause-puts
 returns-in-Err-clause-puts g c = (refl, inl (refl, c.in-Err.ensures.text))
+
+pub returns-in-Ok-clause-within : goal.returns-in-Ok-clause-within
+returns-in-Ok-clause-within g c = c.if-index-max.false
