@@ -12,4 +12,5 @@ pub mod ReadingLemmas
 pub mod SealingLemmas
 pub mod SliceLemmas
 pub mod TailLemmas
+pub mod WholeLemmas
 pub mod WritingLemmas
