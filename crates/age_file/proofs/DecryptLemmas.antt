@@ -29,7 +29,7 @@ use Rattle.age_file.specs.Device.{CountsRead, CountsWrite, IsLate}
 use Rattle.age_file.specs.Inspect.{Inspects}
 use Rattle.age_file.specs.Verdict.{Answering, IsVerdict, judged, of_header, of_stream, read_under, unlocked}
 
-err-err : {A : Type 0} (f g : Fault) → ◌≡◌ {A = Result A Fault} (Err f) (Err g) → f ≡ g
+pub err-err : {A : Type 0} (f g : Fault) → ◌≡◌ {A = Result A Fault} (Err f) (Err g) → f ≡ g
 err-err f g e = cc
 
 -- ---- verdicts

@@ -1,4 +1,6 @@
+mod AtLemmas
 mod DecryptLemmas
 mod EncryptLemmas
 mod FileLemmas
 mod GatherLemmas
+mod RangeLemmas

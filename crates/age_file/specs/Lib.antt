@@ -3,6 +3,7 @@ pub mod Decrypt
 pub mod Device
 pub mod Inspect
 pub mod NewFile
+pub mod Ranges
 pub mod States
 pub mod Verdict
 pub mod Words

@@ -1,6 +1,7 @@
 //! Whole age v1 files (C2SP `age.md`): what bytes are to given identities, and the plaintext of a file.
 #![tactic(auto)]
 
+mod at_source;
 mod decryptor;
 mod encryptor;
 mod fault;
@@ -9,6 +10,7 @@ mod header;
 pub mod laws;
 mod limits;
 mod names;
+mod ranges;
 mod reading;
 #[cfg(test)]
 mod tests;
@@ -22,11 +24,14 @@ pub use age_recipient::{
     FileKey, Identity, KeyIdentity, KeyPair, KeyRecipient, Matched, PassError, PassIdentity,
     PassPair, PassRecipient, Recipient, StanzaFault, UnlockFault, Unwrapped, WrapFault, unlock,
 };
-pub use age_stream::{Done, Refused, StreamFault, StreamReader, StreamWriter};
+pub use age_stream::{
+    Done, FileAt, MemAt, RangeReader, ReadAt, Refused, StreamFault, StreamReader, StreamWriter,
+};
 pub use decryptor::Decryptor;
 pub use encryptor::Encryptor;
 pub use fault::Fault;
 pub use header::inspect;
 pub use limits::{Fresh, Limits};
+pub use ranges::open_ranges;
 pub use reading::decrypt;
 pub use writing::encrypt;

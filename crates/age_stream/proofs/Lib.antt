@@ -1,10 +1,16 @@
 pub mod CutLemmas
+pub mod JudgingLemmas
+pub mod LoadLemmas
 pub mod OpeningLemmas
 pub mod OutcomeLemmas
 pub mod PayloadLemmas
 pub mod PlaceLemmas
+pub mod RangeLemmas
+pub mod ReadAtLemmas
 pub mod ReaderLemmas
 pub mod ReadingLemmas
 pub mod SealingLemmas
+pub mod SliceLemmas
 pub mod TailLemmas
+pub mod WholeLemmas
 pub mod WritingLemmas

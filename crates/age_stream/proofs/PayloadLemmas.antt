@@ -224,7 +224,7 @@ ok-payload k b p max h = elim (cases_lt (length b) 16) [
       all_open-payload k b p max ge (subst (AllOpen key max 0 (pieces (drop 16 b))) (ap (λ (r : Reading StreamFault). r.front) (sym is ∙ h)) all)
 ]
 
-at_most-chunks : (p : List ℕ) → Sized 0 (chunks p)
+pub at_most-chunks : (p : List ℕ) → Sized 0 (chunks p)
 at_most-chunks p = elim (is_cut 65536 p (omega arith)).sizes [ inl e ↦ inl (e, refl) | inr f ↦ inr f ]
 
 pub payload-ok : (k : FileKey) (b p : List ℕ) (max : ℕ) → IsPayload k b p max → payload_reading k max b ≡ record { front = p; fault = None }

@@ -2,7 +2,10 @@ pub mod Counts
 pub mod Cutting
 pub mod Opening
 pub mod Payload
+pub mod Places
+pub mod Ranges
 pub mod Reader
 pub mod Reading
 pub mod Sealing
+pub mod Slice
 pub mod Writer

@@ -1,10 +1,11 @@
 //! Laws over the definitions alone: functions that do nothing, with the law as their contract.
 
-ghost use Rattle.std.specs.Prelude.{◌≡◌, ◌↔◌, ◌<◌, ◌≤◌, ℕ, List, drop, length};
+ghost use Rattle.std.specs.Prelude.{◌≡◌, ◌↔◌, ◌<◌, ◌≤◌, ℕ, List, Ok, drop, length, take};
 ghost use Rattle.age_recipient.specs.declared.key.FileKey.{FileKey};
 ghost use Rattle.age_stream.specs.Cutting.{cut, IsCut};
-ghost use Rattle.age_stream.specs.Payload.{chunks, payload, pieces};
+ghost use Rattle.age_stream.specs.Payload.{chunks, payload, payload_key, pieces};
 ghost use Rattle.age_stream.specs.Reading.{payload_reading, whole};
+ghost use Rattle.age_stream.specs.Slice.{IsSlice, plain_len, range_outcome};
 
 /// There is one cut of a text, and it is the computed one.
 pub fn one_cut()
@@ -18,4 +19,14 @@ pub fn ok_is_payload()
         ↔ ((nonce : List ℕ) × (length nonce ≡ 16) × (text ≡ payload k nonce plain) × (length (chunks plain) ≤ max)) }
     ensures count { (k : FileKey) (text plain : List ℕ) (max : ℕ) → payload_reading k max text ≡ whole plain
         → length (pieces (drop 16 text)) ≡ length (chunks plain) }
+{}
+
+/// A payload that reads whole opens for ranges. Its length for ranges is that of the plaintext, and its slices are the plaintext's.
+pub fn whole_is_sliced()
+    ensures opens { (k : FileKey) (text plain : List ℕ) (max : ℕ) → payload_reading k max text ≡ whole plain
+        → (last : List ℕ) × (range_outcome k max text ≡ Ok last) }
+    ensures len { (k : FileKey) (text plain : List ℕ) (max : ℕ) → payload_reading k max text ≡ whole plain
+        → plain_len (drop 16 text) ≡ length plain }
+    ensures slice { (k : FileKey) (text plain xs : List ℕ) (max at : ℕ) → payload_reading k max text ≡ whole plain
+        → IsSlice (payload_key k (take 16 text)) (drop 16 text) at xs → xs ≡ take (length xs) (drop at plain) }
 {}

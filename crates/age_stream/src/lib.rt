@@ -3,11 +3,16 @@
 #![tactic(auto)]
 
 mod buffer;
+mod chunks;
 mod done;
 mod fault;
 pub mod laws;
+mod layout;
+mod loading;
 mod opening;
 mod place;
+mod ranges;
+mod read_at;
 mod reader;
 mod refused;
 mod sealing;
@@ -19,6 +24,8 @@ pub use buffer::ChunkBuf;
 pub use done::Done;
 pub use fault::StreamFault;
 pub use opening::ChunkOpener;
+pub use ranges::RangeReader;
+pub use read_at::{FileAt, MemAt, ReadAt};
 pub use reader::StreamReader;
 pub use refused::Refused;
 pub use sealing::ChunkSealer;

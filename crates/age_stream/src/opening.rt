@@ -281,7 +281,7 @@ fn carry(bytes: &mut [u8], ahead: usize)
 }
 
 /// Opens the first `end` bytes where they stand, as piece i; the length of their text, which is then in front.
-fn open_piece(
+pub(crate) fn open_piece(
     key: &[u8; 32],
     max: u64,
     i: u64,
@@ -323,7 +323,7 @@ fn is_empty_final(last: bool, i: u64, len: usize) -> bool
 }
 
 /// Opens the first `end` bytes where they stand.
-fn open_front(key: &[u8; 32], nonce: &[u8; 12], bytes: &mut [u8], end: usize) -> bool
+pub(crate) fn open_front(key: &[u8; 32], nonce: &[u8; 12], bytes: &mut [u8], end: usize) -> bool
     requires low { 16 ≤ end }
     requires high { end ≤ length bytes.old }
     requires size { end ≤ 65552 }

@@ -1,6 +1,7 @@
 //! Payloads that are written piece by piece, and read chunk by chunk.
 
 mod devices;
+mod ranges;
 
 use crate::{ChunkBuf, Done, StreamFault, StreamReader, StreamWriter};
 use age_header::{MemSink, MemSource, Sink};

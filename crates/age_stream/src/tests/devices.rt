@@ -1,6 +1,10 @@
-//! A source that gives less than it is asked for, and a sink that gets full.
+//! Sources that give less than they are asked for, or fail, and a sink that gets full.
 
+use crate::{MemAt, ReadAt};
 use age_header::{DeviceFault, Sink, Source};
+use std::cell::Cell;
+use std::io;
+use std::io::{Read, Seek, SeekFrom};
 
 /// Gives at most so many of these bytes at a time. It leaves its bytes untold.
 #[derive(Drop)]
@@ -72,5 +76,83 @@ impl Sink for Full {
 
     fn failures(&self) -> u64 {
         self.failures
+    }
+}
+
+/// Holds these bytes, counts its reads, and fails at the read with this number, counted from 1. Its contents are not known to proofs.
+#[derive(Drop)]
+pub(super) struct Counted<'a> {
+    bytes: MemAt<'a>,
+    reads: &'a Cell<u64>,
+    failing: u64,
+    failures: u64,
+}
+
+impl<'a> Counted<'a> {
+    pub(super) fn new(bytes: &'a [u8], reads: &'a Cell<u64>, failing: u64) -> Counted<'a> {
+        Counted {
+            bytes: MemAt::new(bytes),
+            reads,
+            failing,
+            failures: 0,
+        }
+    }
+}
+
+impl<'a> ReadAt for Counted<'a> {
+    ghost use Rattle.std.specs.Prelude.{None};
+
+    ghost bytes = { λ _. None };
+
+    ghost found = { λ s. ⟦<MemAt<'a> as ReadAt>⟧.found s.bytes };
+
+    ghost given = { λ s. ⟦<MemAt<'a> as ReadAt>⟧.given s.bytes };
+
+    ghost failed = { λ s. s.failures };
+
+    fn size(&mut self) -> Result<u64, DeviceFault> {
+        self.bytes.size()
+    }
+
+    fn read_at(&mut self, at: u64, buf: &mut [u8]) -> Result<usize, DeviceFault> {
+        self.reads.set(self.reads.get().wrapping_add(1));
+        if self.reads.get() == self.failing {
+            self.failures = self.failures.saturating_add(1);
+            return Err(DeviceFault);
+        }
+        self.bytes.read_at(at, buf)
+    }
+
+    fn given(&self) -> u64 {
+        self.bytes.given()
+    }
+
+    fn failures(&self) -> u64 {
+        self.failures
+    }
+}
+
+/// Reads at most one byte at a time.
+#[derive(Drop)]
+pub(super) struct Slow<F> {
+    file: F,
+}
+
+impl<F> Slow<F> {
+    pub(super) fn new(file: F) -> Slow<F> {
+        Slow { file }
+    }
+}
+
+impl<F: Read> Read for Slow<F> {
+    fn read(&mut self, buf: &mut [u8]) -> io::Result<usize> {
+        let (front, _) = buf.split_at_mut(buf.len().min(1));
+        self.file.read(front)
+    }
+}
+
+impl<F: Seek> Seek for Slow<F> {
+    fn seek(&mut self, to: SeekFrom) -> io::Result<u64> {
+        self.file.seek(to)
     }
 }

@@ -1,0 +1,75 @@
+-- What opening a file for ranges does, from what its parts do.
+use Rattle.std.proofs.Common.{◌≡◌, ◌⊎◌, ℕ, List, ◌++◌, ◌+◌, ◌-◌, ◌≤◌, length, drop, sym, ◌∙◌, ap, refl, subst, arith, inl, inr, option_map, Option, Some, None, Result, Ok, Err}
+use Rattle.std.specs.Result.{result_map_both}
+use Rattle.std.proofs.lemmas.List.{length-append, length-drop}
+use Rattle.age_header.specs.declared.fault.HeaderFault.{HeaderFault}
+use Rattle.age_header.specs.declared.fault.HeaderFault.TheVariants as header
+use Rattle.age_header.specs.Header.{HeaderParts}
+use Rattle.age_header.specs.Reader.{Refuses}
+use Rattle.age_header.specs.Verdict.{HeaderVerdict}
+use Rattle.age_recipient.specs.declared.key.FileKey.{FileKey}
+use Rattle.age_stream.specs.declared.fault.StreamFault.{StreamFault}
+use Rattle.age_stream.specs.Ranges.{OpensRanges}
+use Rattle.age_stream.specs.Slice.{range_outcome}
+use Rattle.age_file.specs.declared.fault.Fault.{Fault}
+use Rattle.age_file.specs.declared.fault.Fault.TheVariants.{OutOfMemory}
+use Rattle.age_file.specs.AgeFile.{Bounds}
+use Rattle.age_file.specs.Inspect.{Inspects}
+use Rattle.age_file.specs.Ranges.{HasFront, IsWithin, MissesFront, MissesRanges, ranges_under}
+use Rattle.age_file.specs.Verdict.{Answering, of_header, of_stream, unlocked}
+use Rattle.age_file.proofs.DecryptLemmas.{err-err, headed}
+
+-- a header that was read from the first byte on
+pub front-found : (limits : Bounds) (told : Option (List ℕ)) (at : ℕ) (h : HeaderParts) → IsWithin told at
+    → Inspects limits (option_map (drop 0) told) (option_map (drop at) told) (Ok h) → HasFront limits told at h
+front-found limits None at h w i = tt
+front-found limits (Some b) at h w i =
+    let is = headed limits (Some b) (Some (drop at b)) h i in
+    let all : b ≡ is.text ++ drop at b = is.may (drop at b) refl in
+    let d : length (drop at b) ≡ length b - at = length-drop at b in
+    let l : length b ≡ length is.text + length (drop at b) = ap length all ∙ length-append is.text (drop at b) in
+    let inside : at ≤ length b = w in
+    (is.text, omega arith, subst (λ x. HeaderVerdict x limits.max_header (Ok (record { stanzas = h.stanzas; mac = h.mac; text = is.text }))) (sym all) (is.verdict (drop at b) refl))
+
+refused : (limits : Bounds) (b : List ℕ) (g : HeaderFault) → Refuses b limits.max_header g → MissesFront limits (Some b) (of_header g)
+refused limits b header.Read h = inl refl
+refused limits b header.Memory h = inr (inl refl)
+refused limits b header.NotAge h = inr (inr (header.NotAge, h, refl))
+refused limits b (header.BadLine n) h = inr (inr (header.BadLine n, h, refl))
+refused limits b header.Truncated h = inr (inr (header.Truncated, h, refl))
+refused limits b header.TooLarge h = inr (inr (header.TooLarge, h, refl))
+
+-- no header
+pub front-missed : (limits : Bounds) (told mid : Option (List ℕ)) (fault : Fault) → Inspects limits (option_map (drop 0) told) mid (Err fault) → MissesFront limits told fault
+front-missed limits None mid fault i = inr (inr tt)
+front-missed limits (Some b) mid fault (Ok parts, is, h) = absurd (cc)
+front-missed limits (Some b) mid fault (Err g, is, h) = subst (MissesFront limits (Some b)) (sym (err-err {A = HeaderParts} fault (of_header g) is)) (refused limits b g h)
+
+pub missed-ranges : (limits : Bounds) (answers : Answering) (told : Option (List ℕ)) (fault : Fault) → MissesFront limits told fault → MissesRanges limits answers told fault
+missed-ranges limits answers told fault (inl e) = inl e
+missed-ranges limits answers told fault (inr (inl e)) = inr (inl e)
+missed-ranges limits answers None fault (inr (inr h)) = inr (inr tt)
+missed-ranges limits answers (Some b) fault (inr (inr h)) = inr (inr (Err h.0, h.1, h.2))
+
+-- no key
+pub locked-ranges : (limits : Bounds) (answers : Answering) (told : Option (List ℕ)) (at : ℕ) (h : HeaderParts) (fault : Fault) → HasFront limits told at h
+    → (◌≡◌ {A = Result FileKey Fault} (Err fault) (Err OutOfMemory)) ⊎ (Err fault ≡ unlocked answers h) → MissesRanges limits answers told fault
+locked-ranges limits answers told at h fault found (inl memory) = inr (inl (err-err {A = FileKey} fault OutOfMemory memory))
+locked-ranges limits answers None at h fault found (inr key) = inr (inr tt)
+locked-ranges limits answers (Some b) at h fault found (inr key) =
+    inr (inr (Ok (record { stanzas = h.stanzas; mac = h.mac; text = found.0 }), found.2, ap (ranges_under limits (drop (length found.0) b)) (sym key)))
+
+-- a payload that was not opened
+pub payload-missed : (limits : Bounds) (answers : Answering) (told : Option (List ℕ)) (at : ℕ) (h : HeaderParts) (k : FileKey) (fault : StreamFault) → HasFront limits told at h
+    → (◌≡◌ {A = Result FileKey Fault} (Ok k) (Err OutOfMemory)) ⊎ (Ok k ≡ unlocked answers h) → OpensRanges k limits.max_chunks at told (Err fault)
+    → MissesRanges limits answers told (of_stream fault)
+payload-missed limits answers told at h k fault found (inl memory) o = absurd (cc)
+payload-missed limits answers told at h k fault found (inr key) (inl e) = inl (ap of_stream e)
+payload-missed limits answers told at h k fault found (inr key) (inr (inl e)) = inr (inl (ap of_stream e))
+payload-missed limits answers None at h k fault found (inr key) (inr (inr e)) = inr (inr tt)
+payload-missed limits answers (Some b) at h k fault found (inr key) (inr (inr e)) = inr (inr (
+  Ok (record { stanzas = h.stanzas; mac = h.mac; text = found.0 }),
+  found.2,
+  ap (ranges_under limits (drop (length found.0) b)) (sym key)
+      ∙ ap (λ n. result_map_both (λ text. text) of_stream (range_outcome k limits.max_chunks (drop n b))) found.1 ∙ ap (result_map_both (λ text. text) of_stream) e,
+))

@@ -1,0 +1,89 @@
+//! The bytes of a source with places, read one after another from the first on.
+ghost use Rattle.std.specs.Prelude.{◌≡◌, ◌+◌, ◌≤◌, drop, option_map};
+ghost use Rattle.age_file.specs.Ranges.{AtState, IsWithin};
+
+use age_header::{DeviceFault, Source};
+use age_stream::ReadAt;
+use std::marker::{Brand, Model, PhantomData};
+
+/// What a source with places holds, and how many bytes it had given, when reading began.
+pub(crate) trait Origin {
+    ghost use Rattle.std.specs.Prelude.{List, ℕ};
+    ghost use Rattle.std.specs.declared.option.Option.{Option};
+
+    ghost bytes: { Option (List ℕ) };
+
+    ghost given: { ℕ };
+}
+
+impl Origin for Brand {
+    ghost use Rattle.std.specs.Prelude.{None};
+
+    ghost bytes = { None };
+
+    ghost given = { 0 };
+}
+
+/// A source with places, read from its first byte on.
+pub(crate) struct AtSource<'a, D: ReadAt, K: Origin> {
+    dev: &'a mut D,
+    at: u64,
+    origin: PhantomData<K>,
+}
+
+impl<'a, D: ReadAt, K: Origin> Model for AtSource<'a, D, K> {
+    ghost use Rattle.std.specs.Prelude.{◌≡◌, ◌+◌, ◌≤◌};
+    ghost use Rattle.age_file.specs.Ranges.{AtState, IsWithin};
+
+    ghost Value = { AtState };
+
+    ghost view = { λ s. record { told = D.bytes s.dev.now; at = s.at; failed = D.failed s.dev.now } };
+
+    ghost invariant = { λ s. (D.bytes s.dev.now ≡ K.bytes) × (D.given s.dev.now ≤ K.given + s.at) × IsWithin (D.bytes s.dev.now) s.at };
+}
+
+impl<'a, D: ReadAt, K: Origin> AtSource<'a, D, K> {
+    /// A source that starts at the first byte.
+    pub(crate) fn new(dev: &'a mut D) -> AtSource<'a, D, K>
+        requires bytes { K.bytes ≡ D.bytes dev.old }
+        requires given { K.given ≡ D.given dev.old }
+        ensures { result ≡ record { told = D.bytes dev.old; at = 0; failed = D.failed dev.old } }
+    {
+        AtSource {
+            dev,
+            at: 0,
+            origin: PhantomData,
+        }
+    }
+
+    /// The source, and the place behind the last byte that was read.
+    pub(crate) fn into_parts(self) -> (&'a mut D, u64)
+        ensures at { result.1 ≡ self.entry.at }
+        ensures bytes { D.bytes result.0.now ≡ K.bytes }
+        ensures told { D.bytes result.0.now ≡ self.entry.told }
+        ensures within { IsWithin (D.bytes result.0.now) result.1 }
+        ensures failed { D.failed result.0.now ≡ self.entry.failed }
+        ensures given { D.given result.0.now ≤ K.given + result.1 }
+    {
+        let AtSource { dev, at, origin: _ } = self;
+        (dev, at)
+    }
+}
+
+impl<'a, D: ReadAt, K: Origin> Source for AtSource<'a, D, K> {
+    ghost failed = { λ s. s.failed };
+
+    ghost to_come = { λ s. option_map (drop s.at) s.told };
+
+    fn read(&mut self, buf: &mut [u8]) -> Result<usize, DeviceFault> {
+        let read = self.dev.read_at(self.at, buf);
+        if let Ok(n) = &read {
+            self.at = self.at.saturating_add(*n as u64);
+        }
+        read
+    }
+
+    fn failures(&self) -> u64 {
+        self.dev.failures()
+    }
+}

@@ -1,0 +1,117 @@
+use Rattle.std.proofs.Common.{arith, ◌≡◌, ◌+◌, ◌-◌, ◌*◌, ◌/◌, ◌<◌, ◌≤◌, ◌∙◌, ap, sym, refl, inl, inr, length, take, drop, min, Some, None, if◌then◌else◌, subst}
+use Rattle.age_stream.specs.declared.layout.Layout.{Layout}
+use Rattle.age_stream.specs.Ranges.{HasPlain, IsSound, bytes_from, is_kept, opens_to}
+use Rattle.age_stream.specs.Slice.{text_len}
+use Rattle.age_stream.proofs.RangeLemmas.{put-front, put-rest, length-part, rest-on, front-on, opened-later, given-later, opened-at_first, given-at_first, at-chunk, under-chunk, below-chunk, opens-moved}
+use Rattle.age_stream.proofs.chunks.Chunks.read_range.Goals as goal
+
+pub returns-clause-filled : goal.returns-clause-filled
+returns-clause-filled g c =
+    let inv = c.loop-done.invariant in
+    let end : c.loop-done.done ≡ c.range_len-end.result = omega (arith, inv.within, c.loop-done-test.false) in (
+      subst (λ n. drop n c.loop-done.buf ≡ drop n c.args.buf.now) end inv.rest,
+      λ sound. subst (λ n. HasPlain (g.D.ReadAt.bytes c.args.dev.now) c.args.self.now.layout c.args.at (take n c.loop-done.buf)) end (inv.front sound),
+    )
+
+pub returns-in-Err-clause-stop : goal.returns-in-Err-clause-stop
+returns-in-Err-clause-stop g c =
+    let inv = c.loop-done.invariant in
+    let s = c.args.self.now in
+    let l = c.loop-done.self in
+    let told = g.D.ReadAt.bytes c.args.dev.now in
+    let i = c.loop-done.i in
+    let pos : c.args.at + c.loop-done.done ≡ 65536 * i + c.loop-done.skip = inv.pos c.loop-done-test.true in
+    let done : c.loop-done.done ≡ 65536 * i - c.args.at = elim inv.stage [
+      | inl z ↦ let e = z.0 in let low : 65536 * i ≤ c.args.at = below-chunk c.args.at i z.1 in omega (arith, e, low)
+      | inr z ↦ let e = z.1 in omega (arith, e, pos)
+    ] in
+    let same : c.layout-layout.result.plain ≡ s.layout.plain = ap (λ (x : Layout). x.plain) c.layout-layout.ensures in
+    record {
+      chunk = i;
+      from = elim inv.stage [
+        | inl z ↦ at-chunk c.args.at i z.1
+        | inr z ↦ under-chunk c.args.at i z.2
+      ];
+      to = omega (arith, pos, c.loop-done-test.true, c.range_len-end.ensures, same);
+      filled = (
+        subst (λ n. drop n c.loop-done.buf ≡ drop n c.args.buf.now) done inv.rest,
+        λ sound. subst (λ n. HasPlain told s.layout c.args.at (take n c.loop-done.buf)) done (inv.front sound),
+      );
+      lost = elim c.in-Err.ensures.lost [
+        | inl h ↦ inl h
+        | inr h ↦ inr (
+          h.0,
+          λ sound. opens-moved (g.D.ReadAt.bytes c.loop-done.dev) told l.layout s.layout i None inv.stay inv.layout
+              (h.1 (subst (λ t. IsSound t l) (sym inv.stay) (inv.sound sound))),
+        )
+      ];
+    }
+
+pub loop-done-preserved : goal.loop-done-preserved
+loop-done-preserved g c =
+    let inv = c.loop-done.invariant in
+    let s = c.args.self.now in
+    let l = c.loop-done.self in
+    let h = c.hold-held.new.self in
+    let told = g.D.ReadAt.bytes c.args.dev.now in
+    let i = c.loop-done.i in
+    let skip = c.loop-done.skip in
+    let done = c.loop-done.done in
+    let at = c.args.at in
+    let end = c.range_len-end.result in
+    let n = c.put-n.result in
+    let t = c.text.result.now in
+    let plain = s.layout.plain in
+    let pos : at + done ≡ 65536 * i + skip = inv.pos c.loop-done-test.true in
+    let more : done < end = c.loop-done-test.true in
+    let first : c.layout-layout.result.plain ≡ plain = ap (λ (x : Layout). x.plain) c.layout-layout.ensures in
+    let is : end ≡ min (length c.args.buf.now) (plain - at) = c.range_len-end.ensures ∙ ap (λ p. min (length c.args.buf.now) (p - at)) first in
+    let touched : 65536 * i < plain = omega (arith, pos, more, is) in
+    let lies : h.layout ≡ s.layout = c.hold-held.ensures.same ∙ inv.layout in
+    let same : h.layout.plain ≡ plain = ap (λ (x : Layout). x.plain) lies in
+    let len : length t ≡ text_len plain i = c.text.ensures.len ∙ ap (λ p. text_len p i) same in
+    let count : n ≡ min (length t - skip) (end - done) = c.put-n.ensures.count in
+    let small : skip < 65536 = inv.skip in
+    let some : 0 < n = omega (arith, count, len, more, pos, is, small) in
+    let part : skip + n ≤ length t = omega (arith, count, len, some) in
+    let inside : done + n ≤ end = omega (arith, count, more) in
+    let buf_len : length c.loop-done.buf ≡ length c.args.buf.now = inv.len in
+    let room : done + n ≤ length c.loop-done.buf = omega (arith, inside, is, buf_len) in
+    let sized : length (take n (drop skip t)) ≡ n = length-part n skip t part in
+    let put = c.put-n.ensures.bytes in
+    let size : length t ≤ 65536 = omega (arith, len) in
+    let sound : IsSound told s → IsSound told h = λ told_so.
+    subst (λ x. IsSound x h) inv.stay (c.hold-held.ensures.sound (subst (λ x. IsSound x l) (sym inv.stay) (inv.sound told_so))) in
+    let opens : IsSound told s → opens_to told s.layout i ≡ Some t = λ told_so.
+    opens-moved told told h.layout s.layout i (Some t) refl lies
+    ((sound told_so).keeps i c.in_default.ensures.kept ∙ ap Some (sym c.text.ensures.text)) in
+    let next : at + (done + n) ≤ 65536 * (i + 1) = omega (arith, pos, part, size) in
+    let next-chunk : at / 65536 < i + 1 = elim inv.stage [
+      | inl z ↦ let e : i ≡ at / 65536 = z.1 in omega (arith, e)
+      | inr z ↦ let e : at / 65536 < i = z.2 in omega (arith, e)
+    ] in
+    let more_given = subst (λ (x : Layout). g.D.ReadAt.given c.hold-held.new.dev ≤ g.D.ReadAt.given c.loop-done.dev + (if is_kept l.index i then 0 else text_len x.plain i + 16)) inv.layout c.hold-held.ensures.given in
+    record {
+      stay = c.hold-held.ensures.stay ∙ inv.stay;
+      layout = lies;
+      sound = sound;
+      len = c.put-n.auto.buf ∙ inv.len;
+      within = inside;
+      skip = omega arith;
+      pos = λ lt. omega (arith, lt, count, len, pos, is);
+      below = omega (arith, next);
+      rest = rest-on c.loop-done.buf c.put-n.new.buf c.args.buf.now done n inv.rest (put-rest c.loop-done.buf (take n (drop skip t)) c.put-n.new.buf done n (omega (arith, room)) sized put);
+      front = λ told_so. front-on s.layout.key (bytes_from told s.layout.first) t c.loop-done.buf c.put-n.new.buf at done i skip n pos (omega (arith, room)) part size (opens told_so) (inv.front told_so)
+          (put-front c.loop-done.buf (take n (drop skip t)) c.put-n.new.buf done n (omega (arith, room)) sized put);
+      opened = elim inv.stage [
+        | inl z ↦ opened-at_first l.index s.index h.opened l.opened s.opened at i z.3 z.1 c.hold-held.ensures.opened z.4
+        | inr z ↦ opened-later (is_kept s.index (at / 65536)) h.opened l.opened s.opened (at / 65536) i (if is_kept l.index i then 1 else 0) c.hold-held.ensures.opened z.2 inv.opened
+      ];
+      given = elim inv.stage [
+        | inl z ↦ given-at_first l.index s.index (g.D.ReadAt.given c.hold-held.new.dev) (g.D.ReadAt.given c.loop-done.dev) (g.D.ReadAt.given c.args.dev.now) at i s.layout z.3 z.1 more_given z.5 touched
+        | inr z ↦ given-later (is_kept s.index (at / 65536)) (is_kept l.index i) (g.D.ReadAt.given c.hold-held.new.dev) (g.D.ReadAt.given c.loop-done.dev) (g.D.ReadAt.given c.args.dev.now) (at / 65536) i s.layout
+            more_given z.2 touched inv.given
+      ];
+      failed = c.in_default.ensures.count ∙ inv.failed;
+      stage = inr (omega (arith, some), refl, next-chunk, omega (arith, pos, some), c.in_default.ensures.kept ∙ ap Some (omega arith));
+    }

@@ -1,0 +1,61 @@
+use Rattle.std.proofs.Common.{rules, arith, ◌≡◌, ◌+◌, ◌-◌, ◌*◌, ◌/◌, ◌<◌, ◌≤◌, ◌∙◌, ap, refl, inr, take, Ok, Err}
+use Rattle.std.proofs.lemmas.Bool.{OnTrue_at, OnFalse_at}
+use Rattle.age_stream.specs.Slice.{text_len}
+use Rattle.age_stream.specs.declared.fault.StreamFault.TheVariants.{BadChunk}
+use Rattle.age_stream.proofs.JudgingLemmas.{last-many, last-gone, last-read, open-len}
+use Rattle.age_stream.proofs.loading.load_last.Goals as goal
+
+pub returns-then-last-max-clause-judges : goal.returns-then-last-max-clause-judges
+returns-then-last-max-clause-judges g c =
+    let less : c.saturating_sub-last.result ≡ c.args.sealed - 1 = search rules in
+    inr (last-many c.args.key c.args.max c.args.first c.args.sealed (c.saturating_sub-last.result / 65552) (g.D.ReadAt.bytes c.args.dev.now)
+    (ap (λ n. n / 65552) less) (omega arith))
+
+pub returns-in-Ok-false-clause-judges : goal.returns-in-Ok-false-clause-judges
+returns-in-Ok-false-clause-judges g c =
+    let less : c.saturating_sub-last.result ≡ c.args.sealed - 1 = search rules in
+    let last = c.saturating_sub-last.result / 65552 in
+    inr (last-gone c.args.key c.args.max c.args.first c.args.sealed last (c.args.sealed - 65552 * last) (g.D.ReadAt.bytes c.args.dev.now) (BadChunk last)
+    (ap (λ n. n / 65552) less) refl (OnFalse_at c.in-Ok-false.field-0-test c.in-Ok-false.ensures.short))
+
+pub returns-in-Err-open_piece-clause-judges : goal.returns-in-Err-open_piece-clause-judges
+returns-in-Err-open_piece-clause-judges g c =
+    let less : c.saturating_sub-last.result ≡ c.args.sealed - 1 = search rules in
+    let last = c.saturating_sub-last.result / 65552 in
+    inr (last-read c.args.key c.args.max c.args.first c.args.sealed last (c.args.sealed - 65552 * last) (g.D.ReadAt.bytes c.args.dev.now) c.read_full.new.buf (Err c.in-Err-open_piece.fault)
+    (ap (λ n. n / 65552) less) refl (c.read_full.auto.buf ∙ c.requires.room) (OnTrue_at c.in-Ok-true.field-0-test c.in-Ok-true.ensures.full) c.in-Err-open_piece.ensures.text)
+
+pub invariant_of-result : goal.invariant_of-result
+invariant_of-result g c =
+    let less : c.saturating_sub-last.result ≡ c.args.sealed - 1 = search rules in
+    let last = c.saturating_sub-last.result / 65552 in
+    let end = c.args.sealed - 65552 * last in
+    let short : end ≤ 65552 = omega (arith, less) in
+    let fits = c.requires.fits in
+    let len = open-len c.args.key c.args.max last end c.in-Ok.len c.read_full.new.buf c.open_piece.new.bytes (c.read_full.auto.buf ∙ c.requires.room) short
+    c.in-Ok.ensures.text.0 c.in-Ok.ensures.text.1 in
+    let is : c.in-Ok.len + 16 ≡ end = len.0 in
+    record {
+      fits = omega (arith, is, fits, less);
+      some = omega arith;
+      covers = omega (arith, is, short);
+      tight = λ lt. let pos : 0 < c.in-Ok.len = len.1 (omega (arith, lt)) in omega (arith, pos);
+    }
+
+pub returns-in-Ok-clause-judges : goal.returns-in-Ok-clause-judges
+returns-in-Ok-clause-judges g c =
+    let less : c.saturating_sub-last.result ≡ c.args.sealed - 1 = search rules in
+    let last = c.saturating_sub-last.result / 65552 in
+    let end = c.args.sealed - 65552 * last in
+    let n = c.in-Ok.len in
+    let short : end ≤ 65552 = omega (arith, less) in
+    let room = c.read_full.auto.buf ∙ c.requires.room in
+    let len = open-len c.args.key c.args.max last end n c.read_full.new.buf c.open_piece.new.bytes room short c.in-Ok.ensures.text.0 c.in-Ok.ensures.text.1 in
+    let is : n + 16 ≡ end = len.0 in
+    let text : n ≡ text_len (65536 * last + n) (last + 1 - 1) = omega (arith, is, short) in (
+      refl,
+      refl,
+      omega (arith, is, less),
+      last-read c.args.key c.args.max c.args.first c.args.sealed last end (g.D.ReadAt.bytes c.args.dev.now) c.read_full.new.buf (Ok (take (text_len (65536 * last + n) (last + 1 - 1)) c.open_piece.new.bytes))
+          (ap (λ k. k / 65552) less) refl room (OnTrue_at c.in-Ok-true.field-0-test c.in-Ok-true.ensures.full) (c.in-Ok.ensures.text.0 ∙ ap (λ k. Ok (take k c.open_piece.new.bytes)) text),
+    )

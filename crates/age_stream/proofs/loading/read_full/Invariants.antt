@@ -1,0 +1,16 @@
+use Rattle.std.proofs.Common.{length, ◌-◌, ◌≡◌, ◌+◌, ◌≤◌, take}
+use Rattle.age_stream.specs.Places.{HasAt}
+use Rattle.age_stream.proofs.loading.read_full.Given as goal
+
+abbrev pub invariant-loop-got : goal.invariant-loop-got
+invariant-loop-got g l = record {
+  stay : g.D.ReadAt.bytes l.dev ≡ g.D.ReadAt.bytes l.fn.dev;
+  len : length l.buf ≡ length l.fn.buf;
+  within : l.got ≤ l.end;
+  so_far : HasAt (g.D.ReadAt.bytes l.fn.dev) l.at (take l.got l.buf);
+  given : g.D.ReadAt.given l.dev ≤ g.D.ReadAt.given l.fn.dev + l.got;
+  failed : g.D.ReadAt.failed l.dev ≡ g.D.ReadAt.failed l.fn.dev;
+}
+
+abbrev pub decreases-loop-got : goal.decreases-loop-got
+decreases-loop-got g l = l.end - l.got

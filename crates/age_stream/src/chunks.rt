@@ -1,0 +1,207 @@
+//! The chunks of a payload, of which one is kept, apart from the source that they are read from.
+ghost use Rattle.std.specs.Prelude.{◌≡◌, ◌+◌, ◌-◌, ◌*◌, ◌/◌, ◌<◌, ◌≤◌, ◌++◌, ℕ, length, take, drop, min, Some, None, IfOk, OnOk, OnErr, IfErr, if◌then◌else◌};
+ghost use Rattle.age_stream.specs.Counts.{CountsRead};
+ghost use Rattle.age_stream.specs.Ranges.{Fills, IsLost, IsSound, OpensRanges, Probes, Stops, fresh, is_kept, kept_text, range_len, sealed_span};
+ghost use Rattle.age_stream.specs.Slice.{text_len};
+
+use crate::buffer::ChunkBuf;
+use crate::fault::StreamFault;
+use crate::layout::Layout;
+use crate::loading::{chunk_len, load, load_last, nonce_at};
+use crate::place::payload_key;
+use crate::read_at::ReadAt;
+use age_recipient::FileKey;
+use std::alloc::Global;
+use std::marker::Model;
+
+/// The chunks of a payload: where they lie, and the one that was opened last.
+#[derive(Drop)]
+pub struct Chunks {
+    layout: Layout,
+    buf: Vec<u8>,
+    index: Option<u64>,
+    opened: u64,
+}
+
+impl Model for Chunks {
+    ghost use Rattle.std.specs.Prelude.{◌≡◌, length};
+    ghost use Rattle.age_stream.specs.Ranges.{RangeState};
+
+    ghost Value = { RangeState };
+
+    ghost view = { λ c. record { layout = c.layout; index = c.index; buf = c.buf.items; opened = c.opened } };
+
+    ghost invariant = { λ c. length c.buf.items ≡ 65553 };
+}
+
+/// Whether chunk i is the kept one.
+fn is_kept(index: Option<u64>, i: u64) -> bool
+    ensures { result ≡ is_kept index i }
+{
+    match index {
+        Some(kept) => kept == i,
+        None => false,
+    }
+}
+
+/// How many bytes a range has.
+fn range_len(plain: u64, at: u64, len: usize) -> usize
+    ensures { result ≡ min len (plain - at) }
+{
+    if at >= plain {
+        return 0;
+    }
+    let left = plain - at;
+    if left < len as u64 {
+        left as usize
+    } else {
+        len
+    }
+}
+
+/// Writes a part of a text into a buffer, and returns how long the part is.
+fn put(text: &[u8], skip: usize, buf: &mut [u8], done: usize, end: usize) -> usize
+    requires skip { skip < length text.now }
+    requires done { done < end }
+    requires end { end ≤ length buf.old }
+    ensures count { result ≡ min (length text.now - skip) (end - done) }
+    ensures bytes { buf.new ≡ take done buf.old ++ take result (drop skip text.now) ++ drop (done + result) buf.old }
+{
+    let n = (text.len() - skip).min(end - done);
+    let (_, tail) = buf.split_at_mut(done);
+    let (hole, _) = tail.split_at_mut(n);
+    hole.copy_from_slice(&text[skip..skip + n]);
+    n
+}
+
+impl Chunks {
+    /// Where the chunks lie.
+    pub(crate) fn layout(&self) -> Layout
+        ensures { result ≡ self.now.layout }
+    {
+        self.layout
+    }
+
+    /// How many chunks were opened so far; it stays at the largest `u64`.
+    pub(crate) fn opened(&self) -> u64
+        ensures { result ≡ self.now.opened }
+    {
+        self.opened
+    }
+
+    /// The chunks of the payload at this place, of which the last is opened and kept.
+    pub(crate) fn open<D: ReadAt>(
+        alloc: Global,
+        key: &FileKey,
+        dev: &mut D,
+        payload_at: u64,
+        max_chunks: u64,
+    ) -> Result<Chunks, StreamFault>
+        ensures probes { Probes (D.bytes dev.old) (D.bytes dev.new) payload_at (D.given dev.old) (D.given dev.new) }
+        ensures opens { OpensRanges key.now max_chunks payload_at (D.bytes dev.old) result }
+        ensures count { CountsRead (D.failed dev.old) (D.failed dev.new) result }
+    {
+        let Ok(buf) = ChunkBuf::new(alloc) else {
+            return Err(StreamFault::Memory);
+        };
+        let nonce = match nonce_at(dev, payload_at) {
+            Ok(nonce) => nonce,
+            Err(fault) => return Err(fault),
+        };
+        let key = payload_key(key, &nonce.bytes);
+        let mut buf = buf.into_bytes();
+        match load_last(
+            dev,
+            key,
+            payload_at + 16,
+            nonce.rest,
+            max_chunks,
+            buf.as_mut_slice(),
+        ) {
+            Ok(layout) => Ok(Chunks {
+                layout,
+                buf,
+                index: Some(layout.count - 1),
+                opened: 1,
+            }),
+            Err(fault) => Err(fault),
+        }
+    }
+
+    /// Makes chunk i the kept one.
+    fn hold<D: ReadAt>(&mut self, dev: &mut D, i: u64) -> Result<(), StreamFault>
+        requires within { i < self.old.layout.count }
+        ensures stay { D.bytes dev.new ≡ D.bytes dev.old }
+        ensures same { self.new.layout ≡ self.old.layout }
+        ensures kept { OnOk result (self.new.index ≡ Some i) }
+        ensures none { OnErr result (self.new.index ≡ None) }
+        ensures sound { IsSound (D.bytes dev.old) self.old → IsSound (D.bytes dev.old) self.new }
+        ensures lost { IfErr result (IsLost (D.bytes dev.old) self.old i) }
+        ensures opened { self.new.opened + (if is_kept self.old.index i then 1 else 0) ≤ self.old.opened + 1 }
+        ensures given { D.given dev.new ≤ D.given dev.old + (if is_kept self.old.index i then 0 else text_len self.old.layout.plain i + 16) }
+        ensures count { CountsRead (D.failed dev.old) (D.failed dev.new) result }
+    {
+        if is_kept(self.index, i) {
+            return Ok(());
+        }
+        self.index = None;
+        self.opened = self.opened.saturating_add(1);
+        let read = load(dev, self.layout, i, self.buf.as_mut_slice());
+        if let Err(fault) = read {
+            return Err(fault);
+        }
+        self.index = Some(i);
+        Ok(())
+    }
+
+    /// The front of the buffer, where chunk i has its text while it is the kept one.
+    fn text(&self, i: u64) -> &[u8]
+        requires { i < self.now.layout.count }
+        ensures text { result.now ≡ kept_text self.now i }
+        ensures len { length result.now ≡ text_len self.now.layout.plain i }
+    {
+        let n = chunk_len(self.layout, i);
+        &self.buf.as_slice()[..n]
+    }
+
+    /// Fills the front of `buf` with the plaintext from `at` on, and returns how many bytes.
+    pub(crate) fn read_range<D: ReadAt>(
+        &mut self,
+        dev: &mut D,
+        at: u64,
+        buf: &mut [u8],
+    ) -> Result<usize, StreamFault>
+        ensures stay { D.bytes dev.new ≡ D.bytes dev.old }
+        ensures same { self.new.layout ≡ self.old.layout }
+        ensures sound { IsSound (D.bytes dev.old) self.old → IsSound (D.bytes dev.old) self.new }
+        ensures number { IfOk result (λ n. n ≡ range_len self.old at (length buf.old)) }
+        ensures filled { IfOk result (λ n. Fills (D.bytes dev.old) self.old at n buf.old buf.new) }
+        ensures stop { IfErr result (Stops (D.bytes dev.old) self.old at (range_len self.old at (length buf.old)) buf.old buf.new) }
+        ensures count { CountsRead (D.failed dev.old) (D.failed dev.new) result }
+        ensures kept { IfOk result (λ n. 0 < n → self.new.index ≡ Some ((at + n - 1) / 65536)) }
+        ensures none { OnErr result (self.new.index ≡ None) }
+        ensures opened { (end : ℕ) → at + range_len self.old at (length buf.old) ≤ 65536 * end
+            → self.new.opened ≤ self.old.opened + (end - fresh self.old.index at) }
+        ensures given { (end : ℕ) → at + range_len self.old at (length buf.old) ≤ 65536 * end
+            → D.given dev.new ≤ D.given dev.old + sealed_span self.old.layout (fresh self.old.index at) end }
+        ensures empty { range_len self.old at (length buf.old) ≡ 0
+            → (self.new.index ≡ self.old.index) × (self.new.opened ≡ self.old.opened) × (D.given dev.new ≡ D.given dev.old) }
+    {
+        let layout = self.layout();
+        let end = range_len(layout.plain, at, buf.len());
+        let mut i = at / 65_536;
+        let mut skip = (at % 65_536) as usize;
+        let mut done = 0;
+        while done < end {
+            let held = self.hold(dev, i);
+            if let Err(fault) = held {
+                return Err(fault);
+            }
+            let n = put(self.text(i), skip, buf, done, end);
+            done += n;
+            skip = 0;
+            i += 1;
+        }
+        Ok(end)
+    }
+}

@@ -1,0 +1,15 @@
+//! Where the chunks of a payload lie.
+ghost use Rattle.std.specs.Prelude.{◌^◌, ◌+◌, ◌-◌, ◌*◌, ◌<◌, ◌≤◌};
+
+/// The sealed chunks of a payload: their key, the place of the first, the plaintext's length, and their number.
+#[derive(Clone, Copy, Drop)]
+pub struct Layout {
+    pub(crate) key: [u8; 32],
+    pub(crate) first: u64,
+    pub(crate) plain: u64,
+    pub(crate) count: u64,
+    pub(crate) ghost fits: { first + plain + 16 * count < 2 ^ 64 },
+    pub(crate) ghost some: { 0 < count },
+    pub(crate) ghost covers: { plain ≤ 65536 * count },
+    pub(crate) ghost tight: { 1 < count → 65536 * (count - 1) < plain },
+}

@@ -1,0 +1,181 @@
+//! Reading pieces at their places, each opened where it was read.
+ghost use Rattle.std.specs.Prelude.{◌≡◌, ◌⊎◌, ◌^◌, ◌+◌, ◌-◌, ◌*◌, ◌<◌, ◌≤◌, length, take, drop, Some, None, IfOk, OnOk, OnErr, IfErr, IfSome};
+ghost use Rattle.std.specs.Bool.{OnTrue, OnFalse};
+ghost use Rattle.age_header.specs.Device.{Counts};
+ghost use Rattle.age_stream.specs.Counts.{CountsRead};
+ghost use Rattle.age_stream.specs.Places.{EndsBefore, HasAt, IsPast};
+ghost use Rattle.age_stream.specs.Ranges.{IsThere, JudgesLast, last_len, opens_to};
+ghost use Rattle.age_stream.specs.Slice.{text_len};
+
+use crate::fault::StreamFault;
+use crate::layout::Layout;
+use crate::opening::{open_front, open_piece};
+use crate::place::chunk_nonce;
+use crate::read_at::ReadAt;
+use age_header::DeviceFault;
+
+/// A payload's nonce, and how many bytes follow it.
+#[derive(Clone, Copy)]
+pub(crate) struct Nonce {
+    pub(crate) bytes: [u8; 16],
+    pub(crate) rest: u64,
+}
+
+/// One read behind the first `got` bytes, up to byte `end`.
+fn read_behind<D: ReadAt>(
+    dev: &mut D,
+    at: u64,
+    buf: &mut [u8],
+    got: usize,
+    end: usize,
+) -> Result<usize, DeviceFault>
+    requires fits { at + end < 2 ^ 64 }
+    requires behind { got < end }
+    requires room { end ≤ length buf.old }
+    ensures stay { D.bytes dev.new ≡ D.bytes dev.old }
+    ensures within { IfOk result (λ n. got + n ≤ end) }
+    ensures front { take got buf.new ≡ take got buf.old }
+    ensures gives { IfOk result (λ n. HasAt (D.bytes dev.old) (at + got) (take n (drop got buf.new))) }
+    ensures end { IfOk result (λ n. n ≡ 0 → IsPast (D.bytes dev.old) (at + got)) }
+    ensures given { IfOk result (λ n. D.given dev.new ≤ D.given dev.old + n) }
+    ensures none_given { OnErr result (D.given dev.new ≡ D.given dev.old) }
+    ensures count { Counts (D.failed dev.old) (D.failed dev.new) result }
+{
+    let place = at + got as u64;
+    let (front, _) = buf.split_at_mut(end);
+    let (_, hole) = front.split_at_mut(got);
+    dev.read_at(place, hole)
+}
+
+/// Reads the first `end` bytes of `buf`, in as many reads as it takes; false where the source gives nothing more before.
+pub(crate) fn read_full<D: ReadAt>(
+    dev: &mut D,
+    at: u64,
+    buf: &mut [u8],
+    end: usize,
+) -> Result<bool, DeviceFault>
+    requires fits { at + end < 2 ^ 64 }
+    requires room { end ≤ length buf.old }
+    ensures stay { D.bytes dev.new ≡ D.bytes dev.old }
+    ensures full { IfOk result (λ all. OnTrue all (HasAt (D.bytes dev.old) at (take end buf.new))) }
+    ensures short { IfOk result (λ all. OnFalse all (EndsBefore (D.bytes dev.old) (at + end))) }
+    ensures given { D.given dev.new ≤ D.given dev.old + end }
+    ensures count { Counts (D.failed dev.old) (D.failed dev.new) result }
+{
+    let mut got = 0;
+    while got < end {
+        let n = read_behind(dev, at, buf, got, end)?;
+        if n == 0 {
+            return Ok(false);
+        }
+        got += n;
+    }
+    Ok(true)
+}
+
+/// How long chunk i is.
+pub(crate) fn chunk_len(layout: Layout, i: u64) -> usize
+    requires { i < layout.count }
+    ensures { result ≡ text_len layout.plain i }
+{
+    let left = layout.plain - 65_536 * i;
+    if left < 65_536 { left as usize } else { 65_536 }
+}
+
+/// Reads and opens piece i. Its text is in front then.
+pub(crate) fn load<D: ReadAt>(
+    dev: &mut D,
+    layout: Layout,
+    i: u64,
+    buf: &mut [u8],
+) -> Result<(), StreamFault>
+    requires room { length buf.old ≡ 65553 }
+    requires within { i < layout.count }
+    ensures stay { D.bytes dev.new ≡ D.bytes dev.old }
+    ensures opens { OnOk result (IsThere (D.bytes dev.old) layout
+        → opens_to (D.bytes dev.old) layout i ≡ Some (take (text_len layout.plain i) buf.new)) }
+    ensures lost { IfErr result (λ fault. (fault ≡ StreamFault.Read) ⊎ ((fault ≡ StreamFault.BadChunk i)
+        × (IsThere (D.bytes dev.old) layout → opens_to (D.bytes dev.old) layout i ≡ None))) }
+    ensures given { D.given dev.new ≤ D.given dev.old + (text_len layout.plain i + 16) }
+    ensures count { CountsRead (D.failed dev.old) (D.failed dev.new) result }
+{
+    let nonce = chunk_nonce(i, i + 1 == layout.count);
+    let end = chunk_len(layout, i) + 16;
+    match read_full(dev, layout.first + 65_552 * i, buf, end) {
+        Err(_) => Err(StreamFault::Read),
+        Ok(false) => Err(StreamFault::BadChunk(i)),
+        Ok(true) => {
+            if open_front(&layout.key, &nonce, buf, end) {
+                Ok(())
+            } else {
+                Err(StreamFault::BadChunk(i))
+            }
+        }
+    }
+}
+
+/// Reads the nonce at this place.
+pub(crate) fn nonce_at<D: ReadAt>(dev: &mut D, at: u64) -> Result<Nonce, StreamFault>
+    ensures stay { D.bytes dev.new ≡ D.bytes dev.old }
+    ensures fits { IfOk result (λ nonce. at + 16 + nonce.rest < 2 ^ 64) }
+    ensures ok { IfOk result (λ nonce. IfSome (D.bytes dev.old) (λ bytes.
+        (nonce.bytes ≡ take 16 (drop at bytes)) × (length bytes ≡ at + 16 + nonce.rest))) }
+    ensures err { IfErr result (λ fault. (fault ≡ StreamFault.Read)
+        ⊎ ((fault ≡ StreamFault.NonceTruncated) × EndsBefore (D.bytes dev.old) (at + 16))) }
+    ensures given { D.given dev.new ≤ D.given dev.old + 16 }
+    ensures count { CountsRead (D.failed dev.old) (D.failed dev.new) result }
+{
+    let Ok(size) = dev.size() else {
+        return Err(StreamFault::Read);
+    };
+    let behind = size.saturating_sub(at);
+    if behind < 16 {
+        return Err(StreamFault::NonceTruncated);
+    }
+    let mut bytes = [0; 16];
+    match read_full(dev, at, &mut bytes, 16) {
+        Err(_) => Err(StreamFault::Read),
+        Ok(false) => Err(StreamFault::NonceTruncated),
+        Ok(true) => Ok(Nonce {
+            bytes,
+            rest: behind - 16,
+        }),
+    }
+}
+
+/// Reads and opens the last of the pieces, which have so many bytes from place `first` on. Its text is in front then.
+pub(crate) fn load_last<D: ReadAt>(
+    dev: &mut D,
+    key: [u8; 32],
+    first: u64,
+    sealed: u64,
+    max: u64,
+    buf: &mut [u8],
+) -> Result<Layout, StreamFault>
+    requires room { length buf.old ≡ 65553 }
+    requires fits { first + sealed < 2 ^ 64 }
+    ensures stay { D.bytes dev.new ≡ D.bytes dev.old }
+    ensures judges { JudgesLast key max first sealed (D.bytes dev.old) buf.new result }
+    ensures given { D.given dev.new ≤ D.given dev.old + last_len sealed }
+    ensures count { CountsRead (D.failed dev.old) (D.failed dev.new) result }
+{
+    let last = sealed.saturating_sub(1) / 65_552;
+    if last >= max {
+        return Err(StreamFault::TooManyChunks);
+    }
+    let end = (sealed - 65_552 * last) as usize;
+    match read_full(dev, first + 65_552 * last, buf, end) {
+        Err(_) => return Err(StreamFault::Read),
+        Ok(false) => return Err(StreamFault::BadChunk(last)),
+        Ok(true) => {}
+    }
+    match open_piece(&key, max, last, true, buf, end) {
+        Ok(len) => Ok(Layout {
+            key,
+            first,
+            plain: 65_536 * last + len as u64,
+            count: last + 1,
+        }),
+        Err(fault) => Err(fault),
+    }
+}

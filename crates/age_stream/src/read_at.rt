@@ -1,0 +1,211 @@
+//! Where bytes are read from at their places.
+
+ghost use Rattle.std.specs.Prelude.{◌≡◌, ◌+◌, ◌-◌, ◌^◌, ◌↔◌, ◌<◌, ℕ, List, Some, None, false, length, drop, min, IfSome, IfNone, IsTrue};
+ghost use Rattle.std.specs.declared.option.Option.{Option};
+ghost use Rattle.std.specs.Io.{ReadsAtMost};
+ghost use Rattle.age_header.specs.Device.{Counts};
+ghost use Rattle.age_stream.specs.Places.{CountsGiven, FindsSize, GivesAt, HasPlaces};
+
+use age_header::DeviceFault;
+use std::io::{Read, Seek, SeekFrom};
+
+/// Where bytes are read from at their places, in any order. A source whose contents are known to proofs keeps them: the same place
+/// gives the same byte at each read. Of other sources, such as files, nothing is known but counts and sizes.
+pub trait ReadAt {
+    // The contents, where they are known to proofs.
+    ghost bytes: { Self → Option (List ℕ) };
+
+    // How many bytes there are, once this was found.
+    ghost found: { Self → Option ℕ };
+
+    // How many bytes were given, which stays at the largest u64.
+    ghost given: { Self → ℕ };
+
+    // How many calls have failed, which stays at the largest u64.
+    ghost failed: { Self → ℕ };
+
+    /// How many bytes there are.
+    ///
+    /// # Errors
+    /// The size was not found. The failure is counted.
+    fn size(&mut self) -> Result<u64, DeviceFault>
+        ensures stay { bytes self.new ≡ bytes self.old }
+        ensures size { FindsSize (bytes self.old) (found self.old) (found self.new) result }
+        ensures given { given self.new ≡ given self.old }
+        ensures count { Counts (failed self.old) (failed self.new) result };
+
+    /// Reads the bytes from place `at` on into the front of `buf`, and returns their number; 0 with a nonempty `buf` only at the end
+    /// or past it. A short read is not the end.
+    ///
+    /// # Errors
+    /// The read failed, and gave no byte. The failure is counted.
+    fn read_at(&mut self, at: u64, buf: &mut [u8]) -> Result<usize, DeviceFault>
+        ensures stay { bytes self.new ≡ bytes self.old }
+        ensures found { found self.new ≡ found self.old }
+        ensures bound { ReadsAtMost result buf.new }
+        ensures places { HasPlaces (bytes self.old) }
+        ensures bytes { GivesAt (bytes self.old) (found self.old) at result buf.new }
+        ensures given { CountsGiven (given self.old) (given self.new) result }
+        ensures count { Counts (failed self.old) (failed self.new) result };
+
+    /// How many bytes were given so far; it stays at the largest `u64`.
+    fn given(&self) -> u64
+        ensures { result ≡ given self.now };
+
+    /// How many calls have failed; it stays at the largest `u64`.
+    fn failures(&self) -> u64
+        ensures { result ≡ failed self.now };
+}
+
+/// Bytes in memory, which never fail.
+#[derive(Drop)]
+pub struct MemAt<'a> {
+    bytes: &'a [u8],
+    given: u64,
+}
+
+impl<'a> MemAt<'a> {
+    /// A source of these bytes, which has given none yet.
+    pub fn new(bytes: &'a [u8]) -> MemAt<'a>
+        ensures bytes { ⟦<MemAt<'a> as ReadAt>⟧.bytes result ≡ Some bytes.now }
+        ensures given { ⟦<MemAt<'a> as ReadAt>⟧.given result ≡ 0 }
+    {
+        MemAt { bytes, given: 0 }
+    }
+}
+
+/// The bytes from place `at` on; none past the end.
+fn bytes_from(bytes: &[u8], at: u64) -> &[u8]
+    ensures { result.now ≡ drop at bytes.now }
+{
+    if at < bytes.len() as u64 {
+        &bytes[at as usize..]
+    } else {
+        b""
+    }
+}
+
+impl<'a> ReadAt for MemAt<'a> {
+    ghost bytes = { λ s. Some s.bytes.now };
+
+    ghost found = { λ s. Some (length s.bytes.now) };
+
+    ghost given = { λ s. s.given };
+
+    ghost failed = { λ _. 0 };
+
+    fn size(&mut self) -> Result<u64, DeviceFault> {
+        Ok(self.bytes.len() as u64)
+    }
+
+    fn read_at(&mut self, at: u64, buf: &mut [u8]) -> Result<usize, DeviceFault> {
+        let rest = bytes_from(self.bytes, at);
+        let n = rest.len().min(buf.len());
+        buf[..n].copy_from_slice(&rest[..n]);
+        self.given = self.given.saturating_add(n as u64);
+        Ok(n)
+    }
+
+    fn given(&self) -> u64 {
+        self.given
+    }
+
+    fn failures(&self) -> u64 {
+        0
+    }
+}
+
+/// A file, or whatever else can be read and sought. Its contents are not known to proofs. It keeps the first size that it found: a
+/// read that gives no byte below that size is a failure.
+#[derive(Drop)]
+pub struct FileAt<F> {
+    file: F,
+    size: Option<u64>,
+    given: u64,
+    failures: u64,
+}
+
+impl<F: Read + Seek> FileAt<F> {
+    /// A source over this file, which has given nothing and has not failed yet.
+    pub fn new(file: F) -> FileAt<F>
+        ensures bytes { ⟦<FileAt<F> as ReadAt>⟧.bytes result ≡ None }
+        ensures found { ⟦<FileAt<F> as ReadAt>⟧.found result ≡ None }
+        ensures given { ⟦<FileAt<F> as ReadAt>⟧.given result ≡ 0 }
+        ensures count { ⟦<FileAt<F> as ReadAt>⟧.failed result ≡ 0 }
+    {
+        FileAt {
+            file,
+            size: None,
+            given: 0,
+            failures: 0,
+        }
+    }
+}
+
+/// One failure more.
+fn count_failure(failures: &mut u64) -> DeviceFault
+    ensures { failures.new ≡ min (failures.old + 1) (2 ^ 64 - 1) }
+{
+    *failures = failures.saturating_add(1);
+    DeviceFault
+}
+
+/// Whether this place is known to lie below the size.
+fn is_below(size: Option<u64>, at: u64) -> bool
+    ensures some { IfSome size (λ s. IsTrue result ↔ (at < s)) }
+    ensures none { IfNone size (result ≡ false) }
+{
+    match size {
+        Some(size) => at < size,
+        None => false,
+    }
+}
+
+/// Seeks, and reads once.
+fn read_from<F: Read + Seek>(file: &mut F, at: u64, buf: &mut [u8]) -> std::io::Result<usize>
+    ensures { ReadsAtMost result buf.new }
+{
+    file.seek(SeekFrom::Start(at))?;
+    file.read(buf)
+}
+
+impl<F: Read + Seek> ReadAt for FileAt<F> {
+    ghost bytes = { λ _. None };
+
+    ghost found = { λ s. s.size };
+
+    ghost given = { λ s. s.given };
+
+    ghost failed = { λ s. s.failures };
+
+    fn size(&mut self) -> Result<u64, DeviceFault> {
+        if let Some(size) = self.size {
+            return Ok(size);
+        }
+        match self.file.seek(SeekFrom::End(0)) {
+            Ok(size) => {
+                self.size = Some(size);
+                Ok(size)
+            }
+            Err(_) => Err(count_failure(&mut self.failures)),
+        }
+    }
+
+    fn read_at(&mut self, at: u64, buf: &mut [u8]) -> Result<usize, DeviceFault> {
+        match read_from(&mut self.file, at, buf) {
+            Ok(n) if n > 0 || buf.is_empty() || !is_below(self.size, at) => {
+                self.given = self.given.saturating_add(n as u64);
+                Ok(n)
+            }
+            _ => Err(count_failure(&mut self.failures)),
+        }
+    }
+
+    fn given(&self) -> u64 {
+        self.given
+    }
+
+    fn failures(&self) -> u64 {
+        self.failures
+    }
+}

@@ -1,0 +1,160 @@
+//! Ranges of a plaintext, over memory, over a file, and over sources that are slow or fail.
+
+use super::devices::{Counted, Slow};
+use super::{EMPTY, KEY, plain_of, written};
+use crate::{FileAt, MemAt, RangeReader, ReadAt, StreamFault};
+use std::alloc::Global;
+use std::cell::Cell;
+use std::fs;
+use std::fs::File;
+use std::process::Abort;
+use std::test::Fail;
+
+/// Nine other bytes, and then the payload of so many bytes, each its place modulo 251.
+fn payload_of(alloc: Global, len: usize) -> Result<Vec<u8>, Fail> {
+    let plain = plain_of(alloc, len)?;
+    let (_, payload) = written(alloc, plain.as_slice(), len)?;
+    let mut bytes = Vec::from_slice(alloc, b"ninebytes")?;
+    bytes.extend_from_slice(payload.as_slice())?;
+    Ok(bytes)
+}
+
+/// Reads so many bytes from place `at` on into a buffer of bytes 255: the answer, and how many bytes of the plaintext are at the
+/// buffer's front; the others are still 255.
+fn range<T: Abort, D: ReadAt>(
+    rt: &T,
+    alloc: Global,
+    reader: &mut RangeReader<'_, D>,
+    (at, len): (u64, usize),
+    answer: Result<usize, StreamFault>,
+    filled: usize,
+) -> Result<(), Fail> {
+    let mut buf = vec![in alloc; 255u8; len]?;
+    assert_eq!(rt; reader.read_range(at, buf.as_mut_slice()), answer);
+    for i in 0..buf.len() {
+        let byte = if i < filled {
+            (at.wrapping_add(i as u64) % 251) as u8
+        } else {
+            255
+        };
+        assert_eq!(rt; buf[i], byte);
+    }
+    Ok(())
+}
+
+/// Ranges of 140,000 bytes, one after another: place and length, the answer, and how many chunks were opened after it.
+const ROWS: [((u64, usize), usize, u64); 8] = [
+    ((139_990, 10), 10, 1),
+    ((0, 10), 10, 2),
+    ((5, 10), 10, 2),
+    ((65_530, 12), 12, 3),
+    ((139_999, 5), 1, 4),
+    ((140_000, 5), 0, 4),
+    ((18_446_744_073_709_551_615, 5), 0, 4),
+    ((0, 0), 0, 4),
+];
+
+/// Those ranges of the payload behind the first nine bytes.
+fn rows<T: Abort, D: ReadAt>(rt: &T, alloc: Global, dev: &mut D) -> Result<(), Fail> {
+    let mut reader = RangeReader::open(alloc, &KEY, dev, 9, 3)?;
+    assert_eq!(rt; reader.plain_len(), 140_000);
+    assert_eq!(rt; reader.opened(), 1);
+    for (place, n, opened) in ROWS {
+        range(rt, alloc, &mut reader, place, Ok(n), n)?;
+        assert_eq!(rt; reader.opened(), opened);
+    }
+    Ok(())
+}
+
+#[test]
+fn ranges_of_memory(rt: HostRuntime) -> Result<(), Fail> {
+    let bytes = payload_of(rt.alloc(), 140_000)?;
+    let mut dev = MemAt::new(bytes.as_slice());
+    rows(&rt, rt.alloc(), &mut dev)?;
+    assert_eq!(rt; dev.given(), 16 + 8_944 + 65_552 + 65_552 + 8_944);
+    Ok(())
+}
+
+/// A file, and a file that is read one byte at a time.
+#[test]
+fn ranges_of_a_file(rt: HostRuntime) -> Result<(), Fail> {
+    let bytes = payload_of(rt.alloc(), 140_000)?;
+    fs::write(&rt, "ranges.tmp", bytes.as_slice())?;
+    let mut whole = FileAt::new(File::open(&rt, "ranges.tmp")?);
+    rows(&rt, rt.alloc(), &mut whole)?;
+    let mut slow = FileAt::new(Slow::new(File::open(&rt, "ranges.tmp")?));
+    rows(&rt, rt.alloc(), &mut slow)?;
+    fs::remove_file(&rt, "ranges.tmp")?;
+    assert_eq!(rt; whole.given(), slow.given());
+    Ok(())
+}
+
+/// Each chunk that is opened costs one read of a source that gives all it is asked for, and the nonce one.
+#[test]
+fn reads_are_counted(rt: HostRuntime) -> Result<(), Fail> {
+    let alloc = rt.alloc();
+    let bytes = payload_of(alloc, 140_000)?;
+    let reads = Cell::new(0);
+    let mut dev = Counted::new(bytes.as_slice(), &reads, 0);
+    let mut reader = RangeReader::open(alloc, &KEY, &mut dev, 9, 3)?;
+    for (place, n, opened) in ROWS {
+        range(&rt, alloc, &mut reader, place, Ok(n), n)?;
+        assert_eq!(rt; reads.get(), opened + 1);
+    }
+    Ok(())
+}
+
+/// A failed read leaves the bytes of the chunks before it, and the next call works.
+#[test]
+fn failed_read(rt: HostRuntime) -> Result<(), Fail> {
+    let alloc = rt.alloc();
+    let bytes = payload_of(alloc, 140_000)?;
+    let reads = Cell::new(0);
+    let mut dev = Counted::new(bytes.as_slice(), &reads, 4);
+    let mut reader = RangeReader::open(alloc, &KEY, &mut dev, 9, 3)?;
+    range(
+        &rt,
+        alloc,
+        &mut reader,
+        (65_530, 12),
+        Err(StreamFault::Read),
+        6,
+    )?;
+    range(&rt, alloc, &mut reader, (65_530, 12), Ok(12), 12)?;
+    assert_eq!(rt; reader.opened(), 5);
+    assert_eq!(rt; dev.failures(), 1);
+    Ok(())
+}
+
+#[test]
+fn ranges_of_an_empty_plaintext(rt: HostRuntime) -> Result<(), Fail> {
+    let mut dev = MemAt::new(&EMPTY);
+    let mut reader = RangeReader::open(rt.alloc(), &KEY, &mut dev, 0, 1)?;
+    assert_eq!(rt; reader.plain_len(), 0);
+    for place in [(0, 0), (0, 5), (7, 5)] {
+        range(&rt, rt.alloc(), &mut reader, place, Ok(0), 0)?;
+        assert_eq!(rt; reader.opened(), 1);
+    }
+    Ok(())
+}
+
+#[test]
+fn payloads_that_do_not_open(rt: HostRuntime) -> Result<(), Fail> {
+    let alloc = rt.alloc();
+    let mut bytes = payload_of(alloc, 65_537)?;
+    let last = bytes.len() - 1;
+    bytes[last] ^= 1;
+    for (max, from, fault) in [
+        (1, 9, StreamFault::TooManyChunks),
+        (2, 9, StreamFault::BadChunk(1)),
+        (2, last as u64, StreamFault::NonceTruncated),
+        (2, 18_446_744_073_709_551_615, StreamFault::NonceTruncated),
+    ] {
+        let mut dev = MemAt::new(bytes.as_slice());
+        match RangeReader::open(alloc, &KEY, &mut dev, from, max) {
+            Ok(_) => assert!(rt; false),
+            Err(met) => assert_eq!(rt; met, fault),
+        }
+    }
+    Ok(())
+}
