@@ -3,9 +3,8 @@ ghost use Rattle.age_words.specs.Job.{IsInRange};
 
 use crate::buffers::{buffer_of, end, file_source, limits_of};
 use crate::fault::Fault;
-use crate::identities::identities_of;
 use crate::secret::Secret;
-use age_file::WriteSink;
+use age_file::{Identity, KeyIdentity, PassError, PassIdentity, WriteSink};
 use age_words::Job;
 use std::alloc::Global;
 use std::io::{Read, Write};
@@ -21,7 +20,17 @@ pub(crate) fn decrypt<'a, R: Read, W: Write>(
 ) -> Result<(), Fault<'a>>
     requires { IsInRange job.now }
 {
-    let identities = identities_of(alloc, job, secret)?;
+    let mut identities: Vec<Box<dyn Identity>> = Vec::new(alloc);
+    match secret {
+        Secret::Passphrase(passphrase) => {
+            let identity = pass_identity(alloc, job, passphrase.as_slice())?;
+            identities.push(Box::new(alloc, identity)?)?;
+        }
+        Secret::Key(key) => {
+            let identity = KeyIdentity::new(*key);
+            identities.push(Box::new(alloc, identity)?)?;
+        }
+    }
     let limits = limits_of(job);
     let mut source = file_source(alloc, input)?;
     let mut buffered = buffer_of(alloc, out)?;
@@ -33,4 +42,19 @@ pub(crate) fn decrypt<'a, R: Read, W: Write>(
         &limits,
     );
     end(buffered, result.err())
+}
+
+/// The identity of this passphrase, with the job's greatest work factor.
+pub(crate) fn pass_identity<'a>(
+    alloc: Global,
+    job: &Job,
+    passphrase: &[u8],
+) -> Result<PassIdentity, Fault<'a>>
+    requires { IsInRange job.now }
+{
+    match PassIdentity::new(alloc, passphrase, job.max_work) {
+        Ok(identity) => Ok(identity),
+        Err(PassError::WorkFactor) => unreachable!(),
+        Err(PassError::Memory) => Err(Fault::Engine(age_file::Fault::OutOfMemory)),
+    }
 }

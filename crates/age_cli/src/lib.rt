@@ -9,7 +9,6 @@ mod decrypt;
 mod encrypt;
 mod fault;
 mod files;
-mod identities;
 mod inspect;
 mod program;
 mod range;

@@ -3,10 +3,12 @@ ghost use Rattle.std.specs.Prelude.{◌≤◌, ◌≡◌, length};
 ghost use Rattle.age_words.specs.Job.{IsInRange};
 
 use crate::buffers::{buffer_of, end, limits_of};
+use crate::decrypt::pass_identity;
 use crate::fault::Fault;
-use crate::identities::identities_of;
 use crate::secret::Secret;
-use age_file::{RangeReader, ReadAt, Sink, WriteSink, open_ranges, write_all};
+use age_file::{
+    Identity, KeyIdentity, RangeReader, ReadAt, Sink, WriteSink, open_ranges, write_all,
+};
 use age_words::Job;
 use std::alloc::Global;
 use std::io::Write;
@@ -25,7 +27,17 @@ pub(crate) fn range<'a, D: ReadAt, W: Write>(
 ) -> Result<(), Fault<'a>>
     requires { IsInRange job.now }
 {
-    let identities = identities_of(alloc, job, secret)?;
+    let mut identities: Vec<Box<dyn Identity>> = Vec::new(alloc);
+    match secret {
+        Secret::Passphrase(passphrase) => {
+            let identity = pass_identity(alloc, job, passphrase.as_slice())?;
+            identities.push(Box::new(alloc, identity)?)?;
+        }
+        Secret::Key(key) => {
+            let identity = KeyIdentity::new(*key);
+            identities.push(Box::new(alloc, identity)?)?;
+        }
+    }
     let limits = limits_of(job);
     let mut piece = vec![in alloc; 0u8; 65_536]?;
     let mut buffered = buffer_of(alloc, out)?;

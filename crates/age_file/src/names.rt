@@ -51,3 +51,13 @@ pub(crate) fn stream_fault(fault: StreamFault) -> Fault
         StreamFault::Memory => Fault::OutOfMemory,
     }
 }
+
+impl From<StreamFault> for Fault {
+    ghost use Rattle.age_file.specs.Verdict.{of_stream};
+
+    ghost from_gives = { λ stream fault. fault ≡ of_stream stream };
+
+    fn from(fault: StreamFault) -> Fault {
+        stream_fault(fault)
+    }
+}
