@@ -3,10 +3,10 @@ ghost use Rattle.std.specs.Prelude.{◌≡◌};
 ghost use Rattle.age_words.specs.Job.{IsInRange};
 
 use crate::fault::Fault;
-use age_file::{Limits, ReadSource};
+use age_file::{FileAt, Limits, ReadSource};
 use age_words::Job;
 use std::alloc::Global;
-use std::io::{BufReader, BufWriter, Read, Write};
+use std::io::{BufReader, BufWriter, Read, Seek, Write};
 
 /// So many bytes are read ahead for a header that is read byte by byte, and written at once.
 const BUFFER_LEN: usize = 65_536;
@@ -42,6 +42,17 @@ pub(crate) fn file_source<'a, R: Read + Drop>(
     input: R,
 ) -> Result<ReadSource<BufReader<R>>, Fault<'a>> {
     buffered_source(alloc, HEADER_LEN, input)
+}
+
+/// A source with places over this file, for a header, its payload's nonce, and whole chunks.
+pub(crate) fn source_by_places<'a, F: Read + Seek + Drop>(
+    alloc: Global,
+    file: F,
+) -> Result<FileAt<BufReader<F>>, Fault<'a>> {
+    match BufReader::with_capacity(alloc, HEADER_LEN, file) {
+        Ok(buffered) => Ok(FileAt::new(buffered)),
+        Err(_) => Err(Fault::Engine(age_file::Fault::OutOfMemory)),
+    }
 }
 
 fn buffered_source<'a, R: Read + Drop>(

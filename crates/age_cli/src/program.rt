@@ -2,6 +2,7 @@
 ghost use Rattle.std.specs.Prelude.{◌≡◌, ◌≤◌};
 ghost use Rattle.age_words.specs.Job.{IsInRange};
 
+use crate::buffers::source_by_places;
 use crate::decrypt::decrypt;
 use crate::encrypt::encrypt;
 use crate::fault::Fault;
@@ -9,7 +10,6 @@ use crate::files::{create, open, open_by_places, read_just};
 use crate::inspect::inspect;
 use crate::range::range;
 use crate::secret::{Secret, Seed, read_secret, read_seed};
-use age_file::FileAt;
 use age_words::{Command, Job, WordsFault, read_words};
 use std::alloc::Global;
 use std::fmt::Display;
@@ -105,7 +105,7 @@ fn perform_range<'a, F: Files + AllocGlobal, W: Write>(
     let Some(name) = &job.input else {
         unreachable!();
     };
-    let mut input = FileAt::new(open_by_places(rt, name.as_str())?);
+    let mut input = source_by_places(rt.alloc(), open_by_places(rt, name.as_str())?)?;
     match &job.output {
         Some(name) => {
             let mut file = create(rt, name.as_str())?;

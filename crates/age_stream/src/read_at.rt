@@ -116,10 +116,12 @@ impl<'a> ReadAt for MemAt<'a> {
 }
 
 /// A file, or whatever else can be read and sought. Its contents are not known to proofs. It keeps the first size that it found: a
-/// read that gives no byte below that size is a failure.
+/// read that gives no byte below that size is a failure. A read where the one before ended does not seek.
 #[derive(Drop)]
 pub struct FileAt<F> {
     file: F,
+    // where the file stands, as far as that is known
+    position: Option<u64>,
     size: Option<u64>,
     given: u64,
     failures: u64,
@@ -135,6 +137,7 @@ impl<F: Read + Seek> FileAt<F> {
     {
         FileAt {
             file,
+            position: None,
             size: None,
             given: 0,
             failures: 0,
@@ -161,12 +164,21 @@ fn is_below(size: Option<u64>, at: u64) -> bool
     }
 }
 
-/// Seeks, and reads once.
-fn read_from<F: Read + Seek>(file: &mut F, at: u64, buf: &mut [u8]) -> std::io::Result<usize>
+/// Reads once from this place on, and seeks before where the file may stand elsewhere.
+fn read_from<F: Read + Seek>(
+    file: &mut F,
+    position: &mut Option<u64>,
+    at: u64,
+    buf: &mut [u8],
+) -> std::io::Result<usize>
     ensures { ReadsAtMost result buf.new }
 {
-    file.seek(SeekFrom::Start(at))?;
-    file.read(buf)
+    if position.take() != Some(at) {
+        file.seek(SeekFrom::Start(at))?;
+    }
+    let n = file.read(buf)?;
+    *position = at.checked_add(n as u64);
+    Ok(n)
 }
 
 impl<F: Read + Seek> ReadAt for FileAt<F> {
@@ -182,6 +194,7 @@ impl<F: Read + Seek> ReadAt for FileAt<F> {
         if let Some(size) = self.size {
             return Ok(size);
         }
+        self.position = None;
         match self.file.seek(SeekFrom::End(0)) {
             Ok(size) => {
                 self.size = Some(size);
@@ -192,7 +205,7 @@ impl<F: Read + Seek> ReadAt for FileAt<F> {
     }
 
     fn read_at(&mut self, at: u64, buf: &mut [u8]) -> Result<usize, DeviceFault> {
-        match read_from(&mut self.file, at, buf) {
+        match read_from(&mut self.file, &mut self.position, at, buf) {
             Ok(n) if n > 0 || buf.is_empty() || !is_below(self.size, at) => {
                 self.given = self.given.saturating_add(n as u64);
                 Ok(n)
