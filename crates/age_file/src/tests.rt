@@ -2,6 +2,7 @@
 
 mod devices;
 mod objects;
+mod ranges;
 mod steps;
 
 use crate::{Done, Fault, Fresh, Limits, decrypt, encrypt};
