@@ -1,5 +1,6 @@
 #!/bin/bash
-# Whole files: how fast agep encrypts and decrypts with a key, beside age with an X25519 key where that is installed, in the same run.
+# Whole files: how fast agep encrypts and decrypts with a key, beside age with an X25519 key where that is installed, in the same run;
+# and ten bytes by a range, beside agep's own decryption, since age has no ranges.
 # Usage: bench/file.sh [MIB [RUNS]]
 set -eu
 mib=${1:-256}
@@ -32,7 +33,16 @@ measure() {
 
 measure "agep encrypt" "$agep" encrypt -k key -o agep.age plain
 measure "agep decrypt" "$agep" decrypt -k key -o agep.out agep.age
+decryption=$(sort -n times | head -n 1)
 cmp plain agep.out
+
+# A hundred ranges, each a run of the program.
+began=$(date +%s%N)
+for ((run = 0; run < 100; run++)); do
+    "$agep" range -k key "$((mib << 19))" 10 agep.age >/dev/null
+done
+awk -v t="$((($(date +%s%N) - began) / 100))" -v d="$decryption" -v k="$({ /usr/bin/time -f %M "$agep" range -k key "$((mib << 19))" 10 agep.age >/dev/null; } 2>&1)" 'BEGIN {
+    printf "%-20s %.2f ms, %.5f of the best decryption, %.1f MiB of memory\n", "agep range, 10 bytes", t / 1e6, t / 1e9 / (d > 0 ? d : 0.01), k / 1024 }'
 measure "agep encrypt, pipes" sh -c 'cat plain | "$0" encrypt -k key | cat' "$agep"
 measure "agep decrypt, pipes" sh -c 'cat agep.age | "$0" decrypt -k key | cat' "$agep"
 if command -v age >/dev/null; then
