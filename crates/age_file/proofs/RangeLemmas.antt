@@ -1,22 +1,30 @@
 -- What opening a file for ranges does, from what its parts do.
 use Rattle.std.proofs.Common.{◌≡◌, ◌⊎◌, ℕ, List, ◌++◌, ◌+◌, ◌-◌, ◌≤◌, length, drop, sym, ◌∙◌, ap, refl, subst, arith, inl, inr, option_map, Option, Some, None, Result, Ok, Err}
+use Rattle.std.specs.Prelude.{Bool, true, false, IfErr, if◌then◌else◌}
 use Rattle.std.specs.Result.{result_map_both}
+use Rattle.std.specs.Str.{bytes_eq}
 use Rattle.std.proofs.lemmas.List.{length-append, length-drop}
 use Rattle.age_header.specs.declared.fault.HeaderFault.{HeaderFault}
 use Rattle.age_header.specs.declared.fault.HeaderFault.TheVariants as header
 use Rattle.age_header.specs.Header.{HeaderParts}
+use Rattle.age_header.specs.Mac.{header_mac}
 use Rattle.age_header.specs.Reader.{Refuses}
 use Rattle.age_header.specs.Verdict.{HeaderVerdict}
 use Rattle.age_recipient.specs.declared.key.FileKey.{FileKey}
+use Rattle.age_recipient.specs.declared.choice.UnlockFault.{UnlockFault}
+use Rattle.age_recipient.specs.declared.choice.UnlockFault.TheVariants as unlock
+use Rattle.age_recipient.specs.Choice.{choice}
 use Rattle.age_stream.specs.declared.fault.StreamFault.{StreamFault}
+use Rattle.age_stream.specs.declared.fault.StreamFault.TheVariants as fault
+use Rattle.age_stream.specs.Ranges as stream
 use Rattle.age_stream.specs.Ranges.{OpensRanges}
 use Rattle.age_stream.specs.Slice.{range_outcome}
 use Rattle.age_file.specs.declared.fault.Fault.{Fault}
-use Rattle.age_file.specs.declared.fault.Fault.TheVariants.{OutOfMemory}
-use Rattle.age_file.specs.AgeFile.{Bounds}
+use Rattle.age_file.specs.declared.fault.Fault.TheVariants.{BadMac, MixedPassphrase, OutOfMemory}
+use Rattle.age_file.specs.AgeFile.{Bounds, is_mixed}
 use Rattle.age_file.specs.Inspect.{Inspects}
-use Rattle.age_file.specs.Ranges.{HasFront, IsWithin, MissesFront, MissesRanges, ranges_under}
-use Rattle.age_file.specs.Verdict.{Answering, of_header, of_stream, unlocked}
+use Rattle.age_file.specs.Ranges.{HasFront, IsOpenFault, IsWithin, MissesFront, MissesRanges, ranges_under}
+use Rattle.age_file.specs.Verdict.{Answering, checked, of_header, of_stream, of_unlock, unlocked}
 use Rattle.age_file.proofs.DecryptLemmas.{err-err, headed}
 
 -- a header that was read from the first byte on
@@ -73,3 +81,47 @@ payload-missed limits answers (Some b) at h k fault found (inr key) (inr (inr e)
   ap (ranges_under limits (drop (length found.0) b)) (sym key)
       ∙ ap (λ n. result_map_both (λ text. text) of_stream (range_outcome k limits.max_chunks (drop n b))) found.1 ∙ ap (result_map_both (λ text. text) of_stream) e,
 ))
+
+-- ---- the faults' names
+
+inspect-open : (g : HeaderFault) → IsOpenFault (of_header g)
+inspect-open header.NotAge = tt
+inspect-open (header.BadLine n) = tt
+inspect-open header.Truncated = tt
+inspect-open header.TooLarge = tt
+inspect-open header.Read = tt
+inspect-open header.Memory = tt
+
+pub front-named : (limits : Bounds) (old mid : Option (List ℕ)) (fault : Fault) → Inspects limits old mid (Err fault) → IsOpenFault fault
+front-named limits old mid fault (Ok parts, is, h) = absurd (cc)
+front-named limits old mid fault (Err g, is, h) = subst IsOpenFault (sym (err-err {A = HeaderParts} fault (of_header g) is)) (inspect-open g)
+
+either-open : (b : Bool) (x y : Result FileKey Fault) → IfErr x IsOpenFault → IfErr y IsOpenFault → IfErr (if b then x else y) IsOpenFault
+either-open true x y p q = p
+either-open false x y p q = q
+
+unlock-open : (e : UnlockFault) → IsOpenFault (of_unlock e)
+unlock-open unlock.NoMatch = tt
+unlock-open unlock.WrongKey = tt
+unlock-open (unlock.Malformed s) = tt
+unlock-open unlock.Memory = tt
+
+checked-open : (h : HeaderParts) (r : Result FileKey UnlockFault) → IfErr (checked h r) IsOpenFault
+checked-open h (Err e) = unlock-open e
+checked-open h (Ok k) = either-open (bytes_eq h.mac (header_mac k.0 h.stanzas)) (Ok k) (Err BadMac) tt tt
+
+pub locked-named : (answers : Answering) (h : HeaderParts) (fault : Fault) → (◌≡◌ {A = Result FileKey Fault} (Err fault) (Err OutOfMemory)) ⊎ (Err fault ≡ unlocked answers h) → IsOpenFault fault
+locked-named answers h fault (inl memory) = subst IsOpenFault (sym (err-err {A = FileKey} fault OutOfMemory memory)) tt
+locked-named answers h fault (inr key) =
+    subst (λ (r : Result FileKey Fault). IfErr r IsOpenFault) (sym key)
+    (either-open (is_mixed h.stanzas) (Err MixedPassphrase) (checked h (choice (answers h.stanzas))) tt (checked-open h (choice (answers h.stanzas))))
+
+pub payload-named : (e : StreamFault) → stream.IsOpenFault e → IsOpenFault (of_stream e)
+payload-named fault.NonceTruncated h = tt
+payload-named (fault.ChunkShort i) h = tt
+payload-named (fault.EmptyFinal i) h = tt
+payload-named (fault.BadChunk i) h = tt
+payload-named fault.TooManyChunks h = tt
+payload-named fault.Read h = tt
+payload-named fault.Write h = absurd h
+payload-named fault.Memory h = tt

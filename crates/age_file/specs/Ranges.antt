@@ -1,5 +1,5 @@
 -- Opening a file for ranges of its plaintext.
-use Rattle.std.specs.Prelude.{◌≡◌, ◌⊎◌, ℕ, ◌+◌, ◌≤◌, List, length, drop, IfSome, Option, Some, Result, Ok, Err}
+use Rattle.std.specs.Prelude.{◌≡◌, ◌⊎◌, ℕ, ◌+◌, ◌≤◌, List, length, drop, IfSome, ⊤, Option, Some, Result, Ok, Err}
 use Rattle.std.specs.Result.{result_map_both}
 use Rattle.age_header.specs.declared.fault.HeaderFault.{HeaderFault}
 use Rattle.age_header.specs.Header.{HeaderParts}
@@ -8,7 +8,7 @@ use Rattle.age_recipient.specs.declared.key.FileKey.{FileKey}
 use Rattle.age_stream.specs.Ranges.{IsOpened, RangeState}
 use Rattle.age_stream.specs.Slice.{last_piece, range_outcome}
 use Rattle.age_file.specs.declared.fault.Fault.{Fault}
-use Rattle.age_file.specs.declared.fault.Fault.TheVariants.{Read, OutOfMemory}
+use Rattle.age_file.specs.declared.fault.Fault.TheVariants.{NoRecipients, OutOfMemory, Read, Refused, Write}
 use Rattle.age_file.specs.AgeFile.{Bounds}
 use Rattle.age_file.specs.Verdict.{Answering, of_header, of_stream, unlocked}
 
@@ -21,6 +21,13 @@ pub record AtState : Type 0 where
 -- the place is not past the end of the known bytes
 abbrev pub IsWithin : Option (List ℕ) → ℕ → Type 0
 IsWithin told at = IfSome told (λ bytes. at ≤ length bytes)
+
+-- a fault with which opening a file for ranges may end
+abbrev pub IsOpenFault : Fault → Type 0
+IsOpenFault NoRecipients = ⊥
+IsOpenFault (Refused i code) = ⊥
+IsOpenFault Write = ⊥
+IsOpenFault _ = ⊤
 
 -- the known bytes begin with this header, which is `at` bytes long
 abbrev pub HasFront : Bounds → Option (List ℕ) → ℕ → HeaderParts → Type 0

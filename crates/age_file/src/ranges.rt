@@ -3,7 +3,7 @@
 ghost use Rattle.std.specs.Prelude.{◌≡◌, ◌+◌, ◌-◌, ◌≤◌, ℕ, map, Err, Some, IfOk, IfErr, IfSome};
 ghost use Rattle.age_stream.specs.Ranges.{chunks_of, source_at_of};
 ghost use Rattle.age_file.specs.Device.{CountsRead};
-ghost use Rattle.age_file.specs.Ranges.{HasFront, IsRangesOf, MissesFront, MissesRanges};
+ghost use Rattle.age_file.specs.Ranges.{HasFront, IsOpenFault, IsRangesOf, MissesFront, MissesRanges};
 
 use crate::at_source::{AtSource, Origin};
 use crate::fault::Fault;
@@ -36,6 +36,7 @@ fn front_of<'a, D: ReadAt, K: Origin>(
     ensures uncounted { IfOk result (λ front. D.failed front.dev.now ≡ D.failed dev.old) }
     ensures header { IfOk result (λ front. HasFront limits.now K.bytes front.at front.header) }
     ensures misses { IfErr result (MissesFront limits.now K.bytes) }
+    ensures named { IfErr result IsOpenFault }
     ensures counted { IfErr result (λ fault. (last : D) × (D.bytes last ≡ K.bytes) × CountsRead {A = ℕ} (D.failed dev.old) (D.failed last) (Err fault)) }
 {
     let mut source: AtSource<'a, D, K> = AtSource::new(dev);
@@ -62,6 +63,7 @@ fn read_front<'a, D: ReadAt>(
     ensures uncounted { IfOk result (λ front. D.failed front.dev.now ≡ D.failed dev.old) }
     ensures header { IfOk result (λ front. HasFront limits.now (D.bytes dev.old) front.at front.header) }
     ensures misses { IfErr result (MissesFront limits.now (D.bytes dev.old)) }
+    ensures named { IfErr result IsOpenFault }
     ensures counted { IfErr result (λ fault. (last : D) × (D.bytes last ≡ D.bytes dev.old) × CountsRead {A = ℕ} (D.failed dev.old) (D.failed last) (Err fault)) }
 {
     front_of::<D, Brand>(alloc, dev, limits)
@@ -88,6 +90,7 @@ pub fn open_ranges<'a, D: ReadAt>(
     ensures kept { IfOk result (λ reader. ((chunks_of reader).index ≡ Some ((chunks_of reader).layout.count - 1)) × ((chunks_of reader).opened ≡ 1)) }
     ensures uncounted { IfOk result (λ reader. D.failed (source_at_of reader).now ≡ D.failed dev.old) }
     ensures misses { IfErr result (MissesRanges limits.now (λ stanzas. map (λ i. meaning i stanzas) identities.now) (D.bytes dev.old)) }
+    ensures named { IfErr result IsOpenFault }
     ensures counted { IfErr result (λ fault. (last : D) × (D.bytes last ≡ D.bytes dev.old) × CountsRead {A = ℕ} (D.failed dev.old) (D.failed last) (Err fault)) }
 {
     let Front { header, dev, at } = match read_front(alloc, dev, limits) {

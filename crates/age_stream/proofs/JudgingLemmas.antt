@@ -6,12 +6,13 @@ use Rattle.std.proofs.lemmas.List.{length-drop, length-take-le, drop-drop, take_
 use Rattle.age_cipher.proofs.OpeningLemmas.{length-sealed, opened-sealed}
 use Rattle.age_recipient.specs.declared.key.FileKey.{FileKey}
 use Rattle.age_stream.specs.declared.fault.StreamFault.{StreamFault}
-use Rattle.age_stream.specs.declared.fault.StreamFault.TheVariants.{TooManyChunks}
+use Rattle.age_stream.specs.declared.fault.StreamFault.TheVariants.{NonceTruncated, ChunkShort, EmptyFinal, BadChunk, TooManyChunks, Read, Write, Memory}
 use Rattle.age_stream.specs.declared.layout.Layout.{Layout}
+use Rattle.age_stream.specs.Opening.{IsAtPiece}
 use Rattle.age_stream.specs.Payload.{pieces, place, payload_key}
 use Rattle.age_stream.specs.Places.{EndsBefore, HasAt}
 use Rattle.age_stream.specs.Reading.{opened_at, outcome}
-use Rattle.age_stream.specs.Ranges.{last_len, opens_to, JudgesLast, OpensRanges}
+use Rattle.age_stream.specs.Ranges.{last_len, opens_to, IsOpenFault, JudgesLast, OpensRanges}
 use Rattle.age_stream.specs.Slice.{opening, plain_len, text_len, last_piece, last_outcome, range_outcome}
 use Rattle.age_stream.proofs.ReadingLemmas.{cut-count}
 use Rattle.age_stream.proofs.OutcomeLemmas.{outcome-many}
@@ -181,3 +182,19 @@ given-last None nonce at n new mid old h le le2 = tt
 given-last (Some bytes) nonce at n new mid old h le le2 =
     let l : length (last_piece (drop (at + 16) bytes)) ≡ last_len n = length-last (drop (at + 16) bytes) ∙ ap last_len (behind-len (at + 16) n bytes h.1) in
     omega (arith, l, le, le2)
+
+-- a fault of a piece is one of opening
+pub piece-named : (max i : ℕ) (fault : StreamFault) → IsAtPiece max i fault → IsOpenFault fault
+piece-named max i NonceTruncated h = tt
+piece-named max i (ChunkShort n) h = tt
+piece-named max i (EmptyFinal n) h = tt
+piece-named max i (BadChunk n) h = tt
+piece-named max i TooManyChunks h = tt
+piece-named max i Read h = tt
+piece-named max i Write h = absurd h
+piece-named max i Memory h = tt
+
+-- and so is a fault of the nonce
+pub nonce-named : {P : Type 0} (fault : StreamFault) → (fault ≡ Read) ⊎ ((fault ≡ NonceTruncated) × P) → IsOpenFault fault
+nonce-named fault (inl is) = subst IsOpenFault (sym is) tt
+nonce-named fault (inr (is, p)) = subst IsOpenFault (sym is) tt

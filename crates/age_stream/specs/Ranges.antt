@@ -1,9 +1,9 @@
 -- A reader of ranges between two calls, and what its calls do.
-use Rattle.std.specs.Prelude.{ℕ, List, [], ◌+◌, ◌-◌, ◌*◌, ◌/◌, ◌<◌, ◌≤◌, ◌≡◌, ◌⊎◌, length, take, drop, min, nat_eq, unwrap_or, IsSome, IfSome, MatchResult, Bool, false, Option, Some, None, Result, Ok, Err, if◌then◌else◌}
+use Rattle.std.specs.Prelude.{ℕ, List, [], ◌+◌, ◌-◌, ◌*◌, ◌/◌, ◌<◌, ◌≤◌, ◌≡◌, ◌⊎◌, length, take, drop, min, nat_eq, unwrap_or, IsSome, IfSome, MatchResult, ⊤, Bool, false, Option, Some, None, Result, Ok, Err, if◌then◌else◌}
 use denote.Ref.{MutBor}
 use Rattle.age_recipient.specs.declared.key.FileKey.{FileKey}
 use Rattle.age_stream.specs.declared.fault.StreamFault.{StreamFault}
-use Rattle.age_stream.specs.declared.fault.StreamFault.TheVariants.{BadChunk, Read, Memory}
+use Rattle.age_stream.specs.declared.fault.StreamFault.TheVariants.{BadChunk, Read, Write, Memory}
 use Rattle.age_stream.specs.declared.layout.Layout.{Layout}
 use Rattle.age_stream.specs.declared.ranges.RangeReader.{RangeReader}
 use Rattle.age_stream.specs.Payload.{payload_key}
@@ -100,6 +100,11 @@ abbrev pub OpensRanges : FileKey → ℕ → ℕ → Option (List ℕ) → Resul
 OpensRanges k max at told r = MatchResult r
     (λ s. (s.index ≡ Some (s.layout.count - 1)) × (s.opened ≡ 1) × IfSome told (λ bytes. IsOpened k max (Some bytes) at s))
     (λ fault. (fault ≡ Read) ⊎ ((fault ≡ Memory) ⊎ IfSome told (λ bytes. range_outcome k max (drop at bytes) ≡ Err fault)))
+
+-- a fault with which opening a payload may end
+abbrev pub IsOpenFault : StreamFault → Type 0
+IsOpenFault Write = ⊥
+IsOpenFault _ = ⊤
 
 -- a payload was opened: the source's contents stayed, and it gave at most the nonce and the last piece
 pub record Probes (told told2 : Option (List ℕ)) (at given given2 : ℕ) : Type 0 where

@@ -1,7 +1,7 @@
 //! The chunks of a payload, of which one is kept, apart from the source that they are read from.
 ghost use Rattle.std.specs.Prelude.{◌≡◌, ◌+◌, ◌-◌, ◌*◌, ◌/◌, ◌<◌, ◌≤◌, ◌++◌, ℕ, length, take, drop, min, Some, None, IfOk, OnOk, OnErr, IfErr, if◌then◌else◌};
 ghost use Rattle.age_stream.specs.Counts.{CountsRead};
-ghost use Rattle.age_stream.specs.Ranges.{Fills, IsLost, IsSound, OpensRanges, Probes, Stops, fresh, is_kept, kept_text, range_len, sealed_span};
+ghost use Rattle.age_stream.specs.Ranges.{Fills, IsLost, IsOpenFault, IsSound, OpensRanges, Probes, Stops, fresh, is_kept, kept_text, range_len, sealed_span};
 ghost use Rattle.age_stream.specs.Slice.{text_len};
 
 use crate::buffer::ChunkBuf;
@@ -99,6 +99,7 @@ impl Chunks {
     ) -> Result<Chunks, StreamFault>
         ensures probes { Probes (D.bytes dev.old) (D.bytes dev.new) payload_at (D.given dev.old) (D.given dev.new) }
         ensures opens { OpensRanges key.now max_chunks payload_at (D.bytes dev.old) result }
+        ensures named { IfErr result IsOpenFault }
         ensures count { CountsRead (D.failed dev.old) (D.failed dev.new) result }
     {
         let Ok(buf) = ChunkBuf::new(alloc) else {

@@ -4,7 +4,7 @@ ghost use Rattle.std.specs.Bool.{OnTrue, OnFalse};
 ghost use Rattle.age_header.specs.Device.{Counts};
 ghost use Rattle.age_stream.specs.Counts.{CountsRead};
 ghost use Rattle.age_stream.specs.Places.{EndsBefore, HasAt, IsPast};
-ghost use Rattle.age_stream.specs.Ranges.{IsThere, JudgesLast, last_len, opens_to};
+ghost use Rattle.age_stream.specs.Ranges.{IsOpenFault, IsThere, JudgesLast, last_len, opens_to};
 ghost use Rattle.age_stream.specs.Slice.{text_len};
 
 use crate::fault::StreamFault;
@@ -156,6 +156,7 @@ pub(crate) fn load_last<D: ReadAt>(
     requires fits { first + sealed < 2 ^ 64 }
     ensures stay { D.bytes dev.new ≡ D.bytes dev.old }
     ensures judges { JudgesLast key max first sealed (D.bytes dev.old) buf.new result }
+    ensures named { IfErr result IsOpenFault }
     ensures given { D.given dev.new ≤ D.given dev.old + last_len sealed }
     ensures count { CountsRead (D.failed dev.old) (D.failed dev.new) result }
 {

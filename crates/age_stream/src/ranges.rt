@@ -1,7 +1,7 @@
 //! Reading any part of a plaintext from a caller's source.
 ghost use Rattle.std.specs.Prelude.{◌≡◌, ◌+◌, ◌-◌, ◌*◌, ◌/◌, ◌<◌, ◌≤◌, ℕ, length, Ok, Err, Some, None, IfOk, IfErr, OnErr};
 ghost use Rattle.age_stream.specs.Counts.{CountsRead, CountsReadFault};
-ghost use Rattle.age_stream.specs.Ranges.{Fills, IsSound, OpensRanges, Probes, Stops, fresh, range_len, sealed_span};
+ghost use Rattle.age_stream.specs.Ranges.{Fills, IsOpenFault, IsSound, OpensRanges, Probes, Stops, fresh, range_len, sealed_span};
 
 use crate::chunks::Chunks;
 use crate::fault::StreamFault;
@@ -47,6 +47,7 @@ impl<'a, D: ReadAt> RangeReader<'a, D> {
         ensures refuses { IfErr result (λ refused. OpensRanges key.now max_chunks payload_at (D.bytes dev.old) (Err refused.fault)
             × Probes (D.bytes dev.old) (D.bytes refused.device.now) payload_at (D.given dev.old) (D.given refused.device.now)
             × CountsReadFault (D.failed dev.old) (D.failed refused.device.now) refused.fault) }
+        ensures named { IfErr result (λ refused. IsOpenFault refused.fault) }
     {
         match Chunks::open(alloc, key, dev, payload_at, max_chunks) {
             Ok(chunks) => Ok(RangeReader::over(dev, chunks)),
@@ -77,6 +78,7 @@ impl<'a, D: ReadAt> RangeReader<'a, D> {
         ensures refuses { IfErr result (λ fault. OpensRanges key.now max_chunks payload_at (D.bytes dev.old) (Err fault)
             × ((last : D) × Probes (D.bytes dev.old) (D.bytes last) payload_at (D.given dev.old) (D.given last)
             × CountsReadFault (D.failed dev.old) (D.failed last) fault)) }
+        ensures named { IfErr result IsOpenFault }
     {
         match RangeReader::started(alloc, key, dev, payload_at, max_chunks) {
             Ok(reader) => Ok(reader),

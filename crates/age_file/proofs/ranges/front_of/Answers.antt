@@ -1,6 +1,6 @@
 use Rattle.std.proofs.Common.{◌∙◌, sym, subst}
 use Rattle.age_file.specs.Ranges.{IsWithin}
-use Rattle.age_file.proofs.RangeLemmas.{front-found, front-missed}
+use Rattle.age_file.proofs.RangeLemmas.{front-found, front-missed, front-named}
 use Rattle.age_file.proofs.ranges.front_of.Goals as goal
 
 pub returns-in-Ok-clause-header : goal.returns-in-Ok-clause-header
@@ -13,3 +13,6 @@ returns-in-Ok-clause-header g c =
 pub returns-in-Err-clause-misses : goal.returns-in-Err-clause-misses
 returns-in-Err-clause-misses g c =
     front-missed c.args.limits.now g.K.Origin.bytes _ c.in-Err.fault (rw (c.new-source.ensures, sym c.requires.bytes) at c.in-Err.ensures.verdict)
+
+pub returns-in-Err-clause-named : goal.returns-in-Err-clause-named
+returns-in-Err-clause-named g c = front-named c.args.limits.now _ _ c.in-Err.fault c.in-Err.ensures.verdict

@@ -1,9 +1,10 @@
 use Rattle.std.proofs.Common.{ℕ, List, map, ◌∙◌, sym, subst, Err}
 use Rattle.age_header.specs.Header.{StanzaParts}
 use Rattle.age_file.specs.Device.{CountsRead}
+use Rattle.age_file.specs.Ranges.{IsOpenFault}
 use Rattle.age_file.specs.Verdict.{of_stream}
 use Rattle.age_file.proofs.DecryptLemmas.{reads-file}
-use Rattle.age_file.proofs.RangeLemmas.{missed-ranges, locked-ranges, payload-missed}
+use Rattle.age_file.proofs.RangeLemmas.{missed-ranges, locked-named, locked-ranges, payload-missed, payload-named}
 use Rattle.age_file.proofs.ranges.open_ranges.Goals as goal
 
 pub returns-in-Err-clause-misses : goal.returns-in-Err-clause-misses
@@ -32,3 +33,11 @@ returns-clause-counted g c =
       subst (λ f. CountsRead {A = ℕ} (g.D.ReadAt.failed c.args.dev.now) (g.D.ReadAt.failed last.0) (Err f)) (sym c.stream_fault.ensures)
           (subst (λ n. CountsRead {A = ℕ} n (g.D.ReadAt.failed last.0) (Err (of_stream c.in-Err-open.fault))) c.in-Ok.ensures.uncounted count),
     )
+
+pub returns-in-Err-unlock_header-clause-named : goal.returns-in-Err-unlock_header-clause-named
+returns-in-Err-unlock_header-clause-named g c =
+    locked-named (λ (s : List StanzaParts). map (λ i. (goal.Identity-dyn g (i.vtable, i.value)).meaning i.value s) c.args.identities.now)
+    c.in-Ok.front.header c.in-Err-unlock_header.fault c.in-Err-unlock_header.ensures.key
+
+pub returns-clause-named : goal.returns-clause-named
+returns-clause-named g c = subst IsOpenFault (sym c.stream_fault.ensures) (payload-named c.in-Err-open.fault c.in-Err-open.ensures.named)

@@ -2,7 +2,7 @@ use Rattle.std.proofs.Common.{rules, arith, ◌≡◌, ◌+◌, ◌-◌, ◌*◌
 use Rattle.std.proofs.lemmas.Bool.{OnTrue_at, OnFalse_at}
 use Rattle.age_stream.specs.Slice.{text_len}
 use Rattle.age_stream.specs.declared.fault.StreamFault.TheVariants.{BadChunk}
-use Rattle.age_stream.proofs.JudgingLemmas.{last-many, last-gone, last-read, open-len}
+use Rattle.age_stream.proofs.JudgingLemmas.{last-many, last-gone, last-read, open-len, piece-named}
 use Rattle.age_stream.proofs.loading.load_last.Goals as goal
 
 pub returns-then-last-max-clause-judges : goal.returns-then-last-max-clause-judges
@@ -59,3 +59,7 @@ returns-in-Ok-clause-judges g c =
       last-read c.args.key c.args.max c.args.first c.args.sealed last end (g.D.ReadAt.bytes c.args.dev.now) c.read_full.new.buf (Ok (take (text_len (65536 * last + n) (last + 1 - 1)) c.open_piece.new.bytes))
           (ap (λ k. k / 65552) less) refl room (OnTrue_at c.in-Ok-true.field-0-test c.in-Ok-true.ensures.full) (c.in-Ok.ensures.text.0 ∙ ap (λ k. Ok (take k c.open_piece.new.bytes)) text),
     )
+
+pub returns-in-Err-open_piece-clause-named : goal.returns-in-Err-open_piece-clause-named
+returns-in-Err-open_piece-clause-named g c =
+    piece-named c.args.max (c.saturating_sub-last.result / 65552) c.in-Err-open_piece.fault c.in-Err-open_piece.ensures.at

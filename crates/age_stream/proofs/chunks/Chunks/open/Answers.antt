@@ -1,7 +1,7 @@
 use Rattle.std.proofs.Common.{arith, rules, ◌≡◌, ◌-◌, ◌∙◌, sym, length, subst, Some, Ok}
 use Rattle.age_stream.specs.Ranges.{OpensRanges}
 use Rattle.age_stream.proofs.TailLemmas.{written-all}
-use Rattle.age_stream.proofs.JudgingLemmas.{given-last, judged-err, judged-ok}
+use Rattle.age_stream.proofs.JudgingLemmas.{given-last, judged-err, judged-ok, nonce-named}
 use Rattle.age_stream.proofs.chunks.Chunks.open.Goals as goal
 
 pub returns-in-Ok-load_last-clause-probes : goal.returns-in-Ok-load_last-clause-probes
@@ -36,3 +36,6 @@ returns-in-Ok-load_last-clause-opens g c =
     (Ok (record { layout = layout; index = Some (layout.count - 1); buf = b; opened = 1 }))) (sym all)
     (judged-ok c.args.key.now c.args.max_chunks c.args.payload_at (g.D.ReadAt.bytes c.args.dev.now) c.in-Ok-nonce_at.nonce.bytes new c.in-Ok-nonce_at.nonce.rest
     layout c.in-Ok-nonce_at.ensures.ok (rw (c.payload_key-key.ensures, c.nonce_at.ensures.stay) at c.in-Ok-load_last.ensures.judges))
+
+pub returns-in-Err-clause-named : goal.returns-in-Err-clause-named
+returns-in-Err-clause-named g c = nonce-named c.in-Err.fault c.in-Err.ensures.err
