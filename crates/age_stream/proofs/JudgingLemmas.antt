@@ -168,7 +168,7 @@ judged-ok k max at (Some bytes) nonce buf n layout h j =
         first = j.1;
         plain = sym (plain-there layout (drop layout.first bytes) there) ∙ ap (λ f. plain_len (drop f bytes)) j.1;
         sound = record {
-          there = record { tells = refl; size = there };
+          there = record { known = refl; size = there };
           keeps = λ i e. subst (λ m. opens_to (Some bytes) layout m ≡ Some (take (text_len layout.plain m) buf)) (same-some (layout.count - 1) i e) opens;
         };
       },
