@@ -169,7 +169,7 @@ judged-ok k max at (Some bytes) nonce buf n layout h j =
         first = j.1;
         plain = sym (plain-there layout (drop layout.first bytes) there) ∙ ap (λ f. plain_len (drop f bytes)) j.1;
         sound = record {
-          there = record { tells = refl; size = there };
+          there = record { known = refl; size = there };
           keeps = λ i e. subst (λ m. opens_to (Some bytes) layout m ≡ Some (take (text_len layout.plain m) buf)) (same-some (layout.count - 1) i e) opens;
         };
       },
@@ -193,8 +193,3 @@ piece-named max i TooManyChunks h = tt
 piece-named max i Read h = tt
 piece-named max i Write h = absurd h
 piece-named max i Memory h = tt
-
--- and so is a fault of the nonce
-pub nonce-named : {P : Type 0} (fault : StreamFault) → (fault ≡ Read) ⊎ ((fault ≡ NonceTruncated) × P) → IsOpenFault fault
-nonce-named fault (inl is) = subst IsOpenFault (sym is) tt
-nonce-named fault (inr (is, p)) = subst IsOpenFault (sym is) tt

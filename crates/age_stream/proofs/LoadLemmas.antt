@@ -50,7 +50,7 @@ there-last layout rest i size lt =
 there-piece : (told : Option (List ℕ)) (layout : Layout) (i : ℕ) (piece : List ℕ) → IsThere told layout → i < layout.count
     → HasAt told (layout.first + 65552 * i) piece → length piece ≡ text_len layout.plain i + 16
     → piece ≡ take 65552 (drop (65552 * i) (bytes_from told layout.first))
-there-piece None layout i piece there lt has len = absurd (false≢true there.tells)
+there-piece None layout i piece there lt has len = absurd (false≢true there.known)
 there-piece (Some bytes) layout i piece there lt has len =
     let rest : List ℕ = drop layout.first bytes in
     let size : length rest ≡ layout.plain + 16 * layout.count = there.size in

@@ -31,7 +31,7 @@ kept_text s i = take (text_len s.layout.plain i) s.buf
 
 -- the source's contents are known, and end with the last piece
 pub record IsThere (told : Option (List ℕ)) (layout : Layout) : Type 0 where
-  pub tells : IsSome told
+  pub known : IsSome told
   pub size : length (bytes_from told layout.first) ≡ layout.plain + 16 * layout.count
 
 -- what holds between two calls over a source whose contents are known: the kept chunk is what its piece opens to

@@ -34,16 +34,6 @@ impl Model for Chunks {
     ghost invariant = { λ c. length c.buf.items ≡ 65553 };
 }
 
-/// Whether chunk i is the kept one.
-fn is_kept(index: Option<u64>, i: u64) -> bool
-    ensures { result ≡ is_kept index i }
-{
-    match index {
-        Some(kept) => kept == i,
-        None => false,
-    }
-}
-
 /// How many bytes a range has.
 fn range_len(plain: u64, at: u64, len: usize) -> usize
     ensures { result ≡ min len (plain - at) }
@@ -105,10 +95,7 @@ impl Chunks {
         let Ok(buf) = ChunkBuf::new(alloc) else {
             return Err(StreamFault::Memory);
         };
-        let nonce = match nonce_at(dev, payload_at) {
-            Ok(nonce) => nonce,
-            Err(fault) => return Err(fault),
-        };
+        let nonce = nonce_at(dev, payload_at)?;
         let key = payload_key(key, &nonce.bytes);
         let mut buf = buf.into_bytes();
         match load_last(
@@ -142,15 +129,12 @@ impl Chunks {
         ensures given { D.given dev.new ≤ D.given dev.old + (if is_kept self.old.index i then 0 else text_len self.old.layout.plain i + 16) }
         ensures count { CountsRead (D.failed dev.old) (D.failed dev.new) result }
     {
-        if is_kept(self.index, i) {
+        if self.index == Some(i) {
             return Ok(());
         }
         self.index = None;
         self.opened = self.opened.saturating_add(1);
-        let read = load(dev, self.layout, i, self.buf.as_mut_slice());
-        if let Err(fault) = read {
-            return Err(fault);
-        }
+        load(dev, self.layout, i, self.buf.as_mut_slice())?;
         self.index = Some(i);
         Ok(())
     }

@@ -78,8 +78,7 @@ pub(crate) fn chunk_len(layout: Layout, i: u64) -> usize
     requires { i < layout.count }
     ensures { result ≡ text_len layout.plain i }
 {
-    let left = layout.plain - 65_536 * i;
-    if left < 65_536 { left as usize } else { 65_536 }
+    (layout.plain - 65_536 * i).min(65_536) as usize
 }
 
 /// Reads and opens piece i. Its text is in front then.

@@ -1,6 +1,6 @@
 //! Where bytes are read from at their places.
 
-ghost use Rattle.std.specs.Prelude.{◌≡◌, ◌+◌, ◌-◌, ◌^◌, ◌↔◌, ◌<◌, ℕ, List, Some, None, false, length, drop, min, IfSome, IfNone, IsTrue};
+ghost use Rattle.std.specs.Prelude.{◌≡◌, ◌+◌, ◌-◌, ◌^◌, ℕ, List, Some, None, length, min};
 ghost use Rattle.std.specs.declared.option.Option.{Option};
 ghost use Rattle.std.specs.Io.{ReadsAtMost};
 ghost use Rattle.age_header.specs.Device.{Counts};
@@ -74,17 +74,6 @@ impl<'a> MemAt<'a> {
     }
 }
 
-/// The bytes from place `at` on; none past the end.
-fn bytes_from(bytes: &[u8], at: u64) -> &[u8]
-    ensures { result.now ≡ drop at bytes.now }
-{
-    if at < bytes.len() as u64 {
-        &bytes[at as usize..]
-    } else {
-        b""
-    }
-}
-
 impl<'a> ReadAt for MemAt<'a> {
     ghost bytes = { λ s. Some s.bytes.now };
 
@@ -99,7 +88,7 @@ impl<'a> ReadAt for MemAt<'a> {
     }
 
     fn read_at(&mut self, at: u64, buf: &mut [u8]) -> Result<usize, DeviceFault> {
-        let rest = bytes_from(self.bytes, at);
+        let rest = self.bytes.get(at as usize..).unwrap_or(&[]);
         let n = rest.len().min(buf.len());
         buf[..n].copy_from_slice(&rest[..n]);
         self.given = self.given.saturating_add(n as u64);
@@ -153,17 +142,6 @@ fn count_failure(failures: &mut u64) -> DeviceFault
     DeviceFault
 }
 
-/// Whether this place is known to lie below the size.
-fn is_below(size: Option<u64>, at: u64) -> bool
-    ensures some { IfSome size (λ s. IsTrue result ↔ (at < s)) }
-    ensures none { IfNone size (result ≡ false) }
-{
-    match size {
-        Some(size) => at < size,
-        None => false,
-    }
-}
-
 /// Reads once from this place on, and seeks before where the file may stand elsewhere.
 fn read_from<F: Read + Seek>(
     file: &mut F,
@@ -206,7 +184,7 @@ impl<F: Read + Seek> ReadAt for FileAt<F> {
 
     fn read_at(&mut self, at: u64, buf: &mut [u8]) -> Result<usize, DeviceFault> {
         match read_from(&mut self.file, &mut self.position, at, buf) {
-            Ok(n) if n > 0 || buf.is_empty() || !is_below(self.size, at) => {
+            Ok(n) if n > 0 || buf.is_empty() || self.size.is_none_or(|size| size <= at) => {
                 self.given = self.given.saturating_add(n as u64);
                 Ok(n)
             }

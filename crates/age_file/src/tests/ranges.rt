@@ -25,7 +25,7 @@ fn passphrase(alloc: Global) -> Result<Identities, Fail> {
     Ok(identities)
 }
 
-/// Reads a range into a buffer of bytes 255: the answer, and how many bytes of the plaintext are at the buffer's front; the others are
+/// Reads a range into a buffer of bytes 255: what is returned, and how many bytes of the plaintext are at the buffer's front; the others are
 /// still 255.
 fn range<T: Abort>(
     rt: &T,

@@ -19,7 +19,7 @@ fn payload_of(alloc: Global, len: usize) -> Result<Vec<u8>, Fail> {
     Ok(bytes)
 }
 
-/// Reads so many bytes from place `at` on into a buffer of bytes 255: the answer, and how many bytes of the plaintext are at the
+/// Reads so many bytes from place `at` on into a buffer of bytes 255: what is returned, and how many bytes of the plaintext are at the
 /// buffer's front; the others are still 255.
 fn range<T: Abort, D: ReadAt>(
     rt: &T,
@@ -42,7 +42,7 @@ fn range<T: Abort, D: ReadAt>(
     Ok(())
 }
 
-/// Ranges of 140,000 bytes, one after another: place and length, the answer, and how many chunks were opened after it.
+/// Ranges of 140,000 bytes, one after another: place and length, what is returned, and how many chunks were opened after it.
 const ROWS: [((u64, usize), usize, u64); 8] = [
     ((139_990, 10), 10, 1),
     ((0, 10), 10, 2),
