@@ -1,7 +1,8 @@
 #!/usr/bin/env bash
 # The cipher crate beside openssl, in one run: MB/s of user time, best and median, in chunks of 64 KiB.
 # Usage: bench/cipher.sh [MIB] [ROUNDS] [CPU]. CPU is what the program is built for, as x86-64-v3; left out, the
-# toolchain's default. Rounds are interleaved, so that a busy machine slows both alike.
+# toolchain's default. Rounds are interleaved, so that a busy machine slows both alike. Openssl runs twice: as it is, with all that
+# the processor has, and held to the instructions of the level that the program is built for.
 set -euo pipefail
 mib=${1:-256}
 rounds=${2:-7}
@@ -33,6 +34,12 @@ rate() {
     awk -v mib="$mib" -v s="$seconds" 'BEGIN { printf "%.0f\n", mib * 1.048576 / s }'
 }
 
+# The instructions that openssl is not to use: AVX-512, and for the default also AVX and AVX2.
+case $cpu in
+    x86-64-v3) above_level=':~0xD0230000' ;;
+    *) above_level='~0x1000000000000000:~0xD0230020' ;;
+esac
+
 ours() { rate "$scratch/program" "$1" "$mib" 7; }
 
 # openssl speed reads the user time itself; the authenticator alone is no algorithm of its, so a file goes through it
@@ -52,6 +59,7 @@ for _ in $(seq "$rounds"); do
     for part in seal open chacha20 poly1305; do
         ours "$part" >> "$scratch/ours.$part"
         theirs "$part" >> "$scratch/theirs.$part"
+        OPENSSL_ia32cap=$above_level theirs "$part" >> "$scratch/held.$part"
     done
 done
 
@@ -60,11 +68,13 @@ median() { sort -n "$1" | awk '{ v[NR] = $1 } END { print v[int((NR + 1) / 2)] }
 
 printf 'MB/s of user time, %s, %s, %s MiB, %s rounds, load %s, %s pmuludq\n\n' "${cpu:-default processor}" \
     "$(openssl version | cut -d' ' -f1,2)" "$mib" "$rounds" "$(cut -d' ' -f1 /proc/loadavg)" "$multiplications"
-printf '| %-8s | %10s | %12s | %12s | %14s | %10s | %12s |\n' part best median 'openssl best' 'openssl median' 'best ratio' 'median ratio'
-printf '|---|---|---|---|---|---|---|\n'
+printf '| %-8s | %6s | %6s | %12s | %14s | %10s | %12s | %15s | %11s |\n' part best median 'openssl best' 'openssl median' 'best ratio' \
+    'median ratio' 'same level best' 'level ratio'
+printf '|---|---|---|---|---|---|---|---|---|\n'
 for part in seal open chacha20 poly1305; do
     a=$(best "$scratch/ours.$part") b=$(median "$scratch/ours.$part")
     c=$(best "$scratch/theirs.$part") d=$(median "$scratch/theirs.$part")
-    awk -v p="$part" -v a="$a" -v b="$b" -v c="$c" -v d="$d" \
-        'BEGIN { printf "| %-8s | %10d | %12d | %12d | %14d | %10.2f | %12.2f |\n", p, a, b, c, d, a / c, b / d }'
+    e=$(best "$scratch/held.$part")
+    awk -v p="$part" -v a="$a" -v b="$b" -v c="$c" -v d="$d" -v e="$e" \
+        'BEGIN { printf "| %-8s | %6d | %6d | %12d | %14d | %10.2f | %12.2f | %15d | %11.2f |\n", p, a, b, c, d, a / c, b / d, e, a / e }'
 done
