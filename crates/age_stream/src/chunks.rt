@@ -125,6 +125,7 @@ impl Chunks {
         ensures none { OnErr result (self.new.index ≡ None) }
         ensures sound { IsSound (D.bytes dev.old) self.old → IsSound (D.bytes dev.old) self.new }
         ensures lost { IfErr result (IsLost (D.bytes dev.old) self.old i) }
+        ensures rises { self.old.opened ≤ self.new.opened }
         ensures opened { self.new.opened + (if is_kept self.old.index i then 1 else 0) ≤ self.old.opened + 1 }
         ensures given { D.given dev.new ≤ D.given dev.old + (if is_kept self.old.index i then 0 else text_len self.old.layout.plain i + 16) }
         ensures count { CountsRead (D.failed dev.old) (D.failed dev.new) result }
@@ -165,6 +166,7 @@ impl Chunks {
         ensures count { CountsRead (D.failed dev.old) (D.failed dev.new) result }
         ensures kept { IfOk result (λ n. 0 < n → self.new.index ≡ Some ((at + n - 1) / 65536)) }
         ensures none { OnErr result (self.new.index ≡ None) }
+        ensures rises { self.old.opened ≤ self.new.opened }
         ensures opened { (end : ℕ) → at + range_len self.old at (length buf.old) ≤ 65536 * end
             → self.new.opened ≤ self.old.opened + (end - fresh self.old.index at) }
         ensures given { (end : ℕ) → at + range_len self.old at (length buf.old) ≤ 65536 * end

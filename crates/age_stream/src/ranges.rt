@@ -118,6 +118,7 @@ impl<'a, D: ReadAt> RangeReader<'a, D> {
         ensures count { CountsRead (D.failed self.old.dev.now) (D.failed self.new.dev.now) result }
         ensures kept { IfOk result (λ n. 0 < n → self.new.chunks.index ≡ Some ((at + n - 1) / 65536)) }
         ensures none { OnErr result (self.new.chunks.index ≡ None) }
+        ensures rises { self.old.chunks.opened ≤ self.new.chunks.opened }
         ensures opened { (end : ℕ) → at + range_len self.old.chunks at (length buf.old) ≤ 65536 * end
             → self.new.chunks.opened ≤ self.old.chunks.opened + (end - fresh self.old.chunks.index at) }
         ensures given { (end : ℕ) → at + range_len self.old.chunks at (length buf.old) ≤ 65536 * end

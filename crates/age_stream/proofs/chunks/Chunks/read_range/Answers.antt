@@ -103,6 +103,7 @@ loop-done-preserved g c =
       rest = rest-on c.loop-done.buf c.put-n.new.buf c.args.buf.now done n inv.rest (put-rest c.loop-done.buf (take n (drop skip t)) c.put-n.new.buf done n (omega (arith, room)) sized put);
       front = λ told_so. front-on s.layout.key (bytes_from told s.layout.first) t c.loop-done.buf c.put-n.new.buf at done i skip n pos (omega (arith, room)) part size (opens told_so) (inv.front told_so)
           (put-front c.loop-done.buf (take n (drop skip t)) c.put-n.new.buf done n (omega (arith, room)) sized put);
+      rises = omega (arith, inv.rises, c.hold-held.ensures.rises);
       opened = elim inv.stage [
         | inl z ↦ opened-at_first l.index s.index h.opened l.opened s.opened at i z.3 z.1 c.hold-held.ensures.opened z.4
         | inr z ↦ opened-later (is_kept s.index (at / 65536)) h.opened l.opened s.opened (at / 65536) i (if is_kept l.index i then 1 else 0) c.hold-held.ensures.opened z.2 inv.opened

@@ -17,6 +17,7 @@ invariant-loop-done g l =
       below : l.at + l.done ≤ 65536 * l.i + l.skip;
       rest : drop l.done l.buf ≡ drop l.done l.fn.buf;
       front : IsSound told s → HasPlain told s.layout l.at (take l.done l.buf);
+      rises : s.opened ≤ l.self.opened;
       opened : l.self.opened ≤ s.opened + (l.i - fresh s.index l.at);
       given : g.D.ReadAt.given l.dev ≤ g.D.ReadAt.given l.fn.dev + sealed_span s.layout (fresh s.index l.at) l.i;
       failed : g.D.ReadAt.failed l.dev ≡ g.D.ReadAt.failed l.fn.dev;
