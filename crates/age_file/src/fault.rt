@@ -58,7 +58,7 @@ pub enum Fault {
     /// The sink failed.
     #[error("write failed")]
     Write,
-    /// A growth was refused, or a caller's recipient or identity answered so.
+    /// An allocation was refused, or a caller's recipient or identity returned so.
     #[error("out of memory")]
     OutOfMemory,
     /// The recipients gave no stanza.

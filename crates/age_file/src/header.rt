@@ -18,7 +18,7 @@ use std::alloc::Global;
 ///
 /// # Errors
 /// The first of `NotAge`, `BadLine`, `HeaderTruncated` and `HeaderTooLarge` that applies, as `HeaderReader` says; `Read` where the
-/// source failed, `OutOfMemory` where a growth was refused.
+/// source failed, `OutOfMemory` where an allocation was refused.
 pub fn inspect<S: Source>(alloc: Global, input: &mut S, limits: &Limits) -> Result<Header, Fault>
     ensures verdict { Inspects limits.now (S.to_come input.old) (S.to_come input.new) result }
     ensures reads { CountsRead (S.failed input.old) (S.failed input.new) result }

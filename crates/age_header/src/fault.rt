@@ -11,6 +11,6 @@ pub enum HeaderFault {
     TooLarge,
     /// The source failed.
     Read,
-    /// A growth was refused.
+    /// An allocation was refused.
     Memory,
 }

@@ -51,8 +51,8 @@ impl HeaderReader {
     /// # Errors
     /// Over the input's first `max` bytes: `NotAge` where they don't begin as the version line does; else
     /// `BadLine(n)` for the least n for which the first n lines are no header and no front of one; else `Truncated` where
-    /// the input is shorter than `max`, and `TooLarge` where it is not. `Read` where the source failed, `Memory` where a
-    /// growth was refused.
+    /// the input is shorter than `max`, and `TooLarge` where it is not. `Read` where the source failed, `Memory` where an
+    /// allocation was refused.
     pub fn read_from<S: Source>(
         &mut self,
         alloc: Global,

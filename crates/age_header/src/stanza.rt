@@ -14,7 +14,7 @@ pub enum StanzaError {
     EmptyArg(usize),
     /// The argument at this place has a byte outside 33 to 126.
     BadByte(usize),
-    /// A growth was refused.
+    /// An allocation was refused.
     Memory,
 }
 

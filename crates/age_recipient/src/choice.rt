@@ -19,7 +19,7 @@ pub enum UnlockFault {
     WrongKey,
     /// A stanza of an identity's type is malformed.
     Malformed(StanzaFault),
-    /// A growth was refused, or an identity answered so.
+    /// An allocation was refused, or an identity returned so.
     Memory,
 }
 

@@ -18,7 +18,7 @@ use std::marker::Model;
 pub enum PassError {
     /// A work factor is not 1 to 30, or a pair's is above its maximum.
     WorkFactor,
-    /// A growth was refused.
+    /// An allocation was refused.
     Memory,
 }
 

@@ -7,7 +7,7 @@ use std::alloc::Global;
 pub enum WrapFault {
     /// The recipient refuses, for the reason of this number.
     Refused(u32),
-    /// A growth was refused.
+    /// An allocation was refused.
     Memory,
 }
 

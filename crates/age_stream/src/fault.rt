@@ -15,6 +15,6 @@ pub enum StreamFault {
     Read,
     /// A write failed.
     Write,
-    /// A growth was refused.
+    /// An allocation was refused.
     Memory,
 }

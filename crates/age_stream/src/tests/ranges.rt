@@ -142,15 +142,15 @@ fn ranges_of_an_empty_plaintext(rt: HostRuntime) -> Result<(), Fail> {
 #[test]
 fn payloads_that_do_not_open(rt: HostRuntime) -> Result<(), Fail> {
     let alloc = rt.alloc();
-    let mut bytes = payload_of(alloc, 65_537)?;
+    let mut bytes = payload_of(alloc, 131_073)?;
     if let Some(last) = bytes.as_mut_slice().last_mut() {
         *last ^= 1;
     }
     for (max, from, fault) in [
-        (1, 9, StreamFault::TooManyChunks),
-        (2, 9, StreamFault::BadChunk(1)),
-        (2, 65_593, StreamFault::NonceTruncated),
-        (2, 18_446_744_073_709_551_615, StreamFault::NonceTruncated),
+        (2, 9, StreamFault::TooManyChunks),
+        (3, 9, StreamFault::BadChunk(2)),
+        (3, 131_145, StreamFault::NonceTruncated),
+        (3, 18_446_744_073_709_551_615, StreamFault::NonceTruncated),
     ] {
         let mut dev = MemAt::new(bytes.as_slice());
         match RangeReader::open(alloc, &KEY, &mut dev, from, max) {
