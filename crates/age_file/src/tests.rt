@@ -1,6 +1,8 @@
 //! Whole files through callers' devices, recipients and identities.
 
+mod callers;
 mod devices;
+mod failing;
 mod objects;
 mod ranges;
 mod steps;
@@ -11,10 +13,8 @@ use age_recipient::{
     FileKey, Identity, KeyIdentity, KeyRecipient, PassIdentity, PassRecipient, Recipient,
 };
 use devices::{Drops, Holds};
-use objects::{Counts, Curve, Held, Long, Plug, Refuses};
+use objects::Plug;
 use std::alloc::{AllocError, Global};
-use std::cell::Cell;
-use std::rc::Rc;
 use std::test::Fail;
 
 const FRESH: Fresh = Fresh {
@@ -31,15 +31,6 @@ const SALT: [u8; 16] = [
 
 const PASS: &[u8] = b"correct horse";
 
-const VERSION: &[u8] = b"age-encryption.org/v1\n";
-
-const PASSPHRASE_STANZA: &[u8] =
-    b"-> scrypt AAAAAAAAAAAAAAAAAAAAAA 10\nAAAAAAAAAAAAAAAAAAAAAAAAAAAAAAAAAAAAAAAAAAA\n";
-
-const OTHER_STANZA: &[u8] = b"-> x\n\n";
-
-const END: &[u8] = b"--- AAAAAAAAAAAAAAAAAAAAAAAAAAAAAAAAAAAAAAAAAAA\n";
-
 type Recipients = Vec<Box<dyn Recipient>>;
 
 type Identities = Vec<Box<dyn Identity>>;
@@ -49,6 +40,13 @@ fn with_passphrase(alloc: Global) -> Result<Recipients, Fail> {
     let mut recipients: Recipients = Vec::new(alloc);
     recipients.push(Box::new(alloc, PassRecipient::new(alloc, PASS, SALT, 10)?)?)?;
     Ok(recipients)
+}
+
+/// The passphrase's identity.
+fn passphrase(alloc: Global) -> Result<Identities, Fail> {
+    let mut identities: Identities = Vec::new(alloc);
+    identities.push(Box::new(alloc, PassIdentity::new(alloc, PASS, 22)?)?)?;
+    Ok(identities)
 }
 
 /// A recipient of the key of 32 such bytes.
@@ -124,7 +122,7 @@ fn byte_by_byte(rt: HostRuntime) -> Result<(), Fail> {
     let (answer, file) = encrypted(alloc, plain.as_slice(), &recipients, &limits);
     assert!(rt; answer == done);
     assert_eq!(rt; file.len(), 65_718);
-    let mut source = Drops::new(plain.as_slice(), 0);
+    let mut source = Drops::new(plain.as_slice(), 1, 0);
     let mut sink = Holds::new(Vec::new(alloc), 100_000);
     let answer = encrypt(
         alloc,
@@ -136,9 +134,8 @@ fn byte_by_byte(rt: HostRuntime) -> Result<(), Fail> {
     );
     assert!(rt; answer == done);
     assert!(rt; sink.bytes == file);
-    let mut identities: Identities = Vec::new(alloc);
-    identities.push(Box::new(alloc, PassIdentity::new(alloc, PASS, 22)?)?)?;
-    let mut source = Drops::new(file.as_slice(), 0);
+    let identities = passphrase(alloc)?;
+    let mut source = Drops::new(file.as_slice(), 1, 0);
     let mut sink = Holds::new(Vec::new(alloc), 100_000);
     let answer = decrypt(
         alloc,
@@ -149,65 +146,6 @@ fn byte_by_byte(rt: HostRuntime) -> Result<(), Fail> {
     );
     assert!(rt; answer == done);
     assert!(rt; sink.bytes == plain);
-    Ok(())
-}
-
-/// A sink that takes 100 bytes.
-#[test]
-fn failing_sink(rt: HostRuntime) -> Result<(), Fail> {
-    let alloc = rt.alloc();
-    let limits = Limits::default();
-    let recipients = with_key(alloc, 3)?;
-    let (_, file) = encrypted(alloc, b"", &recipients, &limits);
-    let mut sink = Holds::new(Vec::new(alloc), 100);
-    let answer = encrypt(
-        alloc,
-        &mut MemSource::new(b""),
-        &mut sink,
-        recipients.as_slice(),
-        &FRESH,
-        &limits,
-    );
-    assert!(rt; answer == Err(Fault::Write));
-    assert!(rt; sink.bytes.len() == 100 && file.as_slice().starts_with(sink.bytes.as_slice()));
-    Ok(())
-}
-
-/// Sources that fail at a read: of the header and of the payload, with nothing written; of a plaintext, with a beginning of the file
-/// written.
-#[test]
-fn failing_sources(rt: HostRuntime) -> Result<(), Fail> {
-    let alloc = rt.alloc();
-    let limits = Limits::default();
-    let recipients = with_key(alloc, 3)?;
-    let identities = key_of(alloc, 3)?;
-    let (_, file) = encrypted(alloc, b"", &recipients, &limits);
-    for failing in [1, 2, 157, 180] {
-        let mut source = Drops::new(file.as_slice(), failing);
-        let mut sink = Holds::new(Vec::new(alloc), 100);
-        let answer = decrypt(
-            alloc,
-            &mut source,
-            &mut sink,
-            identities.as_slice(),
-            &limits,
-        );
-        assert!(rt; answer == Err(Fault::Read));
-        assert!(rt; sink.bytes.is_empty());
-    }
-    let (_, whole) = encrypted(alloc, b"abc", &recipients, &limits);
-    let mut source = Drops::new(b"abc", 2);
-    let mut sink = Holds::new(Vec::new(alloc), 1_000);
-    let answer = encrypt(
-        alloc,
-        &mut source,
-        &mut sink,
-        recipients.as_slice(),
-        &FRESH,
-        &limits,
-    );
-    assert!(rt; answer == Err(Fault::Read));
-    assert!(rt; sink.bytes.len() == 172 && whole.as_slice().starts_with(sink.bytes.as_slice()));
     Ok(())
 }
 
@@ -241,8 +179,7 @@ fn damaged_first_chunk(rt: HostRuntime) -> Result<(), Fail> {
     assert_eq!(rt; file.len(), 131_287);
     let mut file = file;
     file.as_mut_slice()[166] ^= 1;
-    let mut identities: Identities = Vec::new(alloc);
-    identities.push(Box::new(alloc, PassIdentity::new(alloc, PASS, 22)?)?)?;
+    let identities = passphrase(alloc)?;
     let mut source = MemSource::new(file.as_slice());
     let mut out = MemSink::new(Vec::new(alloc));
     let answer = decrypt(alloc, &mut source, &mut out, identities.as_slice(), &limits);
@@ -250,47 +187,6 @@ fn damaged_first_chunk(rt: HostRuntime) -> Result<(), Fail> {
     assert!(rt; out.into_vec().is_empty());
     assert!(rt; source.rest().len() >= 65_568);
     Ok(())
-}
-
-/// What is refused before the first byte, and the greatest header.
-#[test]
-fn refused_recipients(rt: HostRuntime) -> Result<(), Fail> {
-    let alloc = rt.alloc();
-    let Some(limits) = Limits::new(1_024, 1) else {
-        unreachable!();
-    };
-    let none: Recipients = Vec::new(alloc);
-    let mut mixed = with_passphrase(alloc)?;
-    mixed.push(Box::new(alloc, KeyRecipient::new([3; 32], SALT))?)?;
-    let mut refuses = with_key(alloc, 3)?;
-    refuses.push(Box::new(alloc, Refuses { code: 7 })?)?;
-    let fits = with_letters(alloc, 949)?;
-    let exceeds = with_letters(alloc, 950)?;
-    for (recipients, fault) in [
-        (&none, Fault::NoRecipients),
-        (&mixed, Fault::MixedPassphrase),
-        (&refuses, Fault::Refused(1, 7)),
-        (&exceeds, Fault::HeaderTooLarge),
-    ] {
-        let (answer, out) = encrypted(alloc, b"", recipients, &limits);
-        assert!(rt; answer == Err(fault));
-        assert!(rt; out.is_empty());
-    }
-    let (answer, out) = encrypted(alloc, b"", &fits, &limits);
-    assert!(rt; answer == done(0));
-    assert_eq!(rt; out.len(), 1_024 + 32);
-    Ok(())
-}
-
-/// A recipient whose stanza has one argument of so many letters.
-fn with_letters(alloc: Global, count: usize) -> Result<Recipients, Fail> {
-    let mut text = String::new(alloc);
-    for _ in 0..count {
-        text.push('a')?;
-    }
-    let mut recipients: Recipients = Vec::new(alloc);
-    recipients.push(Box::new(alloc, Long { text })?)?;
-    Ok(recipients)
 }
 
 /// Several keyed recipients, and identities with and without one of their keys.
@@ -336,59 +232,5 @@ fn foreign_stanzas(rt: HostRuntime) -> Result<(), Fail> {
     cut.extend_from_slice(rest)?;
     let (answer, _) = decrypted(alloc, cut.as_slice(), &key_of(alloc, 3)?, &limits);
     assert!(rt; answer == Err(Fault::BadMac));
-    Ok(())
-}
-
-/// A file of the usual tool's shape, for whoever has its key.
-#[test]
-fn foreign_identity(rt: HostRuntime) -> Result<(), Fail> {
-    let alloc = rt.alloc();
-    let limits = Limits::default();
-    let mut recipients: Recipients = Vec::new(alloc);
-    recipients.push(Box::new(alloc, Curve)?)?;
-    let (answer, file) = encrypted(alloc, b"hello", &recipients, &limits);
-    assert!(rt; answer == done(5));
-    let shape =
-        b"age-encryption.org/v1\n-> X25519 AAAAAAAAAAAAAAAAAAAAAAAAAAAAAAAAAAAAAAAAAAA\nAAAAAAAAAAAAAAAAAAAAAAAAAAAAAAAAAAAAAAAAAAA\n-> abc-grease x\n\n--- ";
-    assert!(rt; file.as_slice().starts_with(shape));
-    let mut identities: Identities = Vec::new(alloc);
-    identities.push(Box::new(alloc, PassIdentity::new(alloc, PASS, 22)?)?)?;
-    let (answer, _) = decrypted(alloc, file.as_slice(), &identities, &limits);
-    assert!(rt; answer == Err(Fault::NoMatch));
-    let key = FRESH.file_key;
-    identities.push(Box::new(alloc, Held { key })?)?;
-    let (answer, plain) = decrypted(alloc, file.as_slice(), &identities, &limits);
-    assert!(rt; answer == done(5));
-    assert!(rt; plain.as_slice() == b"hello".as_slice());
-    let key = FileKey([0; 16]);
-    let mut wrong: Identities = Vec::new(alloc);
-    wrong.push(Box::new(alloc, Held { key })?)?;
-    let (answer, _) = decrypted(alloc, file.as_slice(), &wrong, &limits);
-    assert!(rt; answer == Err(Fault::BadMac));
-    Ok(())
-}
-
-/// A passphrase stanza beside another is refused before any identity is asked; where it stands alone each is asked once.
-#[test]
-fn mixed_passphrase_asks_no_identity(rt: HostRuntime) -> Result<(), Fail> {
-    let alloc = rt.alloc();
-    let limits = Limits::default();
-    let asked = Rc::new(alloc, Cell::new(0u32))?;
-    let mut identities: Identities = Vec::new(alloc);
-    for _ in 0..2 {
-        let counts = Counts {
-            asked: Rc::clone(&asked)?,
-        };
-        identities.push(Box::new(alloc, counts)?)?;
-    }
-    let alone = [VERSION, PASSPHRASE_STANZA, END].concat(alloc)?;
-    let mixed = [VERSION, PASSPHRASE_STANZA, OTHER_STANZA, END].concat(alloc)?;
-    let (answer, out) = decrypted(alloc, mixed.as_slice(), &identities, &limits);
-    assert!(rt; answer == Err(Fault::MixedPassphrase));
-    assert!(rt; out.is_empty());
-    assert_eq!(rt; asked.get(), 0);
-    let (answer, _) = decrypted(alloc, alone.as_slice(), &identities, &limits);
-    assert!(rt; answer == Err(Fault::NoMatch));
-    assert_eq!(rt; asked.get(), 2);
     Ok(())
 }

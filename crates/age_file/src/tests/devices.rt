@@ -1,20 +1,24 @@
-//! Devices that give and take a byte at a time, and such as fail.
+//! Devices that give and take a few bytes at a time, and such as fail.
 
 use age_header::{DeviceFault, Sink, Source};
+use std::io;
+use std::io::Write;
 
-/// Gives these bytes one by one, and fails at the read with this number, counted from 1. It leaves its bytes untold.
+/// Gives at most so many of these bytes at a time, and fails at the read with this number, counted from 1. Its contents are not known to proofs.
 #[derive(Drop)]
 pub(super) struct Drops<'a> {
     rest: &'a [u8],
-    reads: u64,
+    most: usize,
+    pub(super) reads: u64,
     failing: u64,
-    failures: u64,
+    pub(super) failures: u64,
 }
 
 impl<'a> Drops<'a> {
-    pub(super) fn new(bytes: &'a [u8], failing: u64) -> Drops<'a> {
+    pub(super) fn new(bytes: &'a [u8], most: usize, failing: u64) -> Drops<'a> {
         Drops {
             rest: bytes,
+            most,
             reads: 0,
             failing,
             failures: 0,
@@ -35,14 +39,11 @@ impl<'a> Source for Drops<'a> {
             self.failures = self.failures.saturating_add(1);
             return Err(DeviceFault);
         }
-        match (self.rest.split_first(), buf.first_mut()) {
-            (Some((byte, rest)), Some(place)) => {
-                *place = *byte;
-                self.rest = rest;
-                Ok(1)
-            }
-            _ => Ok(0),
-        }
+        let n = self.rest.len().min(buf.len()).min(self.most);
+        let (front, rest) = self.rest.split_at(n);
+        buf[..n].copy_from_slice(front);
+        self.rest = rest;
+        Ok(n)
     }
 
     fn failures(&self) -> u64 {
@@ -50,12 +51,12 @@ impl<'a> Source for Drops<'a> {
     }
 }
 
-/// Takes one byte at a time, and fails where it holds so many. It leaves its bytes untold.
+/// Takes one byte at a time, and fails where it holds so many. Its contents are not known to proofs.
 #[derive(Drop)]
 pub(super) struct Holds {
     pub(super) bytes: Vec<u8>,
     most: usize,
-    failures: u64,
+    pub(super) failures: u64,
 }
 
 impl Holds {
@@ -88,5 +89,19 @@ impl Sink for Holds {
 
     fn failures(&self) -> u64 {
         self.failures
+    }
+}
+
+/// Takes nothing of any piece, and says that this went well.
+#[derive(Drop)]
+pub(super) struct TakesNothing;
+
+impl Write for TakesNothing {
+    fn write(&mut self, _piece: &[u8]) -> io::Result<usize> {
+        Ok(0)
+    }
+
+    fn flush(&mut self) -> io::Result<()> {
+        Ok(())
     }
 }

@@ -107,18 +107,68 @@ impl Identity for Counts {
     }
 }
 
-/// Holds the file key of one file already, as an agent might.
+/// Makes the same of any stanzas, as an agent might that holds a file key already.
 #[derive(Drop)]
-pub(super) struct Held {
-    pub(super) key: FileKey,
+pub(super) struct Makes {
+    pub(super) answer: Unwrapped,
 }
 
-impl Identity for Held {
-    ghost use Rattle.age_recipient.specs.declared.unwrapped.Unwrapped.TheVariants.{Key};
-
-    ghost meaning = { λ held _. Key held.key };
+impl Identity for Makes {
+    ghost meaning = { λ makes _. makes.answer };
 
     fn unwrap(&self, _alloc: Global, _stanzas: &[Stanza]) -> Result<Unwrapped, AllocError> {
-        Ok(Unwrapped::Key(self.key))
+        Ok(self.answer)
+    }
+}
+
+/// Always runs out of memory.
+#[derive(Drop)]
+pub(super) struct Starved;
+
+impl Identity for Starved {
+    ghost use Rattle.age_recipient.specs.declared.unwrapped.Unwrapped.TheVariants.{NotMine};
+
+    ghost meaning = { λ _ _. NotMine };
+
+    fn unwrap(&self, alloc: Global, _stanzas: &[Stanza]) -> Result<Unwrapped, AllocError> {
+        let _: Vec<u8> = Vec::with_capacity(alloc, usize::MAX)?;
+        Ok(Unwrapped::NotMine)
+    }
+}
+
+/// Gives no stanza, and does not refuse.
+#[derive(Drop)]
+pub(super) struct Silent;
+
+impl Recipient for Silent {
+    ghost use Rattle.std.specs.Prelude.{Ok, []};
+
+    ghost wraps = { λ _ _. Ok [] };
+
+    fn wrap(&self, alloc: Global, _key: &FileKey) -> Result<Vec<Stanza>, WrapFault> {
+        Ok(Vec::new(alloc))
+    }
+}
+
+/// Gives a stanza of a passphrase's type behind another.
+#[derive(Drop)]
+pub(super) struct Pair;
+
+impl Recipient for Pair {
+    ghost use Rattle.std.specs.Prelude.{Ok, [], ◌∷◌, codes};
+
+    ghost wraps = { λ _ _. Ok (record { args = codes "x" ∷ []; body = [] } ∷ record { args = codes "scrypt" ∷ []; body = [] } ∷ []) };
+
+    fn wrap(&self, alloc: Global, _key: &FileKey) -> Result<Vec<Stanza>, WrapFault> {
+        let Ok(other) = Stanza::new(alloc, &["x"], &[]) else {
+            return Err(WrapFault::Memory);
+        };
+        let Ok(passphrase) = Stanza::new(alloc, &["scrypt"], &[]) else {
+            return Err(WrapFault::Memory);
+        };
+        match vec![in alloc; other, passphrase] {
+            Ok(stanzas) => Ok(stanzas),
+            Err(_) => Err(WrapFault::Memory),
+        }
     }
 }

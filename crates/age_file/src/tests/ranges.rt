@@ -1,8 +1,7 @@
 //! Ranges of a file's plaintext.
 
-use super::{Identities, PASS, encrypted, key_of, with_passphrase};
+use super::{Identities, encrypted, key_of, passphrase, with_passphrase};
 use crate::{Fault, Limits, MemAt, RangeReader, ReadAt, StreamFault, open_ranges};
-use age_recipient::PassIdentity;
 use std::alloc::Global;
 use std::process::Abort;
 use std::test::Fail;
@@ -16,13 +15,6 @@ fn file_of(alloc: Global, len: usize) -> Result<Vec<u8>, Fail> {
     let recipients = with_passphrase(alloc)?;
     let (_, file) = encrypted(alloc, plain.as_slice(), &recipients, &Limits::default());
     Ok(file)
-}
-
-/// The passphrase's identity.
-fn passphrase(alloc: Global) -> Result<Identities, Fail> {
-    let mut identities: Identities = Vec::new(alloc);
-    identities.push(Box::new(alloc, PassIdentity::new(alloc, PASS, 22)?)?)?;
-    Ok(identities)
 }
 
 /// Reads a range into a buffer of bytes 255: what is returned, and how many bytes of the plaintext are at the buffer's front; the others are

@@ -104,26 +104,110 @@ fn reads_are_counted(rt: HostRuntime) -> Result<(), Fail> {
     Ok(())
 }
 
-/// A failed read leaves the bytes of the chunks before it, and the next call works.
+/// Each read failed in turn: a failed read leaves the bytes of the chunks before it, and the same call again works.
 #[test]
-fn failed_read(rt: HostRuntime) -> Result<(), Fail> {
+fn failed_reads(rt: HostRuntime) -> Result<(), Fail> {
     let alloc = rt.alloc();
     let bytes = payload_of(alloc, 140_000)?;
-    let reads = Cell::new(0);
-    let mut dev = Counted::new(bytes.as_slice(), &reads, 4);
+    for failing in 1..6 {
+        let reads = Cell::new(0);
+        let mut dev = Counted::new(bytes.as_slice(), &reads, failing);
+        match RangeReader::open(alloc, &KEY, &mut dev, 9, 3) {
+            Ok(mut reader) => {
+                let filled = match failing {
+                    3 => 0,
+                    4 => 65_536,
+                    _ => 131_072,
+                };
+                let whole = (0, 140_000);
+                range(
+                    &rt,
+                    alloc,
+                    &mut reader,
+                    whole,
+                    Err(StreamFault::Read),
+                    filled,
+                )?;
+                range(&rt, alloc, &mut reader, whole, Ok(140_000), 140_000)?;
+            }
+            Err(fault) => assert!(rt; failing < 3 && fault == StreamFault::Read),
+        }
+        assert_eq!(rt; dev.failures(), 1);
+    }
+    Ok(())
+}
+
+/// Each chunk damaged in turn: the ranges that do not touch it are right, also after a call that met it.
+#[test]
+fn damaged_chunks(rt: HostRuntime) -> Result<(), Fail> {
+    let alloc = rt.alloc();
+    for damaged in [0u64, 1, 2] {
+        let mut bytes = payload_of(alloc, 140_000)?;
+        bytes.as_mut_slice()[25 + 65_552 * damaged as usize] ^= 1;
+        let mut dev = MemAt::new(bytes.as_slice());
+        let mut reader = match RangeReader::open(alloc, &KEY, &mut dev, 9, 3) {
+            Ok(reader) => reader,
+            Err(fault) => {
+                assert!(rt; damaged == 2 && fault == StreamFault::BadChunk(2));
+                continue;
+            }
+        };
+        assert!(rt; damaged < 2);
+        for _ in 0..2 {
+            let fault = Err(StreamFault::BadChunk(damaged));
+            range(&rt, alloc, &mut reader, (65_536 * damaged, 10), fault, 0)?;
+            range(
+                &rt,
+                alloc,
+                &mut reader,
+                (65_536 * (1 - damaged), 65_536),
+                Ok(65_536),
+                65_536,
+            )?;
+            range(&rt, alloc, &mut reader, (131_072, 8_928), Ok(8_928), 8_928)?;
+        }
+    }
+    Ok(())
+}
+
+/// A file that was cut after it was opened: a range that needs a lost byte is a failed read. The kept chunk is at hand still.
+#[test]
+fn file_cut_after_opening(rt: HostRuntime) -> Result<(), Fail> {
+    let alloc = rt.alloc();
+    let bytes = payload_of(alloc, 140_000)?;
+    fs::write(&rt, "cut.tmp", bytes.as_slice())?;
+    let mut dev = FileAt::new(File::open(&rt, "cut.tmp")?);
     let mut reader = RangeReader::open(alloc, &KEY, &mut dev, 9, 3)?;
+    let (front, _) = bytes.as_slice().split_at(25 + 65_552 + 100);
+    fs::write(&rt, "cut.tmp", front)?;
+    range(&rt, alloc, &mut reader, (131_072, 8_928), Ok(8_928), 8_928)?;
+    range(&rt, alloc, &mut reader, (0, 65_536), Ok(65_536), 65_536)?;
     range(
         &rt,
         alloc,
         &mut reader,
-        (65_530, 12),
+        (0, 65_537),
         Err(StreamFault::Read),
-        6,
+        65_536,
     )?;
-    range(&rt, alloc, &mut reader, (65_530, 12), Ok(12), 12)?;
-    assert_eq!(rt; reader.opened(), 5);
-    drop(reader);
-    assert_eq!(rt; dev.failures(), 1);
+    range(
+        &rt,
+        alloc,
+        &mut reader,
+        (65_536, 10),
+        Err(StreamFault::Read),
+        0,
+    )?;
+    range(
+        &rt,
+        alloc,
+        &mut reader,
+        (131_072, 10),
+        Err(StreamFault::Read),
+        0,
+    )?;
+    range(&rt, alloc, &mut reader, (0, 10), Ok(10), 10)?;
+    fs::remove_file(&rt, "cut.tmp")?;
     Ok(())
 }
 

@@ -1,0 +1,210 @@
+//! Devices that fail, each read and each write in turn.
+
+use super::devices::{Drops, Holds, TakesNothing};
+use super::{FRESH, Identities, Recipients, SALT, encrypted, key_of, sevens, with_key};
+use crate::{
+    Decryptor, Encryptor, Fault, Limits, MemAt, StreamFault, WriteSink, decrypt, encrypt,
+    open_ranges,
+};
+use age_header::{MemSink, MemSource};
+use age_recipient::{KeyIdentity, KeyRecipient};
+use std::alloc::Global;
+use std::test::Fail;
+
+/// A sink that takes so many bytes: a beginning of the file, whichever byte is the first that fails.
+#[test]
+fn failing_sinks(rt: HostRuntime) -> Result<(), Fail> {
+    let alloc = rt.alloc();
+    let limits = Limits::default();
+    let recipients = with_key(alloc, 3)?;
+    let (_, file) = encrypted(alloc, b"", &recipients, &limits);
+    assert_eq!(rt; file.len(), 188);
+    for most in 0..189 {
+        let mut sink = Holds::new(Vec::new(alloc), most);
+        let answer = encrypt(
+            alloc,
+            &mut MemSource::new(b""),
+            &mut sink,
+            recipients.as_slice(),
+            &FRESH,
+            &limits,
+        );
+        assert!(rt; answer.is_ok() == (most == 188));
+        assert!(rt; answer.is_ok() || answer == Err(Fault::Write));
+        assert!(rt; sink.bytes.len() == most && file.as_slice().starts_with(sink.bytes.as_slice()));
+    }
+    Ok(())
+}
+
+/// How many reads of at most 1,000 bytes decrypting makes, where the read with this number fails.
+fn reads_until(
+    alloc: Global,
+    file: &[u8],
+    plain: &[u8],
+    failing: u64,
+) -> Result<(u64, bool), Fail> {
+    let mut source = Drops::new(file, 1_000, failing);
+    let mut sink = Holds::new(Vec::new(alloc), 100_000);
+    let answer = decrypt(
+        alloc,
+        &mut source,
+        &mut sink,
+        key_of(alloc, 3)?.as_slice(),
+        &Limits::default(),
+    );
+    let whole = answer.is_ok() && sink.bytes.as_slice() == plain;
+    let failed = answer == Err(Fault::Read) && plain.starts_with(sink.bytes.as_slice());
+    Ok((source.reads, if failing == 0 { whole } else { failed }))
+}
+
+/// Decrypting two chunks, with each read failed in turn: a beginning of the plaintext is written, and nothing more is read.
+#[test]
+fn failing_reads(rt: HostRuntime) -> Result<(), Fail> {
+    let alloc = rt.alloc();
+    let plain = sevens(alloc, 65_537)?;
+    let (_, file) = encrypted(
+        alloc,
+        plain.as_slice(),
+        &with_key(alloc, 3)?,
+        &Limits::default(),
+    );
+    let (reads, whole) = reads_until(alloc, file.as_slice(), plain.as_slice(), 0)?;
+    assert!(rt; whole && reads > 156 + 65);
+    for failing in 1..reads {
+        let (met, failed) = reads_until(alloc, file.as_slice(), plain.as_slice(), failing)?;
+        assert!(rt; failed);
+        assert_eq!(rt; met, failing);
+    }
+    Ok(())
+}
+
+/// A source of a plaintext that fails leaves a beginning of the file.
+#[test]
+fn failing_plaintext(rt: HostRuntime) -> Result<(), Fail> {
+    let alloc = rt.alloc();
+    let limits = Limits::default();
+    let recipients = with_key(alloc, 3)?;
+    let (_, whole) = encrypted(alloc, b"abc", &recipients, &limits);
+    let mut source = Drops::new(b"abc", 1, 2);
+    let mut sink = Holds::new(Vec::new(alloc), 1_000);
+    let answer = encrypt(
+        alloc,
+        &mut source,
+        &mut sink,
+        recipients.as_slice(),
+        &FRESH,
+        &limits,
+    );
+    assert!(rt; answer == Err(Fault::Read));
+    assert!(rt; sink.bytes.len() == 172 && whole.as_slice().starts_with(sink.bytes.as_slice()));
+    Ok(())
+}
+
+/// A reader's failed read is returned again, and the source isn't asked again.
+#[test]
+fn kept_read_fault(rt: HostRuntime) -> Result<(), Fail> {
+    let alloc = rt.alloc();
+    let limits = Limits::default();
+    let plain = sevens(alloc, 65_537)?;
+    let (_, file) = encrypted(alloc, plain.as_slice(), &with_key(alloc, 3)?, &limits);
+    let failing = 156 + 1 + 10;
+    let mut source = Drops::new(file.as_slice(), 1_000, failing);
+    let decryptor = Decryptor::new(alloc, &mut source, &limits)?;
+    let mut reader = decryptor.unlock(alloc, key_of(alloc, 3)?.as_slice())?;
+    for _ in 0..3 {
+        assert!(rt; matches!(reader.next_chunk(), Err(StreamFault::Read)));
+    }
+    drop(reader);
+    assert_eq!(rt; source.reads, failing);
+    assert_eq!(rt; source.failures, 1);
+    Ok(())
+}
+
+/// A writer that takes nothing of a piece, and devices whose count of failures can't rise any more.
+#[test]
+fn devices_at_their_limits(rt: HostRuntime) -> Result<(), Fail> {
+    let alloc = rt.alloc();
+    let limits = Limits::default();
+    let recipients = with_key(alloc, 3)?;
+    let mut nothing = WriteSink::new(TakesNothing);
+    let answer = encrypt(
+        alloc,
+        &mut MemSource::new(b""),
+        &mut nothing,
+        recipients.as_slice(),
+        &FRESH,
+        &limits,
+    );
+    assert!(rt; answer == Err(Fault::Write));
+    let mut sink = Holds::new(Vec::new(alloc), 0);
+    sink.failures = u64::MAX;
+    let answer = encrypt(
+        alloc,
+        &mut MemSource::new(b""),
+        &mut sink,
+        recipients.as_slice(),
+        &FRESH,
+        &limits,
+    );
+    assert!(rt; answer == Err(Fault::Write) && sink.failures == u64::MAX);
+    let mut source = Drops::new(b"", 1, 1);
+    source.failures = u64::MAX;
+    let mut sink = Holds::new(Vec::new(alloc), 0);
+    let answer = decrypt(
+        alloc,
+        &mut source,
+        &mut sink,
+        key_of(alloc, 3)?.as_slice(),
+        &limits,
+    );
+    assert!(rt; answer == Err(Fault::Read) && source.failures == u64::MAX);
+    Ok(())
+}
+
+/// The file of the empty plaintext for the key of 32 bytes 3, by tests/reference.py.
+const FILE: &[u8] =
+    b"age-encryption.org/v1\n-> example.org/key ICEiIyQlJicoKSorLC0uLw\nV4z9dcExmsj4rOYyl6enYhk5Msw0sZuovpzKf+BEY6Y\n--- vTjtX063xQZt7OcXF0O+SrfCT1OR+JXStLMiFO1M3/E\n\x10\x11\x12\x13\x14\x15\x16\x17\x18\x19\x1a\x1b\x1c\x1d\x1e\x1f\x50\x15\x09\x65\x52\xfe\x30\x35\x66\x48\x70\x85\x54\xcb\x9c\x28";
+
+/// The calls in steps are Ok or out of memory, and nothing else; what they stand on may be out of memory too. tests/steps.sh refuses each
+/// allocation in turn.
+#[test]
+fn whole_or_out_of_memory(rt: HostRuntime) -> Result<(), Fail> {
+    let alloc = rt.alloc();
+    let limits = Limits::default();
+    let mut recipients: Recipients = Vec::new(alloc);
+    let mut identities: Identities = Vec::new(alloc);
+    let Ok(recipient) = Box::new(alloc, KeyRecipient::new([3; 32], SALT)) else {
+        return Ok(());
+    };
+    let Ok(identity) = Box::new(alloc, KeyIdentity::new([3; 32])) else {
+        return Ok(());
+    };
+    if recipients.push(recipient).is_err() || identities.push(identity).is_err() {
+        return Ok(());
+    }
+    let mut fault = None;
+    let mut out = MemSink::new(Vec::new(alloc));
+    match Encryptor::new(alloc, recipients.as_slice(), &FRESH, &limits) {
+        Ok(encryptor) => match encryptor.start(alloc, &mut out) {
+            Ok(writer) => writer.abandon(),
+            Err(Fault::Write) => {}
+            Err(met) => fault = Some(met),
+        },
+        Err(met) => fault = Some(met),
+    }
+    assert!(rt; fault.is_none_or(|fault| fault == Fault::OutOfMemory));
+    let mut source = MemSource::new(FILE);
+    match Decryptor::new(alloc, &mut source, &limits) {
+        Ok(decryptor) => match decryptor.unlock(alloc, identities.as_slice()) {
+            Ok(mut reader) => assert!(rt; matches!(reader.next_chunk(), Ok(Some(&[])))),
+            Err(met) => assert!(rt; met == Fault::OutOfMemory),
+        },
+        Err(met) => assert!(rt; met == Fault::OutOfMemory),
+    }
+    let mut dev = MemAt::new(FILE);
+    match open_ranges(alloc, &mut dev, identities.as_slice(), &limits) {
+        Ok(reader) => assert_eq!(rt; reader.plain_len(), 0),
+        Err(met) => assert!(rt; met == Fault::OutOfMemory),
+    }
+    Ok(())
+}
