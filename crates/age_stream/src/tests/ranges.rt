@@ -137,34 +137,31 @@ fn failed_reads(rt: HostRuntime) -> Result<(), Fail> {
     Ok(())
 }
 
-/// Each chunk damaged in turn: the ranges that do not touch it are right, also after a call that met it.
+/// Each chunk damaged in turn, by its first byte: the ranges that do not touch it are right, also after a call that met it.
 #[test]
 fn damaged_chunks(rt: HostRuntime) -> Result<(), Fail> {
     let alloc = rt.alloc();
-    for damaged in [0u64, 1, 2] {
+    for (damaged, place, touching, other) in [
+        (0, 25, (0, 10), (65_536, 65_536)),
+        (1, 65_577, (65_536, 10), (0, 65_536)),
+        (2, 131_129, (0, 0), (0, 0)),
+    ] {
         let mut bytes = payload_of(alloc, 140_000)?;
-        bytes.as_mut_slice()[25 + 65_552 * damaged as usize] ^= 1;
+        if let Some(byte) = bytes.as_mut_slice().get_mut(place) {
+            *byte ^= 1;
+        }
+        let fault = StreamFault::BadChunk(damaged);
         let mut dev = MemAt::new(bytes.as_slice());
-        let mut reader = match RangeReader::open(alloc, &KEY, &mut dev, 9, 3) {
-            Ok(reader) => reader,
-            Err(fault) => {
-                assert!(rt; damaged == 2 && fault == StreamFault::BadChunk(2));
-                continue;
+        match RangeReader::open(alloc, &KEY, &mut dev, 9, 3) {
+            Ok(mut reader) => {
+                assert!(rt; damaged < 2);
+                for _ in 0..2 {
+                    range(&rt, alloc, &mut reader, touching, Err(fault), 0)?;
+                    range(&rt, alloc, &mut reader, other, Ok(65_536), 65_536)?;
+                    range(&rt, alloc, &mut reader, (131_072, 8_928), Ok(8_928), 8_928)?;
+                }
             }
-        };
-        assert!(rt; damaged < 2);
-        for _ in 0..2 {
-            let fault = Err(StreamFault::BadChunk(damaged));
-            range(&rt, alloc, &mut reader, (65_536 * damaged, 10), fault, 0)?;
-            range(
-                &rt,
-                alloc,
-                &mut reader,
-                (65_536 * (1 - damaged), 65_536),
-                Ok(65_536),
-                65_536,
-            )?;
-            range(&rt, alloc, &mut reader, (131_072, 8_928), Ok(8_928), 8_928)?;
+            Err(met) => assert!(rt; damaged == 2 && met == fault),
         }
     }
     Ok(())
@@ -178,8 +175,8 @@ fn file_cut_after_opening(rt: HostRuntime) -> Result<(), Fail> {
     fs::write(&rt, "cut.tmp", bytes.as_slice())?;
     let mut dev = FileAt::new(File::open(&rt, "cut.tmp")?);
     let mut reader = RangeReader::open(alloc, &KEY, &mut dev, 9, 3)?;
-    let (front, _) = bytes.as_slice().split_at(25 + 65_552 + 100);
-    fs::write(&rt, "cut.tmp", front)?;
+    let front = bytes.as_slice().get(..65_677);
+    fs::write(&rt, "cut.tmp", front.unwrap_or(b""))?;
     range(&rt, alloc, &mut reader, (131_072, 8_928), Ok(8_928), 8_928)?;
     range(&rt, alloc, &mut reader, (0, 65_536), Ok(65_536), 65_536)?;
     range(
