@@ -1,5 +1,6 @@
 -- The steps of a range's loop.
-use Rattle.std.proofs.Common.{◌≡◌, ℕ, List, ◌++◌, ◌+◌, ◌-◌, ◌*◌, ◌/◌, ◌<◌, ◌≤◌, length, take, drop, ◌∙◌, sym, ap, arith, Bool, true, false, Option, Some, subst, if◌then◌else◌}
+use Rattle.std.proofs.Common.{◌≡◌, ℕ, List, ◌++◌, ◌+◌, ◌-◌, ◌*◌, ◌/◌, ◌^◌, ◌<◌, ◌≤◌, length, take, drop, min, nat_eq, ◌∙◌, sym, ap, arith, Bool, true, false, Option, Some, subst, if◌then◌else◌}
+use Rattle.std.proofs.lemmas.Bool.{eqb-true, false_from_ne_true}
 use Rattle.std.proofs.lemmas.List.{length-take-le, length-drop, drop-drop, take_at, drop_at, length-append}
 use Rattle.age_stream.specs.declared.layout.Layout.{Layout}
 use Rattle.age_stream.specs.Ranges.{opens_to, fresh, is_kept, sealed_span}
@@ -42,6 +43,29 @@ opened-first false new old start i h e = omega arith
 pub opened-later : (b : Bool) (new old start i0 i k : ℕ) → new + k ≤ old + 1 → i0 < i → old ≤ start + (i - (i0 + (if b then 1 else 0))) → new ≤ start + (i + 1 - (i0 + (if b then 1 else 0)))
 opened-later true new old start i0 i k h lt e = omega arith
 opened-later false new old start i0 i k h lt e = omega arith
+
+counts-first : (b : Bool) (new old start i : ℕ) → min (old + (if b then 0 else 1)) (2 ^ 64 - 1) ≤ new → old ≡ start → min (start + (i + 1 - (i + (if b then 1 else 0)))) (2 ^ 64 - 1) ≤ new
+counts-first true new old start i h e = omega arith
+counts-first false new old start i h e = omega arith
+
+counts-on : (b : Bool) (new old start i0 i : ℕ) → min (old + 1) (2 ^ 64 - 1) ≤ new → i0 < i → min (start + (i - (i0 + (if b then 1 else 0)))) (2 ^ 64 - 1) ≤ old
+    → min (start + (i + 1 - (i0 + (if b then 1 else 0)))) (2 ^ 64 - 1) ≤ new
+counts-on true new old start i0 i h lt e = omega arith
+counts-on false new old start i0 i h lt e = omega arith
+
+pub counts-at_first : (index index0 : Option ℕ) (new old start at i : ℕ) → index ≡ index0 → i ≡ at / 65536 → min (old + (if is_kept index i then 0 else 1)) (2 ^ 64 - 1) ≤ new → old ≡ start
+    → min (start + (i + 1 - fresh index0 at)) (2 ^ 64 - 1) ≤ new
+counts-at_first index index0 new old start at i e is h same =
+    subst (λ x. min (start + (x + 1 - fresh index0 at)) (2 ^ 64 - 1) ≤ new) (sym is)
+    (counts-first (is_kept index0 (at / 65536)) new old start (at / 65536)
+    (subst (λ x. min (old + (if is_kept x (at / 65536) then 0 else 1)) (2 ^ 64 - 1) ≤ new) e (subst (λ x. min (old + (if is_kept index x then 0 else 1)) (2 ^ 64 - 1) ≤ new) is h)) same)
+
+pub counts-later : (b : Bool) (index : Option ℕ) (new old start i0 i : ℕ) → index ≡ Some (i - 1) → i0 < i → min (old + (if is_kept index i then 0 else 1)) (2 ^ 64 - 1) ≤ new
+    → min (start + (i - (i0 + (if b then 1 else 0)))) (2 ^ 64 - 1) ≤ old → min (start + (i + 1 - (i0 + (if b then 1 else 0)))) (2 ^ 64 - 1) ≤ new
+counts-later b index new old start i0 i is lt h e =
+    let other : is_kept index i ≡ false = ap (λ (x : Option ℕ). is_kept x i) is
+    ∙ false_from_ne_true (nat_eq (i - 1) i) (λ t. let same : i - 1 ≡ i = eqb-true (i - 1) i t in absurd (omega arith)) in
+    counts-on b new old start i0 i (subst (λ (t : Bool). min (old + (if t then 0 else 1)) (2 ^ 64 - 1) ≤ new) other h) lt e
 
 given-first : (b : Bool) (new old start i : ℕ) (layout : Layout) → new ≤ old + (if b then 0 else text_len layout.plain i + 16) → old ≡ start → 65536 * i < layout.plain
     → new ≤ start + sealed_span layout (i + (if b then 1 else 0)) (i + 1)

@@ -1,5 +1,5 @@
 -- A reader of ranges between two calls, and what its calls do.
-use Rattle.std.specs.Prelude.{ℕ, List, [], ◌+◌, ◌-◌, ◌*◌, ◌/◌, ◌<◌, ◌≤◌, ◌≡◌, ◌⊎◌, length, take, drop, min, nat_eq, unwrap_or, IsSome, IfSome, MatchResult, ⊤, Bool, false, Option, Some, None, Result, Ok, Err, if◌then◌else◌}
+use Rattle.std.specs.Prelude.{ℕ, List, [], ◌+◌, ◌-◌, ◌*◌, ◌/◌, ◌^◌, ◌<◌, ◌≤◌, ◌≡◌, ◌⊎◌, length, take, drop, min, nat_eq, unwrap_or, IsSome, IfSome, MatchResult, ⊤, Bool, false, Option, Some, None, Result, Ok, Err, if◌then◌else◌}
 use denote.Ref.{MutBor}
 use Rattle.age_recipient.specs.declared.key.FileKey.{FileKey}
 use Rattle.age_stream.specs.declared.fault.StreamFault.{StreamFault}
@@ -55,14 +55,6 @@ Fills told s at n old new = (drop n new ≡ drop n old) × (IsSound told s → H
 abbrev pub IsLost : Option (List ℕ) → RangeState → ℕ → StreamFault → Type 0
 IsLost told s i fault = (fault ≡ Read) ⊎ ((fault ≡ BadChunk i) × (IsSound told s → opens_to told s.layout i ≡ None))
 
--- a range of n bytes from `at` on stops at chunk i, in which a place of it lies: the bytes before that chunk are filled in
-pub record Stops (told : Option (List ℕ)) (s : RangeState) (at n : ℕ) (old new : List ℕ) (fault : StreamFault) : Type 0 where
-  pub chunk : ℕ
-  pub from : at < 65536 * (chunk + 1)
-  pub to : 65536 * chunk < at + n
-  pub filled : Fills told s at (65536 * chunk - at) old new
-  pub lost : IsLost told s chunk fault
-
 -- chunk i is the kept one
 abbrev pub is_kept : Option ℕ → ℕ → Bool
 is_kept None i = false
@@ -71,6 +63,20 @@ is_kept (Some k) i = nat_eq k i
 -- the first chunk of a range from `at` on that has to be opened
 abbrev pub fresh : Option ℕ → ℕ → ℕ
 fresh index at = at / 65536 + (if is_kept index (at / 65536) then 1 else 0)
+
+-- the chunks opened so far are now at least n more; the count stays at the largest u64
+abbrev pub Counts : RangeState → ℕ → ℕ → Type 0
+Counts s opened n = min (s.opened + n) (2 ^ 64 - 1) ≤ opened
+
+-- a range of n bytes from `at` on stops at chunk i, in which a place of it lies: the bytes before that chunk are filled in, and each chunk
+-- up to this one is counted that was not kept
+pub record Stops (told : Option (List ℕ)) (s : RangeState) (at n : ℕ) (old new : List ℕ) (opened : ℕ) (fault : StreamFault) : Type 0 where
+  pub chunk : ℕ
+  pub from : at < 65536 * (chunk + 1)
+  pub to : 65536 * chunk < at + n
+  pub filled : Fills told s at (65536 * chunk - at) old new
+  pub lost : IsLost told s chunk fault
+  pub counts : Counts s opened (chunk + 1 - fresh s.index at)
 
 -- how many sealed bytes the chunks from number `from` to before `end` have
 abbrev pub sealed_span : Layout → ℕ → ℕ → ℕ

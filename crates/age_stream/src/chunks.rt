@@ -1,7 +1,7 @@
 //! The chunks of a payload, of which one is kept, apart from the source that they are read from.
 ghost use Rattle.std.specs.Prelude.{◌≡◌, ◌+◌, ◌-◌, ◌*◌, ◌/◌, ◌<◌, ◌≤◌, ◌++◌, ℕ, length, take, drop, min, Some, None, IfOk, OnOk, OnErr, IfErr, if◌then◌else◌};
 ghost use Rattle.age_stream.specs.Counts.{CountsRead};
-ghost use Rattle.age_stream.specs.Ranges.{Fills, IsLost, IsOpenFault, IsSound, OpensRanges, Probes, Stops, fresh, is_kept, kept_text, range_len, sealed_span};
+ghost use Rattle.age_stream.specs.Ranges.{Counts, Fills, IsLost, IsOpenFault, IsSound, OpensRanges, Probes, Stops, fresh, is_kept, kept_text, range_len, sealed_span};
 ghost use Rattle.age_stream.specs.Slice.{text_len};
 
 use crate::buffer::ChunkBuf;
@@ -126,6 +126,7 @@ impl Chunks {
         ensures sound { IsSound (D.bytes dev.old) self.old → IsSound (D.bytes dev.old) self.new }
         ensures lost { IfErr result (IsLost (D.bytes dev.old) self.old i) }
         ensures rises { self.old.opened ≤ self.new.opened }
+        ensures counts { Counts self.old self.new.opened (if is_kept self.old.index i then 0 else 1) }
         ensures opened { self.new.opened + (if is_kept self.old.index i then 1 else 0) ≤ self.old.opened + 1 }
         ensures given { D.given dev.new ≤ D.given dev.old + (if is_kept self.old.index i then 0 else text_len self.old.layout.plain i + 16) }
         ensures count { CountsRead (D.failed dev.old) (D.failed dev.new) result }
@@ -162,11 +163,12 @@ impl Chunks {
         ensures sound { IsSound (D.bytes dev.old) self.old → IsSound (D.bytes dev.old) self.new }
         ensures number { IfOk result (λ n. n ≡ range_len self.old at (length buf.old)) }
         ensures filled { IfOk result (λ n. Fills (D.bytes dev.old) self.old at n buf.old buf.new) }
-        ensures stop { IfErr result (Stops (D.bytes dev.old) self.old at (range_len self.old at (length buf.old)) buf.old buf.new) }
+        ensures stop { IfErr result (Stops (D.bytes dev.old) self.old at (range_len self.old at (length buf.old)) buf.old buf.new self.new.opened) }
         ensures count { CountsRead (D.failed dev.old) (D.failed dev.new) result }
         ensures kept { IfOk result (λ n. 0 < n → self.new.index ≡ Some ((at + n - 1) / 65536)) }
         ensures none { OnErr result (self.new.index ≡ None) }
         ensures rises { self.old.opened ≤ self.new.opened }
+        ensures counts { IfOk result (λ n. 0 < n → Counts self.old self.new.opened ((at + n - 1) / 65536 + 1 - fresh self.old.index at)) }
         ensures opened { (end : ℕ) → at + range_len self.old at (length buf.old) ≤ 65536 * end
             → self.new.opened ≤ self.old.opened + (end - fresh self.old.index at) }
         ensures given { (end : ℕ) → at + range_len self.old at (length buf.old) ≤ 65536 * end

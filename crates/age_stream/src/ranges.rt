@@ -1,7 +1,7 @@
 //! Reading any part of a plaintext from a caller's source.
 ghost use Rattle.std.specs.Prelude.{◌≡◌, ◌+◌, ◌-◌, ◌*◌, ◌/◌, ◌<◌, ◌≤◌, ℕ, length, Ok, Err, Some, None, IfOk, IfErr, OnErr};
 ghost use Rattle.age_stream.specs.Counts.{CountsRead, CountsReadFault};
-ghost use Rattle.age_stream.specs.Ranges.{Fills, IsOpenFault, IsSound, OpensRanges, Probes, Stops, fresh, range_len, sealed_span};
+ghost use Rattle.age_stream.specs.Ranges.{Counts, Fills, IsOpenFault, IsSound, OpensRanges, Probes, Stops, fresh, range_len, sealed_span};
 
 use crate::chunks::Chunks;
 use crate::fault::StreamFault;
@@ -114,11 +114,14 @@ impl<'a, D: ReadAt> RangeReader<'a, D> {
         ensures sound { IsSound (D.bytes self.old.dev.now) self.old.chunks → IsSound (D.bytes self.old.dev.now) self.new.chunks }
         ensures number { IfOk result (λ n. n ≡ range_len self.old.chunks at (length buf.old)) }
         ensures filled { IfOk result (λ n. Fills (D.bytes self.old.dev.now) self.old.chunks at n buf.old buf.new) }
-        ensures stop { IfErr result (Stops (D.bytes self.old.dev.now) self.old.chunks at (range_len self.old.chunks at (length buf.old)) buf.old buf.new) }
+        ensures stop { IfErr result (Stops (D.bytes self.old.dev.now) self.old.chunks at (range_len self.old.chunks at (length buf.old)) buf.old buf.new
+            self.new.chunks.opened) }
         ensures count { CountsRead (D.failed self.old.dev.now) (D.failed self.new.dev.now) result }
         ensures kept { IfOk result (λ n. 0 < n → self.new.chunks.index ≡ Some ((at + n - 1) / 65536)) }
         ensures none { OnErr result (self.new.chunks.index ≡ None) }
         ensures rises { self.old.chunks.opened ≤ self.new.chunks.opened }
+        ensures counts { IfOk result (λ n. 0 < n → Counts self.old.chunks self.new.chunks.opened
+            ((at + n - 1) / 65536 + 1 - fresh self.old.chunks.index at)) }
         ensures opened { (end : ℕ) → at + range_len self.old.chunks at (length buf.old) ≤ 65536 * end
             → self.new.chunks.opened ≤ self.old.chunks.opened + (end - fresh self.old.chunks.index at) }
         ensures given { (end : ℕ) → at + range_len self.old.chunks at (length buf.old) ≤ 65536 * end

@@ -2,7 +2,7 @@ use Rattle.std.proofs.Common.{arith, ◌≡◌, ◌+◌, ◌-◌, ◌*◌, ◌/�
 use Rattle.age_stream.specs.declared.layout.Layout.{Layout}
 use Rattle.age_stream.specs.Ranges.{HasPlain, IsSound, bytes_from, is_kept, opens_to}
 use Rattle.age_stream.specs.Slice.{text_len}
-use Rattle.age_stream.proofs.RangeLemmas.{put-front, put-rest, length-part, rest-on, front-on, opened-later, given-later, opened-at_first, given-at_first, at-chunk, under-chunk, below-chunk, opens-moved}
+use Rattle.age_stream.proofs.RangeLemmas.{put-front, put-rest, length-part, rest-on, front-on, counts-at_first, counts-later, opened-later, given-later, opened-at_first, given-at_first, at-chunk, under-chunk, below-chunk, opens-moved}
 use Rattle.age_stream.proofs.chunks.Chunks.read_range.Goals as goal
 
 pub returns-clause-filled : goal.returns-clause-filled
@@ -44,6 +44,11 @@ returns-in-Err-clause-stop g c =
           λ sound. opens-moved (g.D.ReadAt.bytes c.loop-done.dev) told l.layout s.layout i None inv.stay inv.layout
               (h.1 (subst (λ t. IsSound t l) (sym inv.stay) (inv.sound sound))),
         )
+      ];
+      counts = elim inv.stage [
+        | inl z ↦ counts-at_first l.index s.index c.hold-held.new.self.opened l.opened s.opened c.args.at i z.3 z.1 c.hold-held.ensures.counts z.4
+        | inr z ↦ counts-later (is_kept s.index (c.args.at / 65536)) l.index c.hold-held.new.self.opened l.opened s.opened (c.args.at / 65536) i z.4 z.2
+            c.hold-held.ensures.counts inv.counts
       ];
     }
 
@@ -103,6 +108,10 @@ loop-done-preserved g c =
       rest = rest-on c.loop-done.buf c.put-n.new.buf c.args.buf.now done n inv.rest (put-rest c.loop-done.buf (take n (drop skip t)) c.put-n.new.buf done n (omega (arith, room)) sized put);
       front = λ told_so. front-on s.layout.key (bytes_from told s.layout.first) t c.loop-done.buf c.put-n.new.buf at done i skip n pos (omega (arith, room)) part size (opens told_so) (inv.front told_so)
           (put-front c.loop-done.buf (take n (drop skip t)) c.put-n.new.buf done n (omega (arith, room)) sized put);
+      counts = elim inv.stage [
+        | inl z ↦ counts-at_first l.index s.index h.opened l.opened s.opened at i z.3 z.1 c.hold-held.ensures.counts z.4
+        | inr z ↦ counts-later (is_kept s.index (at / 65536)) l.index h.opened l.opened s.opened (at / 65536) i z.4 z.2 c.hold-held.ensures.counts inv.counts
+      ];
       rises = omega (arith, inv.rises, c.hold-held.ensures.rises);
       opened = elim inv.stage [
         | inl z ↦ opened-at_first l.index s.index h.opened l.opened s.opened at i z.3 z.1 c.hold-held.ensures.opened z.4
