@@ -6,7 +6,7 @@ use std::cell::Cell;
 use std::io;
 use std::io::{Read, Seek, SeekFrom};
 
-/// Gives at most so many of these bytes at a time. It leaves its bytes untold.
+/// Gives at most so many of these bytes at a time. Its contents are not known to proofs.
 #[derive(Drop)]
 pub(super) struct Short<'a> {
     rest: &'a [u8],
@@ -39,7 +39,7 @@ impl<'a> Source for Short<'a> {
     }
 }
 
-/// Takes pieces while there is room for so many bytes, and counts how often it is asked. It leaves its bytes untold.
+/// Takes pieces while there is room for so many bytes, and counts how often it is asked. Its contents are not known to proofs.
 #[derive(Drop)]
 pub(super) struct Full {
     room: usize,
