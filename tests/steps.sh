@@ -1,27 +1,29 @@
 #!/bin/bash
-# Runs the test of the calls in steps and of ranges, as built, with each allocation refused in turn: each call succeeds or is out of memory.
-# The last line is 'N passed, M failed'.
+# Runs tests of the libraries, as built, with each allocation refused in turn: scrypt, the calls in steps, and ranges. Each call succeeds or is
+# out of memory. The last line is 'N passed, M failed'.
 source "$(dirname "$0")/checks.bash"
-
-tests=$root/crates/age_file/out/age_file_tests
-name=tests::failing::whole_or_out_of_memory
 
 if ! has_refuser; then
     echo "skipped: refused allocations, since there is no C compiler"
     finish
     exit
 fi
-[[ -x $tests ]] || (cd "$root/crates/age_file" && rt test) >out 2>&1
 
-"$tests" "$name" >out 2>&1
-check "no allocation refused"
-refused=0
-while rm -f refused && [[ $refused -lt 1000 ]]; do
-    REFUSE=$((refused + 1)) LD_PRELOAD=./refuse.so "$tests" "$name" >out 2>&1
-    status=$?
-    [[ -e refused && $status -eq 0 ]] || break
-    refused=$((refused + 1))
-done
-[[ $refused -gt 20 && ! -e refused && $status -eq 0 ]]
-check "$refused allocations refused in turn"
+# Runs this test of a crate until a run meets no refusal, after at least so many that did.
+each_refusal() {
+    local crate=$1 name=$2 least=$3 refused=0 status
+    local tests=$root/crates/$crate/out/${crate}_tests
+    [[ -x $tests ]] || (cd "$root/crates/$crate" && rt test) >out 2>&1
+    while rm -f refused && [[ $refused -lt 1000 ]]; do
+        REFUSE=$((refused + 1)) LD_PRELOAD=./refuse.so "$tests" "$name" >out 2>&1
+        status=$?
+        [[ -e refused && $status -eq 0 ]] || break
+        refused=$((refused + 1))
+    done
+    [[ $refused -ge $least && ! -e refused && $status -eq 0 ]]
+    check "$crate: $name with $refused allocations refused in turn"
+}
+
+each_refusal age_kdf tests::scrypt_whole_or_out_of_memory 1
+each_refusal age_file tests::failing::whole_or_out_of_memory 20
 finish

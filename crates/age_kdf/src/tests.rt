@@ -407,3 +407,16 @@ fn scrypt_with_any_work_space(rt: HostRuntime) -> Result<(), AllocError> {
     }
     Ok(())
 }
+
+/// The output is written, or stays as it was where the work space is refused. tests/steps.sh refuses it.
+#[test]
+fn scrypt_whole_or_out_of_memory(rt: HostRuntime) {
+    let Some(params) = ScryptParams::new(4, 1, 1) else {
+        unreachable!();
+    };
+    let mut out = [7u8; 32];
+    match scrypt(rt.alloc(), b"", b"", &params, &mut out) {
+        Ok(()) => assert!(rt; out != [7; 32]),
+        Err(_) => assert!(rt; out == [7; 32]),
+    }
+}

@@ -1,7 +1,9 @@
 //! Devices that fail, each read and each write in turn.
 
 use super::devices::{Drops, Holds, TakesNothing};
-use super::{FRESH, Identities, Recipients, SALT, encrypted, key_of, sevens, with_key};
+use super::{
+    FRESH, Identities, Recipients, SALT, encrypted, key_of, sevens, with_key, with_passphrase,
+};
 use crate::{
     Decryptor, Encryptor, Fault, Limits, MemAt, StreamFault, WriteSink, decrypt, encrypt,
     open_ranges,
@@ -11,16 +13,17 @@ use age_recipient::{KeyIdentity, KeyRecipient};
 use std::alloc::Global;
 use std::test::Fail;
 
-/// A sink that takes so many bytes: a beginning of the file, whichever byte is the first that fails.
+/// A sink over a slice of each length: it gets a beginning of the passphrase's file, as much as it has room for.
 #[test]
 fn failing_sinks(rt: HostRuntime) -> Result<(), Fail> {
     let alloc = rt.alloc();
     let limits = Limits::default();
-    let recipients = with_key(alloc, 3)?;
+    let recipients = with_passphrase(alloc)?;
     let (_, file) = encrypted(alloc, b"", &recipients, &limits);
-    assert_eq!(rt; file.len(), 188);
-    for most in 0..189 {
-        let mut sink = Holds::new(Vec::new(alloc), most);
+    assert_eq!(rt; file.len(), 182);
+    for len in 0..183 {
+        let mut room = vec![in alloc; 0u8; len]?;
+        let mut sink = WriteSink::new(room.as_mut_slice());
         let answer = encrypt(
             alloc,
             &mut MemSource::new(b""),
@@ -29,9 +32,9 @@ fn failing_sinks(rt: HostRuntime) -> Result<(), Fail> {
             &FRESH,
             &limits,
         );
-        assert!(rt; answer.is_ok() == (most == 188));
+        assert!(rt; answer.is_ok() == (len == 182));
         assert!(rt; answer.is_ok() || answer == Err(Fault::Write));
-        assert!(rt; sink.bytes.len() == most && file.as_slice().starts_with(sink.bytes.as_slice()));
+        assert!(rt; file.as_slice().starts_with(room.as_slice()));
     }
     Ok(())
 }
