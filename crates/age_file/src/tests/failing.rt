@@ -2,7 +2,8 @@
 
 use super::devices::{Drops, Holds, TakesNothing};
 use super::{
-    FRESH, Identities, Recipients, SALT, encrypted, key_of, sevens, with_key, with_passphrase,
+    FRESH, Identities, Recipients, SALT, encrypted, key_of, passphrase, sevens, with_key,
+    with_passphrase,
 };
 use crate::{
     Decryptor, Encryptor, Fault, Limits, MemAt, StreamFault, WriteSink, decrypt, encrypt,
@@ -52,7 +53,7 @@ fn reads_until(
         alloc,
         &mut source,
         &mut sink,
-        key_of(alloc, 3)?.as_slice(),
+        passphrase(alloc)?.as_slice(),
         &Limits::default(),
     );
     let whole = answer.is_ok() && sink.bytes.as_slice() == plain;
@@ -68,11 +69,11 @@ fn failing_reads(rt: HostRuntime) -> Result<(), Fail> {
     let (_, file) = encrypted(
         alloc,
         plain.as_slice(),
-        &with_key(alloc, 3)?,
+        &with_passphrase(alloc)?,
         &Limits::default(),
     );
     let (reads, whole) = reads_until(alloc, file.as_slice(), plain.as_slice(), 0)?;
-    assert!(rt; whole && reads > 156 + 65);
+    assert!(rt; whole && reads > 150 + 65);
     for failing in 1..reads {
         let (met, failed) = reads_until(alloc, file.as_slice(), plain.as_slice(), failing)?;
         assert!(rt; failed);
