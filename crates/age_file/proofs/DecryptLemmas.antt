@@ -22,7 +22,7 @@ use Rattle.age_stream.specs.Opening.{EndsAt, IsAtPiece, WritesPayload, WritesRea
 use Rattle.age_stream.specs.Payload.{pieces}
 use Rattle.age_stream.specs.Reading.{Reading, payload_reading, stops}
 use Rattle.age_file.specs.declared.fault.Fault.{Fault}
-use Rattle.age_file.specs.declared.fault.Fault.TheVariants.{NotAge, BadLine, HeaderTruncated, HeaderTooLarge, MixedPassphrase, NoMatch, WrongKey, Malformed, BadMac, NonceTruncated, ChunkShort, EmptyFinal, BadChunk, TooManyChunks, Read, Write, OutOfMemory, NoRecipients, Refused}
+use Rattle.age_file.specs.declared.fault.Fault.TheVariants.{NotAge, BadLine, HeaderTruncated, HeaderTooLarge, MixedPassphrase, NoMatch, WrongKey, Malformed, BadMac, NonceTruncated, ChunkShort, EmptyFinal, BadChunk, TooManyChunks, Read, Write, OutOfMemory, NoRecipients, Refused, IncompatibleRecipients}
 use Rattle.age_file.specs.AgeFile.{Bounds}
 use Rattle.age_file.specs.Decrypt.{BeginsVerdict, Decrypts, DecryptsText, GivesVerdict, Takes, TookThrough, payload_pieces}
 use Rattle.age_file.specs.Device.{CountsRead, CountsWrite, IsLate}
@@ -70,6 +70,7 @@ gives-decrypts limits answers b old new (ChunkShort i) h = h
 gives-decrypts limits answers b old new (EmptyFinal i) h = h
 gives-decrypts limits answers b old new (BadChunk i) h = h
 gives-decrypts limits answers b old new TooManyChunks h = h
+gives-decrypts limits answers b old new (IncompatibleRecipients i) h = h
 gives-decrypts limits answers b old new NoRecipients h = h
 gives-decrypts limits answers b old new (Refused i code) h = h
 

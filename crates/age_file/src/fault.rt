@@ -67,4 +67,7 @@ pub enum Fault {
     /// The recipient at this place refused, for the reason of this number.
     #[error("recipient {0} refused: {1}")]
     Refused(usize, u32),
+    /// The recipient at this place, from 1 up, does not go together with recipient 0.
+    #[error("recipient {0} does not go with recipient 0")]
+    IncompatibleRecipients(usize),
 }

@@ -21,8 +21,9 @@ pub use age_header::{
     Stanza, StanzaError, WriteSink, mac_of, signed_text, write_all, write_header,
 };
 pub use age_recipient::{
-    FileKey, Identity, KeyIdentity, KeyPair, KeyRecipient, Matched, PassError, PassIdentity,
-    PassPair, PassRecipient, Recipient, StanzaFault, UnlockFault, Unwrapped, WrapFault, unlock,
+    FileKey, Identity, KeyIdentity, KeyPair, KeyRecipient, LabelSet, Labels, Matched, PassError,
+    PassIdentity, PassPair, PassRecipient, Recipient, StanzaFault, UnlockFault, Unwrapped,
+    WrapFault, unlock,
 };
 pub use age_stream::{
     Done, FileAt, MemAt, RangeReader, ReadAt, Refused, StreamFault, StreamReader, StreamWriter,

@@ -5,7 +5,7 @@ ghost use Rattle.std.specs.Io.KnownBytes.{Keeps};
 ghost use Rattle.age_header.specs.Device.{Counts, Writes};
 ghost use Rattle.age_header.specs.Header.{Head};
 ghost use Rattle.age_file.specs.Device.{CountsRead, CountsWrite, IsLate};
-ghost use Rattle.age_file.specs.NewFile.{EncryptsGiven, RefusesFirst, TakesOf, gathered};
+ghost use Rattle.age_file.specs.NewFile.{EncryptsGiven, RefusesFirst, Gathered, TakesOf};
 
 use crate::fault::Fault;
 use crate::gather::header_for;
@@ -32,13 +32,13 @@ pub fn encrypt<S: Source, W: Sink>(
     fresh: &Fresh,
     limits: &Limits,
 ) -> Result<Done, Fault>
-    ensures answer { EncryptsGiven limits.now fresh.now (gathered (map (λ r. wraps r fresh.now.file_key) recipients.now))
+    ensures answer { EncryptsGiven limits.now fresh.now (Gathered (map (λ r. wraps r fresh.now.file_key) recipients.now) (map (λ r. the_labels r) recipients.now))
         (S.to_come plain.old) (W.taken out.old) (W.taken out.new) result }
-    ensures refused { IfErr result (RefusesFirst limits.now fresh.now.file_key (gathered (map (λ r. wraps r fresh.now.file_key) recipients.now))) }
+    ensures refused { IfErr result (RefusesFirst limits.now fresh.now.file_key (Gathered (map (λ r. wraps r fresh.now.file_key) recipients.now) (map (λ r. the_labels r) recipients.now))) }
     ensures quiet { IfErr result (λ fault. IsLate fault ⊎ Keeps (W.taken out.old) (W.taken out.new)) }
     ensures reads { CountsRead (S.failed plain.old) (S.failed plain.new) result }
     ensures writes { CountsWrite (W.failed out.old) (W.failed out.new) result }
-    ensures took { IfErr result (TakesOf limits.now fresh.now (gathered (map (λ r. wraps r fresh.now.file_key) recipients.now))
+    ensures took { IfErr result (TakesOf limits.now fresh.now (Gathered (map (λ r. wraps r fresh.now.file_key) recipients.now) (map (λ r. the_labels r) recipients.now))
         (S.to_come plain.old) (S.to_come plain.new) (W.taken out.old) (W.taken out.new)) }
 {
     let header = header_for(alloc, recipients, &fresh.file_key, limits)?;

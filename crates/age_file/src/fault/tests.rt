@@ -55,6 +55,10 @@ fn says_each_fault(rt: HostRuntime) -> Result<(), Fail> {
         (Fault::OutOfMemory, "out of memory"),
         (Fault::NoRecipients, "no recipients"),
         (Fault::Refused(1, 7), "recipient 1 refused: 7"),
+        (
+            Fault::IncompatibleRecipients(2),
+            "recipient 2 does not go with recipient 0",
+        ),
     ] {
         let said = format!(in rt.alloc(); "{fault}")?;
         assert_eq!(rt; said.as_str(), text);

@@ -74,7 +74,7 @@ impl Recipient for Curve {
     }
 }
 
-/// Gives no stanza, and refuses where it has a number.
+/// Gives no stanza, and refuses with a number. It would have to stand alone.
 #[derive(Drop)]
 pub(super) struct Refuses {
     pub(super) code: u32,
@@ -82,12 +82,25 @@ pub(super) struct Refuses {
 
 impl Recipient for Refuses {
     ghost use Rattle.std.specs.Prelude.{Err};
+    ghost use Rattle.age_recipient.specs.declared.labels.Labels.TheVariants.{Alone};
 
     ghost wraps = { λ refuses _. Err refuses.code };
+
+    ghost the_labels = { λ _. Alone };
 
     fn wrap(&self, _alloc: Global, _key: &FileKey) -> Result<Vec<Stanza>, WrapFault> {
         Err(WrapFault::Refused(self.code))
     }
+
+    fn labels(&self, _alloc: Global) -> Result<Labels, AllocError> {
+        Ok(Labels::Alone)
+    }
+}
+
+/// Gives a stanza, and has labels that are made anew from these texts; with none it must stand alone.
+#[derive(Drop)]
+pub(super) struct Labelled {
+    labels: Option<LabelSet>,
 }
 
 /// Counts how often it is asked, and has no answer.
