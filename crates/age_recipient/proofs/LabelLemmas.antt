@@ -8,7 +8,7 @@ use Rattle.std.specs.Cmp.{nat_eq_equiv}
 use Rattle.std.specs.Cmp.Derive.Mapped.{pointwise-map}
 use Rattle.std.specs.Cmp.Lexicographic.{slice_cmp, pointwise}
 use Rattle.std.specs.Global.{Global}
-use Rattle.std.specs.List.{AllByRecursion, list_any}
+use Rattle.std.specs.List.{AllByRecursion, AllZip, list_any}
 use Rattle.std.specs.List.Sorted.{IsStrictlySortedBy}
 use Rattle.std.specs.Ordering.{nat_cmp}
 use Rattle.std.specs.Str.{bytes_eq}
@@ -68,3 +68,10 @@ no_texts [] is = refl
 no_texts (text ∷ rest) is =
     let here : (bytes_eq text text || list_any (bytes_eq text) rest) ≡ false = is.members text in
     absurd (true≢false (sym (ap (λ b. b || list_any (bytes_eq text) rest) ((lists_equiv nat_eq_equiv).refl text)) ∙ here))
+
+-- a copy of strings has the same bytes
+pub same_bytes : (ks copies : List (String Global)) → AllZip (λ s t. string_bytes t ≡ string_bytes s) ks copies → map string_bytes copies ≡ map string_bytes ks
+same_bytes [] [] h = refl
+same_bytes [] (c ∷ cs) h = absurd h
+same_bytes (k ∷ ks) [] h = absurd h
+same_bytes (k ∷ ks) (c ∷ cs) h = rw (h.0, same_bytes ks cs h.1) refl

@@ -39,6 +39,15 @@ impl LabelSet {
     }
 }
 
+impl Clone for LabelSet {
+    ghost is_clone = { λ set copy. copy ≡ set };
+
+    fn clone(&self) -> Result<LabelSet, AllocError> {
+        let names = self.names.clone()?;
+        Ok(LabelSet { names })
+    }
+}
+
 /// What a recipient asks of the others of the same file. Recipients go together where their labels are the same set of names.
 #[derive(Drop)]
 pub enum Labels {
@@ -56,6 +65,17 @@ impl Labels {
         match (self, other) {
             (Labels::Names(a), Labels::Names(b)) => a.names == b.names,
             _ => false,
+        }
+    }
+}
+
+impl Clone for Labels {
+    ghost is_clone = { λ labels copy. copy ≡ labels };
+
+    fn clone(&self) -> Result<Labels, AllocError> {
+        match self {
+            Labels::Alone => Ok(Labels::Alone),
+            Labels::Names(set) => Ok(Labels::Names(set.clone()?)),
         }
     }
 }

@@ -6,7 +6,9 @@ use super::{
     with_passphrase,
 };
 use crate::{Fault, Limits};
-use age_recipient::{FileKey, KeyRecipient, PassIdentity, PassRecipient, StanzaFault, Unwrapped};
+use age_recipient::{
+    FileKey, KeyRecipient, LabelSet, Labels, PassIdentity, PassRecipient, StanzaFault, Unwrapped,
+};
 use age_stream::Done;
 use std::alloc::Global;
 use std::cell::Cell;
@@ -108,16 +110,20 @@ fn refused_recipients(rt: HostRuntime) -> Result<(), Fail> {
     Ok(())
 }
 
-/// Recipients with these labels.
+/// Recipients with these labels; None stands for one that must stand alone.
 fn labelled(alloc: Global, all: &[Option<&[&str]>]) -> Result<Recipients, Fail> {
     let mut recipients: Recipients = Vec::new(alloc);
     for names in all {
-        recipients.push(Box::new(alloc, Labelled::new(alloc, *names)?)?)?;
+        let labels = match names {
+            Some(names) => Labels::Names(LabelSet::new(alloc, names)?),
+            None => Labels::Alone,
+        };
+        recipients.push(Box::new(alloc, Labelled { labels })?)?;
     }
     Ok(recipients)
 }
 
-/// Recipients go together where their labels are the same set; None stands for one that must stand alone.
+/// Recipients go together where their labels are the same set of names.
 #[test]
 fn labels_of_a_caller(rt: HostRuntime) -> Result<(), Fail> {
     let alloc = rt.alloc();

@@ -1,7 +1,7 @@
 //! Recipients and identities of a caller.
 
 use age_header::Stanza;
-use age_recipient::{FileKey, Identity, Recipient, Unwrapped, WrapFault};
+use age_recipient::{FileKey, Identity, Labels, Recipient, Unwrapped, WrapFault};
 use std::alloc::{AllocError, Global};
 use std::cell::Cell;
 use std::rc::Rc;
@@ -97,10 +97,32 @@ impl Recipient for Refuses {
     }
 }
 
-/// Gives a stanza, and has labels that are made anew from these texts; with none it must stand alone.
+/// Gives a stanza, and has these labels.
 #[derive(Drop)]
 pub(super) struct Labelled {
-    labels: Option<LabelSet>,
+    pub(super) labels: Labels,
+}
+
+impl Recipient for Labelled {
+    ghost use Rattle.std.specs.Prelude.{Ok, [], ◌∷◌, codes};
+
+    ghost wraps = { λ _ _. Ok (record { args = codes "x" ∷ []; body = [] } ∷ []) };
+
+    ghost the_labels = { λ labelled. labelled.labels };
+
+    fn wrap(&self, alloc: Global, _key: &FileKey) -> Result<Vec<Stanza>, WrapFault> {
+        let Ok(stanza) = Stanza::new(alloc, &["x"], &[]) else {
+            return Err(WrapFault::Memory);
+        };
+        match vec![in alloc; stanza] {
+            Ok(stanzas) => Ok(stanzas),
+            Err(_) => Err(WrapFault::Memory),
+        }
+    }
+
+    fn labels(&self, _alloc: Global) -> Result<Labels, AllocError> {
+        Ok(self.labels.clone()?)
+    }
 }
 
 /// Counts how often it is asked, and has no answer.

@@ -1,0 +1,8 @@
+use Rattle.std.proofs.Common.{map}
+use Rattle.age_file.proofs.ApartLemmas.{refused_first}
+use Rattle.age_file.proofs.gather.gather.Goals as goal
+
+pub returns-in-Err : goal.returns-in-Err
+returns-in-Err g c =
+    refused_first (map (λ r. (goal.Recipient-dyn g (r.vtable, r.value)).wraps r.value c.args.key.now) c.args.recipients.now)
+    (map (λ r. (goal.Recipient-dyn g (r.vtable, r.value)).the_labels r.value) c.args.recipients.now) c.in-Err.fault c.in-Err.ensures
