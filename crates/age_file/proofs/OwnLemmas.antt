@@ -1,5 +1,5 @@
 -- The labels of the recipients of this crate's own kinds.
-use Rattle.std.proofs.Common.{◌≡◌, ℕ, ◌+◌, zero, suc, not, List, [], ◌∷◌, ◌++◌, replicate, sym, ◌∙◌, ap, refl, inl, inr, arith, Option, Some, None, add-one}
+use Rattle.std.proofs.Common.{◌≡◌, ℕ, ◌+◌, zero, suc, not, List, [], ◌∷◌, ◌++◌, replicate, ◌∙◌, ap, refl, inl, inr, arith, Option, Some, None, add-one}
 use Rattle.std.specs.List.{AllZip, position_from}
 use Rattle.age_recipient.specs.declared.labels.Labels.{Labels}
 use Rattle.age_recipient.specs.declared.labels.Labels.TheVariants.{Alone, Names}
