@@ -1,8 +1,10 @@
 mod ApartLemmas
 mod AtLemmas
+mod CopyLemmas
 mod DecryptLemmas
 mod EncryptLemmas
 mod FileLemmas
 mod GatherLemmas
 mod OwnLemmas
 mod RangeLemmas
+mod RewrapLemmas

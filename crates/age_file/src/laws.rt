@@ -1,6 +1,6 @@
 //! Laws over the definitions alone: functions that do nothing, with the law as their contract.
 
-ghost use Rattle.std.specs.Prelude.{◌≡◌, ◌↔◌, ℕ, ◌+◌, List, [], ◌∷◌, ◌++◌, replicate, Ok, Option, Some, None};
+ghost use Rattle.std.specs.Prelude.{◌≡◌, ◌↔◌, ℕ, ◌+◌, List, [], ◌∷◌, ◌++◌, replicate, Option, Some, None, Ok};
 ghost use Rattle.age_header.specs.Header.{StanzaParts};
 ghost use Rattle.age_recipient.specs.declared.key.FileKey.{FileKey};
 ghost use Rattle.age_recipient.specs.Choice.{choice};
@@ -10,6 +10,7 @@ ghost use Rattle.age_stream.specs.Reading.{Reading, whole};
 ghost use Rattle.age_file.specs.declared.fault.Fault.{Fault};
 ghost use Rattle.age_file.specs.AgeFile.{AgeFile, Bounds};
 ghost use Rattle.age_file.specs.NewFile.{IsApart};
+ghost use Rattle.age_file.specs.Rewrap.{Rewrapped};
 ghost use Rattle.age_file.specs.Verdict.{Answering, IsVerdict};
 
 use age_recipient::{Labels, Matched};
@@ -39,4 +40,11 @@ pub fn own_recipients()
     ensures passphrase_first { (other : Labels) (others : List Labels) → incompatible (Labels.Alone ∷ other ∷ others) ≡ Some 1 }
     ensures passphrase_after { (n : ℕ) (others : List Labels)
         → incompatible (replicate (n + 1) (Labels.Names []) ++ Labels.Alone ∷ others) ≡ Some (n + 1) }
+{}
+
+/// A rewrapped file is to identities that find its file key what the file was to those that found it before: the same plaintext, or the
+/// same fault after the same plaintext.
+pub fn rewrap_keeps()
+    ensures { (limits : Bounds) (old new : Answering) (b c : List ℕ) (is : Rewrapped limits old b c)
+        → choice (new is.stanzas) ≡ Ok is.key → (v : Reading Fault) → IsVerdict limits old b v ↔ IsVerdict limits new c v }
 {}

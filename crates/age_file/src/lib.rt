@@ -2,6 +2,7 @@
 #![tactic(auto)]
 
 mod at_source;
+mod copying;
 mod decryptor;
 mod encryptor;
 mod fault;
@@ -12,6 +13,7 @@ mod limits;
 mod names;
 mod ranges;
 mod reading;
+mod rewrapping;
 #[cfg(test)]
 mod tests;
 mod writing;
@@ -35,4 +37,5 @@ pub use header::inspect;
 pub use limits::{Fresh, Limits};
 pub use ranges::open_ranges;
 pub use reading::decrypt;
+pub use rewrapping::rewrap;
 pub use writing::encrypt;
