@@ -5,6 +5,7 @@ mod devices;
 mod failing;
 mod objects;
 mod ranges;
+mod rewrapping;
 mod steps;
 
 use crate::{Done, Fault, Fresh, Limits, decrypt, encrypt};
