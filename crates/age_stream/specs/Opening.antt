@@ -106,7 +106,7 @@ WritesReading reading n old new (Err fault) = (reading.fault ≡ Some fault) × 
 -- the reading of what the source may have given was written
 abbrev pub WritesAll : OpenerState → Option (List ℕ) → Option (List ℕ) → Option (List ℕ) → Result Done StreamFault → Type 0
 WritesAll s from old new r = (c : List ℕ) × MayGive from c
-    × WritesReading (reading_left s.key s.max_chunks s.index (left_of s.held c)) (s.index + length (pieces_left (left_of s.held c))) old new r
+    × WritesReading (reading_left s.key s.max_chunks s.index (left_of s.held c)) (length (pieces_left (left_of s.held c))) old new r
 
 -- A fault of a piece or of a write: at which piece it was met, what had been written, and how much of the source had been taken.
 pub record EndsAt (max more : ℕ) (from to old new : Option (List ℕ)) (fault : StreamFault) : Type 0 where

@@ -5,7 +5,7 @@ ghost use Rattle.age_cipher.specs.Sealing.{sealed};
 ghost use Rattle.age_header.specs.Device.{Counts, Writes};
 ghost use Rattle.age_header.specs.Filling.{Filled};
 ghost use Rattle.age_stream.specs.Counts.{CountsRead, CountsWrite};
-ghost use Rattle.age_stream.specs.Sealing.{IsFed, PutsFull, SealsAll, Stopped, TakesAll, FinishesBy};
+ghost use Rattle.age_stream.specs.Sealing.{IsFed, PutsFull, Stopped, TakesAll, FinishesBy};
 ghost use Rattle.age_stream.specs.Payload.{payload_key, place};
 
 use crate::buffer::ChunkBuf;
@@ -91,24 +91,6 @@ impl ChunkSealer {
                 self.fault = Some(fault);
                 Err(fault)
             }
-        }
-    }
-
-    /// Takes all that the source still gives, and writes all its chunks. Returns how much was sealed.
-    pub fn seal_all<S: Source, W: Sink>(
-        self,
-        plain: &mut S,
-        out: &mut W,
-    ) -> Result<Done, StreamFault>
-        ensures kept { IfSome self.fault (λ f. (result ≡ Err f) × (plain.new ≡ plain.old) × (out.new ≡ out.old)) }
-        ensures seals { IfNone self.fault (SealsAll self (S.to_come plain.old) (S.to_come plain.new) (W.taken out.old) (W.taken out.new) result) }
-        ensures reads { IfNone self.fault (CountsRead (S.failed plain.old) (S.failed plain.new) result) }
-        ensures writes { IfNone self.fault (CountsWrite (W.failed out.old) (W.failed out.new) result) }
-    {
-        let mut sealer = self;
-        match sealer.write_from(plain, out) {
-            Ok(()) => sealer.finish(out),
-            Err(fault) => Err(fault),
         }
     }
 

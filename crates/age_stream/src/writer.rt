@@ -2,9 +2,9 @@
 ghost use Rattle.std.specs.Prelude.{◌≡◌, ◌⊎◌, ◌≤◌, ℕ, List, Ok, Err, IfOk, IfErr, IfSome, IfNone};
 ghost use Rattle.std.specs.Io.KnownBytes.{Appends};
 ghost use Rattle.age_header.specs.Device.{Writes};
-ghost use Rattle.age_stream.specs.Counts.{CountsWrite};
+ghost use Rattle.age_stream.specs.Counts.{CountsRead, CountsWrite};
 ghost use Rattle.age_stream.specs.Payload.{payload_key};
-ghost use Rattle.age_stream.specs.Sealing.{at_start, FinishesBy};
+ghost use Rattle.age_stream.specs.Sealing.{at_start, FinishesBy, SealsAll};
 ghost use Rattle.age_stream.specs.Writer.{LosesNonce, TakesPiece};
 
 use crate::buffer::ChunkBuf;
@@ -12,7 +12,7 @@ use crate::done::Done;
 use crate::fault::StreamFault;
 use crate::refused::Refused;
 use crate::sealing::ChunkSealer;
-use age_header::{MemSource, Sink, write_all};
+use age_header::{MemSource, Sink, Source, write_all};
 use age_recipient::FileKey;
 use std::alloc::Global;
 
@@ -162,6 +162,26 @@ impl<'a, W: Sink> StreamWriter<'a, W> {
     {
         let mut source = MemSource::new(piece);
         self.sealer.write_from(&mut source, self.out)
+    }
+
+    /// Takes all that the source still gives, and writes all its chunks, the last one too. Returns how much was sealed in all.
+    ///
+    /// # Errors
+    /// Those of `write_piece`, and `Read` where the source failed: a beginning of the sealed chunks was written.
+    pub fn seal_from<S: Source>(self, plain: &mut S) -> Result<Done, StreamFault>
+        ensures kept { IfSome self.entry.sealer.fault (λ f. (result ≡ Err f) × (plain.new ≡ plain.old)
+            × (self.exit.0.now ≡ self.entry.out.now)) }
+        ensures seals { IfNone self.entry.sealer.fault (SealsAll self.entry.sealer (S.to_come plain.old) (S.to_come plain.new)
+            (W.taken self.entry.out.now) (W.taken self.exit.0.now) result) }
+        ensures reads { IfNone self.entry.sealer.fault (CountsRead (S.failed plain.old) (S.failed plain.new) result) }
+        ensures writes { IfNone self.entry.sealer.fault (CountsWrite (W.failed self.entry.out.now) (W.failed self.exit.0.now) result) }
+    {
+        let StreamWriter { out, sealer } = self;
+        let mut sealer = sealer;
+        match sealer.write_from(plain, out) {
+            Ok(()) => sealer.finish(out),
+            Err(fault) => Err(fault),
+        }
     }
 
     /// Seals what is held as the last chunk, and writes it. Returns how much was sealed in all.
