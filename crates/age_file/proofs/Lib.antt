@@ -3,4 +3,5 @@ mod DecryptLemmas
 mod EncryptLemmas
 mod FileLemmas
 mod GatherLemmas
+mod PayloadLemmas
 mod RangeLemmas

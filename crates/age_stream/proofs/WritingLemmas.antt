@@ -1,20 +1,19 @@
 -- The openings of pieces, written one after another.
-use Rattle.std.proofs.Common.{◌≡◌, ◌⊎◌, ◌∙◌, ◌++◌, ◌+◌, ◌-◌, ◌*◌, ◌<◌, ◌≤◌, ℕ, List, [], length, take, drop, ap, sym, subst, arith, append-nil, append_assoc, length-append, refl, Option, Some, None, Bool, true, false, inl, inr, Result, Ok, Err, nat_le, nat_lt, cond, Fits, w64}
-use Rattle.std.specs.Prelude.{IfErr, IfNone, IfSome, IsErrOf}
+use Rattle.std.proofs.Common.{◌≡◌, ◌⊎◌, ◌∙◌, ◌++◌, ◌+◌, ◌-◌, ◌*◌, ◌<◌, ◌≤◌, ℕ, List, [], length, take, drop, ap, sym, subst, arith, append-nil, append_assoc, length-append, refl, Option, Some, None, Bool, true, false, inl, inr, Result, Ok, Err, nat_le, cond, Fits, w64}
+use Rattle.std.specs.Prelude.{IfNone, IfSome, IsErrOf}
 use Rattle.std.specs.Io.KnownBytes.{Appends}
 use Rattle.std.proofs.KnownBytes.{Appends-trans, Appends-nil, Consumes-nil}
-use Rattle.std.proofs.lemmas.Bool.{le-leb, lt-leb, le-ltb, lt-ltb, cases_lt, cond-false, cond-true}
-use Rattle.std.proofs.lemmas.List.{take_all, take_at, drop_at}
+use Rattle.std.proofs.lemmas.Bool.{le-leb, lt-leb, cases_lt}
+use Rattle.std.proofs.lemmas.List.{take_all}
 use Rattle.age_header.specs.Device.{GaveAtMost, MayGive, WritesPart}
 use Rattle.age_header.proofs.GivenLemmas.{gave-more, may-some}
 use Rattle.age_header.proofs.WriteLemmas.{done_part}
 use Rattle.age_stream.specs.declared.done.Done.{Done}
 use Rattle.age_stream.specs.declared.fault.StreamFault.{StreamFault}
 use Rattle.age_stream.specs.declared.fault.StreamFault.TheVariants.{NonceTruncated, ChunkShort, EmptyFinal, BadChunk, TooManyChunks, Read, Write, Memory}
-use Rattle.age_stream.specs.Opening.{Advances, EndsAt, IsAtPiece, OpenerState, OpensNext, Starts, WritesAll, WritesPayload, WritesReading, ahead_len, left_of, pieces_left, reading_left}
-use Rattle.age_recipient.specs.declared.key.FileKey.{FileKey}
-use Rattle.age_stream.specs.Payload.{payload_key, pieces}
-use Rattle.age_stream.specs.Reading.{Reading, after_first, first_outcome, outcome, payload_reading, reading_from, stops}
+use Rattle.age_stream.specs.Opening.{Advances, EndsAt, IsAtPiece, OpenerState, OpensNext, WritesAll, WritesReading, ahead_len, left_of, pieces_left, reading_left}
+use Rattle.age_stream.specs.Payload.{pieces}
+use Rattle.age_stream.specs.Reading.{Reading, after_first, first_outcome, outcome, reading_from, stops}
 use Rattle.age_stream.proofs.ReadingLemmas.{count-last, count-more, then_read, reading-last, reading-more}
 
 -- a text, and then what a reading gives
@@ -355,58 +354,3 @@ pub opened-room : (s t u : OpenerState) (n : ℕ) (from now next a b : Option (L
 opened-room s t u n from now next a b len o adv le =
     let within : t.index < t.max_chunks = adv.keeps.2 refl in
     omega (arith, o.len, o.bound, adv.small)
-
--- ---- a whole payload
-
--- the nonce, then the pieces
-pub payload-writes : (k : FileKey) (max : ℕ) (s : OpenerState) (from mid a b : Option (List ℕ)) (r : Result Done StreamFault) → Starts k max from mid (Ok s) → WritesAll s mid a b r → WritesPayload k max from a b r
-payload-writes k max s from mid a b r (nonce, len, is, may) (c, given, writes) =
-    let l : length (nonce ++ c) ≡ length nonce + length c = length-append nonce c in
-    let long : nat_lt (length (nonce ++ c)) 16 ≡ false = le-ltb (length (nonce ++ c)) 16 (omega arith) in
-    let front : take 16 (nonce ++ c) ≡ nonce = take_at nonce c 16 len in
-    let back : drop 16 (nonce ++ c) ≡ c = drop_at nonce c 16 len in
-    let key : List ℕ = payload_key k nonce in
-    let all : payload_reading k max (nonce ++ c) ≡ reading_from key max 0 c =
-    cond-false (nat_lt (length (nonce ++ c)) 16) _ _ long
-    ∙ ap (λ n. reading_from (payload_key k n) max 0 (drop 16 (nonce ++ c))) front ∙ ap (reading_from key max 0) back in
-    let w : WritesReading (reading_from key max 0 c) (length (pieces c)) a b r =
-    subst (λ (x : OpenerState). WritesReading (reading_left x.key x.max_chunks x.index (left_of x.held c)) (length (pieces_left (left_of x.held c))) a b r) is writes in (
-      nonce ++ c,
-      may c given,
-      subst (λ x. WritesReading x (length (pieces (drop 16 (nonce ++ c)))) a b r) (sym all)
-          (subst (λ x. WritesReading (reading_from key max 0 c) (length (pieces x)) a b r) (sym back) w),
-    )
-
--- the nonce is cut short, or was not read
-pub nonce-writes : (k : FileKey) (max : ℕ) (from mid a : Option (List ℕ)) (fault : StreamFault) → Starts k max from mid (Err fault) → WritesPayload k max from a a (Err fault)
-nonce-writes k max from mid a Read h = let d = may-some from in (d.0, d.1, (0, Appends-nil a))
-nonce-writes k max from mid a NonceTruncated h =
-    let short : nat_lt (length h.1.0) 16 ≡ true = lt-ltb (length h.1.0) 16 h.1.2 in
-    let all : payload_reading k max h.1.0 ≡ stops NonceTruncated = cond-true (nat_lt (length h.1.0) 16) _ _ short in
-    (h.1.0, h.1.1, subst (λ x. WritesReading x (length (pieces (drop 16 h.1.0))) a a (Err NonceTruncated)) (sym all) (refl, Appends-nil a))
-nonce-writes k max from mid a (ChunkShort i) h = absurd (cc)
-nonce-writes k max from mid a (EmptyFinal i) h = absurd (cc)
-nonce-writes k max from mid a (BadChunk i) h = absurd (cc)
-nonce-writes k max from mid a TooManyChunks h = absurd (cc)
-nonce-writes k max from mid a Write h = absurd (cc)
-nonce-writes k max from mid a Memory h = absurd (cc)
-
--- what was taken with the nonce
-pub ends-more : (max : ℕ) (from mid to a b : Option (List ℕ)) (fault : StreamFault) → GaveAtMost 16 from mid → EndsAt max 0 mid to a b fault → EndsAt max 16 from to a b fault
-ends-more max from mid to a b fault nonce e =
-    let all = gave-more from mid to 16 (0 + (65552 * (e.piece + 1) + 1)) nonce e.gave in
-    record { piece = e.piece; text = e.text; written = e.written; at = e.at; gave = (all.0, all.1, omega (arith, all.2)) }
-
-opener-max : (k : FileKey) (max : ℕ) (s : OpenerState) (from mid : Option (List ℕ)) → Starts k max from mid (Ok s) → s.max_chunks ≡ max
-opener-max k max s from mid h = ap (λ (x : OpenerState). x.max_chunks) h.2
-
-pub all-ends : (k : FileKey) (max : ℕ) (s : OpenerState) (from mid to a b : Option (List ℕ)) (r : Result Done StreamFault) → Starts k max from mid (Ok s)
-    → IsErrOf {T = OpenerState} (Ok s) Read ⊎ GaveAtMost 16 from mid → IfErr r (λ f. (f ≡ Read) ⊎ EndsAt s.max_chunks 0 mid to a b f)
-    → IfErr r (λ f. (f ≡ Read) ⊎ ((f ≡ NonceTruncated) ⊎ EndsAt max 16 from to a b f))
-all-ends k max s from mid to a b (Ok done) h gave e = tt
-all-ends k max s from mid to a b (Err fault) h gave (inl e) = inl e
-all-ends k max s from mid to a b (Err fault) h (inl g) (inr e) = absurd (started g)
-  where
-    started : ◌≡◌ {A = Result OpenerState StreamFault} (Ok s) (Err Read) → ⊥
-    started g = cc
-all-ends k max s from mid to a b (Err fault) h (inr g) (inr e) = inr (inr (ends-more max from mid to a b fault g (subst (λ m. EndsAt m 0 mid to a b fault) (opener-max k max s from mid h) e)))

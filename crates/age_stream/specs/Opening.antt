@@ -8,7 +8,7 @@ use Rattle.age_stream.specs.declared.fault.StreamFault.{StreamFault}
 use Rattle.age_stream.specs.declared.fault.StreamFault.TheVariants.{NonceTruncated, ChunkShort, EmptyFinal, BadChunk, TooManyChunks, Read, Write}
 use Rattle.age_stream.specs.declared.opening.Piece.{Piece}
 use Rattle.age_stream.specs.Payload.{payload_key, pieces}
-use Rattle.age_stream.specs.Reading.{Reading, after_first, first_outcome, payload_reading, reading_from, whole}
+use Rattle.age_stream.specs.Reading.{Reading, after_first, first_outcome, reading_from, whole}
 
 -- An opener: its key and limit, the number of the next piece, the bytes of it that were read already (None after the last piece), the
 -- text that was opened last, and the fault that it keeps.
@@ -115,11 +115,6 @@ pub record EndsAt (max more : ℕ) (from to old new : Option (List ℕ)) (fault 
   pub written : Appends old new text
   pub at : ((fault ≡ Write) × (65536 * piece ≤ length text)) ⊎ IsAtPiece max piece fault
   pub gave : GaveAtMost (more + (65552 * (piece + 1) + 1)) from to
-
--- the payload that the source may have given was read: its reading was written
-abbrev pub WritesPayload : FileKey → ℕ → Option (List ℕ) → Option (List ℕ) → Option (List ℕ) → Result Done StreamFault → Type 0
-WritesPayload k max from old new r = (c : List ℕ) × MayGive from c
-    × WritesReading (payload_reading k max c) (length (pieces (drop 16 c))) old new r
 
 -- a piece's outcome is returned, and its opening stands in front
 abbrev pub GivesText : Result (List ℕ) StreamFault → List ℕ → Result ℕ StreamFault → Type 0
