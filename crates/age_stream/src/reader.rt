@@ -136,7 +136,8 @@ impl<'a, S: Source> StreamReader<'a, S> {
         }
     }
 
-    /// Writes the chunks of the plaintext that are left, each as soon as it is verified. Returns how much was written.
+    /// Writes the chunks of the plaintext that are left, each as soon as it is verified. Returns how many bytes it wrote, and of how
+    /// many chunks.
     ///
     /// # Errors
     /// Those of `next_chunk`: the chunks before were written. `Write` where the sink failed: a beginning of the chunks was written.
@@ -151,7 +152,6 @@ impl<'a, S: Source> StreamReader<'a, S> {
         ensures writes { IfNone self.entry.opener.fault (CountsWrite (W.failed out.old) (W.failed out.new) result) }
     {
         let StreamReader { input, opener } = self;
-        let mut opener = opener;
         match opener.kept() {
             Some(fault) => Err(fault),
             None => opener.write_pieces(input, out),

@@ -16,8 +16,8 @@ use age_header::{MemSource, Sink, Source, write_all};
 use age_recipient::FileKey;
 use std::alloc::Global;
 
-/// Writes a payload to a caller's sink. It must be spent, by `finish` or by `abandon`. It keeps a fault, and returns it from then on
-/// without asking the sink.
+/// Writes a payload to a caller's sink. It must be spent, by `seal_from`, `finish` or `abandon`. It keeps a fault, and returns it from
+/// then on without asking the sink.
 pub struct StreamWriter<'a, W, B = ChunkSealer> {
     out: &'a mut W,
     sealer: B,
