@@ -1,5 +1,5 @@
 //! Opening a payload's pieces, one after another.
-ghost use Rattle.std.specs.Prelude.{◌≡◌, ◌≢◌, ◌⊎◌, ◌<◌, ◌≤◌, ◌+◌, ◌-◌, ◌++◌, ◌&&◌, ℕ, List, [], length, take, drop, Some, None, Ok, Err, IfOk, OnOk, IfErr, IfSome, IfNone, IsErrOf, nat_lt, nat_eq, true};
+ghost use Rattle.std.specs.Prelude.{◌≡◌, ◌≢◌, ◌⊎◌, ◌<◌, ◌≤◌, ◌+◌, ◌-◌, ◌^◌, ◌++◌, ◌&&◌, ℕ, List, [], length, take, drop, Some, None, Ok, Err, IfOk, OnOk, IfErr, IfSome, IfNone, IsErrOf, nat_lt, nat_eq, true};
 ghost use Rattle.std.specs.Bool.{OnTrue, OnFalse};
 ghost use Rattle.std.specs.Io.KnownBytes.{Keeps};
 ghost use Rattle.age_cipher.specs.Sealing.{opened};
@@ -22,8 +22,8 @@ use std::marker::Model;
 #[derive(Drop)]
 pub struct ChunkOpener {
     key: [u8; 32],
-    max_chunks: u64,
-    index: u64,
+    max_chunks: u128,
+    index: u128,
     buf: Vec<u8>,
     len: usize,
     ahead: usize,
@@ -32,7 +32,7 @@ pub struct ChunkOpener {
 }
 
 impl Model for ChunkOpener {
-    ghost use Rattle.std.specs.Prelude.{◌≡◌, ◌≤◌, length, take, drop};
+    ghost use Rattle.std.specs.Prelude.{◌≡◌, ◌≤◌, ◌^◌, length, take, drop};
     ghost use Rattle.age_stream.specs.Opening.{OpenerState, held_of};
 
     ghost Value = { OpenerState };
@@ -47,7 +47,7 @@ impl Model for ChunkOpener {
     } };
 
     ghost invariant = { λ o. (length o.buf.items ≡ 65553) × (o.ahead ≤ 1) × (o.len ≤ 65536)
-        × (o.index ≤ o.max_chunks) × (o.max_chunks ≤ 4294967296) };
+        × (o.index ≤ o.max_chunks) × (o.max_chunks ≤ 2 ^ 88) };
 }
 
 impl ChunkOpener {
@@ -60,10 +60,10 @@ impl ChunkOpener {
     pub fn start<S: Source>(
         key: &FileKey,
         source: &mut S,
-        max_chunks: u64,
+        max_chunks: u128,
         buf: ChunkBuf,
     ) -> Result<ChunkOpener, StreamFault>
-        requires { max_chunks ≤ 4294967296 }
+        requires { max_chunks ≤ 2 ^ 88 }
         ensures starts { Starts key.now max_chunks (S.to_come source.old) (S.to_come source.new) result }
         ensures gave { IsErrOf result StreamFault.Read ⊎ GaveAtMost 16 (S.to_come source.old) (S.to_come source.new) }
         ensures count { CountsRead (S.failed source.old) (S.failed source.new) result }
@@ -95,11 +95,11 @@ impl ChunkOpener {
     pub fn open_all<S: Source, W: Sink>(
         key: &FileKey,
         source: &mut S,
-        max_chunks: u64,
+        max_chunks: u128,
         buf: ChunkBuf,
         out: &mut W,
     ) -> Result<Done, StreamFault>
-        requires { max_chunks ≤ 4294967296 }
+        requires { max_chunks ≤ 2 ^ 88 }
         ensures payload { WritesPayload key.now max_chunks (S.to_come source.old) (W.taken out.old) (W.taken out.new) result }
         ensures ends { IfErr result (λ f. (f ≡ StreamFault.Read) ⊎ ((f ≡ StreamFault.NonceTruncated)
             ⊎ EndsAt max_chunks 16 (S.to_come source.old) (S.to_come source.new) (W.taken out.old) (W.taken out.new) f)) }
@@ -125,7 +125,7 @@ impl ChunkOpener {
     }
 
     /// How much was opened, with all pieces opened.
-    fn done(&self, bytes: u64) -> Done
+    fn done(&self, bytes: u128) -> Done
         ensures { result ≡ record { bytes = bytes; chunks = self.now.index } }
     {
         Done {
@@ -201,7 +201,7 @@ impl ChunkOpener {
                 Err(fault) => return Err(fault),
             }
             match write_all(out, self.text()) {
-                Ok(()) => bytes += self.text().len() as u64,
+                Ok(()) => bytes += self.text().len() as u128,
                 Err(_) => return Err(self.failed()),
             }
         }
@@ -220,13 +220,14 @@ fn next_piece<S: Source>(
     source: &mut S,
     bytes: &mut [u8],
     key: &[u8; 32],
-    max: u64,
-    i: u64,
+    max: u128,
+    i: u128,
     ahead: usize,
 ) -> Result<Piece, StreamFault>
     requires size { length bytes.old ≡ 65553 }
     requires ahead { ahead ≤ 1 }
     requires index { i ≤ max }
+    requires small { max ≤ 2 ^ 88 }
     ensures len { length bytes.new ≡ 65553 }
     ensures count { CountsRead (S.failed source.old) (S.failed source.new) result }
     ensures opens { IsErrOf result StreamFault.Read ⊎ ((d : List ℕ) → MayGive (S.to_come source.new) d → (c : List ℕ)
@@ -283,8 +284,8 @@ fn carry(bytes: &mut [u8], ahead: usize)
 /// Opens the first `end` bytes where they stand, as piece i; the length of their text, which is then in front.
 pub(crate) fn open_piece(
     key: &[u8; 32],
-    max: u64,
-    i: u64,
+    max: u128,
+    i: u128,
     last: bool,
     bytes: &mut [u8],
     end: usize,
@@ -292,6 +293,7 @@ pub(crate) fn open_piece(
     requires high { end ≤ length bytes.old }
     requires size { end ≤ 65552 }
     requires index { i ≤ max }
+    requires small { i < max → i < 2 ^ 88 }
     ensures len { length bytes.new ≡ length bytes.old }
     ensures behind { drop end bytes.new ≡ drop end bytes.old }
     ensures size { IfOk result (λ n. n ≡ end - 16) }
@@ -316,7 +318,7 @@ pub(crate) fn open_piece(
 }
 
 /// Whether the piece is the last, not the first, and a tag alone.
-fn is_empty_final(last: bool, i: u64, len: usize) -> bool
+fn is_empty_final(last: bool, i: u128, len: usize) -> bool
     ensures { result ≡ (last && nat_lt 0 i && nat_eq len 16) }
 {
     last && i > 0 && len == 16
