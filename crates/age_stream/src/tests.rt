@@ -68,11 +68,11 @@ fn written(
 }
 
 /// The plaintext of a payload, read from a source that gives so many bytes at a time, and the number of its chunks.
-fn read(alloc: Global, payload: &[u8], most: usize) -> Result<(Vec<u8>, u128), Fail> {
+fn read(alloc: Global, payload: &[u8], most: usize) -> Result<(Vec<u8>, u64), Fail> {
     let mut source = Short::new(payload, most);
     let mut reader = StreamReader::new(alloc, &KEY, &mut source, MOST)?;
     let mut text = Vec::new(alloc);
-    for chunks in 0..MOST {
+    for chunks in 0..u64::MAX {
         match reader.next_chunk()? {
             Some(chunk) => text.extend_from_slice(chunk)?,
             None => return Ok((text, chunks)),
