@@ -1,6 +1,7 @@
 -- The openings of pieces, written one after another.
-use Rattle.std.proofs.Common.{◌≡◌, ◌⊎◌, ◌∙◌, ◌++◌, ◌+◌, ◌-◌, ◌*◌, ◌<◌, ◌≤◌, ℕ, List, [], length, take, drop, ap, sym, subst, arith, append-nil, append_assoc, length-append, refl, Option, Some, None, Bool, true, false, inl, inr, Result, Ok, Err, nat_le, cond, Fits, w64}
+use Rattle.std.proofs.Common.{◌≡◌, ◌⊎◌, ◌∙◌, ◌++◌, ◌+◌, ◌-◌, ◌*◌, ◌<◌, ◌≤◌, ℕ, List, [], length, take, drop, ap, sym, subst, arith, append-nil, append_assoc, length-append, refl, Option, Some, None, Bool, true, false, inl, inr, Result, Ok, Err, nat_le, cond, Fits}
 use Rattle.std.specs.Prelude.{IfNone, IfSome, IsErrOf}
+use Rattle.std.specs.Int.{w128}
 use Rattle.std.specs.Io.KnownBytes.{Appends}
 use Rattle.std.proofs.KnownBytes.{Appends-trans, Appends-nil, Consumes-nil}
 use Rattle.std.proofs.lemmas.Bool.{le-leb, lt-leb, cases_lt}
@@ -350,7 +351,7 @@ failed-ends s t u n from now next a b fault o h = go (advanced t u now next o.no
     go (inr adv) = inr (ends-stop s t u n from now next a b fault o adv)
 
 -- the count of bytes has room for one more text
-pub opened-room : (s t u : OpenerState) (n : ℕ) (from now next a b : Option (List ℕ)) (len : ℕ) → Opened s t n from now a b → Advances t u now next (Ok true) → len ≤ 65536 → Fits w64 (n + len)
+pub opened-room : (s t u : OpenerState) (n : ℕ) (from now next a b : Option (List ℕ)) (len : ℕ) → Opened s t n from now a b → Advances t u now next (Ok true) → len ≤ 65536 → Fits w128 (n + len)
 opened-room s t u n from now next a b len o adv le =
     let within : t.index < t.max_chunks = adv.keeps.2 refl in
     omega (arith, o.len, o.bound, adv.small)

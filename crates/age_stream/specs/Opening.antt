@@ -1,5 +1,5 @@
 -- An opener of pieces between two calls, and what a call does.
-use Rattle.std.specs.Prelude.{ℕ, List, [], ◌++◌, ◌≡◌, ◌≤◌, ◌<◌, ◌+◌, ◌-◌, ◌*◌, ◌⊎◌, ⊤, length, take, drop, option_map, IfSome, Bool, true, false, Option, Some, None, Result, Ok, Err, if◌then◌else◌}
+use Rattle.std.specs.Prelude.{ℕ, List, [], ◌++◌, ◌≡◌, ◌≤◌, ◌<◌, ◌+◌, ◌-◌, ◌*◌, ◌^◌, ◌⊎◌, ⊤, length, take, drop, option_map, IfSome, Bool, true, false, Option, Some, None, Result, Ok, Err, if◌then◌else◌}
 use Rattle.std.specs.Io.KnownBytes.{Appends}
 use Rattle.age_header.specs.Device.{GaveAtMost, MayGive, WritesPart}
 use Rattle.age_recipient.specs.declared.key.FileKey.{FileKey}
@@ -65,7 +65,7 @@ Keeps old new (Err fault) = (new.fault ≡ Some fault) × (new.text ≡ []) × I
 pub record Advances (old new : OpenerState) (from to : Option (List ℕ)) (r : Result Bool StreamFault) : Type 0 where
   pub key : new.key ≡ old.key
   pub max_chunks : new.max_chunks ≡ old.max_chunks
-  pub small : old.max_chunks ≤ 4294967296
+  pub small : old.max_chunks ≤ 2 ^ 88
   pub keeps : Keeps old new r
   pub ahead : ahead_len old.held ≤ 1
   pub gave : GaveAtMost (65553 - ahead_len old.held) from to

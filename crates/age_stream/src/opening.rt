@@ -1,5 +1,5 @@
 //! Opening a payload's pieces, one after another.
-ghost use Rattle.std.specs.Prelude.{◌≡◌, ◌≢◌, ◌⊎◌, ◌<◌, ◌≤◌, ◌+◌, ◌-◌, ◌++◌, ◌&&◌, ℕ, List, [], length, take, drop, Some, None, Ok, Err, IfOk, OnOk, IfErr, IfSome, IfNone, IsErrOf, nat_lt, nat_eq, true};
+ghost use Rattle.std.specs.Prelude.{◌≡◌, ◌≢◌, ◌⊎◌, ◌<◌, ◌≤◌, ◌+◌, ◌-◌, ◌^◌, ◌++◌, ◌&&◌, ℕ, List, [], length, take, drop, Some, None, Ok, Err, IfOk, OnOk, IfErr, IfSome, IfNone, IsErrOf, nat_lt, nat_eq, true};
 ghost use Rattle.std.specs.Bool.{OnTrue, OnFalse};
 ghost use Rattle.age_cipher.specs.Sealing.{opened};
 ghost use Rattle.age_header.specs.Device.{GaveAtMost, MayGive};
@@ -21,8 +21,8 @@ use std::marker::Model;
 #[derive(Drop)]
 pub struct ChunkOpener {
     key: [u8; 32],
-    max_chunks: u64,
-    index: u64,
+    max_chunks: u128,
+    index: u128,
     buf: Vec<u8>,
     len: usize,
     ahead: usize,
@@ -31,7 +31,7 @@ pub struct ChunkOpener {
 }
 
 impl Model for ChunkOpener {
-    ghost use Rattle.std.specs.Prelude.{◌≡◌, ◌≤◌, length, take, drop};
+    ghost use Rattle.std.specs.Prelude.{◌≡◌, ◌≤◌, ◌^◌, length, take, drop};
     ghost use Rattle.age_stream.specs.Opening.{OpenerState, held_of};
 
     ghost Value = { OpenerState };
@@ -46,7 +46,7 @@ impl Model for ChunkOpener {
     } };
 
     ghost invariant = { λ o. (length o.buf.items ≡ 65553) × (o.ahead ≤ 1) × (o.len ≤ 65536)
-        × (o.index ≤ o.max_chunks) × (o.max_chunks ≤ 4294967296) };
+        × (o.index ≤ o.max_chunks) × (o.max_chunks ≤ 2 ^ 88) };
 }
 
 impl ChunkOpener {
@@ -59,10 +59,10 @@ impl ChunkOpener {
     pub fn start<S: Source>(
         key: &FileKey,
         source: &mut S,
-        max_chunks: u64,
+        max_chunks: u128,
         buf: ChunkBuf,
     ) -> Result<ChunkOpener, StreamFault>
-        requires { max_chunks ≤ 4294967296 }
+        requires { max_chunks ≤ 2 ^ 88 }
         ensures starts { Starts key.now max_chunks (S.to_come source.old) (S.to_come source.new) result }
         ensures gave { IsErrOf result StreamFault.Read ⊎ GaveAtMost 16 (S.to_come source.old) (S.to_come source.new) }
         ensures count { CountsRead (S.failed source.old) (S.failed source.new) result }
@@ -160,7 +160,7 @@ impl ChunkOpener {
                 Err(fault) => return Err(fault),
             }
             match write_all(out, opener.text()) {
-                Ok(()) => done.bytes += opener.text().len() as u64,
+                Ok(()) => done.bytes += opener.text().len() as u128,
                 Err(_) => return Err(StreamFault::Write),
             }
         }
@@ -179,13 +179,14 @@ fn next_piece<S: Source>(
     source: &mut S,
     bytes: &mut [u8],
     key: &[u8; 32],
-    max: u64,
-    i: u64,
+    max: u128,
+    i: u128,
     ahead: usize,
 ) -> Result<Piece, StreamFault>
     requires size { length bytes.old ≡ 65553 }
     requires ahead { ahead ≤ 1 }
     requires index { i ≤ max }
+    requires small { max ≤ 2 ^ 88 }
     ensures len { length bytes.new ≡ 65553 }
     ensures count { CountsRead (S.failed source.old) (S.failed source.new) result }
     ensures opens { IsErrOf result StreamFault.Read ⊎ ((d : List ℕ) → MayGive (S.to_come source.new) d → (c : List ℕ)
@@ -242,8 +243,8 @@ fn carry(bytes: &mut [u8], ahead: usize)
 /// Opens the first `end` bytes where they stand, as piece i; the length of their text, which is then in front.
 pub(crate) fn open_piece(
     key: &[u8; 32],
-    max: u64,
-    i: u64,
+    max: u128,
+    i: u128,
     last: bool,
     bytes: &mut [u8],
     end: usize,
@@ -251,6 +252,7 @@ pub(crate) fn open_piece(
     requires high { end ≤ length bytes.old }
     requires size { end ≤ 65552 }
     requires index { i ≤ max }
+    requires small { i < max → i < 2 ^ 88 }
     ensures len { length bytes.new ≡ length bytes.old }
     ensures behind { drop end bytes.new ≡ drop end bytes.old }
     ensures size { IfOk result (λ n. n ≡ end - 16) }
@@ -275,7 +277,7 @@ pub(crate) fn open_piece(
 }
 
 /// Whether the piece is the last, not the first, and a tag alone.
-fn is_empty_final(last: bool, i: u64, len: usize) -> bool
+fn is_empty_final(last: bool, i: u128, len: usize) -> bool
     ensures { result ≡ (last && nat_lt 0 i && nat_eq len 16) }
 {
     last && i > 0 && len == 16

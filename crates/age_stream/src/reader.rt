@@ -1,5 +1,5 @@
 //! Reading a payload chunk by chunk from a caller's source.
-ghost use Rattle.std.specs.Prelude.{◌≡◌, ◌⊎◌, ◌≤◌, ℕ, List, [], Ok, Err, Some, None, IfOk, IfErr, IfSome, IfNone, IsErrOf, ⊤};
+ghost use Rattle.std.specs.Prelude.{◌≡◌, ◌⊎◌, ◌≤◌, ◌^◌, ℕ, List, [], Ok, Err, Some, None, IfOk, IfErr, IfSome, IfNone, IsErrOf, ⊤};
 ghost use Rattle.std.specs.Borrow.{sem, follows_so};
 ghost use Rattle.age_header.specs.Device.{GaveAtMost};
 ghost use Rattle.age_stream.specs.Counts.{CountsRead, CountsWrite};
@@ -47,9 +47,9 @@ impl<'a, S: Source> StreamReader<'a, S> {
         alloc: Global,
         key: &FileKey,
         input: &'a mut S,
-        max_chunks: u64,
+        max_chunks: u128,
     ) -> Result<StreamReader<'a, S>, Refused<'a, S, StreamFault>>
-        requires { max_chunks ≤ 4294967296 }
+        requires { max_chunks ≤ 2 ^ 88 }
         ensures same_reference { IfOk result (λ reader. reader.input.ghost_name ≡ input.entry.ghost_name) }
         ensures starts { IfOk result (λ reader. Starts key.now max_chunks (S.to_come input.old) (S.to_come reader.input.now) (Ok reader.opener)) }
         ensures gave { IfOk result (λ reader. GaveAtMost 16 (S.to_come input.old) (S.to_come reader.input.now)) }
@@ -78,9 +78,9 @@ impl<'a, S: Source> StreamReader<'a, S> {
         alloc: Global,
         key: &FileKey,
         input: &'a mut S,
-        max_chunks: u64,
+        max_chunks: u128,
     ) -> Result<StreamReader<'a, S>, StreamFault>
-        requires { max_chunks ≤ 4294967296 }
+        requires { max_chunks ≤ 2 ^ 88 }
         ensures same_reference { IfOk result (λ reader. reader.input.ghost_name ≡ input.entry.ghost_name) }
         ensures starts { IfOk result (λ reader. Starts key.now max_chunks (S.to_come input.old) (S.to_come reader.input.now) (Ok reader.opener)) }
         ensures gave { IfOk result (λ reader. GaveAtMost 16 (S.to_come input.old) (S.to_come reader.input.now)) }

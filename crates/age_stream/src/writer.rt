@@ -1,5 +1,5 @@
 //! Writing a payload piece by piece to a caller's sink.
-ghost use Rattle.std.specs.Prelude.{◌≡◌, ◌⊎◌, ◌≤◌, ℕ, List, Ok, Err, IfOk, IfErr, IfSome, IfNone};
+ghost use Rattle.std.specs.Prelude.{◌≡◌, ◌⊎◌, ◌≤◌, ◌^◌, ℕ, List, Ok, Err, IfOk, IfErr, IfSome, IfNone};
 ghost use Rattle.std.specs.Io.KnownBytes.{Appends};
 ghost use Rattle.age_header.specs.Device.{Writes};
 ghost use Rattle.age_stream.specs.Counts.{CountsRead, CountsWrite};
@@ -41,11 +41,11 @@ impl<'a, W: Sink> StreamWriter<'a, W> {
         key: &FileKey,
         nonce: &[u8; 16],
         out: &'a mut W,
-        max_chunks: u64,
+        max_chunks: u128,
         buf: ChunkBuf,
     ) -> Result<StreamWriter<'a, W>, Refused<'a, W, StreamFault>>
         requires low { 1 ≤ max_chunks }
-        requires high { max_chunks ≤ 4294967296 }
+        requires high { max_chunks ≤ 2 ^ 88 }
         ensures same_reference { IfOk result (λ writer. writer.out.ghost_name ≡ out.entry.ghost_name) }
         ensures written { IfOk result (λ writer. Appends (W.taken out.old) (W.taken writer.out.now) nonce.now) }
         ensures uncounted { IfOk result (λ writer. W.failed writer.out.now ≡ W.failed out.old) }
@@ -70,10 +70,10 @@ impl<'a, W: Sink> StreamWriter<'a, W> {
         key: &FileKey,
         nonce: &[u8; 16],
         out: &'a mut W,
-        max_chunks: u64,
+        max_chunks: u128,
     ) -> Result<StreamWriter<'a, W>, Refused<'a, W, StreamFault>>
         requires low { 1 ≤ max_chunks }
-        requires high { max_chunks ≤ 4294967296 }
+        requires high { max_chunks ≤ 2 ^ 88 }
         ensures same_reference { IfOk result (λ writer. writer.out.ghost_name ≡ out.entry.ghost_name) }
         ensures written { IfOk result (λ writer. Appends (W.taken out.old) (W.taken writer.out.now) nonce.now) }
         ensures uncounted { IfOk result (λ writer. W.failed writer.out.now ≡ W.failed out.old) }
@@ -101,11 +101,11 @@ impl<'a, W: Sink> StreamWriter<'a, W> {
         key: &FileKey,
         nonce: &[u8; 16],
         out: &'a mut W,
-        max_chunks: u64,
+        max_chunks: u128,
         buf: ChunkBuf,
     ) -> Result<StreamWriter<'a, W>, StreamFault>
         requires low { 1 ≤ max_chunks }
-        requires high { max_chunks ≤ 4294967296 }
+        requires high { max_chunks ≤ 2 ^ 88 }
         ensures same_reference { IfOk result (λ writer. writer.out.ghost_name ≡ out.entry.ghost_name) }
         ensures written { IfOk result (λ writer. Appends (W.taken out.old) (W.taken writer.out.now) nonce.now) }
         ensures uncounted { IfOk result (λ writer. W.failed writer.out.now ≡ W.failed out.old) }
@@ -130,10 +130,10 @@ impl<'a, W: Sink> StreamWriter<'a, W> {
         key: &FileKey,
         nonce: &[u8; 16],
         out: &'a mut W,
-        max_chunks: u64,
+        max_chunks: u128,
     ) -> Result<StreamWriter<'a, W>, StreamFault>
         requires low { 1 ≤ max_chunks }
-        requires high { max_chunks ≤ 4294967296 }
+        requires high { max_chunks ≤ 2 ^ 88 }
         ensures same_reference { IfOk result (λ writer. writer.out.ghost_name ≡ out.entry.ghost_name) }
         ensures written { IfOk result (λ writer. Appends (W.taken out.old) (W.taken writer.out.now) nonce.now) }
         ensures uncounted { IfOk result (λ writer. W.failed writer.out.now ≡ W.failed out.old) }
