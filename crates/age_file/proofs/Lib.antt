@@ -6,5 +6,6 @@ mod EncryptLemmas
 mod FileLemmas
 mod GatherLemmas
 mod OwnLemmas
+mod PayloadLemmas
 mod RangeLemmas
 mod RewrapLemmas

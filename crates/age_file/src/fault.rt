@@ -42,13 +42,13 @@ pub enum Fault {
     NonceTruncated,
     /// This chunk, the last, has fewer bytes than a tag, 16.
     #[error("chunk {0} is cut short")]
-    ChunkShort(u64),
+    ChunkShort(u128),
     /// This chunk, the last and not the first, is empty.
     #[error("chunk {0} is empty")]
-    EmptyFinal(u64),
+    EmptyFinal(u128),
     /// No plaintext seals to this chunk at its place.
     #[error("chunk {0} is damaged")]
-    BadChunk(u64),
+    BadChunk(u128),
     /// The payload, read or to be written, has more chunks than the limit.
     #[error("too many chunks")]
     TooManyChunks,

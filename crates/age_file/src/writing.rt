@@ -13,7 +13,7 @@ use crate::limits::{Fresh, Limits};
 use crate::names::stream_fault;
 use age_header::{DeviceFault, Header, Sink, Source, write_all, write_header};
 use age_recipient::Recipient;
-use age_stream::{ChunkBuf, ChunkSealer, Done};
+use age_stream::{ChunkBuf, ChunkSealer, Done, StreamWriter};
 use std::alloc::Global;
 
 /// Writes the age file of a plaintext, all that the source still gives, for these recipients (C2SP `age.md`). Every allocation is
@@ -50,7 +50,7 @@ pub fn encrypt<S: Source, W: Sink>(
         Err(_) => return Err(Fault::Write),
     }
     let sealer = ChunkSealer::new(&fresh.file_key, &fresh.nonce, limits.max_chunks(), buf);
-    match sealer.seal_all(plain, out) {
+    match StreamWriter::over(out, sealer).seal_from(plain) {
         Ok(done) => Ok(done),
         Err(fault) => Err(stream_fault(fault)),
     }

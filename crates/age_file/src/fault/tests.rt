@@ -49,6 +49,10 @@ fn says_each_fault(rt: HostRuntime) -> Result<(), Fail> {
             Fault::BadChunk(4_294_967_295),
             "chunk 4294967295 is damaged",
         ),
+        (
+            Fault::BadChunk((1 << 88) - 1),
+            "chunk 309485009821345068724781055 is damaged",
+        ),
         (Fault::TooManyChunks, "too many chunks"),
         (Fault::Read, "read failed"),
         (Fault::Write, "write failed"),
