@@ -3,7 +3,7 @@ ghost use Rattle.std.specs.Prelude.{◌≡◌, ◌^◌, Some, None, IfSome, IfNo
 use age_recipient::FileKey;
 use std::marker::Model;
 
-/// A chunk's number has eleven bytes in its nonce.
+/// The most chunks that a payload may have: a chunk's number has eleven bytes in its nonce.
 const MOST_CHUNKS: u128 = 1 << 88;
 
 /// How long a header may be in bytes, and a payload in chunks.
