@@ -15,11 +15,12 @@ pub(crate) const WORK_HELP: &str = "The work factor of the passphrase, 1 to 30.\
     \nNot used with -k";
 
 pub(crate) const MAX_WORK_HELP: &str = "The greatest work factor to accept, 1 to 30.\
-    \nA try takes 2^N KiB of memory. Not used with -k";
+    \nA try takes 2^N KiB of memory.\
+    \nNot used with -k";
 
 pub(crate) const SEED_HELP: &str = "The file whose first 48 bytes are the file key, the\
-    \nnonce and the salt. For tests alone:\
-    \na seed used twice repeats keys";
+    \nnonce and the salt: a seed used twice repeats keys.\
+    \nFor tests alone";
 
 pub(crate) const MAX_HEADER_HELP: &str = "The most bytes that the header may have,\
     \n1024 to 16777216";
@@ -68,7 +69,7 @@ pub(crate) const DECRYPT_END: &str =
     \nExamples:\
     \n  agep decrypt -p passphrase -o notes notes.age\
     \n  agep decrypt -p passphrase folder.tar.age | tar x\
-    \n  agep decrypt -k key dump.age >/dev/null";
+    \n  agep decrypt -k key dump.age >/dev/null  # verifies it";
 
 pub(crate) const INSPECT_END: &str = "Status:\
     \n  0  the work is done\
