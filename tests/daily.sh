@@ -223,6 +223,10 @@ shared_input() {
     run decrypt -k /dev/fd/0 -o out_file.2 <key.age
     has_ended 1 "agep: standard input cannot be both IN and the key file" && [[ ! -e out_file.2 ]]
     check "decrypt -k /dev/fd/0 without IN: OUT is not made"
+    "$agep" encrypt -p /dev/stdin -w 1 /dev/fd/0 <seed >out 2>err
+    echo $? >status
+    has_ended 1 "agep: standard input cannot be both IN and the passphrase file"
+    check "encrypt: standard input as passphrase file, and named as IN"
     run inspect -f /dev/stdin <key.age
     has_ended 1 "agep: standard input cannot be both IN and the file key file"
     check "inspect -f /dev/stdin without IN"

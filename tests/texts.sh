@@ -82,7 +82,7 @@ manual() {
         [[ -s expected ]] && cmp -s got expected
         check "the manual page's synopsis has the options of $command"
     done
-    grep -E '^\.BR -' described | grep -oE -- '--?[a-zA-Z][a-z-]*' | sort >got
+    grep -E '^\.BR -[a-zA-Z] ", " --' described | grep -oE -- '--?[a-zA-Z][a-z-]*' | sort >got
     { for command in "$@" ''; do options_of "$command"; done; } | sort -u >expected
     cmp -s got expected
     check "the manual page describes each option once, by its letter and its name"

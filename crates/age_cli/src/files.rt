@@ -34,10 +34,18 @@ pub(crate) fn open_small<'a, F: Files>(
     role: Role,
     name: &'a str,
 ) -> Result<F::File, Fault<'a>> {
-    if job.input.is_none() && is_standard_input(rt, name) {
+    if reads_standard_input(rt, job) && is_standard_input(rt, name) {
         return Err(Fault::InputIsSmallFile(role));
     }
     open(rt, name)
+}
+
+/// Whether IN is standard input: left out, or named so.
+fn reads_standard_input<F: Files>(rt: &F, job: &Job) -> bool {
+    match &job.input {
+        Some(name) => is_standard_input(rt, name.as_str()),
+        None => true,
+    }
 }
 
 /// Refuses a regular file of this name to be written where the job reads it too.

@@ -73,7 +73,7 @@ pub(crate) const DECRYPT_END: &str =
 
 pub(crate) const INSPECT_END: &str = "Status:\
     \n  0  the work is done\
-    \n  1  a fault ended it, or the check is bad: one line on standard error says which\
+    \n  1  a fault, or a bad check, ended it: one line on standard error says which\
     \n  2  the command line was refused\
     \n\
     \nExamples:\
