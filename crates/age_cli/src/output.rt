@@ -1,5 +1,5 @@
 //! The file that the words name to be written.
-ghost use Rattle.std.specs.Prelude.{◌≡◌};
+ghost use Rattle.std.specs.Prelude.{◌≡◌, ◌<◌, false, length, IfOk, IsOk};
 ghost use Rattle.age_cli.specs.Mode.{new_mode};
 
 use crate::fault::Fault;
@@ -31,7 +31,9 @@ pub(crate) fn create<'a, F: Files>(
     open_output(rt, new_mode(job.command), name).map_err(|_| Fault::CannotCreate(Name(name)))
 }
 
-fn open_output<F: Files>(rt: &F, mode: u32, name: &str) -> io::Result<Output<F::File>> {
+fn open_output<F: Files>(rt: &F, mode: u32, name: &str) -> io::Result<Output<F::File>>
+    ensures { IfOk result (λ output. output.is_stale ≡ output.is_regular) }
+{
     let mut options = OpenOptions::new();
     options.write(true).create(true).mode(mode);
     let file = options.open(rt, name)?;
@@ -55,10 +57,23 @@ fn new_mode(command: Command) -> u32
 
 impl<F: OpenFile> Output<F> {
     /// Empties a file that may still hold what it held before.
-    fn empty(&mut self) -> io::Result<()> {
+    fn empty(&mut self) -> io::Result<()>
+        ensures { IsOk result → self.new.is_stale ≡ false }
+    {
         if self.is_stale {
             self.file.set_len(0)?;
             self.is_stale = false;
+        }
+        Ok(())
+    }
+
+    /// Empties the file before the first byte of these is written to it.
+    fn make_room(&mut self, bytes: &[u8]) -> io::Result<()>
+        ensures waits { length bytes.now ≡ 0 → self.new.is_stale ≡ self.old.is_stale }
+        ensures emptied { IsOk result → 0 < length bytes.now → self.new.is_stale ≡ false }
+    {
+        if !bytes.is_empty() {
+            self.empty()?;
         }
         Ok(())
     }
@@ -84,9 +99,7 @@ impl<F: OpenFile> Output<F> {
 
 impl<F: Write + OpenFile> Write for Output<F> {
     fn write(&mut self, buf: &[u8]) -> io::Result<usize> {
-        if !buf.is_empty() {
-            self.empty()?;
-        }
+        self.make_room(buf)?;
         self.file.write(buf)
     }
 
