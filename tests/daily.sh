@@ -331,6 +331,9 @@ names() {
         has_ended 1 "agep: cannot create absent/$line" && [[ $(wc -l <err) == 1 ]]
         check "cannot create, and one line: ${row%%|*}"
     done
+    run inspect a $'b\x1b[31m\rc'
+    [[ $(cat status) == 2 && $(head -n 1 err) == "error: unexpected argument 'b\\x1b[31m\\rc' found" && ! -s out ]]
+    check "a word of a refused command line, with control characters"
     cp hello $'two\nlines'
     run encrypt -k key -o $'two\nlines' $'two\nlines'
     has_ended 1 'agep: OUT is also IN: two\nlines' && [[ $(wc -l <err) == 1 ]]
