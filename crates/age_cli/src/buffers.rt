@@ -1,5 +1,5 @@
 //! The buffers between the files and the engine, and what every command does with them.
-ghost use Rattle.std.specs.Prelude.{◌≡◌};
+ghost use Rattle.std.specs.Prelude.{◌≡◌, ◌^◌};
 ghost use Rattle.age_words.specs.Job.{IsInRange};
 
 use crate::fault::Fault;
@@ -15,12 +15,12 @@ const BUFFER_LEN: usize = 65_536;
 const HEADER_LEN: usize = 8_192;
 
 /// The most chunks that the engine takes, which is its default.
-const MAX_CHUNKS: u64 = 4_294_967_296;
+const MAX_CHUNKS: u128 = 1 << 88;
 
 /// The limits of this job.
 pub(crate) fn limits_of(job: &Job) -> Limits
     requires { IsInRange job.now }
-    ensures { result ≡ record { max_header = job.now.max_header; max_chunks = 4294967296 } }
+    ensures { result ≡ record { max_header = job.now.max_header; max_chunks = 2 ^ 88 } }
 {
     let Some(limits) = Limits::new(job.max_header, MAX_CHUNKS) else {
         unreachable!();

@@ -1,7 +1,7 @@
 -- What decrypting answers, from what its parts answer.
 use Rattle.std.proofs.Common.{◌≡◌, ◌⊎◌, ◌+◌, ◌*◌, ◌/◌, ◌≤◌, ℕ, List, [], ◌++◌, length, drop, sym, ◌∙◌, ap, refl, subst, arith, inl, inr, Option, Some, None, Result, Ok, Err}
 use Rattle.std.specs.Prelude.{option_map}
-use Rattle.std.specs.Io.KnownBytes.{Appends, Keeps}
+use Rattle.std.specs.Io.KnownBytes.{Appends}
 use Rattle.std.proofs.KnownBytes.{Appends-nil}
 use Rattle.std.proofs.lemmas.List.{drop_at, take_all}
 use Rattle.age_header.specs.declared.fault.HeaderFault.{HeaderFault}
@@ -17,16 +17,18 @@ use Rattle.age_recipient.specs.declared.key.FileKey.{FileKey}
 use Rattle.age_stream.specs.declared.done.Done.{Done}
 use Rattle.age_stream.specs.declared.fault.StreamFault.{StreamFault}
 use Rattle.age_stream.specs.declared.fault.StreamFault.TheVariants as stream
-use Rattle.age_stream.specs.Counts.{CountsReadFault, CountsWriteFault}
-use Rattle.age_stream.specs.Opening.{EndsAt, IsAtPiece, WritesPayload, WritesReading}
+use Rattle.age_stream.specs.Counts.{CountsReadFault}
+use Rattle.age_stream.specs.Opening.{EndsAt, IsAtPiece, WritesReading}
 use Rattle.age_stream.specs.Payload.{pieces}
+use Rattle.age_stream.specs.Reader.{MissesNonce}
 use Rattle.age_stream.specs.Reading.{Reading, payload_reading, stops}
 use Rattle.age_file.specs.declared.fault.Fault.{Fault}
-use Rattle.age_file.specs.declared.fault.Fault.TheVariants.{NotAge, BadLine, HeaderTruncated, HeaderTooLarge, MixedPassphrase, NoMatch, WrongKey, Malformed, BadMac, NonceTruncated, ChunkShort, EmptyFinal, BadChunk, TooManyChunks, Read, Write, OutOfMemory, NoRecipients, Refused}
+use Rattle.age_file.specs.declared.fault.Fault.TheVariants.{NotAge, BadLine, HeaderTruncated, HeaderTooLarge, MixedPassphrase, NoMatch, WrongKey, Malformed, BadMac, NonceTruncated, ChunkShort, EmptyFinal, BadChunk, TooManyChunks, Read, Write, OutOfMemory, NoRecipients, Refused, IncompatibleRecipients}
 use Rattle.age_file.specs.AgeFile.{Bounds}
 use Rattle.age_file.specs.Decrypt.{BeginsVerdict, Decrypts, DecryptsText, GivesVerdict, Takes, TookThrough, payload_pieces}
-use Rattle.age_file.specs.Device.{CountsRead, CountsWrite, IsLate}
+use Rattle.age_file.specs.Device.{CountsRead}
 use Rattle.age_file.specs.Inspect.{Inspects}
+use Rattle.age_file.proofs.PayloadLemmas.{WritesPayload, nonce-writes}
 use Rattle.age_file.specs.Verdict.{Answering, IsVerdict, judged, of_header, of_stream, read_under, unlocked}
 
 pub err-err : {A : Type 0} (f g : Fault) → ◌≡◌ {A = Result A Fault} (Err f) (Err g) → f ≡ g
@@ -70,6 +72,7 @@ gives-decrypts limits answers b old new (ChunkShort i) h = h
 gives-decrypts limits answers b old new (EmptyFinal i) h = h
 gives-decrypts limits answers b old new (BadChunk i) h = h
 gives-decrypts limits answers b old new TooManyChunks h = h
+gives-decrypts limits answers b old new (IncompatibleRecipients i) h = h
 gives-decrypts limits answers b old new NoRecipients h = h
 gives-decrypts limits answers b old new (Refused i code) h = h
 
@@ -201,6 +204,15 @@ payload-decrypts limits answers come mid old new h k max r i (inr key) same (c, 
     let w = subst (λ m. WritesReading (payload_reading k m c) (length (pieces (drop 16 c))) old new r) same x in
     decrypts-of limits answers come (is.text ++ c) old new (file_result r) (is.may c may) (payload-text limits answers come mid h is k c may old new r key w)
 
+-- there is no nonce, or no memory
+pub missed-decrypts : (P : Type 0) (limits : Bounds) (answers : Answering) (come mid to old : Option (List ℕ)) (before after : ℕ) (h : HeaderParts) (k : FileKey) (max : ℕ) (fault : StreamFault) → Inspects limits come mid (Ok h)
+    → (◌≡◌ {A = Result FileKey Fault} (Ok k) (Err OutOfMemory)) ⊎ (Ok k ≡ unlocked answers h) → max ≡ limits.max_chunks
+    → ((fault ≡ stream.Memory) × P) ⊎ MissesNonce k max mid to before after fault → Decrypts limits answers come old old (Err (of_stream fault))
+missed-decrypts P limits answers come mid to old before after h k max fault i key same (inl m) =
+    subst (λ f. Decrypts limits answers come old old (Err (of_stream f))) (sym m.0) (memory-decrypts limits answers come old old)
+missed-decrypts P limits answers come mid to old before after h k max fault i key same (inr m) =
+    payload-decrypts limits answers come mid old old h k max (Err fault) i key same (nonce-writes k max mid to old fault m.0)
+
 -- ---- counts, and what was taken
 
 pub reads-file : (old new : ℕ) (fault : StreamFault) → CountsReadFault old new fault → CountsRead {A = Done} old new (Err (of_stream fault))
@@ -212,16 +224,6 @@ reads-file old new (stream.ChunkShort i) h = h
 reads-file old new (stream.EmptyFinal i) h = h
 reads-file old new (stream.BadChunk i) h = h
 reads-file old new stream.TooManyChunks h = h
-
-pub writes-file : (old new : ℕ) (fault : StreamFault) → CountsWriteFault old new fault → CountsWrite {A = Done} old new (Err (of_stream fault))
-writes-file old new stream.Read h = h
-writes-file old new stream.Write h = h
-writes-file old new stream.Memory h = h
-writes-file old new stream.NonceTruncated h = h
-writes-file old new (stream.ChunkShort i) h = h
-writes-file old new (stream.EmptyFinal i) h = h
-writes-file old new (stream.BadChunk i) h = h
-writes-file old new stream.TooManyChunks h = h
 
 took-piece : (limits : Bounds) (come mid to old new : Option (List ℕ)) (h : HeaderParts) (i : IsHeaded limits come mid h) (fault : StreamFault) (n : ℕ) (e : EndsAt limits.max_chunks 16 mid to old new fault) → e.piece ≤ n
     → TookThrough limits n come to
@@ -283,46 +285,6 @@ ends-takes limits come mid to old new h i stream.TooManyChunks e = go e.at
     go (inr at) = took-piece limits come mid to old new h i stream.TooManyChunks limits.max_chunks e (omega (arith, at))
 
 pub payload-takes : (limits : Bounds) (come mid to old new : Option (List ℕ)) (h : HeaderParts) (fault : StreamFault) → Inspects limits come mid (Ok h)
-    → (fault ≡ stream.Read) ⊎ ((fault ≡ stream.NonceTruncated) ⊎ EndsAt limits.max_chunks 16 mid to old new fault) → Takes limits come to old new (of_stream fault)
+    → (fault ≡ stream.Read) ⊎ EndsAt limits.max_chunks 16 mid to old new fault → Takes limits come to old new (of_stream fault)
 payload-takes limits come mid to old new h fault i (inl e) = subst (λ f. Takes limits come to old new (of_stream f)) (sym e) tt
-payload-takes limits come mid to old new h fault i (inr (inl e)) = subst (λ f. Takes limits come to old new (of_stream f)) (sym e) tt
-payload-takes limits come mid to old new h fault i (inr (inr e)) = ends-takes limits come mid to old new h (headed limits come mid h i) fault e
-
--- before the payload nothing is said of what was taken
-pub early-takes : (limits : Bounds) (come to old new : Option (List ℕ)) (g : HeaderFault) → Takes limits come to old new (of_header g)
-early-takes limits come to old new header.Read = tt
-early-takes limits come to old new header.Memory = tt
-early-takes limits come to old new header.NotAge = tt
-early-takes limits come to old new (header.BadLine n) = tt
-early-takes limits come to old new header.Truncated = tt
-early-takes limits come to old new header.TooLarge = tt
-
-pub late-file : (max : ℕ) (from to old new : Option (List ℕ)) (fault : StreamFault)
-    → (fault ≡ stream.Read) ⊎ ((fault ≡ stream.NonceTruncated) ⊎ EndsAt max 16 from to old new fault) → (fault ≡ stream.NonceTruncated → Keeps old new)
-    → IsLate (of_stream fault) ⊎ Keeps old new
-late-file max from to old new stream.Read e k = inl tt
-late-file max from to old new stream.Write e k = inl tt
-late-file max from to old new stream.NonceTruncated e k = inr (k refl)
-late-file max from to old new (stream.ChunkShort i) e k = inl tt
-late-file max from to old new (stream.EmptyFinal i) e k = inl tt
-late-file max from to old new (stream.BadChunk i) e k = inl tt
-late-file max from to old new stream.TooManyChunks e k = inl tt
-late-file max from to old new stream.Memory e k = absurd (go e)
-  where
-    not-read : stream.Memory ≡ stream.Read → ⊥
-    not-read x = cc
-
-    not-nonce : stream.Memory ≡ stream.NonceTruncated → ⊥
-    not-nonce x = cc
-
-    not-write : stream.Memory ≡ stream.Write → ⊥
-    not-write x = cc
-
-    at-none : (e : EndsAt max 16 from to old new stream.Memory) → ((stream.Memory ≡ stream.Write) × (65536 * e.piece ≤ length e.text)) ⊎ IsAtPiece max e.piece stream.Memory → ⊥
-    at-none e (inl (is, le)) = not-write is
-    at-none e (inr at) = at
-
-    go : (stream.Memory ≡ stream.Read) ⊎ ((stream.Memory ≡ stream.NonceTruncated) ⊎ EndsAt max 16 from to old new stream.Memory) → ⊥
-    go (inl x) = not-read x
-    go (inr (inl x)) = not-nonce x
-    go (inr (inr x)) = at-none x x.at
+payload-takes limits come mid to old new h fault i (inr e) = ends-takes limits come mid to old new h (headed limits come mid h i) fault e

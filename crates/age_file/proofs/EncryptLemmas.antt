@@ -26,29 +26,29 @@ use Rattle.age_file.specs.Verdict.{of_stream}
 use Rattle.age_file.proofs.DecryptLemmas.{file_result}
 
 -- the header that was made is the header that was written
-pub record Made (limits : Bounds) (k : FileKey) (given : Result (List StanzaParts) Fault) (text : List ℕ) : Type 0 where
+pub record Made (limits : Bounds) (k : FileKey) (given : Result (List StanzaParts) Fault → Type 0) (text : List ℕ) : Type 0 where
   pub stanzas : List StanzaParts
   pub heading : IsHeading limits k given stanzas text
 
-pub made : (limits : Bounds) (k : FileKey) (given : Result (List StanzaParts) Fault) (stanzas : List StanzaParts) (mac text written : List ℕ)
+pub made : (limits : Bounds) (k : FileKey) (given : Result (List StanzaParts) Fault → Type 0) (stanzas : List StanzaParts) (mac text written : List ℕ)
     → mac ≡ header_mac k.0 stanzas → IsHeading limits k given stanzas text → Head stanzas mac written → Made limits k given written
 made limits k given stanzas mac text written is heading head =
     let same : text ≡ written = one_text stanzas (header_mac k.0 stanzas) text written heading.head (subst (λ (m : List ℕ). Head stanzas m written) is head) in
     record { stanzas = stanzas; heading = subst (λ (t : List ℕ). IsHeading limits k given stanzas t) same heading }
 
 -- of a plaintext that the source may give
-pub encrypts_of : (limits : Bounds) (fresh : Fresh) (given : Result (List StanzaParts) Fault) (plain : List ℕ) (from old new : Option (List ℕ)) (r : Result Done Fault)
+pub encrypts_of : (limits : Bounds) (fresh : Fresh) (given : Result (List StanzaParts) Fault → Type 0) (plain : List ℕ) (from old new : Option (List ℕ)) (r : Result Done Fault)
     → MayGive from plain → EncryptsText limits fresh given plain old new r → EncryptsGiven limits fresh given from old new r
 encrypts_of limits fresh given plain None old new r may h = (plain, h)
 encrypts_of limits fresh given plain (Some b) old new r may h = subst (λ (z : List ℕ). EncryptsText limits fresh given z old new r) (sym may) h
 
 -- memory was refused
-pub encrypts_refused : (limits : Bounds) (fresh : Fresh) (given : Result (List StanzaParts) Fault) (from old new : Option (List ℕ)) → EncryptsGiven limits fresh given from old new (Err OutOfMemory)
+pub encrypts_refused : (limits : Bounds) (fresh : Fresh) (given : Result (List StanzaParts) Fault → Type 0) (from old new : Option (List ℕ)) → EncryptsGiven limits fresh given from old new (Err OutOfMemory)
 encrypts_refused limits fresh given None old new = ([], tt)
 encrypts_refused limits fresh given (Some plain) old new = tt
 
 -- a beginning of the header and the nonce was written
-pub encrypts_begun : (limits : Bounds) (fresh : Fresh) (given : Result (List StanzaParts) Fault) (text : List ℕ) (from old new : Option (List ℕ))
+pub encrypts_begun : (limits : Bounds) (fresh : Fresh) (given : Result (List StanzaParts) Fault → Type 0) (text : List ℕ) (from old new : Option (List ℕ))
     → Made limits fresh.file_key given text → WritesPart old new (text ++ fresh.nonce) → EncryptsGiven limits fresh given from old new (Err Write)
 encrypts_begun limits fresh given text from old new m part =
     let plain = may-some from in
@@ -63,7 +63,7 @@ encrypts_begun limits fresh given text from old new m part =
     })
 
 -- a beginning of the payload was written behind them
-begun : (limits : Bounds) (fresh : Fresh) (given : Result (List StanzaParts) Fault) (text plain : List ℕ) (a b c : Option (List ℕ)) → Made limits fresh.file_key given text → Appends a b (text ++ fresh.nonce)
+begun : (limits : Bounds) (fresh : Fresh) (given : Result (List StanzaParts) Fault → Type 0) (text plain : List ℕ) (a b c : Option (List ℕ)) → Made limits fresh.file_key given text → Appends a b (text ++ fresh.nonce)
     → WritesPart b c (concat (sealed_chunks fresh.file_key fresh.nonce plain)) → BegunFile limits fresh given plain a c
 begun limits fresh given text plain a b c m front part =
     let rest : List ℕ = concat (sealed_chunks fresh.file_key fresh.nonce plain) in
@@ -76,7 +76,7 @@ begun limits fresh given text plain a b c m front part =
     }
 
 -- a whole file
-whole : (limits : Bounds) (fresh : Fresh) (given : Result (List StanzaParts) Fault) (text plain : List ℕ) (a b c : Option (List ℕ)) (done : Done) → length fresh.nonce ≡ 16
+whole : (limits : Bounds) (fresh : Fresh) (given : Result (List StanzaParts) Fault → Type 0) (text plain : List ℕ) (a b c : Option (List ℕ)) (done : Done) → length fresh.nonce ≡ 16
     → Made limits fresh.file_key given text → Appends a b (text ++ fresh.nonce) → Appends b c (concat (sealed_chunks fresh.file_key fresh.nonce plain)) → 0 + length (chunks plain) ≤ limits.max_chunks
     → done.bytes ≡ 65536 * 0 + 0 + length plain → done.chunks ≡ 0 + length (chunks plain) → EncryptsText limits fresh given plain a c (Ok done)
 whole limits fresh given text plain a b c done sixteen m front rest fits bytes count = (
@@ -103,7 +103,7 @@ whole limits fresh given text plain a b c done sixteen m front rest fits bytes c
 )
 
 -- too many chunks
-cut_short : (limits : Bounds) (fresh : Fresh) (given : Result (List StanzaParts) Fault) (text plain : List ℕ) (a b c : Option (List ℕ)) → Made limits fresh.file_key given text → Appends a b (text ++ fresh.nonce)
+cut_short : (limits : Bounds) (fresh : Fresh) (given : Result (List StanzaParts) Fault → Type 0) (text plain : List ℕ) (a b c : Option (List ℕ)) → Made limits fresh.file_key given text → Appends a b (text ++ fresh.nonce)
     → limits.max_chunks < 0 + length (chunks plain) → Appends b c (concat (take (limits.max_chunks - 1 - 0) (sealed_chunks fresh.file_key fresh.nonce plain))) → EncryptsText limits fresh given plain a c (Err TooManyChunks)
 cut_short limits fresh given text plain a b c m front many rest =
     let n : limits.max_chunks - 1 - 0 ≡ limits.max_chunks - 1 = omega arith in
@@ -123,7 +123,7 @@ pub just_made : (P : Type 0) (s : SealerState) (key : List ℕ) (m : ℕ) → s 
 just_made P s key m is h = subst (λ (x : SealerState). IfNone x.fault P) is h
 
 -- the payload behind the header and the nonce
-pub encrypts_payload : (limits : Bounds) (fresh : Fresh) (given : Result (List StanzaParts) Fault) (text : List ℕ) (from to a b c : Option (List ℕ)) (r : Result Done StreamFault) → length fresh.nonce ≡ 16
+pub encrypts_payload : (limits : Bounds) (fresh : Fresh) (given : Result (List StanzaParts) Fault → Type 0) (text : List ℕ) (from to a b c : Option (List ℕ)) (r : Result Done StreamFault) → length fresh.nonce ≡ 16
     → Made limits fresh.file_key given text → Appends a b (text ++ fresh.nonce) → SealsAll (at_start (payload_key fresh.file_key fresh.nonce) limits.max_chunks) from to b c r
     → EncryptsGiven limits fresh given from a c (file_result r)
 encrypts_payload limits fresh given text from to a b c (Ok done) sixteen m front (plain, may, rest, fits, bytes, count) =
@@ -145,7 +145,7 @@ encrypts_payload limits fresh given text from to a b c (Err fault) sixteen m fro
 
 -- ---- what was taken
 
-pub takes_begun : (limits : Bounds) (fresh : Fresh) (given : Result (List StanzaParts) Fault) (text : List ℕ) (from old new : Option (List ℕ)) → Made limits fresh.file_key given text
+pub takes_begun : (limits : Bounds) (fresh : Fresh) (given : Result (List StanzaParts) Fault → Type 0) (text : List ℕ) (from old new : Option (List ℕ)) → Made limits fresh.file_key given text
     → WritesPart old new (text ++ fresh.nonce) → TakesOf limits fresh given from from old new Write
 takes_begun limits fresh given text from old new m part = record {
   stanzas = m.stanzas;
@@ -158,7 +158,7 @@ takes_begun limits fresh given text from old new m part = record {
   gave = ([], Consumes-nil from, omega arith);
 }
 
-took : (limits : Bounds) (fresh : Fresh) (given : Result (List StanzaParts) Fault) (text : List ℕ) (from to a b c : Option (List ℕ)) (chunk : ℕ) (fault : StreamFault) → length fresh.nonce ≡ 16
+took : (limits : Bounds) (fresh : Fresh) (given : Result (List StanzaParts) Fault → Type 0) (text : List ℕ) (from to a b c : Option (List ℕ)) (chunk : ℕ) (fault : StreamFault) → length fresh.nonce ≡ 16
     → Made limits fresh.file_key given text → Appends a b (text ++ fresh.nonce) → Stopped (payload_key fresh.file_key fresh.nonce) limits.max_chunks 0 chunk [] from to b c fault
     → GaveAtMost (65536 * (chunk + 1 - 0) + 1) from to → TookChunks limits fresh given from to a c
 took limits fresh given text from to a b c chunk fault sixteen m front s gave =
@@ -175,7 +175,7 @@ took limits fresh given text from to a b c chunk fault sixteen m front s gave =
       gave = (gave.0, gave.1, omega (arith, gave.2));
     }
 
-pub takes_payload : (limits : Bounds) (fresh : Fresh) (given : Result (List StanzaParts) Fault) (text : List ℕ) (from to a b c : Option (List ℕ)) (fault : StreamFault) → length fresh.nonce ≡ 16
+pub takes_payload : (limits : Bounds) (fresh : Fresh) (given : Result (List StanzaParts) Fault → Type 0) (text : List ℕ) (from to a b c : Option (List ℕ)) (fault : StreamFault) → length fresh.nonce ≡ 16
     → Made limits fresh.file_key given text → Appends a b (text ++ fresh.nonce) → SealsAll (at_start (payload_key fresh.file_key fresh.nonce) limits.max_chunks) from to b c (Err fault)
     → TakesOf limits fresh given from to a c (of_stream fault)
 takes_payload limits fresh given text from to a b c stream.Read sixteen m front s = tt
@@ -202,7 +202,7 @@ takes_payload limits fresh given text from to a b c stream.TooManyChunks sixteen
     go (inr gave) = took limits fresh given text from to a b c chunk stream.TooManyChunks sixteen m front s gave
 
 -- a fault of the payload names no reason against the header, and comes late
-pub refuses_none : (limits : Bounds) (fresh : Fresh) (given : Result (List StanzaParts) Fault) (from to b c : Option (List ℕ)) (fault : StreamFault)
+pub refuses_none : (limits : Bounds) (fresh : Fresh) (given : Result (List StanzaParts) Fault → Type 0) (from to b c : Option (List ℕ)) (fault : StreamFault)
     → SealsAll (at_start (payload_key fresh.file_key fresh.nonce) limits.max_chunks) from to b c (Err fault) → RefusesFirst limits fresh.file_key given (of_stream fault) × IsLate (of_stream fault)
 refuses_none limits fresh given from to b c stream.Read h = (tt, tt)
 refuses_none limits fresh given from to b c stream.Write h = (tt, tt)

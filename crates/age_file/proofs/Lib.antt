@@ -1,6 +1,11 @@
+mod ApartLemmas
 mod AtLemmas
+mod CopyLemmas
 mod DecryptLemmas
 mod EncryptLemmas
 mod FileLemmas
 mod GatherLemmas
+mod OwnLemmas
+mod PayloadLemmas
 mod RangeLemmas
+mod RewrapLemmas

@@ -1,5 +1,5 @@
 -- Whole age files (C2SP age.md).
-use Rattle.std.specs.Prelude.{◌≡◌, ℕ, ◌≤◌, ◌&&◌, Bool, false, List, [], ◌∷◌, ◌++◌, length, codes, nat_lt}
+use Rattle.std.specs.Prelude.{◌≡◌, ℕ, ◌^◌, ◌≤◌, ◌&&◌, Bool, false, List, [], ◌∷◌, ◌++◌, length, codes, nat_lt}
 use Rattle.std.specs.List.{list_any}
 use Rattle.std.specs.Str.{bytes_eq}
 use Rattle.age_header.specs.Header.{StanzaParts, Head}
@@ -17,7 +17,7 @@ pub record IsBounds (limits : Bounds) : Type 0 where
   pub header_low : 1024 ≤ limits.max_header
   pub header_high : limits.max_header ≤ 16777216
   pub chunks_low : 1 ≤ limits.max_chunks
-  pub chunks_high : limits.max_chunks ≤ 4294967296
+  pub chunks_high : limits.max_chunks ≤ 2 ^ 88
 
 -- whether the first argument, the type, is `scrypt`
 abbrev pub is_scrypt : List (List ℕ) → Bool

@@ -1,9 +1,11 @@
 pub mod AgeFile
+pub mod Copying
 pub mod Decrypt
 pub mod Device
 pub mod Inspect
 pub mod NewFile
 pub mod Ranges
+pub mod Rewrap
 pub mod States
 pub mod Verdict
 pub mod Words

@@ -2,6 +2,8 @@
 pub use Rattle.age_header.specs.Header.{StanzaParts}
 pub use Rattle.age_recipient.specs.declared.key.FileKey.{FileKey}
 pub use Rattle.age_recipient.specs.Key.{IsFileKey}
+pub use Rattle.age_recipient.specs.declared.labels.Labels.{Labels}
+pub use Rattle.age_recipient.specs.declared.labels.Labels.TheVariants.{Alone, Names}
 pub use Rattle.age_recipient.specs.declared.unwrapped.StanzaFault.{StanzaFault}
 pub use Rattle.age_recipient.specs.declared.unwrapped.StanzaFault.TheVariants.{ArgCount, Salt, WorkFactorText, WorkFactorTooHigh, BodyLength}
 pub use Rattle.age_recipient.specs.declared.unwrapped.Unwrapped.{Unwrapped}

@@ -5,7 +5,7 @@ ghost use Rattle.age_header.specs.Mac.{header_mac};
 ghost use Rattle.age_stream.specs.Payload.{payload_key};
 ghost use Rattle.age_stream.specs.Sealing.{at_start};
 ghost use Rattle.age_stream.specs.Writer.{device_of, fault_of, sealer_of, sink_of};
-ghost use Rattle.age_file.specs.NewFile.{FailsHeading, IsHeading, gathered};
+ghost use Rattle.age_file.specs.NewFile.{FailsHeading, Gathered, IsHeading};
 
 use crate::fault::Fault;
 use crate::gather::header_for;
@@ -51,9 +51,9 @@ impl Encryptor {
         ensures ok { IfOk result (λ e. (e.fresh ≡ fresh.now) × (e.limits ≡ limits.now)
             × (e.header.mac ≡ header_mac fresh.now.file_key.0 e.header.stanzas)
             × ((text : List ℕ) × IsHeading limits.now fresh.now.file_key
-            (gathered (map (λ r. wraps r fresh.now.file_key) recipients.now)) e.header.stanzas text)) }
+            (Gathered (map (λ r. wraps r fresh.now.file_key) recipients.now) (map (λ r. the_labels r) recipients.now)) e.header.stanzas text)) }
         ensures err { IfErr result (FailsHeading limits.now fresh.now.file_key
-            (gathered (map (λ r. wraps r fresh.now.file_key) recipients.now))) }
+            (Gathered (map (λ r. wraps r fresh.now.file_key) recipients.now) (map (λ r. the_labels r) recipients.now))) }
     {
         match header_for(alloc, recipients, &fresh.file_key, limits) {
             Ok(header) => Ok(Encryptor {

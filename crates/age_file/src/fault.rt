@@ -42,13 +42,13 @@ pub enum Fault {
     NonceTruncated,
     /// This chunk, the last, has fewer bytes than a tag, 16.
     #[error("chunk {0} is cut short")]
-    ChunkShort(u64),
+    ChunkShort(u128),
     /// This chunk, the last and not the first, is empty.
     #[error("chunk {0} is empty")]
-    EmptyFinal(u64),
+    EmptyFinal(u128),
     /// No plaintext seals to this chunk at its place.
     #[error("chunk {0} is damaged")]
-    BadChunk(u64),
+    BadChunk(u128),
     /// The payload, read or to be written, has more chunks than the limit.
     #[error("too many chunks")]
     TooManyChunks,
@@ -67,4 +67,7 @@ pub enum Fault {
     /// The recipient at this place refused, for the reason of this number.
     #[error("recipient {0} refused: {1}")]
     Refused(usize, u32),
+    /// The recipient at this place, from 1 up, does not go together with recipient 0.
+    #[error("recipient {0} does not go with recipient 0")]
+    IncompatibleRecipients(usize),
 }

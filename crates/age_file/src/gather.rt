@@ -2,15 +2,16 @@
 
 ghost use Rattle.std.specs.Prelude.{◌≡◌, ◌≤◌, ℕ, List, Some, None, map, IfOk, IfErr};
 ghost use Rattle.age_header.specs.Mac.{header_mac};
+ghost use Rattle.age_recipient.specs.Labels.{MayLabel};
 ghost use Rattle.age_recipient.specs.Wrap.{WrapsAs};
-ghost use Rattle.age_file.specs.NewFile.{FailsHeading, Gathers, IsHeading, gathered};
+ghost use Rattle.age_file.specs.NewFile.{FailsHeading, Gathered, Gathers, IsApart, IsApartFrom, IsHeading, WrapsAll, gathered_from};
 
 use crate::fault::Fault;
 use crate::header::is_mixed;
 use crate::limits::Limits;
 use age_header::{Header, Stanza, mac_of};
-use age_recipient::{FileKey, Recipient, WrapFault};
-use std::alloc::Global;
+use age_recipient::{FileKey, Labels, Recipient, WrapFault};
+use std::alloc::{AllocError, Global};
 
 /// The header of a new file for these recipients.
 pub(crate) fn header_for(
@@ -20,8 +21,8 @@ pub(crate) fn header_for(
     limits: &Limits,
 ) -> Result<Header, Fault>
     ensures ok { IfOk result (λ h. (h.mac ≡ header_mac key.now.0 h.stanzas)
-        × ((text : List ℕ) × IsHeading limits.now key.now (gathered (map (λ r. wraps r key.now) recipients.now)) h.stanzas text)) }
-    ensures err { IfErr result (FailsHeading limits.now key.now (gathered (map (λ r. wraps r key.now) recipients.now))) }
+        × ((text : List ℕ) × IsHeading limits.now key.now (Gathered (map (λ r. wraps r key.now) recipients.now) (map (λ r. the_labels r) recipients.now)) h.stanzas text)) }
+    ensures err { IfErr result (FailsHeading limits.now key.now (Gathered (map (λ r. wraps r key.now) recipients.now) (map (λ r. the_labels r) recipients.now))) }
 {
     let stanzas = match gather(alloc, recipients, key) {
         Ok(stanzas) => stanzas,
@@ -45,13 +46,32 @@ pub(crate) fn header_for(
     Ok(header)
 }
 
-/// The stanzas of the recipients, in order.
+/// The stanzas of the recipients, in order, where the recipients go together.
 fn gather(
     alloc: Global,
     recipients: &[Box<dyn Recipient>],
     key: &FileKey,
 ) -> Result<Vec<Stanza>, Fault>
-    ensures { Gathers (gathered (map (λ r. wraps r key.now) recipients.now)) result }
+    ensures { Gathers (Gathered (map (λ r. wraps r key.now) recipients.now) (map (λ r. the_labels r) recipients.now)) result }
+{
+    let stanzas = match wrap_all(alloc, recipients, key) {
+        Ok(stanzas) => stanzas,
+        Err(fault) => return Err(fault),
+    };
+    match first_apart(alloc, recipients) {
+        Ok(None) => Ok(stanzas),
+        Ok(Some(i)) => Err(Fault::IncompatibleRecipients(i)),
+        Err(_) => Err(Fault::OutOfMemory),
+    }
+}
+
+/// The stanzas of the recipients, in order.
+fn wrap_all(
+    alloc: Global,
+    recipients: &[Box<dyn Recipient>],
+    key: &FileKey,
+) -> Result<Vec<Stanza>, Fault>
+    ensures { WrapsAll (gathered_from 0 (map (λ r. wraps r key.now) recipients.now)) result }
 {
     let mut all = Vec::new(alloc);
     for (i, recipient) in recipients.iter().enumerate() {
@@ -69,6 +89,35 @@ fn gather(
     Ok(all)
 }
 
+/// The least place whose labels do not go together with those of place 0.
+fn first_apart(
+    alloc: Global,
+    recipients: &[Box<dyn Recipient>],
+) -> Result<Option<usize>, AllocError>
+    ensures { IfOk result (IsApart (map (λ r. the_labels r) recipients.now)) }
+{
+    match recipients.split_first() {
+        Some((first, others)) => apart_from(alloc, &labels_of(alloc, first)?, others),
+        None => Ok(None),
+    }
+}
+
+/// The place of the first of the others, counted from 1, whose labels do not go together with these.
+fn apart_from(
+    alloc: Global,
+    first: &Labels,
+    others: &[Box<dyn Recipient>],
+) -> Result<Option<usize>, AllocError>
+    ensures { IfOk result (IsApartFrom first.now (map (λ r. the_labels r) others.now)) }
+{
+    for (i, other) in others.iter().enumerate() {
+        if !first.go_together(&labels_of(alloc, other)?) {
+            return Ok(Some(i + 1));
+        }
+    }
+    Ok(None)
+}
+
 /// What one recipient gives; of a box in a list a contract can speak here.
 fn wrap_by(
     alloc: Global,
@@ -78,4 +127,11 @@ fn wrap_by(
     ensures { WrapsAs (wraps recipient.now key.now) result }
 {
     recipient.wrap(alloc, key)
+}
+
+/// The labels of one recipient, for the same reason.
+fn labels_of(alloc: Global, recipient: &Box<dyn Recipient>) -> Result<Labels, AllocError>
+    ensures { IfOk result (MayLabel (the_labels recipient.now)) }
+{
+    recipient.labels(alloc)
 }

@@ -2,6 +2,7 @@
 #![tactic(auto)]
 
 mod at_source;
+mod copying;
 mod decryptor;
 mod encryptor;
 mod fault;
@@ -12,6 +13,7 @@ mod limits;
 mod names;
 mod ranges;
 mod reading;
+mod rewrapping;
 #[cfg(test)]
 mod tests;
 mod writing;
@@ -21,8 +23,9 @@ pub use age_header::{
     Stanza, StanzaError, WriteSink, mac_of, signed_text, write_all, write_header,
 };
 pub use age_recipient::{
-    FileKey, Identity, KeyIdentity, KeyPair, KeyRecipient, Matched, PassError, PassIdentity,
-    PassPair, PassRecipient, Recipient, StanzaFault, UnlockFault, Unwrapped, WrapFault, unlock,
+    FileKey, Identity, KeyIdentity, KeyPair, KeyRecipient, LabelSet, Labels, Matched, PassError,
+    PassIdentity, PassPair, PassRecipient, Recipient, StanzaFault, UnlockFault, Unwrapped,
+    WrapFault, unlock,
 };
 pub use age_stream::{
     Done, FileAt, MemAt, RangeReader, ReadAt, Refused, StreamFault, StreamReader, StreamWriter,
@@ -34,4 +37,5 @@ pub use header::inspect;
 pub use limits::{Fresh, Limits};
 pub use ranges::open_ranges;
 pub use reading::decrypt;
+pub use rewrapping::rewrap;
 pub use writing::encrypt;

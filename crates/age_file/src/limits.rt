@@ -1,13 +1,16 @@
-ghost use Rattle.std.specs.Prelude.{◌≡◌, Some, None, IfSome, IfNone};
+ghost use Rattle.std.specs.Prelude.{◌≡◌, ◌^◌, Some, None, IfSome, IfNone};
 
 use age_recipient::FileKey;
 use std::marker::Model;
+
+/// A chunk's number has eleven bytes in its nonce.
+const MOST_CHUNKS: u128 = 1 << 88;
 
 /// How long a header may be in bytes, and a payload in chunks.
 #[derive(Clone, Copy, Debug, PartialEq, Eq)]
 pub struct Limits {
     max_header: usize,
-    max_chunks: u64,
+    max_chunks: u128,
 }
 
 impl Model for Limits {
@@ -25,15 +28,16 @@ impl Model for Limits {
 impl Limits {
     ghost use Rattle.age_file.specs.AgeFile.{IsBounds};
 
-    /// Limits of 1,024 to 16,777,216 bytes of a header and 1 to 4,294,967,296 chunks of a payload; None exactly outside.
-    pub fn new(max_header: usize, max_chunks: u64) -> Option<Limits>
+    /// Limits of 1,024 to 16,777,216 bytes of a header and 1 to 2^88 = 309,485,009,821,345,068,724,781,056 chunks of a payload; None
+    /// exactly outside.
+    pub fn new(max_header: usize, max_chunks: u128) -> Option<Limits>
         ensures some { IfSome result (λ limits. IsBounds limits × (limits ≡ record { max_header = max_header; max_chunks = max_chunks })) }
         ensures none { IfNone result (IsBounds (record { max_header = max_header; max_chunks = max_chunks }) → ⊥) }
     {
         if max_header < 1_024
             || max_header > 16_777_216
             || max_chunks < 1
-            || max_chunks > 4_294_967_296
+            || max_chunks > MOST_CHUNKS
         {
             return None;
         }
@@ -52,7 +56,7 @@ impl Limits {
     }
 
     /// The most chunks that a payload may have.
-    pub(crate) fn max_chunks(&self) -> u64
+    pub(crate) fn max_chunks(&self) -> u128
         ensures value { result ≡ self.now.max_chunks }
         ensures range { IsBounds self.now }
     {
@@ -61,13 +65,13 @@ impl Limits {
 }
 
 impl Default for Limits {
-    ghost is_default = { λ limits. limits ≡ record { max_header = 65536; max_chunks = 4294967296 } };
+    ghost is_default = { λ limits. limits ≡ record { max_header = 65536; max_chunks = 2 ^ 88 } };
 
-    /// A header of 65,536 bytes, and a payload of 4,294,967,296 chunks.
+    /// A header of 65,536 bytes, and a payload of 2^88 chunks.
     fn default() -> Limits {
         Limits {
             max_header: 65_536,
-            max_chunks: 4_294_967_296,
+            max_chunks: MOST_CHUNKS,
         }
     }
 }

@@ -11,7 +11,7 @@ use crate::limits::Limits;
 use crate::names::stream_fault;
 use age_header::{Sink, Source};
 use age_recipient::Identity;
-use age_stream::{ChunkBuf, ChunkOpener, Done};
+use age_stream::{Done, StreamReader};
 use std::alloc::Global;
 
 /// Decrypts a file (C2SP `age.md`), all that the source still gives: writes the plaintext of each chunk as soon as it is verified.
@@ -19,7 +19,7 @@ use std::alloc::Global;
 /// # Errors
 /// The first that applies of `NotAge`, `BadLine`, `HeaderTruncated`, `HeaderTooLarge` as `inspect` says; `MixedPassphrase`; `NoMatch`,
 /// `WrongKey`, `Malformed` as `age_recipient::unlock` says; `BadMac`; `NonceTruncated`; then, chunk by chunk, `TooManyChunks`,
-/// `ChunkShort`, `EmptyFinal`, `BadChunk` as `age_stream::ChunkOpener::open_all` says. Before a chunk's fault the plaintext of the
+/// `ChunkShort`, `EmptyFinal`, `BadChunk` as `age_stream::StreamReader::next_chunk` says. Before a chunk's fault the plaintext of the
 /// chunks before it was written, and nothing before the others. `Read` and `Write` where a device failed: a beginning of that plaintext
 /// was written. `OutOfMemory` where an allocation was refused or an identity returned so: nothing was written.
 pub fn decrypt<S: Source, W: Sink>(
@@ -45,10 +45,11 @@ pub fn decrypt<S: Source, W: Sink>(
         Ok(key) => key,
         Err(fault) => return Err(fault),
     };
-    let Ok(buf) = ChunkBuf::new(alloc) else {
-        return Err(Fault::OutOfMemory);
+    let reader = match StreamReader::started(alloc, &key, input, limits.max_chunks()) {
+        Ok(reader) => reader,
+        Err(refused) => return Err(stream_fault(refused.fault())),
     };
-    match ChunkOpener::open_all(&key, input, limits.max_chunks(), buf, out) {
+    match reader.copy_to(out) {
         Ok(done) => Ok(done),
         Err(fault) => Err(stream_fault(fault)),
     }

@@ -5,6 +5,7 @@ mod devices;
 mod failing;
 mod objects;
 mod ranges;
+mod rewrapping;
 mod steps;
 
 use crate::{Done, Fault, Fresh, Limits, decrypt, encrypt};
@@ -101,7 +102,7 @@ fn decrypted(
 }
 
 /// The answer on so many bytes in one chunk.
-fn done(bytes: u64) -> Result<Done, Fault> {
+fn done(bytes: u128) -> Result<Done, Fault> {
     Ok(Done { bytes, chunks: 1 })
 }
 
@@ -146,6 +147,20 @@ fn byte_by_byte(rt: HostRuntime) -> Result<(), Fail> {
     );
     assert!(rt; answer == done);
     assert!(rt; sink.bytes == plain);
+    Ok(())
+}
+
+/// The numbers of chunks that `Limits` may hold, at the ends of their range.
+#[test]
+fn chunk_limits(rt: HostRuntime) -> Result<(), Fail> {
+    for (max_chunks, is_allowed) in [
+        (0, false),
+        (1, true),
+        (309_485_009_821_345_068_724_781_056, true),
+        (309_485_009_821_345_068_724_781_057, false),
+    ] {
+        assert_eq!(rt; Limits::new(65_536, max_chunks).is_some(), is_allowed);
+    }
     Ok(())
 }
 

@@ -5,7 +5,7 @@ ghost use Rattle.std.specs.Io.KnownBytes.{Keeps};
 ghost use Rattle.age_header.specs.Device.{Counts, Writes};
 ghost use Rattle.age_header.specs.Header.{Head};
 ghost use Rattle.age_file.specs.Device.{CountsRead, CountsWrite, IsLate};
-ghost use Rattle.age_file.specs.NewFile.{EncryptsGiven, RefusesFirst, TakesOf, gathered};
+ghost use Rattle.age_file.specs.NewFile.{EncryptsGiven, RefusesFirst, Gathered, TakesOf};
 
 use crate::fault::Fault;
 use crate::gather::header_for;
@@ -13,7 +13,7 @@ use crate::limits::{Fresh, Limits};
 use crate::names::stream_fault;
 use age_header::{DeviceFault, Header, Sink, Source, write_all, write_header};
 use age_recipient::Recipient;
-use age_stream::{ChunkBuf, ChunkSealer, Done};
+use age_stream::{ChunkBuf, ChunkSealer, Done, StreamWriter};
 use std::alloc::Global;
 
 /// Writes the age file of a plaintext, all that the source still gives, for these recipients (C2SP `age.md`). Every allocation is
@@ -32,13 +32,13 @@ pub fn encrypt<S: Source, W: Sink>(
     fresh: &Fresh,
     limits: &Limits,
 ) -> Result<Done, Fault>
-    ensures answer { EncryptsGiven limits.now fresh.now (gathered (map (λ r. wraps r fresh.now.file_key) recipients.now))
+    ensures answer { EncryptsGiven limits.now fresh.now (Gathered (map (λ r. wraps r fresh.now.file_key) recipients.now) (map (λ r. the_labels r) recipients.now))
         (S.to_come plain.old) (W.taken out.old) (W.taken out.new) result }
-    ensures refused { IfErr result (RefusesFirst limits.now fresh.now.file_key (gathered (map (λ r. wraps r fresh.now.file_key) recipients.now))) }
+    ensures refused { IfErr result (RefusesFirst limits.now fresh.now.file_key (Gathered (map (λ r. wraps r fresh.now.file_key) recipients.now) (map (λ r. the_labels r) recipients.now))) }
     ensures quiet { IfErr result (λ fault. IsLate fault ⊎ Keeps (W.taken out.old) (W.taken out.new)) }
     ensures reads { CountsRead (S.failed plain.old) (S.failed plain.new) result }
     ensures writes { CountsWrite (W.failed out.old) (W.failed out.new) result }
-    ensures took { IfErr result (TakesOf limits.now fresh.now (gathered (map (λ r. wraps r fresh.now.file_key) recipients.now))
+    ensures took { IfErr result (TakesOf limits.now fresh.now (Gathered (map (λ r. wraps r fresh.now.file_key) recipients.now) (map (λ r. the_labels r) recipients.now))
         (S.to_come plain.old) (S.to_come plain.new) (W.taken out.old) (W.taken out.new)) }
 {
     let header = header_for(alloc, recipients, &fresh.file_key, limits)?;
@@ -50,7 +50,7 @@ pub fn encrypt<S: Source, W: Sink>(
         Err(_) => return Err(Fault::Write),
     }
     let sealer = ChunkSealer::new(&fresh.file_key, &fresh.nonce, limits.max_chunks(), buf);
-    match sealer.seal_all(plain, out) {
+    match StreamWriter::over(out, sealer).seal_from(plain) {
         Ok(done) => Ok(done),
         Err(fault) => Err(stream_fault(fault)),
     }

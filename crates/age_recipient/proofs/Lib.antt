@@ -1,3 +1,4 @@
 mod AnswerLemmas
+mod LabelLemmas
 mod PassphraseLemmas
 mod SealingLemmas

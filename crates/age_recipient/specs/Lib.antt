@@ -3,6 +3,7 @@ pub mod Choice
 pub mod Key
 pub mod KeyHolders
 pub mod Keyed
+pub mod Labels
 pub mod Pairing
 pub mod Pass
 pub mod Passphrase

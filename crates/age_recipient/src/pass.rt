@@ -1,10 +1,11 @@
 //! The passphrase's recipient and identity.
 
-ghost use Rattle.std.specs.Prelude.{◌≡◌, IfOk, IfErr};
+ghost use Rattle.std.specs.Prelude.{◌≡◌, Ok, IfOk, IfErr};
 ghost use Rattle.age_recipient.specs.Pass.{IsPassError, WorkFits};
 
 use crate::identity::Identity;
 use crate::key::FileKey;
+use crate::labels::Labels;
 use crate::passphrase::{pass_answer, pass_stanza};
 use crate::recipient::{Recipient, WrapFault};
 use crate::stanzas::{Opener, first_opened};
@@ -65,9 +66,12 @@ impl PassRecipient {
 }
 
 impl Recipient for PassRecipient {
+    ghost use Rattle.age_recipient.specs.declared.labels.Labels.TheVariants.{Alone};
     ghost use Rattle.age_recipient.specs.Pass.{pass_wraps};
 
     ghost wraps = { λ r key. pass_wraps r key };
+
+    ghost the_labels = { λ _. Alone };
 
     fn wrap(&self, alloc: Global, key: &FileKey) -> Result<Vec<Stanza>, WrapFault> {
         let Ok(stanza) = pass_stanza(alloc, self.pass.as_slice(), self.work, &self.salt, key) else {
@@ -77,6 +81,12 @@ impl Recipient for PassRecipient {
             Ok(stanzas) => Ok(stanzas),
             Err(_) => Err(WrapFault::Memory),
         }
+    }
+
+    fn labels(&self, _alloc: Global) -> Result<Labels, AllocError>
+        ensures { result ≡ Ok Labels.Alone }
+    {
+        Ok(Labels::Alone)
     }
 }
 

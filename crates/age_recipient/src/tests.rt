@@ -1,6 +1,7 @@
 //! Passphrase stanzas with known answers: what is wrapped, what is unwrapped, and what each check says.
 
 mod keyed;
+mod labels;
 mod unlocking;
 
 use crate::{

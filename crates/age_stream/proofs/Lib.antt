@@ -4,7 +4,6 @@ pub mod LoadLemmas
 pub mod OpeningLemmas
 pub mod OutcomeLemmas
 pub mod PayloadLemmas
-pub mod PlaceLemmas
 pub mod RangeLemmas
 pub mod ReadAtLemmas
 pub mod ReaderLemmas

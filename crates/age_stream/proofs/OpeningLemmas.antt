@@ -1,5 +1,5 @@
 -- The next piece, by what was read ahead, what was given, and what may still come.
-use Rattle.std.proofs.Common.{◌≡◌, ◌∙◌, ◌++◌, ◌+◌, ◌-◌, ◌<◌, ◌≤◌, ℕ, List, [], length, take, drop, ap, sym, arith, append_assoc, length-append, refl, Option, Some, None, true, false, Bool, nat_le, cond, Ok, Err}
+use Rattle.std.proofs.Common.{◌≡◌, ◌∙◌, ◌++◌, ◌+◌, ◌-◌, ◌^◌, ◌<◌, ◌≤◌, ℕ, List, [], length, take, drop, ap, sym, arith, append_assoc, length-append, refl, Option, Some, None, true, false, Bool, nat_le, cond, Ok, Err}
 use Rattle.std.proofs.KnownBytes.{Consumes-nil}
 use Rattle.std.proofs.lemmas.Bool.{le-leb, lt-leb}
 use Rattle.std.proofs.lemmas.List.{take_all, take-append-le, drop-append-le, length-drop, length-take-le}
@@ -111,7 +111,7 @@ ahead-len ahead bytes size le = length-take-le ahead (drop 65552 bytes) (omega (
 -- a piece was opened
 pub advances-ok : (now : OpenerState) (from to : Option (List ℕ)) (key : List ℕ) (max i ahead len : ℕ) (more : Bool) (old slice bytes items : List ℕ) (fault : Option StreamFault) (piece : Piece)
     → parts key max i more ahead old len fault ≡ now → more ≡ true → fault ≡ None → slice ≡ old → length old ≡ 65553 → ahead ≤ 1 → length bytes ≡ 65553 → items ≡ bytes
-    → max ≤ 4294967296 → i < max → (piece.more ≡ true → piece.len ≡ 65536)
+    → max ≤ 2 ^ 88 → i < max → (piece.more ≡ true → piece.len ≡ 65536)
     → IsErrOf {T = Piece} (Ok piece) Read ⊎ ((d : List ℕ) → MayGive to d → (c : List ℕ) × MayGive from c × Opens key max i (take ahead (drop 65552 slice) ++ c) bytes d (Ok piece))
     → IsErrOf {T = Piece} (Ok piece) Read ⊎ GaveAtMost (65553 - ahead) from to
     → IfNone now.fault (IsErrOf {T = Bool} (Ok true) Read ⊎ Advances now (parts key max (i + 1) piece.more 1 items piece.len fault) from to (Ok true))
@@ -150,7 +150,7 @@ same-fault f e = cc
 
 -- a fault was met
 pub advances-err : (now : OpenerState) (from to : Option (List ℕ)) (key : List ℕ) (max i ahead len : ℕ) (more : Bool) (old slice bytes items : List ℕ) (kept : Option StreamFault) (fault : StreamFault)
-    → parts key max i more ahead old len kept ≡ now → more ≡ true → slice ≡ old → length old ≡ 65553 → ahead ≤ 1 → max ≤ 4294967296
+    → parts key max i more ahead old len kept ≡ now → more ≡ true → slice ≡ old → length old ≡ 65553 → ahead ≤ 1 → max ≤ 2 ^ 88
     → IsErrOf {T = Piece} (Err fault) Read ⊎ ((d : List ℕ) → MayGive to d → (c : List ℕ) × MayGive from c × Opens key max i (take ahead (drop 65552 slice) ++ c) bytes d (Err fault))
     → IsErrOf {T = Piece} (Err fault) Read ⊎ GaveAtMost (65553 - ahead) from to
     → (fault ≡ Read) ⊎ IsAtPiece max i fault
@@ -183,7 +183,7 @@ advances-err now from to key max i ahead len more old slice bytes items kept fau
     })))
 
 -- after the last piece
-pub advances-end : (now : OpenerState) (from : Option (List ℕ)) → now.held ≡ None → now.fault ≡ None → now.max_chunks ≤ 4294967296 → Advances now now from from (Ok false)
+pub advances-end : (now : OpenerState) (from : Option (List ℕ)) → now.held ≡ None → now.fault ≡ None → now.max_chunks ≤ 2 ^ 88 → Advances now now from from (Ok false)
 advances-end now from is none small = record {
   key = refl;
   max_chunks = refl;
@@ -195,10 +195,10 @@ advances-end now from is none small = record {
 }
 
 pub advances-none : (now : OpenerState) (from : Option (List ℕ)) (key : List ℕ) (max i ahead len : ℕ) (more : Bool) (bytes : List ℕ) (fault : Option StreamFault)
-    → parts key max i more ahead bytes len fault ≡ now → more ≡ false → fault ≡ None → max ≤ 4294967296
+    → parts key max i more ahead bytes len fault ≡ now → more ≡ false → fault ≡ None → max ≤ 2 ^ 88
     → IfNone now.fault (IsErrOf {T = Bool} (Ok false) Read ⊎ Advances now now from from (Ok false))
 advances-none now from key max i ahead len more bytes fault view over none small =
     unkept now.fault (inr (advances-end now from
     (sym (ap (λ (s : OpenerState). s.held) view) ∙ ap (λ m. held_of m (take ahead (drop 65552 bytes))) over)
     (sym (ap (λ (s : OpenerState). s.fault) view) ∙ none)
-    (subst (λ (s : OpenerState). s.max_chunks ≤ 4294967296) view small)))
+    (subst (λ (s : OpenerState). s.max_chunks ≤ 2 ^ 88) view small)))

@@ -1,5 +1,5 @@
 -- Full chunks that go out, one after another.
-use Rattle.std.proofs.Common.{◌≡◌, ◌⊎◌, ◌∙◌, ◌++◌, ◌+◌, ◌-◌, ◌*◌, ◌<◌, ◌≤◌, ℕ, List, [], ◌∷◌, length, take, drop, ap, sym, subst, arith, append-nil, append_assoc, length-append, refl, Option, Some, None, Result, Ok, Err, false, inl, inr, zero, suc, slice_set, slice_index_or, true≢false}
+use Rattle.std.proofs.Common.{◌≡◌, ◌⊎◌, ◌∙◌, ◌++◌, ◌+◌, ◌-◌, ◌*◌, ◌<◌, ◌≤◌, ℕ, List, [], ◌∷◌, length, take, drop, ap, sym, subst, arith, append-nil, append_assoc, length-append, refl, Option, Some, None, Result, Ok, Err, false, inl, inr, zero, suc, slice_set, slice_index_or}
 use Rattle.std.specs.List.{concat}
 use Rattle.std.specs.Io.KnownBytes.{Appends, Consumes, IsAtEnd}
 use Rattle.std.proofs.KnownBytes.{Appends-trans, Appends-nil, Consumes-trans}
@@ -13,10 +13,9 @@ use Rattle.age_header.proofs.GivenLemmas.{may-end, may-more, may-some}
 use Rattle.age_header.proofs.WriteLemmas.{Done, done_part}
 use Rattle.age_stream.specs.declared.fault.StreamFault.{StreamFault}
 use Rattle.age_stream.specs.declared.fault.StreamFault.TheVariants.{Read, Write, TooManyChunks}
-use Rattle.age_stream.specs.Counts.{CountsRead, CountsReadFault}
 use Rattle.age_stream.specs.Cutting.{cut, cut_into}
 use Rattle.age_stream.specs.Payload.{place, sealed_from}
-use Rattle.std.specs.Prelude.{IfNone, IfSome, is_ok}
+use Rattle.std.specs.Prelude.{IfNone}
 use Rattle.age_stream.specs.declared.done.Done.{Done as StreamDone}
 use Rattle.age_stream.specs.Sealing.{FinishesBy, SealerState, SealsAll, TakesAll, Fed, IsFed, Stopped, WroteAtLeast, sealed_after}
 use Rattle.age_stream.proofs.CutLemmas.{concat-append, cut-fits, cut-full}
@@ -328,39 +327,7 @@ seals-err s t from to a b fault none takes =
     let h = subst (λ (x : Option StreamFault). IfNone x (TakesAll {A = Unit {0}} s t from to a b (Err fault))) none takes in
     (t.index, h.2.1)
 
--- a sealer that took all keeps no fault
-pub took-none : (s t : SealerState) (u : Unit {0}) (from to a b : Option (List ℕ)) → s.fault ≡ None → IfNone s.fault (TakesAll s t from to a b (Ok u)) → t.fault ≡ None
-took-none s t u from to a b none takes = (subst (λ (x : Option StreamFault). IfNone x (TakesAll s t from to a b (Ok u))) none takes).2.0
-
 -- a clause on what is so where no fault is kept
 pub when-none : {P : Type 0} (fault : Option StreamFault) → (fault ≡ None → P) → IfNone fault P
 when-none None f = f refl
 when-none (Some kept) f = tt
-
--- nothing is Ok where a fault is kept
-pub kept-ok : (P Q R S T : Type 0) (fault : Option StreamFault) (u : Unit {0}) (r : Result StreamDone StreamFault)
-    → IfSome fault (λ f. (◌≡◌ {A = Result (Unit {0}) StreamFault} (Ok u) (Err f)) × P × Q × R) → IfSome fault (λ f. (r ≡ Err f) × S × T)
-kept-ok P Q R S T None u r h = tt
-kept-ok P Q R S T (Some kept) u r h = absurd (true≢false (ap is_ok h.0))
-
-fault_of : StreamFault → Result (Unit {0}) StreamFault → StreamFault
-fault_of f (Ok u) = f
-fault_of f (Err fault) = fault
-
--- a fault that is kept is the one returned, and both devices are as they were
-pub kept-err : (P Q R : Type 0) (fault : Option StreamFault) (f : StreamFault) → IfSome fault (λ kept. (◌≡◌ {A = Result (Unit {0}) StreamFault} (Err f) (Err kept)) × P × Q × R)
-    → IfSome fault (λ kept. (◌≡◌ {A = Result StreamDone StreamFault} (Err f) (Err kept)) × Q × R)
-unfolding fault_of
-kept-err P Q R None f h = tt
-kept-err P Q R (Some kept) f h = (ap (λ (g : StreamFault). Err g) (ap (fault_of f) h.0), h.2, h.3)
-
--- of a clause what it says where no fault is kept
-pub if-none : (P : Type 0) (fault : Option StreamFault) → fault ≡ None → IfNone fault P → P
-if-none P fault none h = subst (λ (x : Option StreamFault). IfNone x P) none h
-
--- finishing reads nothing
-pub reads-finish : (t : SealerState) (b c : Option (List ℕ)) (r : Result StreamDone StreamFault) (old new : ℕ) → t.fault ≡ None → IfNone t.fault (FinishesBy t b c r) → new ≡ old → CountsRead old new r
-reads-finish t b c (Ok done) old new none h is = is
-reads-finish t b c (Err fault) old new none h is =
-    let e = subst (λ (x : Option StreamFault). IfNone x (FinishesBy t b c (Err fault))) none h in
-    subst (CountsReadFault old new) (sym e.0) is

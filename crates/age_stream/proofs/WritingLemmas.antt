@@ -1,20 +1,20 @@
 -- The openings of pieces, written one after another.
-use Rattle.std.proofs.Common.{◌≡◌, ◌⊎◌, ◌∙◌, ◌++◌, ◌+◌, ◌-◌, ◌*◌, ◌<◌, ◌≤◌, ℕ, List, [], length, take, drop, ap, sym, subst, arith, append-nil, append_assoc, length-append, refl, Option, Some, None, Bool, true, false, inl, inr, Result, Ok, Err, nat_le, nat_lt, cond, Fits, w64}
-use Rattle.std.specs.Prelude.{IfErr, IfNone, IfSome, IsErrOf}
+use Rattle.std.proofs.Common.{◌≡◌, ◌⊎◌, ◌∙◌, ◌++◌, ◌+◌, ◌-◌, ◌*◌, ◌<◌, ◌≤◌, ℕ, List, [], length, take, drop, ap, sym, subst, arith, append-nil, append_assoc, length-append, refl, Option, Some, None, Bool, true, false, inl, inr, Result, Ok, Err, nat_le, cond, Fits}
+use Rattle.std.specs.Prelude.{IfNone, IfSome, IsErrOf}
+use Rattle.std.specs.Int.{w128}
 use Rattle.std.specs.Io.KnownBytes.{Appends}
 use Rattle.std.proofs.KnownBytes.{Appends-trans, Appends-nil, Consumes-nil}
-use Rattle.std.proofs.lemmas.Bool.{le-leb, lt-leb, le-ltb, lt-ltb, cases_lt, cond-false, cond-true}
-use Rattle.std.proofs.lemmas.List.{take_all, take_at, drop_at}
+use Rattle.std.proofs.lemmas.Bool.{le-leb, lt-leb, cases_lt}
+use Rattle.std.proofs.lemmas.List.{take_all}
 use Rattle.age_header.specs.Device.{GaveAtMost, MayGive, WritesPart}
 use Rattle.age_header.proofs.GivenLemmas.{gave-more, may-some}
 use Rattle.age_header.proofs.WriteLemmas.{done_part}
 use Rattle.age_stream.specs.declared.done.Done.{Done}
 use Rattle.age_stream.specs.declared.fault.StreamFault.{StreamFault}
 use Rattle.age_stream.specs.declared.fault.StreamFault.TheVariants.{NonceTruncated, ChunkShort, EmptyFinal, BadChunk, TooManyChunks, Read, Write, Memory}
-use Rattle.age_stream.specs.Opening.{Advances, EndsAt, IsAtPiece, OpenerState, OpensNext, Starts, WritesAll, WritesPayload, WritesReading, ahead_len, left_of, pieces_left, reading_left}
-use Rattle.age_recipient.specs.declared.key.FileKey.{FileKey}
-use Rattle.age_stream.specs.Payload.{payload_key, pieces}
-use Rattle.age_stream.specs.Reading.{Reading, after_first, first_outcome, outcome, payload_reading, reading_from, stops}
+use Rattle.age_stream.specs.Opening.{Advances, EndsAt, IsAtPiece, OpenerState, OpensNext, WritesAll, WritesReading, ahead_len, left_of, pieces_left, reading_left}
+use Rattle.age_stream.specs.Payload.{pieces}
+use Rattle.age_stream.specs.Reading.{Reading, after_first, first_outcome, outcome, reading_from, stops}
 use Rattle.age_stream.proofs.ReadingLemmas.{count-last, count-more, then_read, reading-last, reading-more}
 
 -- a text, and then what a reading gives
@@ -211,8 +211,8 @@ opened-more s t u n from now next a b c o adv le put =
 
 -- nothing is left
 pub writes-done : (s t u : OpenerState) (n : ℕ) (from now next a b : Option (List ℕ)) (done : Done) → Opened s t n from now a b → Advances t u now next (Ok false)
-    → done ≡ record { bytes = n; chunks = u.index } → WritesAll s from a b (Ok done)
-writes-done s t u n from now next a b done o adv is =
+    → done.bytes ≡ n → done.chunks ≡ t.index - s.index → WritesAll s from a b (Ok done)
+writes-done s t u n from now next a b done o adv bytes chunks =
     let d = may-some next in
     let one = adv.opens d.0 d.1 in
     let none = no-left (left_of t.held one.0) (left_of u.held d.0) u.text one.2 in
@@ -225,8 +225,8 @@ writes-done s t u n from now next a b done o adv is =
       (
         ap (λ (r : Reading StreamFault). r.fault) all,
         subst (Appends a b) (sym front) o.written,
-        ap (λ (x : Done). x.bytes) is ∙ o.len ∙ ap length (sym front),
-        ap (λ (x : Done). x.chunks) is ∙ adv.keeps.1 ∙ omega (arith, past.3, count),
+        bytes ∙ o.len ∙ ap length (sym front),
+        chunks ∙ omega (arith, past.3, count),
       ),
     )
   where
@@ -255,14 +255,14 @@ writes-write s t u n from now next a b c o adv part =
     let all = past.2 ∙ ap (λ f. record { front = f; fault = rest.fault }) (append_assoc o.front u.text rest.front) in
     (past.0, past.1, part-of _ (before u.text rest) o.front u.text a b c all o.written rest.front refl part)
 
-pub ends-write : (s t u : OpenerState) (n : ℕ) (from now next a b c : Option (List ℕ)) → s.index ≡ 0 → Opened s t n from now a b → Advances t u now next (Ok true) → WritesPart b c u.text
+pub ends-write : (s t u : OpenerState) (n : ℕ) (from now next a b c : Option (List ℕ)) → Opened s t n from now a b → Advances t u now next (Ok true) → WritesPart b c u.text
     → EndsAt s.max_chunks 0 from next a c Write
-ends-write s t u n from now next a b c zero o adv part =
+ends-write s t u n from now next a b c o adv part =
     let h = held-some t u now next adv in
     let full : length o.front ≡ 65536 * (t.index - s.index) = at-some _ t.held h.0 h.1 o.full in
     let gave = gave-next s t u n from now next a b o adv in
     record {
-      piece = t.index;
+      piece = t.index - s.index;
       text = o.front ++ take part.0 u.text;
       written = Appends-trans a b c o.front (take part.0 u.text) o.written part.1;
       at = inl (refl, omega (arith, length-append o.front (take part.0 u.text)));
@@ -289,15 +289,15 @@ writes-stop s t u n from now next a b fault o adv =
     let past = o.reads one.0 one.1 in
     let all = past.2 ∙ ap (before o.front) stop in
     let front : (reading_left s.key s.max_chunks s.index (left_of s.held past.0)).front ≡ o.front = ap (λ (r : Reading StreamFault). r.front) all ∙ append-nil o.front in
-    (past.0, past.1, stops-writes (reading_left s.key s.max_chunks s.index (left_of s.held past.0)) (s.index + length (pieces_left (left_of s.held past.0))) t.max_chunks t.index a b fault adv.keeps.2 (ap (λ (r : Reading StreamFault). r.fault) all) (subst (Appends a b) (sym front) o.written))
+    (past.0, past.1, stops-writes (reading_left s.key s.max_chunks s.index (left_of s.held past.0)) (length (pieces_left (left_of s.held past.0))) t.max_chunks t.index a b fault adv.keeps.2 (ap (λ (r : Reading StreamFault). r.fault) all) (subst (Appends a b) (sym front) o.written))
   where
     left-stops : (left rest : Option (List ℕ)) (text : List ℕ) → OpensNext s.key s.max_chunks t.index left rest text (Err fault) → reading_left s.key s.max_chunks t.index left ≡ stops fault
     left-stops None rest text e = absurd (err-not-ok fault false e.0)
     left-stops (Some c) rest text e = first-err s.key s.max_chunks t.index c fault e
 
-pub ends-stop : (s t u : OpenerState) (n : ℕ) (from now next a b : Option (List ℕ)) (fault : StreamFault) → s.index ≡ 0 → Opened s t n from now a b → Advances t u now next (Err fault)
+pub ends-stop : (s t u : OpenerState) (n : ℕ) (from now next a b : Option (List ℕ)) (fault : StreamFault) → Opened s t n from now a b → Advances t u now next (Err fault)
     → EndsAt s.max_chunks 0 from next a b fault
-ends-stop s t u n from now next a b fault zero o adv = record {
+ends-stop s t u n from now next a b fault o adv = record {
   piece = t.index;
   text = o.front;
   written = o.written;
@@ -342,93 +342,16 @@ failed-writes s t u n from now next a b fault o h = go (advanced t u now next o.
     go (inl e) = subst (λ f. WritesAll s from a b (Err f)) (sym (same-fault fault e)) (writes-read s t n from now a b o)
     go (inr adv) = writes-stop s t u n from now next a b fault o adv
 
-pub failed-ends : (s t u : OpenerState) (n : ℕ) (from now next a b : Option (List ℕ)) (fault : StreamFault) → s.index ≡ 0 → Opened s t n from now a b
+pub failed-ends : (s t u : OpenerState) (n : ℕ) (from now next a b : Option (List ℕ)) (fault : StreamFault) → Opened s t n from now a b
     → IfNone t.fault (IsErrOf {T = Bool} (Err fault) Read ⊎ Advances t u now next (Err fault)) → (fault ≡ Read) ⊎ EndsAt s.max_chunks 0 from next a b fault
-failed-ends s t u n from now next a b fault zero o h = go (advanced t u now next o.none h)
+failed-ends s t u n from now next a b fault o h = go (advanced t u now next o.none h)
   where
     go : IsErrOf {T = Bool} (Err fault) Read ⊎ Advances t u now next (Err fault) → (fault ≡ Read) ⊎ EndsAt s.max_chunks 0 from next a b fault
     go (inl e) = inl (same-fault fault e)
-    go (inr adv) = inr (ends-stop s t u n from now next a b fault zero o adv)
+    go (inr adv) = inr (ends-stop s t u n from now next a b fault o adv)
 
 -- the count of bytes has room for one more text
-pub opened-room : (s t u : OpenerState) (n : ℕ) (from now next a b : Option (List ℕ)) (len : ℕ) → Opened s t n from now a b → Advances t u now next (Ok true) → len ≤ 65536 → Fits w64 (n + len)
+pub opened-room : (s t u : OpenerState) (n : ℕ) (from now next a b : Option (List ℕ)) (len : ℕ) → Opened s t n from now a b → Advances t u now next (Ok true) → len ≤ 65536 → Fits w128 (n + len)
 opened-room s t u n from now next a b len o adv le =
     let within : t.index < t.max_chunks = adv.keeps.2 refl in
     omega (arith, o.len, o.bound, adv.small)
-
--- ---- a whole payload
-
-nonce-not-write : NonceTruncated ≡ Write → ⊥
-nonce-not-write e = cc
-
--- the nonce, then the pieces
-pub payload-writes : (k : FileKey) (max : ℕ) (s : OpenerState) (from mid a b : Option (List ℕ)) (r : Result Done StreamFault) → Starts k max from mid (Ok s) → WritesAll s mid a b r → WritesPayload k max from a b r
-payload-writes k max s from mid a b r (nonce, len, is, may) (c, given, writes) =
-    let l : length (nonce ++ c) ≡ length nonce + length c = length-append nonce c in
-    let long : nat_lt (length (nonce ++ c)) 16 ≡ false = le-ltb (length (nonce ++ c)) 16 (omega arith) in
-    let front : take 16 (nonce ++ c) ≡ nonce = take_at nonce c 16 len in
-    let back : drop 16 (nonce ++ c) ≡ c = drop_at nonce c 16 len in
-    let key : List ℕ = payload_key k nonce in
-    let all : payload_reading k max (nonce ++ c) ≡ reading_from key max 0 c =
-    cond-false (nat_lt (length (nonce ++ c)) 16) _ _ long
-    ∙ ap (λ n. reading_from (payload_key k n) max 0 (drop 16 (nonce ++ c))) front ∙ ap (reading_from key max 0) back in
-    let zero : 0 + length (pieces c) ≡ length (pieces c) = omega arith in
-    let w : WritesReading (reading_from key max 0 c) (0 + length (pieces c)) a b r =
-    subst (λ (x : OpenerState). WritesReading (reading_left x.key x.max_chunks x.index (left_of x.held c)) (x.index + length (pieces_left (left_of x.held c))) a b r) is writes in (
-      nonce ++ c,
-      may c given,
-      subst (λ x. WritesReading x (length (pieces (drop 16 (nonce ++ c)))) a b r) (sym all)
-          (subst (λ x. WritesReading (reading_from key max 0 c) (length (pieces x)) a b r) (sym back) (subst (λ n. WritesReading (reading_from key max 0 c) n a b r) zero w)),
-    )
-
--- the nonce is cut short, or was not read
-pub nonce-writes : (k : FileKey) (max : ℕ) (from mid a : Option (List ℕ)) (fault : StreamFault) → Starts k max from mid (Err fault) → WritesPayload k max from a a (Err fault)
-nonce-writes k max from mid a Read h = let d = may-some from in (d.0, d.1, (0, Appends-nil a))
-nonce-writes k max from mid a NonceTruncated h =
-    let short : nat_lt (length h.1.0) 16 ≡ true = lt-ltb (length h.1.0) 16 h.1.2 in
-    let all : payload_reading k max h.1.0 ≡ stops NonceTruncated = cond-true (nat_lt (length h.1.0) 16) _ _ short in
-    (h.1.0, h.1.1, subst (λ x. WritesReading x (length (pieces (drop 16 h.1.0))) a a (Err NonceTruncated)) (sym all) (refl, Appends-nil a))
-nonce-writes k max from mid a (ChunkShort i) h = absurd (cc)
-nonce-writes k max from mid a (EmptyFinal i) h = absurd (cc)
-nonce-writes k max from mid a (BadChunk i) h = absurd (cc)
-nonce-writes k max from mid a TooManyChunks h = absurd (cc)
-nonce-writes k max from mid a Write h = absurd (cc)
-nonce-writes k max from mid a Memory h = absurd (cc)
-
-pub nonce-fault : (k : FileKey) (max : ℕ) (from mid : Option (List ℕ)) (fault : StreamFault) → Starts k max from mid (Err fault) → (fault ≡ Read) ⊎ (fault ≡ NonceTruncated)
-nonce-fault k max from mid Read h = inl refl
-nonce-fault k max from mid NonceTruncated h = inr refl
-nonce-fault k max from mid (ChunkShort i) h = inr h.0
-nonce-fault k max from mid (EmptyFinal i) h = inr h.0
-nonce-fault k max from mid (BadChunk i) h = inr h.0
-nonce-fault k max from mid TooManyChunks h = inr h.0
-nonce-fault k max from mid Write h = inr h.0
-nonce-fault k max from mid Memory h = inr h.0
-
--- what was taken with the nonce
-pub ends-more : (max : ℕ) (from mid to a b : Option (List ℕ)) (fault : StreamFault) → GaveAtMost 16 from mid → EndsAt max 0 mid to a b fault → EndsAt max 16 from to a b fault
-ends-more max from mid to a b fault nonce e =
-    let all = gave-more from mid to 16 (0 + (65552 * (e.piece + 1) + 1)) nonce e.gave in
-    record { piece = e.piece; text = e.text; written = e.written; at = e.at; gave = (all.0, all.1, omega (arith, all.2)) }
-
--- a fault that ended the pieces is none of the nonce
-pub ends-no-nonce : (max more : ℕ) (from to a b : Option (List ℕ)) → EndsAt max more from to a b NonceTruncated → ⊥
-ends-no-nonce max more from to a b e = go e.at
-  where
-    go : ((NonceTruncated ≡ Write) × (65536 * e.piece ≤ length e.text)) ⊎ IsAtPiece max e.piece NonceTruncated → ⊥
-    go (inl (is, le)) = nonce-not-write is
-    go (inr at) = at
-
-opener-max : (k : FileKey) (max : ℕ) (s : OpenerState) (from mid : Option (List ℕ)) → Starts k max from mid (Ok s) → s.max_chunks ≡ max
-opener-max k max s from mid h = ap (λ (x : OpenerState). x.max_chunks) h.2
-
-pub all-ends : (k : FileKey) (max : ℕ) (s : OpenerState) (from mid to a b : Option (List ℕ)) (r : Result Done StreamFault) → Starts k max from mid (Ok s)
-    → IsErrOf {T = OpenerState} (Ok s) Read ⊎ GaveAtMost 16 from mid → IfErr r (λ f. (f ≡ Read) ⊎ EndsAt s.max_chunks 0 mid to a b f)
-    → IfErr r (λ f. (f ≡ Read) ⊎ ((f ≡ NonceTruncated) ⊎ EndsAt max 16 from to a b f))
-all-ends k max s from mid to a b (Ok done) h gave e = tt
-all-ends k max s from mid to a b (Err fault) h gave (inl e) = inl e
-all-ends k max s from mid to a b (Err fault) h (inl g) (inr e) = absurd (started g)
-  where
-    started : ◌≡◌ {A = Result OpenerState StreamFault} (Ok s) (Err Read) → ⊥
-    started g = cc
-all-ends k max s from mid to a b (Err fault) h (inr g) (inr e) = inr (inr (ends-more max from mid to a b fault g (subst (λ m. EndsAt m 0 mid to a b fault) (opener-max k max s from mid h) e)))

@@ -1,5 +1,5 @@
 -- An opener of pieces between two calls, and what a call does.
-use Rattle.std.specs.Prelude.{ℕ, List, [], ◌++◌, ◌≡◌, ◌≤◌, ◌<◌, ◌+◌, ◌-◌, ◌*◌, ◌⊎◌, ⊤, length, take, drop, option_map, IfSome, Bool, true, false, Option, Some, None, Result, Ok, Err, if◌then◌else◌}
+use Rattle.std.specs.Prelude.{ℕ, List, [], ◌++◌, ◌≡◌, ◌≤◌, ◌<◌, ◌+◌, ◌-◌, ◌*◌, ◌^◌, ◌⊎◌, ⊤, length, take, drop, option_map, IfSome, Bool, true, false, Option, Some, None, Result, Ok, Err, if◌then◌else◌}
 use Rattle.std.specs.Io.KnownBytes.{Appends}
 use Rattle.age_header.specs.Device.{GaveAtMost, MayGive, WritesPart}
 use Rattle.age_recipient.specs.declared.key.FileKey.{FileKey}
@@ -8,7 +8,7 @@ use Rattle.age_stream.specs.declared.fault.StreamFault.{StreamFault}
 use Rattle.age_stream.specs.declared.fault.StreamFault.TheVariants.{NonceTruncated, ChunkShort, EmptyFinal, BadChunk, TooManyChunks, Read, Write}
 use Rattle.age_stream.specs.declared.opening.Piece.{Piece}
 use Rattle.age_stream.specs.Payload.{payload_key, pieces}
-use Rattle.age_stream.specs.Reading.{Reading, after_first, first_outcome, payload_reading, reading_from, whole}
+use Rattle.age_stream.specs.Reading.{Reading, after_first, first_outcome, reading_from, whole}
 
 -- An opener: its key and limit, the number of the next piece, the bytes of it that were read already (None after the last piece), the
 -- text that was opened last, and the fault that it keeps.
@@ -65,7 +65,7 @@ Keeps old new (Err fault) = (new.fault ≡ Some fault) × (new.text ≡ []) × I
 pub record Advances (old new : OpenerState) (from to : Option (List ℕ)) (r : Result Bool StreamFault) : Type 0 where
   pub key : new.key ≡ old.key
   pub max_chunks : new.max_chunks ≡ old.max_chunks
-  pub small : old.max_chunks ≤ 4294967296
+  pub small : old.max_chunks ≤ 2 ^ 88
   pub keeps : Keeps old new r
   pub ahead : ahead_len old.held ≤ 1
   pub gave : GaveAtMost (65553 - ahead_len old.held) from to
@@ -106,7 +106,7 @@ WritesReading reading n old new (Err fault) = (reading.fault ≡ Some fault) × 
 -- the reading of what the source may have given was written
 abbrev pub WritesAll : OpenerState → Option (List ℕ) → Option (List ℕ) → Option (List ℕ) → Result Done StreamFault → Type 0
 WritesAll s from old new r = (c : List ℕ) × MayGive from c
-    × WritesReading (reading_left s.key s.max_chunks s.index (left_of s.held c)) (s.index + length (pieces_left (left_of s.held c))) old new r
+    × WritesReading (reading_left s.key s.max_chunks s.index (left_of s.held c)) (length (pieces_left (left_of s.held c))) old new r
 
 -- A fault of a piece or of a write: at which piece it was met, what had been written, and how much of the source had been taken.
 pub record EndsAt (max more : ℕ) (from to old new : Option (List ℕ)) (fault : StreamFault) : Type 0 where
@@ -115,11 +115,6 @@ pub record EndsAt (max more : ℕ) (from to old new : Option (List ℕ)) (fault 
   pub written : Appends old new text
   pub at : ((fault ≡ Write) × (65536 * piece ≤ length text)) ⊎ IsAtPiece max piece fault
   pub gave : GaveAtMost (more + (65552 * (piece + 1) + 1)) from to
-
--- the payload that the source may have given was read: its reading was written
-abbrev pub WritesPayload : FileKey → ℕ → Option (List ℕ) → Option (List ℕ) → Option (List ℕ) → Result Done StreamFault → Type 0
-WritesPayload k max from old new r = (c : List ℕ) × MayGive from c
-    × WritesReading (payload_reading k max c) (length (pieces (drop 16 c))) old new r
 
 -- a piece's outcome is returned, and its opening stands in front
 abbrev pub GivesText : Result (List ℕ) StreamFault → List ℕ → Result ℕ StreamFault → Type 0

@@ -85,7 +85,7 @@ impl Chunks {
         key: &FileKey,
         dev: &mut D,
         payload_at: u64,
-        max_chunks: u64,
+        max_chunks: u128,
     ) -> Result<Chunks, StreamFault>
         ensures probes { Probes (D.bytes dev.old) (D.bytes dev.new) payload_at (D.given dev.old) (D.given dev.new) }
         ensures opens { OpensRanges key.now max_chunks payload_at (D.bytes dev.old) result }

@@ -2,7 +2,7 @@
 #[derive(Clone, Copy, Debug, Drop, PartialEq, Eq)]
 pub struct Done {
     /// The plaintext's length.
-    pub bytes: u64,
+    pub bytes: u128,
     /// The number of its chunks.
-    pub chunks: u64,
+    pub chunks: u128,
 }

@@ -4,11 +4,11 @@ pub enum StreamFault {
     /// There are fewer than the nonce's 16 bytes.
     NonceTruncated,
     /// This piece is shorter than a tag.
-    ChunkShort(u64),
+    ChunkShort(u128),
     /// The last piece has a tag alone, and stands behind others.
-    EmptyFinal(u64),
+    EmptyFinal(u128),
     /// No plaintext seals to this piece at its place.
-    BadChunk(u64),
+    BadChunk(u128),
     /// There are more chunks than are allowed.
     TooManyChunks,
     /// A read failed.

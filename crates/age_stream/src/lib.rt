@@ -24,6 +24,7 @@ pub use buffer::ChunkBuf;
 pub use done::Done;
 pub use fault::StreamFault;
 pub use opening::ChunkOpener;
+pub use place::chunk_nonce;
 pub use ranges::RangeReader;
 pub use read_at::{FileAt, MemAt, ReadAt};
 pub use reader::StreamReader;

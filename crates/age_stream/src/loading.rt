@@ -98,16 +98,16 @@ pub(crate) fn load<D: ReadAt>(
     ensures given { D.given dev.new ≤ D.given dev.old + (text_len layout.plain i + 16) }
     ensures count { CountsRead (D.failed dev.old) (D.failed dev.new) result }
 {
-    let nonce = chunk_nonce(i, i + 1 == layout.count);
+    let nonce = chunk_nonce(i as u128, i + 1 == layout.count);
     let end = chunk_len(layout, i) + 16;
     match read_full(dev, layout.first + 65_552 * i, buf, end) {
         Err(_) => Err(StreamFault::Read),
-        Ok(false) => Err(StreamFault::BadChunk(i)),
+        Ok(false) => Err(StreamFault::BadChunk(i as u128)),
         Ok(true) => {
             if open_front(&layout.key, &nonce, buf, end) {
                 Ok(())
             } else {
-                Err(StreamFault::BadChunk(i))
+                Err(StreamFault::BadChunk(i as u128))
             }
         }
     }
@@ -148,7 +148,7 @@ pub(crate) fn load_last<D: ReadAt>(
     key: [u8; 32],
     first: u64,
     sealed: u64,
-    max: u64,
+    max: u128,
     buf: &mut [u8],
 ) -> Result<Layout, StreamFault>
     requires room { length buf.old ≡ 65553 }
@@ -160,16 +160,16 @@ pub(crate) fn load_last<D: ReadAt>(
     ensures count { CountsRead (D.failed dev.old) (D.failed dev.new) result }
 {
     let last = sealed.saturating_sub(1) / 65_552;
-    if last >= max {
+    if last as u128 >= max {
         return Err(StreamFault::TooManyChunks);
     }
     let end = (sealed - 65_552 * last) as usize;
     match read_full(dev, first + 65_552 * last, buf, end) {
         Err(_) => return Err(StreamFault::Read),
-        Ok(false) => return Err(StreamFault::BadChunk(last)),
+        Ok(false) => return Err(StreamFault::BadChunk(last as u128)),
         Ok(true) => {}
     }
-    match open_piece(&key, max, last, true, buf, end) {
+    match open_piece(&key, max, last as u128, true, buf, end) {
         Ok(len) => Ok(Layout {
             key,
             first,

@@ -1,11 +1,10 @@
 //! Opening a payload's pieces, one after another.
-ghost use Rattle.std.specs.Prelude.{◌≡◌, ◌≢◌, ◌⊎◌, ◌<◌, ◌≤◌, ◌+◌, ◌-◌, ◌++◌, ◌&&◌, ℕ, List, [], length, take, drop, Some, None, Ok, Err, IfOk, OnOk, IfErr, IfSome, IfNone, IsErrOf, nat_lt, nat_eq, true};
+ghost use Rattle.std.specs.Prelude.{◌≡◌, ◌≢◌, ◌⊎◌, ◌<◌, ◌≤◌, ◌+◌, ◌-◌, ◌^◌, ◌++◌, ◌&&◌, ℕ, List, [], length, take, drop, Some, None, Ok, Err, IfOk, OnOk, IfErr, IfSome, IfNone, IsErrOf, nat_lt, nat_eq, true};
 ghost use Rattle.std.specs.Bool.{OnTrue, OnFalse};
-ghost use Rattle.std.specs.Io.KnownBytes.{Keeps};
 ghost use Rattle.age_cipher.specs.Sealing.{opened};
 ghost use Rattle.age_header.specs.Device.{GaveAtMost, MayGive};
 ghost use Rattle.age_stream.specs.Counts.{CountsRead, CountsWrite};
-ghost use Rattle.age_stream.specs.Opening.{Advances, EndsAt, GivesNonce, GivesText, IsAtPiece, Opens, Starts, WritesAll, WritesPayload};
+ghost use Rattle.age_stream.specs.Opening.{Advances, EndsAt, GivesNonce, GivesText, IsAtPiece, Opens, Starts, WritesAll};
 ghost use Rattle.age_stream.specs.Reading.{outcome};
 
 use crate::buffer::ChunkBuf;
@@ -22,8 +21,8 @@ use std::marker::Model;
 #[derive(Drop)]
 pub struct ChunkOpener {
     key: [u8; 32],
-    max_chunks: u64,
-    index: u64,
+    max_chunks: u128,
+    index: u128,
     buf: Vec<u8>,
     len: usize,
     ahead: usize,
@@ -32,7 +31,7 @@ pub struct ChunkOpener {
 }
 
 impl Model for ChunkOpener {
-    ghost use Rattle.std.specs.Prelude.{◌≡◌, ◌≤◌, length, take, drop};
+    ghost use Rattle.std.specs.Prelude.{◌≡◌, ◌≤◌, ◌^◌, length, take, drop};
     ghost use Rattle.age_stream.specs.Opening.{OpenerState, held_of};
 
     ghost Value = { OpenerState };
@@ -47,7 +46,7 @@ impl Model for ChunkOpener {
     } };
 
     ghost invariant = { λ o. (length o.buf.items ≡ 65553) × (o.ahead ≤ 1) × (o.len ≤ 65536)
-        × (o.index ≤ o.max_chunks) × (o.max_chunks ≤ 4294967296) };
+        × (o.index ≤ o.max_chunks) × (o.max_chunks ≤ 2 ^ 88) };
 }
 
 impl ChunkOpener {
@@ -60,10 +59,10 @@ impl ChunkOpener {
     pub fn start<S: Source>(
         key: &FileKey,
         source: &mut S,
-        max_chunks: u64,
+        max_chunks: u128,
         buf: ChunkBuf,
     ) -> Result<ChunkOpener, StreamFault>
-        requires { max_chunks ≤ 4294967296 }
+        requires { max_chunks ≤ 2 ^ 88 }
         ensures starts { Starts key.now max_chunks (S.to_come source.old) (S.to_come source.new) result }
         ensures gave { IsErrOf result StreamFault.Read ⊎ GaveAtMost 16 (S.to_come source.old) (S.to_come source.new) }
         ensures count { CountsRead (S.failed source.old) (S.failed source.new) result }
@@ -84,38 +83,6 @@ impl ChunkOpener {
         })
     }
 
-    /// Opens a payload, all that the source still gives (C2SP `age.md`, "Payload"), and writes the text of each piece as soon as it
-    /// is verified.
-    ///
-    /// # Errors
-    /// `NonceTruncated` where there are fewer than 16 bytes. Then, piece by piece, the first that applies: `TooManyChunks` where its
-    /// number reaches `max_chunks`, `ChunkShort` where it is shorter than a tag, `EmptyFinal` where it is the last, not the first, and a
-    /// tag alone, `BadChunk` where nothing seals to it at its place: the text of the pieces before it was written. `Read` and `Write`
-    /// where a device failed: a beginning of the text was written.
-    pub fn open_all<S: Source, W: Sink>(
-        key: &FileKey,
-        source: &mut S,
-        max_chunks: u64,
-        buf: ChunkBuf,
-        out: &mut W,
-    ) -> Result<Done, StreamFault>
-        requires { max_chunks ≤ 4294967296 }
-        ensures payload { WritesPayload key.now max_chunks (S.to_come source.old) (W.taken out.old) (W.taken out.new) result }
-        ensures ends { IfErr result (λ f. (f ≡ StreamFault.Read) ⊎ ((f ≡ StreamFault.NonceTruncated)
-            ⊎ EndsAt max_chunks 16 (S.to_come source.old) (S.to_come source.new) (W.taken out.old) (W.taken out.new) f)) }
-        ensures quiet { IfErr result (λ f. f ≡ StreamFault.NonceTruncated → Keeps (W.taken out.old) (W.taken out.new)) }
-        ensures reads { CountsRead (S.failed source.old) (S.failed source.new) result }
-        ensures writes { CountsWrite (W.failed out.old) (W.failed out.new) result }
-    {
-        match ChunkOpener::start(key, source, max_chunks, buf) {
-            Ok(opener) => {
-                let mut opener = opener;
-                opener.write_pieces(source, out)
-            }
-            Err(fault) => Err(fault),
-        }
-    }
-
     /// The text of the piece that was opened last; empty before the first, and after a fault.
     pub fn text(&self) -> &[u8]
         ensures text { result.now ≡ self.now.text }
@@ -124,22 +91,11 @@ impl ChunkOpener {
         &self.buf.as_slice()[..self.len]
     }
 
-    /// How much was opened, with all pieces opened.
-    fn done(&self, bytes: u64) -> Done
-        ensures { result ≡ record { bytes = bytes; chunks = self.now.index } }
+    /// The fault that is kept.
+    pub(crate) fn kept(&self) -> Option<StreamFault>
+        ensures { result ≡ self.now.fault }
     {
-        Done {
-            bytes,
-            chunks: self.index,
-        }
-    }
-
-    /// Keeps a failed write.
-    fn failed(&mut self) -> StreamFault
-        ensures { result ≡ StreamFault.Write }
-    {
-        self.fault = Some(StreamFault::Write);
-        StreamFault::Write
+        self.fault
     }
 
     /// Reads and opens the next piece; false after the last.
@@ -179,30 +135,33 @@ impl ChunkOpener {
         }
     }
 
-    /// Opens all pieces, and writes the text of each as soon as it is verified. Returns how much was opened.
-    fn write_pieces<S: Source, W: Sink>(
-        &mut self,
+    /// Opens the pieces that are left, and writes the text of each as soon as it is verified. Returns how much was written.
+    pub(crate) fn write_pieces<S: Source, W: Sink>(
+        self,
         source: &mut S,
         out: &mut W,
     ) -> Result<Done, StreamFault>
-        requires unkept { self.old.fault ≡ None }
-        requires first { self.old.index ≡ 0 }
-        ensures writes_all { WritesAll self.old (S.to_come source.old) (W.taken out.old) (W.taken out.new) result }
+        requires { self.fault ≡ None }
+        ensures writes_all { WritesAll self (S.to_come source.old) (W.taken out.old) (W.taken out.new) result }
         ensures ends { IfErr result (λ f. (f ≡ StreamFault.Read)
-            ⊎ EndsAt self.old.max_chunks 0 (S.to_come source.old) (S.to_come source.new) (W.taken out.old) (W.taken out.new) f) }
+            ⊎ EndsAt self.max_chunks 0 (S.to_come source.old) (S.to_come source.new) (W.taken out.old) (W.taken out.new) f) }
         ensures reads { CountsRead (S.failed source.old) (S.failed source.new) result }
         ensures writes { CountsWrite (W.failed out.old) (W.failed out.new) result }
     {
-        let mut bytes = 0;
+        let mut opener = self;
+        let mut done = Done {
+            bytes: 0,
+            chunks: 0,
+        };
         loop {
-            match self.advance(source) {
-                Ok(true) => {}
-                Ok(false) => return Ok(self.done(bytes)),
+            match opener.advance(source) {
+                Ok(true) => done.chunks += 1,
+                Ok(false) => return Ok(done),
                 Err(fault) => return Err(fault),
             }
-            match write_all(out, self.text()) {
-                Ok(()) => bytes += self.text().len() as u64,
-                Err(_) => return Err(self.failed()),
+            match write_all(out, opener.text()) {
+                Ok(()) => done.bytes += opener.text().len() as u128,
+                Err(_) => return Err(StreamFault::Write),
             }
         }
     }
@@ -220,13 +179,14 @@ fn next_piece<S: Source>(
     source: &mut S,
     bytes: &mut [u8],
     key: &[u8; 32],
-    max: u64,
-    i: u64,
+    max: u128,
+    i: u128,
     ahead: usize,
 ) -> Result<Piece, StreamFault>
     requires size { length bytes.old ≡ 65553 }
     requires ahead { ahead ≤ 1 }
     requires index { i ≤ max }
+    requires small { max ≤ 2 ^ 88 }
     ensures len { length bytes.new ≡ 65553 }
     ensures count { CountsRead (S.failed source.old) (S.failed source.new) result }
     ensures opens { IsErrOf result StreamFault.Read ⊎ ((d : List ℕ) → MayGive (S.to_come source.new) d → (c : List ℕ)
@@ -283,8 +243,8 @@ fn carry(bytes: &mut [u8], ahead: usize)
 /// Opens the first `end` bytes where they stand, as piece i; the length of their text, which is then in front.
 pub(crate) fn open_piece(
     key: &[u8; 32],
-    max: u64,
-    i: u64,
+    max: u128,
+    i: u128,
     last: bool,
     bytes: &mut [u8],
     end: usize,
@@ -292,6 +252,7 @@ pub(crate) fn open_piece(
     requires high { end ≤ length bytes.old }
     requires size { end ≤ 65552 }
     requires index { i ≤ max }
+    requires small { i < max → i < 2 ^ 88 }
     ensures len { length bytes.new ≡ length bytes.old }
     ensures behind { drop end bytes.new ≡ drop end bytes.old }
     ensures size { IfOk result (λ n. n ≡ end - 16) }
@@ -316,7 +277,7 @@ pub(crate) fn open_piece(
 }
 
 /// Whether the piece is the last, not the first, and a tag alone.
-fn is_empty_final(last: bool, i: u64, len: usize) -> bool
+fn is_empty_final(last: bool, i: u128, len: usize) -> bool
     ensures { result ≡ (last && nat_lt 0 i && nat_eq len 16) }
 {
     last && i > 0 && len == 16

@@ -1,16 +1,18 @@
 //! The keys and nonces of a payload's chunks.
-ghost use Rattle.std.specs.Prelude.{◌≡◌};
+ghost use Rattle.std.specs.Prelude.{◌≡◌, ◌^◌, ◌<◌};
 ghost use Rattle.age_stream.specs.Payload.{payload_key, place};
 
 use age_kdf::hkdf;
 use age_recipient::FileKey;
 
-/// The nonce of chunk i.
-pub(crate) fn chunk_nonce(i: u64, last: bool) -> [u8; 12]
+/// The nonce of chunk i: its number in eleven big-endian bytes, then 1 for the last chunk and 0 for the others (C2SP `age.md`,
+/// "Payload"). Eleven bytes hold the numbers below 2^88.
+pub fn chunk_nonce(i: u128, last: bool) -> [u8; 12]
+    requires { i < 2 ^ 88 }
     ensures { result ≡ place i last }
 {
-    let [a, b, c, d, e, f, g, h] = i.to_be_bytes();
-    [0, 0, 0, a, b, c, d, e, f, g, h, if last { 1 } else { 0 }]
+    let [_, _, _, _, _, a, b, c, d, e, f, g, h, j, k, l] = i.to_be_bytes();
+    [a, b, c, d, e, f, g, h, j, k, l, if last { 1 } else { 0 }]
 }
 
 /// The key of the chunks behind this nonce.

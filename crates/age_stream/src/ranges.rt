@@ -37,7 +37,7 @@ impl<'a, D: ReadAt> RangeReader<'a, D> {
         key: &FileKey,
         dev: &'a mut D,
         payload_at: u64,
-        max_chunks: u64,
+        max_chunks: u128,
     ) -> Result<RangeReader<'a, D>, Refused<'a, D, StreamFault>>
         ensures same_reference { IfOk result (λ reader. reader.dev.ghost_name ≡ dev.entry.ghost_name) }
         ensures opens { IfOk result (λ reader. OpensRanges key.now max_chunks payload_at (D.bytes dev.old) (Ok reader.chunks)) }
@@ -69,7 +69,7 @@ impl<'a, D: ReadAt> RangeReader<'a, D> {
         key: &FileKey,
         dev: &'a mut D,
         payload_at: u64,
-        max_chunks: u64,
+        max_chunks: u128,
     ) -> Result<RangeReader<'a, D>, StreamFault>
         ensures same_reference { IfOk result (λ reader. reader.dev.ghost_name ≡ dev.entry.ghost_name) }
         ensures opens { IfOk result (λ reader. OpensRanges key.now max_chunks payload_at (D.bytes dev.old) (Ok reader.chunks)) }

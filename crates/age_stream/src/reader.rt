@@ -1,18 +1,19 @@
 //! Reading a payload chunk by chunk from a caller's source.
-ghost use Rattle.std.specs.Prelude.{◌≡◌, ◌⊎◌, ◌≤◌, ℕ, List, [], Ok, Err, Some, None, IfOk, IfErr, IfSome, IfNone, IsErrOf, ⊤};
+ghost use Rattle.std.specs.Prelude.{◌≡◌, ◌⊎◌, ◌≤◌, ◌^◌, ℕ, List, [], Ok, Err, Some, None, IfOk, IfErr, IfSome, IfNone, IsErrOf, ⊤};
 ghost use Rattle.std.specs.Borrow.{sem, follows_so};
 ghost use Rattle.age_header.specs.Device.{GaveAtMost};
-ghost use Rattle.age_stream.specs.Counts.{CountsRead};
-ghost use Rattle.age_stream.specs.Opening.{Advances, Starts};
+ghost use Rattle.age_stream.specs.Counts.{CountsRead, CountsWrite};
+ghost use Rattle.age_stream.specs.Opening.{Advances, EndsAt, Starts, WritesAll};
 ghost use Rattle.age_stream.specs.Reader.{Lends, MissesNonce, lent};
 ghost use mathlib.Core.Option.{none};
 ghost use mir.Syntax.{named};
 
 use crate::buffer::ChunkBuf;
+use crate::done::Done;
 use crate::fault::StreamFault;
 use crate::opening::ChunkOpener;
 use crate::refused::Refused;
-use age_header::Source;
+use age_header::{Sink, Source};
 use age_recipient::FileKey;
 use std::alloc::Global;
 
@@ -46,9 +47,9 @@ impl<'a, S: Source> StreamReader<'a, S> {
         alloc: Global,
         key: &FileKey,
         input: &'a mut S,
-        max_chunks: u64,
+        max_chunks: u128,
     ) -> Result<StreamReader<'a, S>, Refused<'a, S, StreamFault>>
-        requires { max_chunks ≤ 4294967296 }
+        requires { max_chunks ≤ 2 ^ 88 }
         ensures same_reference { IfOk result (λ reader. reader.input.ghost_name ≡ input.entry.ghost_name) }
         ensures starts { IfOk result (λ reader. Starts key.now max_chunks (S.to_come input.old) (S.to_come reader.input.now) (Ok reader.opener)) }
         ensures gave { IfOk result (λ reader. GaveAtMost 16 (S.to_come input.old) (S.to_come reader.input.now)) }
@@ -77,9 +78,9 @@ impl<'a, S: Source> StreamReader<'a, S> {
         alloc: Global,
         key: &FileKey,
         input: &'a mut S,
-        max_chunks: u64,
+        max_chunks: u128,
     ) -> Result<StreamReader<'a, S>, StreamFault>
-        requires { max_chunks ≤ 4294967296 }
+        requires { max_chunks ≤ 2 ^ 88 }
         ensures same_reference { IfOk result (λ reader. reader.input.ghost_name ≡ input.entry.ghost_name) }
         ensures starts { IfOk result (λ reader. Starts key.now max_chunks (S.to_come input.old) (S.to_come reader.input.now) (Ok reader.opener)) }
         ensures gave { IfOk result (λ reader. GaveAtMost 16 (S.to_come input.old) (S.to_come reader.input.now)) }
@@ -132,6 +133,28 @@ impl<'a, S: Source> StreamReader<'a, S> {
             Ok(Some(self.chunk()))
         } else {
             Ok(None)
+        }
+    }
+
+    /// Writes the chunks of the plaintext that are left, each as soon as it is verified. Returns how many bytes it wrote, and of how
+    /// many chunks.
+    ///
+    /// # Errors
+    /// Those of `next_chunk`: the chunks before were written. `Write` where the sink failed: a beginning of the chunks was written.
+    pub fn copy_to<W: Sink>(self, out: &mut W) -> Result<Done, StreamFault>
+        ensures kept { IfSome self.entry.opener.fault (λ f. (result ≡ Err f) × (self.exit.0.now ≡ self.entry.input.now)
+            × (out.new ≡ out.old)) }
+        ensures writes_all { IfNone self.entry.opener.fault (WritesAll self.entry.opener (S.to_come self.entry.input.now)
+            (W.taken out.old) (W.taken out.new) result) }
+        ensures ends { IfNone self.entry.opener.fault (IfErr result (λ f. (f ≡ StreamFault.Read) ⊎ EndsAt self.entry.opener.max_chunks 0
+            (S.to_come self.entry.input.now) (S.to_come self.exit.0.now) (W.taken out.old) (W.taken out.new) f)) }
+        ensures reads { IfNone self.entry.opener.fault (CountsRead (S.failed self.entry.input.now) (S.failed self.exit.0.now) result) }
+        ensures writes { IfNone self.entry.opener.fault (CountsWrite (W.failed out.old) (W.failed out.new) result) }
+    {
+        let StreamReader { input, opener } = self;
+        match opener.kept() {
+            Some(fault) => Err(fault),
+            None => opener.write_pieces(input, out),
         }
     }
 }

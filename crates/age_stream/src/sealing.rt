@@ -1,11 +1,11 @@
 //! Sealing a payload's chunks, one after another.
-ghost use Rattle.std.specs.Prelude.{◌≡◌, ◌⊎◌, ◌<◌, ◌≤◌, ◌+◌, ◌-◌, ◌++◌, ℕ, List, [], length, take, Some, None, Ok, Err, IfOk, OnOk, OnErr, IfErr, IfSome, IfNone, MatchResult};
+ghost use Rattle.std.specs.Prelude.{◌≡◌, ◌⊎◌, ◌<◌, ◌≤◌, ◌+◌, ◌-◌, ◌^◌, ◌++◌, ℕ, List, [], length, take, Some, None, Ok, Err, IfOk, OnOk, OnErr, IfErr, IfSome, IfNone, MatchResult};
 ghost use Rattle.std.specs.Io.KnownBytes.{Appends, IsAtEnd};
 ghost use Rattle.age_cipher.specs.Sealing.{sealed};
 ghost use Rattle.age_header.specs.Device.{Counts, Writes};
 ghost use Rattle.age_header.specs.Filling.{Filled};
 ghost use Rattle.age_stream.specs.Counts.{CountsRead, CountsWrite};
-ghost use Rattle.age_stream.specs.Sealing.{IsFed, PutsFull, SealsAll, Stopped, TakesAll, FinishesBy};
+ghost use Rattle.age_stream.specs.Sealing.{IsFed, PutsFull, Stopped, TakesAll, FinishesBy};
 ghost use Rattle.age_stream.specs.Payload.{payload_key, place};
 
 use crate::buffer::ChunkBuf;
@@ -22,31 +22,31 @@ use std::marker::Model;
 #[derive(Drop)]
 pub struct ChunkSealer {
     key: [u8; 32],
-    max_chunks: u64,
-    index: u64,
+    max_chunks: u128,
+    index: u128,
     buf: Vec<u8>,
     len: usize,
     fault: Option<StreamFault>,
 }
 
 impl Model for ChunkSealer {
-    ghost use Rattle.std.specs.Prelude.{◌≡◌, ◌≤◌, ◌<◌, length, take};
+    ghost use Rattle.std.specs.Prelude.{◌≡◌, ◌≤◌, ◌<◌, ◌^◌, length, take};
     ghost use Rattle.age_stream.specs.Sealing.{SealerState};
 
     ghost Value = { SealerState };
 
     ghost view = { λ s. record { key = s.key; max_chunks = s.max_chunks; index = s.index; held = take s.len s.buf.items; fault = s.fault } };
 
-    ghost invariant = { λ s. (length s.buf.items ≡ 65553) × (s.len ≤ 65536) × (s.index < s.max_chunks) × (s.max_chunks ≤ 4294967296) };
+    ghost invariant = { λ s. (length s.buf.items ≡ 65553) × (s.len ≤ 65536) × (s.index < s.max_chunks) × (s.max_chunks ≤ 2 ^ 88) };
 }
 
 impl ChunkSealer {
     ghost use Rattle.age_stream.specs.Sealing.{at_start};
 
     /// A sealer of the payload with this nonce under this file key, before chunk 0.
-    pub fn new(key: &FileKey, nonce: &[u8; 16], max_chunks: u64, buf: ChunkBuf) -> ChunkSealer
+    pub fn new(key: &FileKey, nonce: &[u8; 16], max_chunks: u128, buf: ChunkBuf) -> ChunkSealer
         requires low { 1 ≤ max_chunks }
-        requires high { max_chunks ≤ 4294967296 }
+        requires high { max_chunks ≤ 2 ^ 88 }
         ensures { result ≡ at_start (payload_key key.now nonce.now) max_chunks }
     {
         ChunkSealer {
@@ -94,24 +94,6 @@ impl ChunkSealer {
         }
     }
 
-    /// Takes all that the source still gives, and writes all its chunks. Returns how much was sealed.
-    pub fn seal_all<S: Source, W: Sink>(
-        self,
-        plain: &mut S,
-        out: &mut W,
-    ) -> Result<Done, StreamFault>
-        ensures kept { IfSome self.fault (λ f. (result ≡ Err f) × (plain.new ≡ plain.old) × (out.new ≡ out.old)) }
-        ensures seals { IfNone self.fault (SealsAll self (S.to_come plain.old) (S.to_come plain.new) (W.taken out.old) (W.taken out.new) result) }
-        ensures reads { IfNone self.fault (CountsRead (S.failed plain.old) (S.failed plain.new) result) }
-        ensures writes { IfNone self.fault (CountsWrite (W.failed out.old) (W.failed out.new) result) }
-    {
-        let mut sealer = self;
-        match sealer.write_from(plain, out) {
-            Ok(()) => sealer.finish(out),
-            Err(fault) => Err(fault),
-        }
-    }
-
     /// Seals what is held as the last chunk, and writes it. Returns how much was sealed in all.
     pub fn finish<W: Sink>(self, out: &mut W) -> Result<Done, StreamFault>
         ensures kept { IfSome self.fault (λ f. (result ≡ Err f) × (out.new ≡ out.old)) }
@@ -132,7 +114,7 @@ impl ChunkSealer {
         let mut buf = buf;
         match put_sealed(out, &key, index, true, buf.as_mut_slice(), len) {
             Ok(()) => Ok(Done {
-                bytes: 65_536 * index + len as u64,
+                bytes: 65_536 * index + len as u128,
                 chunks: index + 1,
             }),
             Err(_) => Err(StreamFault::Write),
@@ -146,14 +128,15 @@ fn feed<S: Source, W: Sink>(
     plain: &mut S,
     out: &mut W,
     key: &[u8; 32],
-    max: u64,
-    index: &mut u64,
+    max: u128,
+    index: &mut u128,
     bytes: &mut [u8],
     len: usize,
 ) -> Result<usize, StreamFault>
     requires size { length bytes.old ≡ 65553 }
     requires held { len ≤ 65536 }
     requires within { index.old < max }
+    requires small { max ≤ 2 ^ 88 }
     ensures size { length bytes.new ≡ 65553 }
     ensures within { index.new < max }
     ensures len { IfOk result (λ n. n ≤ 65536) }
@@ -196,12 +179,13 @@ fn fill_chunk<S: Source>(plain: &mut S, bytes: &mut [u8], held: usize) -> Result
 fn put_full<W: Sink>(
     out: &mut W,
     key: &[u8; 32],
-    max: u64,
-    index: &mut u64,
+    max: u128,
+    index: &mut u128,
     bytes: &mut [u8],
 ) -> Result<(), StreamFault>
     requires size { length bytes.old ≡ 65553 }
     requires within { index.old < max }
+    requires small { max ≤ 2 ^ 88 }
     ensures size { length bytes.new ≡ 65553 }
     ensures within { index.new < max }
     ensures puts { PutsFull key.now max index.old index.new bytes.old bytes.new (W.taken out.old) (W.taken out.new) result }
@@ -225,13 +209,14 @@ fn put_full<W: Sink>(
 fn put_sealed<W: Sink>(
     out: &mut W,
     key: &[u8; 32],
-    i: u64,
+    i: u128,
     last: bool,
     bytes: &mut [u8],
     len: usize,
 ) -> Result<(), DeviceFault>
     requires size { length bytes.old ≡ 65553 }
     requires len { len ≤ 65536 }
+    requires small { i < 2 ^ 88 }
     ensures size { length bytes.new ≡ 65553 }
     ensures text { Writes (W.taken out.old) (W.taken out.new) result (sealed key.now (place i last) [] (take len bytes.old)) }
     ensures count { Counts (W.failed out.old) (W.failed out.new) result }

@@ -3,7 +3,7 @@
 mod devices;
 mod ranges;
 
-use crate::{ChunkBuf, Done, StreamFault, StreamReader, StreamWriter};
+use crate::{ChunkBuf, Done, StreamFault, StreamReader, StreamWriter, chunk_nonce};
 use age_header::{MemSink, MemSource, Sink};
 use age_recipient::FileKey;
 use devices::{Full, Short};
@@ -16,7 +16,7 @@ const NONCE: [u8; 16] = [
     0x10, 0x11, 0x12, 0x13, 0x14, 0x15, 0x16, 0x17, 0x18, 0x19, 0x1a, 0x1b, 0x1c, 0x1d, 0x1e, 0x1f,
 ];
 
-const MOST: u64 = 4_294_967_296;
+const MOST: u128 = 1 << 88;
 
 /// The payload of the empty plaintext under that key and nonce, and the last chunk of 131,073 bytes 7, both by
 /// tests/reference.py.
@@ -79,6 +79,26 @@ fn read(alloc: Global, payload: &[u8], most: usize) -> Result<(Vec<u8>, u64), Fa
         }
     }
     Err(Fail::from(StreamFault::TooManyChunks))
+}
+
+/// The nonces of numbers about the ends of 32, 64 and 88 bits.
+#[test]
+fn nonces(rt: HostRuntime) -> Result<(), Fail> {
+    assert_eq!(rt; chunk_nonce(0, true), [0, 0, 0, 0, 0, 0, 0, 0, 0, 0, 0, 1]);
+    assert_eq!(rt;
+        chunk_nonce(1 << 32, false),
+        [0, 0, 0, 0, 0, 0, 1, 0, 0, 0, 0, 0]
+    );
+    assert_eq!(rt;
+        chunk_nonce(1 << 64, false),
+        [0, 0, 1, 0, 0, 0, 0, 0, 0, 0, 0, 0]
+    );
+    let ff = 0xff;
+    assert_eq!(rt;
+        chunk_nonce(MOST - 1, true),
+        [ff, ff, ff, ff, ff, ff, ff, ff, ff, ff, ff, 1]
+    );
+    Ok(())
 }
 
 /// The empty payload, by both constructors; an empty piece writes nothing.
@@ -154,9 +174,9 @@ fn chunk_counts(rt: HostRuntime) -> Result<(), Fail> {
     ] {
         let plain = sevens(alloc, len)?;
         let (done, payload) = written(alloc, plain.as_slice(), len)?;
-        let bytes = len as u64;
+        let bytes = len as u128;
         assert!(rt; done == Ok(Done { bytes, chunks }));
-        assert_eq!(rt; payload.len() as u64, 16 + bytes + 16 * chunks);
+        assert_eq!(rt; payload.len() as u128, 16 + bytes + 16 * chunks);
         assert!(rt; len < 131_073 || payload.as_slice().ends_with(&THIRD_CHUNK));
     }
     Ok(())

@@ -1,10 +1,10 @@
 //! Writing a payload piece by piece to a caller's sink.
-ghost use Rattle.std.specs.Prelude.{◌≡◌, ◌⊎◌, ◌≤◌, ℕ, List, Ok, Err, IfOk, IfErr, IfSome, IfNone};
+ghost use Rattle.std.specs.Prelude.{◌≡◌, ◌⊎◌, ◌≤◌, ◌^◌, ℕ, List, Ok, Err, IfOk, IfErr, IfSome, IfNone};
 ghost use Rattle.std.specs.Io.KnownBytes.{Appends};
 ghost use Rattle.age_header.specs.Device.{Writes};
-ghost use Rattle.age_stream.specs.Counts.{CountsWrite};
+ghost use Rattle.age_stream.specs.Counts.{CountsRead, CountsWrite};
 ghost use Rattle.age_stream.specs.Payload.{payload_key};
-ghost use Rattle.age_stream.specs.Sealing.{at_start, FinishesBy};
+ghost use Rattle.age_stream.specs.Sealing.{at_start, FinishesBy, SealsAll};
 ghost use Rattle.age_stream.specs.Writer.{LosesNonce, TakesPiece};
 
 use crate::buffer::ChunkBuf;
@@ -12,12 +12,12 @@ use crate::done::Done;
 use crate::fault::StreamFault;
 use crate::refused::Refused;
 use crate::sealing::ChunkSealer;
-use age_header::{MemSource, Sink, write_all};
+use age_header::{MemSource, Sink, Source, write_all};
 use age_recipient::FileKey;
 use std::alloc::Global;
 
-/// Writes a payload to a caller's sink. It must be spent, by `finish` or by `abandon`. It keeps a fault, and returns it from then on
-/// without asking the sink.
+/// Writes a payload to a caller's sink. It must be spent, by `seal_from`, `finish` or `abandon`. It keeps a fault, and returns it from
+/// then on without asking the sink.
 pub struct StreamWriter<'a, W, B = ChunkSealer> {
     out: &'a mut W,
     sealer: B,
@@ -41,11 +41,11 @@ impl<'a, W: Sink> StreamWriter<'a, W> {
         key: &FileKey,
         nonce: &[u8; 16],
         out: &'a mut W,
-        max_chunks: u64,
+        max_chunks: u128,
         buf: ChunkBuf,
     ) -> Result<StreamWriter<'a, W>, Refused<'a, W, StreamFault>>
         requires low { 1 ≤ max_chunks }
-        requires high { max_chunks ≤ 4294967296 }
+        requires high { max_chunks ≤ 2 ^ 88 }
         ensures same_reference { IfOk result (λ writer. writer.out.ghost_name ≡ out.entry.ghost_name) }
         ensures written { IfOk result (λ writer. Appends (W.taken out.old) (W.taken writer.out.now) nonce.now) }
         ensures uncounted { IfOk result (λ writer. W.failed writer.out.now ≡ W.failed out.old) }
@@ -70,10 +70,10 @@ impl<'a, W: Sink> StreamWriter<'a, W> {
         key: &FileKey,
         nonce: &[u8; 16],
         out: &'a mut W,
-        max_chunks: u64,
+        max_chunks: u128,
     ) -> Result<StreamWriter<'a, W>, Refused<'a, W, StreamFault>>
         requires low { 1 ≤ max_chunks }
-        requires high { max_chunks ≤ 4294967296 }
+        requires high { max_chunks ≤ 2 ^ 88 }
         ensures same_reference { IfOk result (λ writer. writer.out.ghost_name ≡ out.entry.ghost_name) }
         ensures written { IfOk result (λ writer. Appends (W.taken out.old) (W.taken writer.out.now) nonce.now) }
         ensures uncounted { IfOk result (λ writer. W.failed writer.out.now ≡ W.failed out.old) }
@@ -101,11 +101,11 @@ impl<'a, W: Sink> StreamWriter<'a, W> {
         key: &FileKey,
         nonce: &[u8; 16],
         out: &'a mut W,
-        max_chunks: u64,
+        max_chunks: u128,
         buf: ChunkBuf,
     ) -> Result<StreamWriter<'a, W>, StreamFault>
         requires low { 1 ≤ max_chunks }
-        requires high { max_chunks ≤ 4294967296 }
+        requires high { max_chunks ≤ 2 ^ 88 }
         ensures same_reference { IfOk result (λ writer. writer.out.ghost_name ≡ out.entry.ghost_name) }
         ensures written { IfOk result (λ writer. Appends (W.taken out.old) (W.taken writer.out.now) nonce.now) }
         ensures uncounted { IfOk result (λ writer. W.failed writer.out.now ≡ W.failed out.old) }
@@ -130,10 +130,10 @@ impl<'a, W: Sink> StreamWriter<'a, W> {
         key: &FileKey,
         nonce: &[u8; 16],
         out: &'a mut W,
-        max_chunks: u64,
+        max_chunks: u128,
     ) -> Result<StreamWriter<'a, W>, StreamFault>
         requires low { 1 ≤ max_chunks }
-        requires high { max_chunks ≤ 4294967296 }
+        requires high { max_chunks ≤ 2 ^ 88 }
         ensures same_reference { IfOk result (λ writer. writer.out.ghost_name ≡ out.entry.ghost_name) }
         ensures written { IfOk result (λ writer. Appends (W.taken out.old) (W.taken writer.out.now) nonce.now) }
         ensures uncounted { IfOk result (λ writer. W.failed writer.out.now ≡ W.failed out.old) }
@@ -162,6 +162,26 @@ impl<'a, W: Sink> StreamWriter<'a, W> {
     {
         let mut source = MemSource::new(piece);
         self.sealer.write_from(&mut source, self.out)
+    }
+
+    /// Takes all that the source still gives, and writes all its chunks, the last one too. Returns how much was sealed in all.
+    ///
+    /// # Errors
+    /// Those of `write_piece`, and `Read` where the source failed: a beginning of the sealed chunks was written.
+    pub fn seal_from<S: Source>(self, plain: &mut S) -> Result<Done, StreamFault>
+        ensures kept { IfSome self.entry.sealer.fault (λ f. (result ≡ Err f) × (plain.new ≡ plain.old)
+            × (self.exit.0.now ≡ self.entry.out.now)) }
+        ensures seals { IfNone self.entry.sealer.fault (SealsAll self.entry.sealer (S.to_come plain.old) (S.to_come plain.new)
+            (W.taken self.entry.out.now) (W.taken self.exit.0.now) result) }
+        ensures reads { IfNone self.entry.sealer.fault (CountsRead (S.failed plain.old) (S.failed plain.new) result) }
+        ensures writes { IfNone self.entry.sealer.fault (CountsWrite (W.failed self.entry.out.now) (W.failed self.exit.0.now) result) }
+    {
+        let StreamWriter { out, sealer } = self;
+        let mut sealer = sealer;
+        match sealer.write_from(plain, out) {
+            Ok(()) => sealer.finish(out),
+            Err(fault) => Err(fault),
+        }
     }
 
     /// Seals what is held as the last chunk, and writes it. Returns how much was sealed in all.

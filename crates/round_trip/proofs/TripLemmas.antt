@@ -1,29 +1,30 @@
 -- One recipient's file, and what one identity reads of it.
-use Rattle.std.proofs.Common.{◌≡◌, ◌∙◌, ℕ, List, [], ◌∷◌, ◌++◌, map, sym, ap, subst, arith, Option, Some, Result, Ok, Err}
+use Rattle.std.proofs.Common.{◌≡◌, ◌∙◌, ℕ, List, [], ◌∷◌, ◌++◌, map, sym, ap, subst, arith, Option, Some, None, Result, Ok, Err}
 use Rattle.std.proofs.lemmas.List.{append-nil}
 use Rattle.std.proofs.lemmas.Option.{none-some}
 use Rattle.age_file.specs.declared.fault.Fault.{Fault}
-use Rattle.age_file.specs.declared.fault.Fault.TheVariants.{NotAge, BadLine, HeaderTruncated, HeaderTooLarge, MixedPassphrase, NoMatch, WrongKey, Malformed, BadMac, NonceTruncated, ChunkShort, EmptyFinal, BadChunk, TooManyChunks, Read, Write, OutOfMemory, NoRecipients, Refused}
+use Rattle.age_file.specs.declared.fault.Fault.TheVariants.{NotAge, BadLine, HeaderTruncated, HeaderTooLarge, MixedPassphrase, NoMatch, WrongKey, Malformed, BadMac, NonceTruncated, ChunkShort, EmptyFinal, BadChunk, TooManyChunks, Read, Write, OutOfMemory, NoRecipients, Refused, IncompatibleRecipients}
 use Rattle.age_file.specs.declared.limits.Fresh.{Fresh}
 use Rattle.age_file.specs.AgeFile.{AgeFile, Bounds}
 use Rattle.age_file.specs.Decrypt.{Decrypts, GivesVerdict}
 use Rattle.age_file.specs.Device.{CountsRead}
-use Rattle.age_file.specs.NewFile.{EncryptsText, gathered}
+use Rattle.age_file.specs.NewFile.{EncryptsText, Gathered}
 use Rattle.age_file.specs.Verdict.{Answering, IsVerdict}
-use Rattle.age_file.specs.Words.{Done, Reading, StanzaParts, Unwrapped, whole}
+use Rattle.age_file.specs.Words.{Done, Labels, Reading, StanzaParts, Unwrapped, whole}
 use Rattle.round_trip.specs.Losses.{IsMemoryFault}
 
 -- what one recipient gives is what all give
-gathered_one : (wrapped : Result (List StanzaParts) ℕ) (stanzas : List StanzaParts) → gathered (wrapped ∷ []) ≡ Ok stanzas → wrapped ≡ Ok stanzas
-gathered_one (Ok given) stanzas e = let same : given ++ [] ≡ stanzas = cc in ap Ok (sym (append-nil given) ∙ same)
-gathered_one (Err code) stanzas e = cc
+gathered_one : (wrapped : Result (List StanzaParts) ℕ) (meant : List Labels) (stanzas : List StanzaParts) → Gathered (wrapped ∷ []) meant (Ok stanzas) → wrapped ≡ Ok stanzas
+gathered_one (Ok given) meant stanzas (None, apart, e) = let same : stanzas ≡ given ++ [] = cc in ap Ok (sym (append-nil given) ∙ sym same)
+gathered_one (Ok given) meant stanzas (Some i, apart, e) = cc
+gathered_one (Err code) meant stanzas (place, apart, e) = cc
 
-pub file_of_one : (limits : Bounds) (fresh : Fresh) (wrapped : Result (List StanzaParts) ℕ) (plain file : List ℕ) (done : Done)
-    → EncryptsText limits fresh (gathered (wrapped ∷ [])) plain (Some []) (Some file) (Ok done)
+pub file_of_one : (limits : Bounds) (fresh : Fresh) (wrapped : Result (List StanzaParts) ℕ) (meant : List Labels) (plain file : List ℕ) (done : Done)
+    → EncryptsText limits fresh (Gathered (wrapped ∷ []) meant) plain (Some []) (Some file) (Ok done)
     → (stanzas : List StanzaParts) × (wrapped ≡ Ok stanzas) × AgeFile limits fresh.file_key stanzas plain file
-file_of_one limits fresh wrapped plain file done h =
+file_of_one limits fresh wrapped meant plain file done h =
     let is : file ≡ h.0 = h.2 in
-    (h.1.stanzas, gathered_one wrapped h.1.stanzas h.1.heading.gives, rw is h.1.file)
+    (h.1.stanzas, gathered_one wrapped meant h.1.stanzas h.1.heading.gives, rw is h.1.file)
 
 -- bytes have one verdict
 abbrev pub IsOnce : Bounds → Answering → List ℕ → Type 0
@@ -60,6 +61,7 @@ lost_of_whole limits answers b plain (BadChunk i) old new once is count h = no_f
 lost_of_whole limits answers b plain TooManyChunks old new once is count h = no_fault limits answers b plain TooManyChunks old new once is h
 lost_of_whole limits answers b plain NoRecipients old new once is count h = no_fault limits answers b plain NoRecipients old new once is h
 lost_of_whole limits answers b plain (Refused i code) old new once is count h = no_fault limits answers b plain (Refused i code) old new once is h
+lost_of_whole limits answers b plain (IncompatibleRecipients i) old new once is count h = no_fault limits answers b plain (IncompatibleRecipients i) old new once is h
 
 -- the same where the identity stands alone in a list
 pub lost_of_one : {X : Type 0} (limits : Bounds) (meaning : X → List StanzaParts → Unwrapped) (xs : List X) (x : X) (a b plain : List ℕ) (fault : Fault)

@@ -49,12 +49,20 @@ fn says_each_fault(rt: HostRuntime) -> Result<(), Fail> {
             Fault::BadChunk(4_294_967_295),
             "chunk 4294967295 is damaged",
         ),
+        (
+            Fault::BadChunk((1 << 88) - 1),
+            "chunk 309485009821345068724781055 is damaged",
+        ),
         (Fault::TooManyChunks, "too many chunks"),
         (Fault::Read, "read failed"),
         (Fault::Write, "write failed"),
         (Fault::OutOfMemory, "out of memory"),
         (Fault::NoRecipients, "no recipients"),
         (Fault::Refused(1, 7), "recipient 1 refused: 7"),
+        (
+            Fault::IncompatibleRecipients(2),
+            "recipient 2 does not go with recipient 0",
+        ),
     ] {
         let said = format!(in rt.alloc(); "{fault}")?;
         assert_eq!(rt; said.as_str(), text);

@@ -1,12 +1,15 @@
 //! Recipients and identities of a caller: what the calls make of each.
 
-use super::objects::{Counts, Curve, Long, Makes, Pair, Refuses, Silent, Starved};
+use super::objects::{Counts, Curve, Labelled, Long, Makes, Pair, Refuses, Silent, Starved};
 use super::{
     FRESH, Identities, PASS, Recipients, SALT, decrypted, done, encrypted, passphrase, with_key,
     with_passphrase,
 };
 use crate::{Fault, Limits};
-use age_recipient::{FileKey, KeyRecipient, PassIdentity, StanzaFault, Unwrapped};
+use age_recipient::{
+    FileKey, KeyRecipient, LabelSet, Labels, PassIdentity, PassRecipient, StanzaFault, Unwrapped,
+};
+use age_stream::Done;
 use std::alloc::Global;
 use std::cell::Cell;
 use std::rc::Rc;
@@ -82,10 +85,13 @@ fn refused_recipients(rt: HostRuntime) -> Result<(), Fail> {
     silent.push(Box::new(alloc, Silent)?)?;
     let mut pair: Recipients = Vec::new(alloc);
     pair.push(Box::new(alloc, Pair)?)?;
+    let mut two_passphrases = with_passphrase(alloc)?;
+    two_passphrases.push(Box::new(alloc, PassRecipient::new(alloc, PASS, SALT, 10)?)?)?;
     for (recipients, fault) in [
         (&none, Fault::NoRecipients),
         (&silent, Fault::NoRecipients),
-        (&mixed, Fault::MixedPassphrase),
+        (&mixed, Fault::IncompatibleRecipients(1)),
+        (&two_passphrases, Fault::IncompatibleRecipients(1)),
         (&pair, Fault::MixedPassphrase),
         (&refuses, Fault::Refused(1, 7)),
         (&with_letters(alloc, 950)?, Fault::HeaderTooLarge),
@@ -101,6 +107,40 @@ fn refused_recipients(rt: HostRuntime) -> Result<(), Fail> {
     let (answer, out) = encrypted(alloc, b"", &silent, &limits);
     assert!(rt; answer == done(0));
     assert_eq!(rt; out.len(), 188);
+    Ok(())
+}
+
+/// Recipients with these labels; None stands for one that must stand alone.
+fn labelled(alloc: Global, all: &[Option<&[&str]>]) -> Result<Recipients, Fail> {
+    let mut recipients: Recipients = Vec::new(alloc);
+    for names in all {
+        let labels = match names {
+            Some(names) => Labels::Names(LabelSet::new(alloc, names)?),
+            None => Labels::Alone,
+        };
+        recipients.push(Box::new(alloc, Labelled { labels })?)?;
+    }
+    Ok(recipients)
+}
+
+/// Recipients go together where their labels are the same set of names.
+#[test]
+fn labels_of_a_caller(rt: HostRuntime) -> Result<(), Fail> {
+    let alloc = rt.alloc();
+    let limits = Limits::default();
+    let apart = |i| Err(Fault::IncompatibleRecipients(i));
+    let lists: [(&[Option<&[&str]>], Result<Done, Fault>); 5] = [
+        (&[Some(&["a", "b"]), Some(&["b", "a", "a"])], done(0)),
+        (&[Some(&["a"]), Some(&["a"]), Some(&[])], apart(2)),
+        (&[Some(&[]), Some(&["a"]), Some(&["b"])], apart(1)),
+        (&[None], done(0)),
+        (&[Some(&[]), None], apart(1)),
+    ];
+    for (labels, expected) in lists {
+        let (answer, out) = encrypted(alloc, b"", &labelled(alloc, labels)?, &limits);
+        assert!(rt; answer == expected);
+        assert!(rt; out.is_empty() == expected.is_err());
+    }
     Ok(())
 }
 

@@ -1,7 +1,7 @@
 //! Recipients and identities of a caller.
 
 use age_header::Stanza;
-use age_recipient::{FileKey, Identity, Recipient, Unwrapped, WrapFault};
+use age_recipient::{FileKey, Identity, Labels, Recipient, Unwrapped, WrapFault};
 use std::alloc::{AllocError, Global};
 use std::cell::Cell;
 use std::rc::Rc;
@@ -74,7 +74,7 @@ impl Recipient for Curve {
     }
 }
 
-/// Gives no stanza, and refuses where it has a number.
+/// Gives no stanza, and refuses with a number. It would have to stand alone.
 #[derive(Drop)]
 pub(super) struct Refuses {
     pub(super) code: u32,
@@ -82,11 +82,46 @@ pub(super) struct Refuses {
 
 impl Recipient for Refuses {
     ghost use Rattle.std.specs.Prelude.{Err};
+    ghost use Rattle.age_recipient.specs.declared.labels.Labels.TheVariants.{Alone};
 
     ghost wraps = { λ refuses _. Err refuses.code };
 
+    ghost the_labels = { λ _. Alone };
+
     fn wrap(&self, _alloc: Global, _key: &FileKey) -> Result<Vec<Stanza>, WrapFault> {
         Err(WrapFault::Refused(self.code))
+    }
+
+    fn labels(&self, _alloc: Global) -> Result<Labels, AllocError> {
+        Ok(Labels::Alone)
+    }
+}
+
+/// Gives a stanza, and has these labels.
+#[derive(Drop)]
+pub(super) struct Labelled {
+    pub(super) labels: Labels,
+}
+
+impl Recipient for Labelled {
+    ghost use Rattle.std.specs.Prelude.{Ok, [], ◌∷◌, codes};
+
+    ghost wraps = { λ _ _. Ok (record { args = codes "x" ∷ []; body = [] } ∷ []) };
+
+    ghost the_labels = { λ labelled. labelled.labels };
+
+    fn wrap(&self, alloc: Global, _key: &FileKey) -> Result<Vec<Stanza>, WrapFault> {
+        let Ok(stanza) = Stanza::new(alloc, &["x"], &[]) else {
+            return Err(WrapFault::Memory);
+        };
+        match vec![in alloc; stanza] {
+            Ok(stanzas) => Ok(stanzas),
+            Err(_) => Err(WrapFault::Memory),
+        }
+    }
+
+    fn labels(&self, _alloc: Global) -> Result<Labels, AllocError> {
+        Ok(self.labels.clone()?)
     }
 }
 

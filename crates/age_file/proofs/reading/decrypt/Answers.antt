@@ -1,5 +1,6 @@
-use Rattle.std.proofs.Common.{Ok, Err}
-use Rattle.age_file.proofs.DecryptLemmas.{inspect-decrypts, locked-decrypts, payload-decrypts, payload-takes}
+use Rattle.std.proofs.Common.{rules, Ok, Err}
+use Rattle.age_file.proofs.DecryptLemmas.{inspect-decrypts, locked-decrypts, missed-decrypts, payload-decrypts, payload-takes}
+use Rattle.age_file.proofs.PayloadLemmas.{payload-ends, payload-writes}
 use Rattle.age_file.proofs.reading.decrypt.Goals as goal
 
 pub returns-in-Err-clause-answer : goal.returns-in-Err-clause-answer
@@ -9,17 +10,24 @@ pub returns-in-Err-unlock_header-clause-answer : goal.returns-in-Err-unlock_head
 returns-in-Err-unlock_header-clause-answer g c =
     locked-decrypts _ _ _ (g.S.Source.to_come c.inspect.new.input) _ _ c.in-Err-unlock_header.fault c.in-Ok.ensures.verdict c.in-Err-unlock_header.ensures.key
 
-pub returns-in-Ok-open_all-clause-answer : goal.returns-in-Ok-open_all-clause-answer
-returns-in-Ok-open_all-clause-answer g c =
-    payload-decrypts _ _ _ (g.S.Source.to_come c.inspect.new.input) _ _ _ c.in-Ok-unlock_header.key _ (Ok c.in-Ok-open_all.done) c.in-Ok.ensures.verdict c.in-Ok-unlock_header.ensures.key
-    c.max_chunks.ensures.value c.in-Ok-open_all.ensures.payload
+pub returns-in-Ok-copy_to-clause-answer : goal.returns-in-Ok-copy_to-clause-answer
+returns-in-Ok-copy_to-clause-answer g c =
+    payload-decrypts _ _ _ (g.S.Source.to_come c.inspect.new.input) _ _ _ c.in-Ok-unlock_header.key _ (Ok c.in-Ok-copy_to.done) c.in-Ok.ensures.verdict c.in-Ok-unlock_header.ensures.key
+    c.max_chunks.ensures.value (payload-writes _ _ c.in-Ok-started.reader.opener _ _ (g.W.Sink.taken c.args.out.now) (g.W.Sink.taken c.copy_to.new.out) (Ok c.in-Ok-copy_to.done)
+    c.in-Ok-started.ensures.starts c.in-Ok-copy_to.ensures.writes_all)
 
 pub returns-clause-answer : goal.returns-clause-answer
 returns-clause-answer g c =
-    rw c.stream_fault.ensures (payload-decrypts _ _ _ (g.S.Source.to_come c.inspect.new.input) _ _ _ c.in-Ok-unlock_header.key _ (Err c.in-Err-open_all.fault) c.in-Ok.ensures.verdict
-    c.in-Ok-unlock_header.ensures.key c.max_chunks.ensures.value c.in-Err-open_all.ensures.payload)
+    rw c.stream_fault-in-Err-copy_to.ensures (payload-decrypts _ _ _ (g.S.Source.to_come c.inspect.new.input) _ _ _ c.in-Ok-unlock_header.key _ (Err c.in-Err-copy_to.fault) c.in-Ok.ensures.verdict
+    c.in-Ok-unlock_header.ensures.key c.max_chunks.ensures.value (payload-writes _ _ c.in-Ok-started.reader.opener _ _ (g.W.Sink.taken c.args.out.now) (g.W.Sink.taken c.copy_to.new.out) (Err c.in-Err-copy_to.fault)
+    c.in-Ok-started.ensures.starts c.in-Err-copy_to.ensures.writes_all))
 
 pub returns-clause-took : goal.returns-clause-took
 returns-clause-took g c =
-    rw c.stream_fault.ensures (payload-takes _ _ (g.S.Source.to_come c.inspect.new.input) _ _ _ _ c.in-Err-open_all.fault c.in-Ok.ensures.verdict
-    (rw c.max_chunks.ensures.value at c.in-Err-open_all.ensures.ends))
+    rw c.stream_fault-in-Err-copy_to.ensures (payload-takes _ _ (g.S.Source.to_come c.inspect.new.input) _ _ _ _ c.in-Err-copy_to.fault c.in-Ok.ensures.verdict
+    (payload-ends _ _ c.in-Ok-started.reader.opener _ _ _ _ _ c.in-Err-copy_to.fault (rw c.max_chunks.ensures.value at c.in-Ok-started.ensures.starts) c.in-Ok-started.ensures.gave (search rules)))
+
+pub returns-in-Err-started-clause-answer : goal.returns-in-Err-started-clause-answer
+returns-in-Err-started-clause-answer g c =
+    rw c.stream_fault.ensures (rw c.fault.ensures.fault (missed-decrypts _ _ _ _ (g.S.Source.to_come c.inspect.new.input) _ _ _ _ _ c.in-Ok-unlock_header.key _ _ c.in-Ok.ensures.verdict
+    c.in-Ok-unlock_header.ensures.key c.max_chunks.ensures.value c.in-Err-started.ensures.misses))

@@ -2,58 +2,67 @@ use Rattle.std.proofs.Common.{rules, arith, ◌<◌, refl, inr, length, true, fa
 use Rattle.age_stream.proofs.WritingLemmas.{advanced-ok, failed-ends, failed-writes, opened-none, opened-more, opened-room, writes-done, writes-write, ends-write}
 use Rattle.age_stream.proofs.opening.ChunkOpener.write_pieces.Goals as goal
 
-pub loop-self-init : goal.loop-self-init
-loop-self-init g c = record {
-  opened = opened-none c.args.self.now _ _ c.requires.unkept;
+pub loop-done-init : goal.loop-done-init
+loop-done-init g c = record {
+  opened = opened-none c.args.self _ _ c.requires;
+  count = omega arith;
   reads = refl;
   writes = refl;
 }
 
 pub returns-in-Ok-false-clause-writes_all : goal.returns-in-Ok-false-clause-writes_all
 returns-in-Ok-false-clause-writes_all g c =
-    let o = c.loop-self.invariant.opened in
-    writes-done _ _ c.advance.new.self _ _ _ _ _ _ c.done.result o
-    (advanced-ok false c.loop-self.self c.advance.new.self _ _ o.none (rw c.in-Ok-false.field-0-test at c.in-Ok-false.ensures.opens)) c.done.ensures
+    let o = c.loop-done.invariant.opened in
+    writes-done _ _ c.advance.new.self _ _ _ _ _ _ c.loop-done.done o
+    (advanced-ok false c.loop-done.opener c.advance.new.self _ _ o.none (rw c.in-Ok-false.field-0-test at c.in-Ok-false.ensures.opens)) refl c.loop-done.invariant.count
 
 pub returns-in-Err-clause-writes_all : goal.returns-in-Err-clause-writes_all
 returns-in-Err-clause-writes_all g c =
-    failed-writes _ _ c.advance.new.self _ _ _ _ _ _ c.in-Err.fault c.loop-self.invariant.opened c.in-Err.ensures.opens
+    failed-writes _ _ c.advance.new.self _ _ _ _ _ _ c.in-Err.fault c.loop-done.invariant.opened c.in-Err.ensures.opens
 
 pub returns-in-Err-clause-ends : goal.returns-in-Err-clause-ends
 returns-in-Err-clause-ends g c =
-    failed-ends _ _ c.advance.new.self _ _ _ _ _ _ c.in-Err.fault c.requires.first c.loop-self.invariant.opened c.in-Err.ensures.opens
+    failed-ends _ _ c.advance.new.self _ _ _ _ _ _ c.in-Err.fault c.loop-done.invariant.opened c.in-Err.ensures.opens
 
-pub overflow_add-bytes : goal.overflow_add-bytes
-overflow_add-bytes g c =
-    let o = c.loop-self.invariant.opened in
+pub overflow_add-done : goal.overflow_add-done
+overflow_add-done g c =
+    let o = c.loop-done.invariant.opened in
+    let adv = advanced-ok true c.loop-done.opener c.advance.new.self _ _ o.none (rw c.in-Ok-true.field-0-test at c.in-Ok-true.ensures.opens) in
+    let within : c.loop-done.opener.index < c.loop-done.opener.max_chunks = adv.keeps.2 refl in
+    omega (arith, c.loop-done.invariant.count, adv.small)
+
+pub overflow_add-done-in-Ok : goal.overflow_add-done-in-Ok
+overflow_add-done-in-Ok g c =
+    let o = c.loop-done.invariant.opened in
     opened-room _ _ c.advance.new.self _ _ _ _ _ _ (length c.text-in-Ok.result.now) o
-    (advanced-ok true c.loop-self.self c.advance.new.self _ _ o.none (rw c.in-Ok-true.field-0-test at c.in-Ok-true.ensures.opens)) c.text-in-Ok.ensures.len
+    (advanced-ok true c.loop-done.opener c.advance.new.self _ _ o.none (rw c.in-Ok-true.field-0-test at c.in-Ok-true.ensures.opens)) c.text-in-Ok.ensures.len
 
-pub loop-self-smaller : goal.loop-self-smaller
-loop-self-smaller g c =
-    let o = c.loop-self.invariant.opened in
-    let adv = advanced-ok true c.loop-self.self c.advance.new.self _ _ o.none (rw c.in-Ok-true.field-0-test at c.in-Ok-true.ensures.opens) in
-    let within : c.loop-self.self.index < c.loop-self.self.max_chunks = adv.keeps.2 refl in
+pub loop-done-smaller : goal.loop-done-smaller
+loop-done-smaller g c =
+    let o = c.loop-done.invariant.opened in
+    let adv = advanced-ok true c.loop-done.opener c.advance.new.self _ _ o.none (rw c.in-Ok-true.field-0-test at c.in-Ok-true.ensures.opens) in
+    let within : c.loop-done.opener.index < c.loop-done.opener.max_chunks = adv.keeps.2 refl in
     omega (arith, adv.max_chunks, adv.keeps.1)
 
-pub loop-self-preserved : goal.loop-self-preserved
-loop-self-preserved g c =
-    let o = c.loop-self.invariant.opened in
-    let adv = advanced-ok true c.loop-self.self c.advance.new.self _ _ o.none (rw c.in-Ok-true.field-0-test at c.in-Ok-true.ensures.opens) in
+pub loop-done-preserved : goal.loop-done-preserved
+loop-done-preserved g c =
+    let o = c.loop-done.invariant.opened in
+    let adv = advanced-ok true c.loop-done.opener c.advance.new.self _ _ o.none (rw c.in-Ok-true.field-0-test at c.in-Ok-true.ensures.opens) in
     record {
       opened = rw c.text-in-Ok.ensures.text (opened-more _ _ c.advance.new.self _ _ _ _ _ _ _ o adv (rw c.text.ensures.text at c.text.ensures.len) (rw c.text.ensures.text at c.in-Ok.ensures.text));
+      count = omega (arith, c.loop-done.invariant.count, o.index, adv.keeps.1);
       reads = search rules;
       writes = search rules;
     }
 
 pub returns-in-Err-write_all-clause-writes_all : goal.returns-in-Err-write_all-clause-writes_all
 returns-in-Err-write_all-clause-writes_all g c =
-    let o = c.loop-self.invariant.opened in
-    rw c.failed.ensures (writes-write _ _ c.advance.new.self _ _ _ _ _ _ _ o
-    (advanced-ok true c.loop-self.self c.advance.new.self _ _ o.none (rw c.in-Ok-true.field-0-test at c.in-Ok-true.ensures.opens)) (rw c.text.ensures.text at c.in-Err-write_all.ensures.text))
+    let o = c.loop-done.invariant.opened in
+    (writes-write _ _ c.advance.new.self _ _ _ _ _ _ _ o
+    (advanced-ok true c.loop-done.opener c.advance.new.self _ _ o.none (rw c.in-Ok-true.field-0-test at c.in-Ok-true.ensures.opens)) (rw c.text.ensures.text at c.in-Err-write_all.ensures.text))
 
 pub returns-in-Err-write_all-clause-ends : goal.returns-in-Err-write_all-clause-ends
 returns-in-Err-write_all-clause-ends g c =
-    let o = c.loop-self.invariant.opened in
-    rw c.failed.ensures (inr (ends-write _ _ c.advance.new.self _ _ _ _ _ _ _ c.requires.first o
-    (advanced-ok true c.loop-self.self c.advance.new.self _ _ o.none (rw c.in-Ok-true.field-0-test at c.in-Ok-true.ensures.opens)) (rw c.text.ensures.text at c.in-Err-write_all.ensures.text)))
+    let o = c.loop-done.invariant.opened in
+    (inr (ends-write _ _ c.advance.new.self _ _ _ _ _ _ _ o
+    (advanced-ok true c.loop-done.opener c.advance.new.self _ _ o.none (rw c.in-Ok-true.field-0-test at c.in-Ok-true.ensures.opens)) (rw c.text.ensures.text at c.in-Err-write_all.ensures.text)))

@@ -1,9 +1,9 @@
 use Rattle.std.proofs.Common.{◌≡◌, map, drop}
-use Rattle.age_file.specs.NewFile.{before, gathered, gathered_from}
-use Rattle.age_file.proofs.gather.gather.Given as goal
+use Rattle.age_file.specs.NewFile.{before, gathered_from}
+use Rattle.age_file.proofs.gather.wrap_all.Given as goal
 
 -- what was gathered, before what is left, is what there is to gather
 abbrev pub invariant-loop-i : goal.invariant-loop-i
 invariant-loop-i g l =
     before l.all.items (gathered_from l.i (drop l.i (map (λ r. (goal.Recipient-dyn g (r.vtable, r.value)).wraps r.value l.key) l.recipients)))
-    ≡ gathered (map (λ r. (goal.Recipient-dyn g (r.vtable, r.value)).wraps r.value l.key) l.recipients)
+    ≡ gathered_from 0 (map (λ r. (goal.Recipient-dyn g (r.vtable, r.value)).wraps r.value l.key) l.recipients)

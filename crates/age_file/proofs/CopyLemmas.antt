@@ -1,0 +1,82 @@
+-- A source that is copied piece by piece.
+use Rattle.std.proofs.Common.{◌≡◌, ℕ, ◌+◌, ◌*◌, ◌^◌, ◌≤◌, Bool, true, false, List, [], ◌++◌, length, refl, sym, subst, arith, Option, Ok, Err, length-append, true≢false}
+use Rattle.std.proofs.KnownBytes.{Appends-nil, Appends-trans, Consumes-nil, Consumes-trans}
+use Rattle.std.specs.Io.KnownBytes.{Appends, Consumes}
+use Rattle.age_header.specs.Device.{MayGive, WritesPart}
+use Rattle.age_header.proofs.GivenLemmas.{may-end, may-more, may-some}
+use Rattle.age_header.proofs.WriteLemmas.{done_part}
+use Rattle.age_file.specs.declared.fault.Fault.{Fault}
+use Rattle.age_file.specs.declared.fault.Fault.TheVariants.{NotAge, BadLine, HeaderTruncated, HeaderTooLarge, MixedPassphrase, NoMatch, WrongKey, Malformed, BadMac, NonceTruncated, ChunkShort, EmptyFinal, BadChunk, TooManyChunks, Read, Write, OutOfMemory, NoRecipients, Refused, IncompatibleRecipients}
+use Rattle.age_file.specs.Copying.{Copies, CopiesPiece}
+
+-- k full pieces were copied
+pub record Copied (from now old new : Option (List ℕ)) (k : ℕ) : Type 0 where
+  pub bytes : List ℕ
+  pub took : Consumes from now bytes
+  pub put : Appends old new bytes
+  pub long : 65536 * k ≤ length bytes
+
+pub copied_none : (from old : Option (List ℕ)) → Copied from from old old 0
+copied_none from old = record { bytes = []; took = Consumes-nil from; put = Appends-nil old; long = omega arith }
+
+pub copied_more : (from a b old m n : Option (List ℕ)) (k : ℕ) (more : Bool) → more ≡ true → Copied from a old m k → CopiesPiece a b m n (Ok more) → Copied from b old n (k + 1)
+copied_more from a b old m n k false is c h = absurd (true≢false (sym is))
+copied_more from a b old m n k true is c (piece, took, put, full) = record {
+  bytes = c.bytes ++ piece;
+  took = Consumes-trans from a b c.bytes piece c.took took;
+  put = Appends-trans old m n c.bytes piece c.put put;
+  long = omega (arith, length-append c.bytes piece, full, c.long);
+}
+
+pub copied_all : (from a b old m n : Option (List ℕ)) (k : ℕ) (more : Bool) → more ≡ false → Copied from a old m k → CopiesPiece a b m n (Ok more) → Copies from old n (Ok tt)
+copied_all from a b old m n k true is c h = absurd (true≢false is)
+copied_all from a b old m n k false is c (piece, took, put, end) =
+    (c.bytes ++ piece, may-end from b (c.bytes ++ piece) (Consumes-trans from a b c.bytes piece c.took took) end, Appends-trans old m n c.bytes piece c.put put)
+
+-- a beginning of a text was written
+front : (old new : Option (List ℕ)) (bytes rest : List ℕ) → Appends old new bytes → WritesPart old new (bytes ++ rest)
+front old new bytes rest put =
+    done_part old new new (bytes ++ rest) rest [] rest (record { front = bytes; took = put; is = refl }) refl (0, Appends-nil new)
+
+-- what was copied, and what may still come
+begun : (from a old m : Option (List ℕ)) (k : ℕ) → Copied from a old m k → (bytes : List ℕ) × MayGive from bytes × WritesPart old m bytes × (65536 * k ≤ length bytes)
+begun from a old m k c =
+    let more = may-some a in (
+      c.bytes ++ more.0,
+      may-more from a c.bytes more.0 c.took more.1,
+      front old m c.bytes more.0 c.put,
+      omega (arith, length-append c.bytes more.0, c.long),
+    )
+
+write_failed : (from a b old m n : Option (List ℕ)) (k : ℕ) (piece : List ℕ) → Copied from a old m k → Consumes a b piece → WritesPart m n piece → Copies from old n (Err Write)
+write_failed from a b old m n k piece c took part =
+    let more = may-some b in (
+      c.bytes ++ (piece ++ more.0),
+      may-more from a c.bytes (piece ++ more.0) c.took (may-more a b piece more.0 took more.1),
+      done_part old m n (c.bytes ++ (piece ++ more.0)) (piece ++ more.0) piece more.0 (record { front = c.bytes; took = c.put; is = refl }) refl part,
+    )
+
+pub copied_failed : (from a b old m n : Option (List ℕ)) (k : ℕ) (fault : Fault) → Copied from a old m k → CopiesPiece a b m n (Err fault) → Copies from old n (Err fault)
+copied_failed from a b old m n k Read c h = let s = begun from a old m k c in (s.0, s.1, subst (λ t. WritesPart old t s.0) (sym h) s.2)
+copied_failed from a b old m n k Write c (piece, took, part) = write_failed from a b old m n k piece c took part
+copied_failed from a b old m n k NotAge c h = absurd h
+copied_failed from a b old m n k (BadLine i) c h = absurd h
+copied_failed from a b old m n k HeaderTruncated c h = absurd h
+copied_failed from a b old m n k HeaderTooLarge c h = absurd h
+copied_failed from a b old m n k MixedPassphrase c h = absurd h
+copied_failed from a b old m n k NoMatch c h = absurd h
+copied_failed from a b old m n k WrongKey c h = absurd h
+copied_failed from a b old m n k (Malformed s) c h = absurd h
+copied_failed from a b old m n k BadMac c h = absurd h
+copied_failed from a b old m n k NonceTruncated c h = absurd h
+copied_failed from a b old m n k (ChunkShort i) c h = absurd h
+copied_failed from a b old m n k (EmptyFinal i) c h = absurd h
+copied_failed from a b old m n k (BadChunk i) c h = absurd h
+copied_failed from a b old m n k TooManyChunks c h = absurd h
+copied_failed from a b old m n k OutOfMemory c h = absurd h
+copied_failed from a b old m n k NoRecipients c h = absurd h
+copied_failed from a b old m n k (Refused i code) c h = absurd h
+copied_failed from a b old m n k (IncompatibleRecipients i) c h = absurd h
+
+pub copied_beyond : (from a old m : Option (List ℕ)) (k : ℕ) → 2 ^ 89 ≤ k → Copied from a old m k → Copies from old m (Err TooManyChunks)
+copied_beyond from a old m k beyond c = let s = begun from a old m k c in (s.0, s.1, s.2, omega (arith, s.3, beyond))

@@ -1,0 +1,16 @@
+use Rattle.std.proofs.Common.{◌∙◌, sym}
+use Rattle.age_file.proofs.ApartLemmas.{apart_at, apart_none, meant_at, seen_more}
+use Rattle.age_file.proofs.gather.apart_from.Goals as goal
+
+pub returns-then-not-go_together : goal.returns-then-not-go_together
+returns-then-not-go_together g c =
+    apart_at _ _ _ _ _ c.loop-i.i (meant_at _ _ c.loop-i.i _ c.loop-i-test.true c.index-others-i.is) c.in_ok-labels_of.ensures
+    (sym c.go_together.ensures ∙ c.if-not-go_together.true) c.loop-i.invariant
+
+pub loop-i-preserved : goal.loop-i-preserved
+loop-i-preserved g c =
+    seen_more _ _ _ _ _ c.loop-i.i (meant_at _ _ c.loop-i.i _ c.loop-i-test.true c.index-others-i.is) c.in_ok-labels_of.ensures
+    (sym c.go_together.ensures ∙ c.if-not-go_together.false) c.loop-i.invariant
+
+pub returns : goal.returns
+returns g c = apart_none _ _ _ c.loop-i.i c.loop-i-test.false c.loop-i.invariant

@@ -1,0 +1,15 @@
+use Rattle.std.proofs.Common.{refl}
+use Rattle.age_file.proofs.OwnLemmas.{alone_after, keyed_place, one_place}
+use Rattle.age_file.proofs.laws.own_recipients.Goals as goal
+
+pub returns-clause-one : goal.returns-clause-one
+returns-clause-one c = one_place
+
+pub returns-clause-keyed : goal.returns-clause-keyed
+returns-clause-keyed c = keyed_place
+
+pub returns-clause-passphrase_first : goal.returns-clause-passphrase_first
+returns-clause-passphrase_first c = λ other others. refl
+
+pub returns-clause-passphrase_after : goal.returns-clause-passphrase_after
+returns-clause-passphrase_after c = alone_after

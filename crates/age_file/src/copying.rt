@@ -1,0 +1,50 @@
+//! Copying what follows a header.
+
+ghost use Rattle.std.specs.Prelude.{◌≡◌, length};
+ghost use Rattle.age_file.specs.Copying.{Copies, CopiesPiece};
+ghost use Rattle.age_file.specs.Device.{CountsRead, CountsWrite};
+
+use crate::fault::Fault;
+use age_header::{Sink, Source, fill_from, write_all};
+
+/// How many full pieces are copied at most, 2^105 bytes in all: more than any payload has, so that the loop ends.
+const MAX_PIECES: u128 = 1 << 89;
+
+/// Copies all that the source still gives, a piece of the buffer's length at a time.
+pub(crate) fn copy_all<S: Source, W: Sink>(
+    input: &mut S,
+    out: &mut W,
+    buf: &mut [u8],
+) -> Result<(), Fault>
+    requires { length buf.old ≡ 65536 }
+    ensures copies { Copies (S.to_come input.old) (W.taken out.old) (W.taken out.new) result }
+    ensures reads { CountsRead (S.failed input.old) (S.failed input.new) result }
+    ensures writes { CountsWrite (W.failed out.old) (W.failed out.new) result }
+{
+    let mut copied = 0;
+    while copied < MAX_PIECES {
+        match copy_piece(input, out, buf) {
+            Ok(true) => copied += 1,
+            Ok(false) => return Ok(()),
+            Err(fault) => return Err(fault),
+        }
+    }
+    Err(Fault::TooManyChunks)
+}
+
+/// Copies one piece of the buffer's length, or what is left of the source. Returns whether it was a full one.
+fn copy_piece<S: Source, W: Sink>(input: &mut S, out: &mut W, buf: &mut [u8]) -> Result<bool, Fault>
+    requires { length buf.old ≡ 65536 }
+    ensures len { length buf.new ≡ 65536 }
+    ensures copies { CopiesPiece (S.to_come input.old) (S.to_come input.new) (W.taken out.old) (W.taken out.new) result }
+    ensures reads { CountsRead (S.failed input.old) (S.failed input.new) result }
+    ensures writes { CountsWrite (W.failed out.old) (W.failed out.new) result }
+{
+    let Ok(n) = fill_from(input, buf, 0) else {
+        return Err(Fault::Read);
+    };
+    match write_all(out, &buf[..n]) {
+        Ok(()) => Ok(n == buf.len()),
+        Err(_) => Err(Fault::Write),
+    }
+}

@@ -1,0 +1,63 @@
+//! A file for other recipients, with the payload as it is.
+
+ghost use Rattle.std.specs.Prelude.{◌⊎◌, map, IfErr};
+ghost use Rattle.std.specs.Io.KnownBytes.{Keeps};
+ghost use Rattle.age_file.specs.Device.{CountsRead, CountsWrite, IsLate};
+ghost use Rattle.age_file.specs.NewFile.{Gathered};
+ghost use Rattle.age_file.specs.Rewrap.{Rewraps};
+
+use crate::copying::copy_all;
+use crate::fault::Fault;
+use crate::gather::header_for;
+use crate::header::{inspect, unlock_header};
+use crate::limits::Limits;
+use age_header::{Sink, Source, write_header};
+use age_recipient::{Identity, Recipient};
+use std::alloc::Global;
+
+/// Writes a file with a new header for the same file key, and after it every byte that follows the old header, unchanged. The payload is
+/// neither opened nor verified. Whoever kept the old header and its secret can still open the file.
+///
+/// # Errors
+/// The first that applies of `NotAge`, `BadLine`, `HeaderTruncated`, `HeaderTooLarge` as `inspect` says; `MixedPassphrase`; `NoMatch`,
+/// `WrongKey`, `Malformed` as `age_recipient::unlock` says; `BadMac`; then of the new header, as `encrypt` says: `Refused`,
+/// `IncompatibleRecipients`, `NoRecipients`, `MixedPassphrase`, `HeaderTooLarge`. On these, and on `OutOfMemory`, nothing was written.
+/// `Read` and `Write` where a device failed: a beginning of the new file was written. `TooManyChunks` where the source gives more than
+/// 2^105 bytes, which no payload has.
+pub fn rewrap<S: Source, W: Sink>(
+    alloc: Global,
+    input: &mut S,
+    out: &mut W,
+    identities: &[Box<dyn Identity>],
+    recipients: &[Box<dyn Recipient>],
+    limits: &Limits,
+) -> Result<(), Fault>
+    ensures answer { Rewraps limits.now (λ stanzas. map (λ i. meaning i stanzas) identities.now)
+        (λ key. Gathered (map (λ r. wraps r key) recipients.now) (map (λ r. the_labels r) recipients.now))
+        (S.to_come input.old) (W.taken out.old) (W.taken out.new) result }
+    ensures quiet { IfErr result (λ fault. IsLate fault ⊎ Keeps (W.taken out.old) (W.taken out.new)) }
+    ensures reads { CountsRead (S.failed input.old) (S.failed input.new) result }
+    ensures writes { CountsWrite (W.failed out.old) (W.failed out.new) result }
+{
+    let header = match inspect(alloc, input, limits) {
+        Ok(header) => header,
+        Err(fault) => return Err(fault),
+    };
+    let key = match unlock_header(alloc, identities, &header) {
+        Ok(key) => key,
+        Err(fault) => return Err(fault),
+    };
+    let new = match header_for(alloc, recipients, &key, limits) {
+        Ok(new) => new,
+        Err(fault) => return Err(fault),
+    };
+    let Ok(buf) = vec![in alloc; 0u8; 65_536] else {
+        return Err(Fault::OutOfMemory);
+    };
+    match write_header(&new, out) {
+        Ok(()) => {}
+        Err(_) => return Err(Fault::Write),
+    }
+    let mut buf = buf;
+    copy_all(input, out, buf.as_mut_slice())
+}

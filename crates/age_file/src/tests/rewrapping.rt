@@ -1,0 +1,164 @@
+//! Files with another header: what is written, what it opens to, and what is refused.
+
+use super::devices::{Drops, Holds};
+use super::{
+    Identities, Recipients, decrypted, encrypted, key_of, passphrase, sevens, with_key,
+    with_passphrase,
+};
+use crate::{Fault, Limits, rewrap};
+use age_header::{MemSink, MemSource};
+use age_recipient::{PassIdentity, PassRecipient};
+use std::alloc::Global;
+use std::test::Fail;
+
+/// What rewrapping returns, and what was written.
+fn rewrapped(
+    alloc: Global,
+    file: &[u8],
+    identities: &Identities,
+    recipients: &Recipients,
+) -> (Result<(), Fault>, Vec<u8>) {
+    let mut out = MemSink::new(Vec::new(alloc));
+    let answer = rewrap(
+        alloc,
+        &mut MemSource::new(file),
+        &mut out,
+        identities.as_slice(),
+        recipients.as_slice(),
+        &Limits::default(),
+    );
+    (answer, out.into_vec())
+}
+
+/// From one passphrase to another, with another work factor.
+#[test]
+fn to_another_passphrase(rt: HostRuntime) -> Result<(), Fail> {
+    let alloc = rt.alloc();
+    let limits = Limits::default();
+    let (_, file) = encrypted(alloc, b"", &with_passphrase(alloc)?, &limits);
+    let mut recipients: Recipients = Vec::new(alloc);
+    recipients.push(Box::new(alloc, PassRecipient::new(alloc, b"p2", [9; 16], 12)?)?)?;
+    let (answer, new) = rewrapped(alloc, file.as_slice(), &passphrase(alloc)?, &recipients);
+    assert!(rt; answer == Ok(()));
+    assert_eq!(rt; new.len(), 182);
+    assert!(rt; new.as_slice()[150..] == file.as_slice()[150..]);
+    let mut identities: Identities = Vec::new(alloc);
+    identities.push(Box::new(alloc, PassIdentity::new(alloc, b"p2", 12)?)?)?;
+    let (answer, _) = decrypted(alloc, new.as_slice(), &identities, &limits);
+    assert!(rt; answer.is_ok());
+    let (answer, _) = decrypted(alloc, new.as_slice(), &passphrase(alloc)?, &limits);
+    assert!(rt; answer == Err(Fault::WrongKey));
+    Ok(())
+}
+
+/// From a key to another: a file, a file whose last chunk is cut away, and one that ends in its nonce.
+#[test]
+fn to_another_key(rt: HostRuntime) -> Result<(), Fail> {
+    let alloc = rt.alloc();
+    let limits = Limits::default();
+    let (_, empty) = encrypted(alloc, b"", &with_passphrase(alloc)?, &limits);
+    let (_, two) = encrypted(
+        alloc,
+        sevens(alloc, 65_537)?.as_slice(),
+        &with_passphrase(alloc)?,
+        &limits,
+    );
+    for (file, len, fault) in [
+        (empty.as_slice(), 188, None),
+        (&two.as_slice()[..65_718], 65_724, Some(Fault::BadChunk(0))),
+        (&empty.as_slice()[..155], 161, Some(Fault::NonceTruncated)),
+    ] {
+        let (answer, new) = rewrapped(alloc, file, &passphrase(alloc)?, &with_key(alloc, 3)?);
+        assert!(rt; answer == Ok(()));
+        assert_eq!(rt; new.len(), len);
+        assert!(rt; new.as_slice()[156..] == file[150..]);
+        let (answer, _) = decrypted(alloc, new.as_slice(), &key_of(alloc, 3)?, &limits);
+        assert!(rt; answer.err() == fault);
+        let (answer, _) = decrypted(alloc, file, &passphrase(alloc)?, &limits);
+        assert!(rt; answer.err() == fault);
+    }
+    Ok(())
+}
+
+/// What is refused before the first byte: by the old header, then by the new one.
+#[test]
+fn refused_before_the_first_byte(rt: HostRuntime) -> Result<(), Fail> {
+    let alloc = rt.alloc();
+    let (_, file) = encrypted(alloc, b"abc", &with_key(alloc, 1)?, &Limits::default());
+    let none: Recipients = Vec::new(alloc);
+    let mut mixed = with_passphrase(alloc)?;
+    mixed.append(&mut with_key(alloc, 3)?)?;
+    let other_mac = [&file.as_slice()[..112], b"A", &file.as_slice()[113..]].concat(alloc)?;
+    for (file, identities, recipients, fault) in [
+        (file.as_slice(), key_of(alloc, 2)?, &none, Fault::WrongKey),
+        (
+            other_mac.as_slice(),
+            key_of(alloc, 1)?,
+            &none,
+            Fault::BadMac,
+        ),
+        (
+            file.as_slice(),
+            key_of(alloc, 1)?,
+            &none,
+            Fault::NoRecipients,
+        ),
+        (
+            file.as_slice(),
+            key_of(alloc, 1)?,
+            &mixed,
+            Fault::IncompatibleRecipients(1),
+        ),
+    ] {
+        let (answer, new) = rewrapped(alloc, file, &identities, recipients);
+        assert!(rt; answer == Err(fault));
+        assert!(rt; new.is_empty());
+    }
+    Ok(())
+}
+
+/// Each read and each write fails in turn: what was written is a beginning of the new file.
+#[test]
+fn failing_devices(rt: HostRuntime) -> Result<(), Fail> {
+    let alloc = rt.alloc();
+    let (_, file) = encrypted(alloc, b"abc", &with_key(alloc, 1)?, &Limits::default());
+    let (identities, recipients) = (key_of(alloc, 1)?, with_key(alloc, 3)?);
+    let (_, whole) = rewrapped(alloc, file.as_slice(), &identities, &recipients);
+    assert_eq!(rt; whole.len(), 191);
+    for failing in 1..200 {
+        let mut source = Drops::new(file.as_slice(), 1, failing);
+        let mut sink = Holds::new(Vec::new(alloc), 1_000);
+        let answer = rewrap(
+            alloc,
+            &mut source,
+            &mut sink,
+            identities.as_slice(),
+            recipients.as_slice(),
+            &Limits::default(),
+        );
+        // 191 bytes, one at a time, and the end
+        let expected = if failing <= 192 {
+            Err(Fault::Read)
+        } else {
+            Ok(())
+        };
+        assert!(rt; answer == expected);
+        assert!(rt; whole.as_slice().starts_with(sink.bytes.as_slice()));
+        assert!(rt; sink.bytes.is_empty() == (failing <= 156));
+    }
+    for most in 0..191 {
+        let mut source = MemSource::new(file.as_slice());
+        let mut sink = Holds::new(Vec::new(alloc), most);
+        let answer = rewrap(
+            alloc,
+            &mut source,
+            &mut sink,
+            identities.as_slice(),
+            recipients.as_slice(),
+            &Limits::default(),
+        );
+        assert!(rt; answer == Err(Fault::Write));
+        assert!(rt; sink.bytes.as_slice() == &whole.as_slice()[..most]);
+    }
+    Ok(())
+}

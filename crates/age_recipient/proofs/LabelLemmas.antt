@@ -1,0 +1,77 @@
+-- The set of a list of texts: its order, and which texts are in it.
+use Rattle.std.proofs.Common.{◌≡◌, ℕ, Bool, true, false, cond, ◌||◌, ◌+◌, ◌<◌, List, [], ◌∷◌, map, take, length, get_or, Bor, String, sym, ◌∙◌, ap, refl, true≢false}
+use Rattle.std.proofs.lemmas.Cmp.{lists_equiv}
+use Rattle.std.proofs.lemmas.List.Folds.{list_any_more}
+use Rattle.std.proofs.lemmas.Map.Text.{is_eq-slice_cmp}
+use Rattle.std.specs.BTreeMap.{is_at}
+use Rattle.std.specs.Cmp.{nat_eq_equiv}
+use Rattle.std.specs.Cmp.Derive.Mapped.{pointwise-map}
+use Rattle.std.specs.Cmp.Lexicographic.{slice_cmp, pointwise}
+use Rattle.std.specs.Global.{Global}
+use Rattle.std.specs.List.{AllByRecursion, AllZip, list_any}
+use Rattle.std.specs.List.Sorted.{IsStrictlySortedBy}
+use Rattle.std.specs.Ordering.{nat_cmp}
+use Rattle.std.specs.Str.{bytes_eq}
+use Rattle.std.specs.String.{string_bytes, string_cmp, string_eq}
+use Rattle.std.specs.declared.cmp.Ordering.TheVariants.{Less}
+use Rattle.age_recipient.specs.declared.labels.Labels.{Labels}
+use Rattle.age_recipient.specs.declared.labels.Labels.TheVariants.{Names}
+use Rattle.age_recipient.specs.Labels.{IsSetOf, go_together}
+
+below_all : (x : String Global) (ks : List (String Global)) → AllByRecursion (λ y. string_cmp x y ≡ Less) ks
+    → AllByRecursion (λ b. slice_cmp nat_cmp (string_bytes x) b ≡ Less) (map string_bytes ks)
+below_all x [] h = tt
+below_all x (k ∷ ks) h = (h.0, below_all x ks h.1)
+
+-- strings in order have their bytes in order
+pub ordered_bytes : (ks : List (String Global)) → IsStrictlySortedBy string_cmp ks → IsStrictlySortedBy (slice_cmp nat_cmp) (map string_bytes ks)
+unfolding IsStrictlySortedBy
+ordered_bytes [] h = tt
+ordered_bytes (k ∷ ks) h = (below_all k ks h.0, ordered_bytes ks h.1)
+
+-- a look-up among strings is one among their bytes
+pub any_bytes : (text : List ℕ) (ks : List (String Global)) → list_any (bytes_eq text) (map string_bytes ks) ≡ list_any (is_at (λ k. slice_cmp nat_cmp text (string_bytes k))) ks
+any_bytes text [] = refl
+any_bytes text (k ∷ ks) = rw (is_eq-slice_cmp text (string_bytes k), any_bytes text ks) refl
+
+or_last : (a b : Bool) → cond a true b ≡ (b || a)
+or_last true true = refl
+or_last true false = refl
+or_last false true = refl
+or_last false false = refl
+
+bytes_eq_sym : (a b : List ℕ) → bytes_eq a b ≡ bytes_eq b a
+bytes_eq_sym a b = (lists_equiv nat_eq_equiv).symm a b
+
+-- one text more
+pub one_more : (texts : List (Bor (List ℕ))) (i : ℕ) (d : Bor (List ℕ)) (bytes text : List ℕ) (old new : Bool) → i < length texts → bytes ≡ (get_or texts i d).now
+    → new ≡ cond (bytes_eq bytes text) true old → old ≡ list_any (λ t. bytes_eq text t.now) (take i texts) → new ≡ list_any (λ t. bytes_eq text t.now) (take (i + 1) texts)
+one_more texts i d bytes text old new low is now before =
+    let test : bytes_eq bytes text ≡ bytes_eq text (get_or texts i d).now = bytes_eq_sym bytes text ∙ ap (bytes_eq text) is in
+    now ∙ or_last (bytes_eq bytes text) old ∙ ap (λ b. b || bytes_eq bytes text) before ∙ ap (λ b. list_any (λ t. bytes_eq text t.now) (take i texts) || b) test
+    ∙ sym (list_any_more (λ t. bytes_eq text t.now) texts i d low)
+
+-- the test of a text, of borrowed texts and of the texts themselves
+pub any_now : (text : List ℕ) (texts : List (Bor (List ℕ))) → list_any (λ t. bytes_eq text t.now) texts ≡ list_any (bytes_eq text) (map (λ t. t.now) texts)
+any_now text [] = refl
+any_now text (t ∷ ts) = ap (λ b. bytes_eq text t.now || b) (any_now text ts)
+
+-- two sets of strings are compared by their bytes
+pub names_together : (self other : Labels) (a b : List (List ℕ)) (xs ys : List (String Global)) (r : Bool) → self ≡ Names a → other ≡ Names b
+    → map string_bytes xs ≡ a → map string_bytes ys ≡ b → r ≡ pointwise string_eq xs ys → r ≡ go_together self other
+names_together self other a b xs ys r left right of_xs of_ys is =
+    rw (left, right) (is ∙ sym (pointwise-map string_bytes bytes_eq xs ys) ∙ ap (λ l. pointwise bytes_eq l (map string_bytes ys)) of_xs ∙ ap (pointwise bytes_eq a) of_ys)
+
+-- of no texts the set is empty
+pub no_texts : (set : List (List ℕ)) → IsSetOf [] set → set ≡ []
+no_texts [] is = refl
+no_texts (text ∷ rest) is =
+    let here : (bytes_eq text text || list_any (bytes_eq text) rest) ≡ false = is.members text in
+    absurd (true≢false (sym (ap (λ b. b || list_any (bytes_eq text) rest) ((lists_equiv nat_eq_equiv).refl text)) ∙ here))
+
+-- a copy of strings has the same bytes
+pub same_bytes : (ks copies : List (String Global)) → AllZip (λ s t. string_bytes t ≡ string_bytes s) ks copies → map string_bytes copies ≡ map string_bytes ks
+same_bytes [] [] h = refl
+same_bytes [] (c ∷ cs) h = absurd h
+same_bytes (k ∷ ks) [] h = absurd h
+same_bytes (k ∷ ks) (c ∷ cs) h = rw (h.0, same_bytes ks cs h.1) refl

@@ -1,0 +1,7 @@
+use Rattle.std.proofs.Common.{inl, ap}
+use Rattle.age_recipient.specs.declared.labels.Labels.TheVariants.{Names}
+use Rattle.age_recipient.proofs.LabelLemmas.{no_texts}
+use Rattle.age_recipient.proofs.recipient.Recipient.labels.Goals as goal
+
+pub returns : goal.returns
+returns g c = inl (ap Names (no_texts c.in_ok-new.field-0 c.in_ok-new.ensures))

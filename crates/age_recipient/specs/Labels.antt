@@ -1,0 +1,30 @@
+-- Labels: with whom a recipient goes together.
+use Rattle.std.specs.Prelude.{◌≡◌, ◌⊎◌, ℕ, Bool, false, not, List, [], ◌∷◌}
+use Rattle.std.specs.Cmp.Lexicographic.{slice_cmp, pointwise}
+use Rattle.std.specs.List.{list_any, position_from}
+use Rattle.std.specs.List.Sorted.{IsStrictlySortedBy}
+use Rattle.std.specs.Ordering.{nat_cmp}
+use Rattle.std.specs.Str.{bytes_eq}
+use Rattle.std.specs.declared.option.Option.{Option}
+use Rattle.std.specs.declared.option.Option.TheVariants.{None}
+use Rattle.age_recipient.specs.declared.labels.Labels.{Labels}
+use Rattle.age_recipient.specs.declared.labels.Labels.TheVariants.{Names}
+
+-- the texts in byte order, each once
+pub record IsSetOf (texts set : List (List ℕ)) : Type 0 where
+  pub ordered : IsStrictlySortedBy (slice_cmp nat_cmp) set
+  pub members : (text : List ℕ) → list_any (bytes_eq text) set ≡ list_any (bytes_eq text) texts
+
+-- both have names, and the same set of them; what stands alone goes together with nothing
+abbrev pub go_together : Labels → Labels → Bool
+go_together (Names a) (Names b) = pointwise bytes_eq a b
+go_together _ _ = false
+
+-- the least place from 1 up whose labels do not go together with those of place 0
+abbrev pub incompatible : List Labels → Option ℕ
+incompatible [] = None
+incompatible (first ∷ others) = position_from (λ other. not (go_together first other)) 1 others
+
+-- what a recipient with this meaning may return: a recipient may also leave the method's own body, which returns no names
+abbrev pub MayLabel : Labels → Labels → Type 0
+MayLabel meant labels = (labels ≡ Names []) ⊎ (labels ≡ meant)

@@ -1,0 +1,81 @@
+//! With whom a recipient goes together.
+
+ghost use Rattle.std.specs.Prelude.{◌≡◌, map, IfOk};
+ghost use Rattle.age_recipient.specs.Labels.{IsSetOf, go_together};
+
+use std::alloc::{AllocError, Global};
+use std::collections::BTreeSet;
+use std::marker::Model;
+
+/// A set of texts, in byte order.
+#[derive(Drop)]
+pub struct LabelSet {
+    names: BTreeSet<String>,
+}
+
+impl Model for LabelSet {
+    ghost use Rattle.std.specs.Prelude.{List, ℕ, map};
+    ghost use Rattle.std.specs.String.{string_bytes};
+
+    ghost Value = { List (List ℕ) };
+
+    ghost view = { λ s. map string_bytes s.names.keys };
+}
+
+impl LabelSet {
+    /// The set of these texts, each once.
+    ///
+    /// # Errors
+    /// Where an allocation was refused.
+    pub fn new(alloc: Global, texts: &[&str]) -> Result<LabelSet, AllocError>
+        ensures { IfOk result (IsSetOf (map (λ text. text.now) texts.now)) }
+    {
+        let mut names = BTreeSet::new(alloc);
+        for text in texts {
+            let name = String::from_str(alloc, text)?;
+            names.insert(name)?;
+        }
+        Ok(LabelSet { names })
+    }
+}
+
+impl Clone for LabelSet {
+    ghost is_clone = { λ set copy. copy ≡ set };
+
+    fn clone(&self) -> Result<LabelSet, AllocError> {
+        let names = self.names.clone()?;
+        Ok(LabelSet { names })
+    }
+}
+
+/// What a recipient asks of the others of the same file. Recipients go together where their labels are the same set of names.
+#[derive(Drop)]
+pub enum Labels {
+    /// The recipient must be a file's only one.
+    Alone,
+    /// The recipient goes together with those that have just these names, as a rule none.
+    Names(LabelSet),
+}
+
+impl Labels {
+    /// Whether recipients with these labels may stand in one file: both have names, and the same set of them.
+    pub fn go_together(&self, other: &Labels) -> bool
+        ensures { result ≡ go_together self.now other.now }
+    {
+        match (self, other) {
+            (Labels::Names(a), Labels::Names(b)) => a.names == b.names,
+            _ => false,
+        }
+    }
+}
+
+impl Clone for Labels {
+    ghost is_clone = { λ labels copy. copy ≡ labels };
+
+    fn clone(&self) -> Result<Labels, AllocError> {
+        match self {
+            Labels::Alone => Ok(Labels::Alone),
+            Labels::Names(set) => Ok(Labels::Names(set.clone()?)),
+        }
+    }
+}
