@@ -325,12 +325,16 @@ outputs() {
     local line
     echo old >made
     decrypt -p pass -o made hello
+    has_ended 1 "agep: not an age file" && [[ $(cat made) == old ]]
+    check "a refused file leaves an OUT that was there as it was"
+    rm made
+    decrypt -p pass -o made hello
     has_ended 1 "agep: not an age file" && [[ -e made && ! -s made ]]
-    check "a refused file leaves OUT empty"
+    check "a refused file leaves a new OUT empty"
     cp hello both
     encrypt -k key -s seed -o both both
-    has_ended 0 "" && decrypt -k key both && has_written empty
-    check "an OUT that names IN is emptied before it is read"
+    has_ended 1 "agep: OUT is also IN: both" && cmp -s both hello
+    check "an OUT that names IN is refused"
     encrypt -k key -o whole two_chunks
     for line in "encrypt -k key two_chunks" "decrypt -k key whole"; do
         # shellcheck disable=SC2086
@@ -375,11 +379,13 @@ words() {
         check "status 2: agep ${row%%|*}"
     done
     run encrypt --help
-    grep -q 'a seed used twice repeats keys' out && grep -q 'an OUT that names IN destroys it' out &&
-        grep -q 'a refused file leaves it empty' out && grep -q 'default: 18' out && grep -q 'default: /dev/urandom' out && has_said 0 ""
+    grep -q 'a seed used twice repeats keys' out && grep -q 'What OUT held stays until' out &&
+        grep -q 'refused where it is also IN' out && grep -q 'default: 18' out && grep -q 'default: /dev/urandom' out &&
+        grep -q 'Above 22' out && grep -q 'Only agep opens' out && has_said 0 ""
     check "help on encrypt, with its warnings"
     run decrypt --help
-    grep -q 'a refused file leaves it empty, and an OUT that names IN destroys it' out && grep -q 'default: 22' out && has_said 0 ""
+    grep -q 'What OUT held stays until' out && grep -q 'refused where it is also IN' out && grep -q 'owner alone' out &&
+        grep -q 'default: 22' out && has_said 0 ""
     check "help on decrypt, with its warnings"
 }
 

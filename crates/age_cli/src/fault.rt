@@ -1,5 +1,6 @@
 //! Why a command ends without its work done.
 
+use crate::names::{Name, Role};
 use std::alloc::{AllocError, AllocFailed};
 use std::fmt;
 
@@ -10,8 +11,12 @@ pub(crate) enum Fault<'a> {
     Engine(age_file::Fault),
     /// The words name a passphrase file and a key file, or neither.
     KeyChoice,
-    CannotOpen(&'a str),
-    CannotCreate(&'a str),
+    CannotOpen(Name<'a>),
+    CannotCreate(Name<'a>),
+    /// The file to write is one that is read.
+    OutputIsRead(Role, Name<'a>),
+    /// Standard input is IN, and an option names it too.
+    InputIsSmallFile(Role),
     KeyLength,
     SeedLength,
     FileKeyLength,
@@ -43,6 +48,10 @@ impl fmt::Display for Fault<'_> {
             Fault::KeyChoice => f.write_str("give one of -p and -k"),
             Fault::CannotOpen(name) => write!(f, "cannot open {name}"),
             Fault::CannotCreate(name) => write!(f, "cannot create {name}"),
+            Fault::OutputIsRead(role, name) => write!(f, "OUT is also {role}: {name}"),
+            Fault::InputIsSmallFile(role) => {
+                write!(f, "standard input cannot be both IN and {role}")
+            }
             Fault::KeyLength => f.write_str("key file must hold 32 bytes"),
             Fault::SeedLength => f.write_str("seed file must hold 48 bytes"),
             Fault::FileKeyLength => f.write_str("file key file must hold 16 bytes"),

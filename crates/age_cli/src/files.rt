@@ -1,13 +1,20 @@
-//! The files that the words name.
+//! The files that the words name to be read, and which of them are the same.
 
 use crate::fault::Fault;
+use crate::names::{Name, Role};
+use age_words::Job;
 use std::fs;
+use std::fs::Metadata;
 use std::io::{ErrorKind, Read, Seek, SeekFrom};
+use std::os::unix::fs::{FileTypeExt, MetadataExt};
 use std::rt::Files;
+
+/// The name under which the system shows a process its standard input.
+const STANDARD_INPUT: &str = "/dev/stdin";
 
 /// The file of this name, open to be read.
 pub(crate) fn open<'a, F: Files>(rt: &F, name: &'a str) -> Result<F::File, Fault<'a>> {
-    fs::open(rt, name).map_err(|_| Fault::CannotOpen(name))
+    fs::open(rt, name).map_err(|_| Fault::CannotOpen(Name(name)))
 }
 
 /// The file of this name, open to be read by places, as a pipe or a terminal cannot be.
@@ -15,13 +22,90 @@ pub(crate) fn open_by_places<'a, F: Files>(rt: &F, name: &'a str) -> Result<F::F
     let mut file = open(rt, name)?;
     match file.seek(SeekFrom::Start(0)) {
         Ok(_) => Ok(file),
-        Err(_) => Err(Fault::CannotOpen(name)),
+        Err(_) => Err(Fault::CannotOpen(Name(name))),
     }
 }
 
-/// The file of this name, made anew or emptied, to be written.
-pub(crate) fn create<'a, F: Files>(rt: &F, name: &'a str) -> Result<F::File, Fault<'a>> {
-    fs::create(rt, name).map_err(|_| Fault::CannotCreate(name))
+/// The small file that an option names, open to be read. Standard input is refused where it is IN: what a small file takes of it,
+/// IN would lack.
+pub(crate) fn open_small<'a, F: Files>(
+    rt: &F,
+    job: &Job,
+    role: Role,
+    name: &'a str,
+) -> Result<F::File, Fault<'a>> {
+    if reads_standard_input(rt, job) && is_standard_input(rt, name) {
+        return Err(Fault::InputIsSmallFile(role));
+    }
+    open(rt, name)
+}
+
+/// Whether IN is standard input: left out, or named so.
+fn reads_standard_input<F: Files>(rt: &F, job: &Job) -> bool {
+    match &job.input {
+        Some(name) => is_standard_input(rt, name.as_str()),
+        None => true,
+    }
+}
+
+/// Refuses a regular file of this name to be written where the job reads it too.
+pub(crate) fn refuse_read_file<'a, F: Files>(
+    rt: &F,
+    job: &Job,
+    name: &'a str,
+) -> Result<(), Fault<'a>> {
+    match fs::metadata(rt, name) {
+        Ok(out) if out.is_file() => match role_of(rt, job, &out) {
+            Some(role) => Err(Fault::OutputIsRead(role, Name(name))),
+            None => Ok(()),
+        },
+        _ => Ok(()),
+    }
+}
+
+/// What this file is to the job, where the job reads it.
+fn role_of<F: Files>(rt: &F, job: &Job, file: &Metadata) -> Option<Role> {
+    if is_named(rt, file, &job.input) || job.input.is_none() && is_at(rt, file, STANDARD_INPUT) {
+        return Some(Role::Input);
+    }
+    if is_named(rt, file, &job.pass) {
+        return Some(Role::Passphrase);
+    }
+    if is_named(rt, file, &job.key) {
+        return Some(Role::Key);
+    }
+    if is_at(rt, file, job.seed.as_str()) {
+        return Some(Role::Seed);
+    }
+    None
+}
+
+/// Whether there is a name, and this file is found by it.
+fn is_named<F: Files>(rt: &F, file: &Metadata, name: &Option<String>) -> bool {
+    match name {
+        Some(name) => is_at(rt, file, name.as_str()),
+        None => false,
+    }
+}
+
+/// Whether this file is found by this name, through links too.
+fn is_at<F: Files>(rt: &F, file: &Metadata, name: &str) -> bool {
+    match fs::metadata(rt, name) {
+        Ok(found) => found.dev() == file.dev() && found.ino() == file.ino(),
+        Err(_) => false,
+    }
+}
+
+/// Whether a read of the file of this name takes from standard input. What one reads of a character device, such as `/dev/null`,
+/// another doesn't lack: so such a device is standard input by its names alone.
+fn is_standard_input<F: Files>(rt: &F, name: &str) -> bool {
+    if name == STANDARD_INPUT || name == "/dev/fd/0" || name == "/proc/self/fd/0" {
+        return true;
+    }
+    match fs::metadata(rt, name) {
+        Ok(file) => !file.file_type().is_char_device() && is_at(rt, &file, STANDARD_INPUT),
+        Err(_) => false,
+    }
 }
 
 /// The next N bytes; the fault `short` where there are fewer.
@@ -38,13 +122,11 @@ pub(crate) fn read_front<'a, R: Read, const N: usize>(
 }
 
 /// What this file holds, which has to be just N bytes; the fault `length` where it is not.
-pub(crate) fn read_just<'a, F: Files, const N: usize>(
-    rt: &F,
-    name: &'a str,
+pub(crate) fn read_just<'a, R: Read, const N: usize>(
+    file: &mut R,
     length: Fault<'a>,
 ) -> Result<[u8; N], Fault<'a>> {
-    let mut file = open(rt, name)?;
-    let bytes = read_front(&mut file, length)?;
+    let bytes = read_front(file, length)?;
     match file.read(&mut [0u8; 1]) {
         Ok(0) => Ok(bytes),
         Ok(_) => Err(length),

@@ -10,6 +10,8 @@ mod encrypt;
 mod fault;
 mod files;
 mod inspect;
+mod names;
+mod output;
 mod program;
 mod range;
 mod secret;

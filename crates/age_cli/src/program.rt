@@ -6,8 +6,10 @@ use crate::buffers::source_by_places;
 use crate::decrypt::decrypt;
 use crate::encrypt::encrypt;
 use crate::fault::Fault;
-use crate::files::{create, open, open_by_places, read_just};
+use crate::files::{open, open_by_places, open_small, read_just};
 use crate::inspect::inspect;
+use crate::names::{Lines, Role};
+use crate::output::create;
 use crate::range::range;
 use crate::secret::{Secret, Seed, read_secret, read_seed};
 use age_words::{Command, Job, WordsFault, read_words};
@@ -26,7 +28,7 @@ const REFUSED: u8 = 2;
 /// Runs `agep` on these words, the program's name first, and returns its exit status: 0 where the
 /// work was done, 1 after a fault, 2 where the words were refused.
 ///
-/// `input` is read where the words name no file. `out` gets what the command gives, and the texts of
+/// `input` is read where the words name no file; which file that is, the system's `/dev/stdin` says. `out` gets what the command gives, and the texts of
 /// help and version; `err` gets one line for a fault, and the text for words that were refused.
 pub fn run<F: Files + AllocGlobal, R: Read, W: Write, E: Write>(
     rt: &F,
@@ -69,7 +71,7 @@ fn perform<'a, F: Files + AllocGlobal, R: Read, W: Write>(
     let task = match job.command {
         Command::Encrypt => {
             let secret = read_secret(rt, job)?;
-            Task::Encrypt(secret, read_seed(rt, job.seed.as_str())?)
+            Task::Encrypt(secret, read_seed(rt, job)?)
         }
         Command::Decrypt => Task::Decrypt(read_secret(rt, job)?),
         Command::Inspect => Task::Inspect(read_file_key(rt, job)?),
@@ -87,7 +89,10 @@ fn perform<'a, F: Files + AllocGlobal, R: Read, W: Write>(
 /// The file key under which the header is to be checked.
 fn read_file_key<'a, F: Files>(rt: &F, job: &'a Job) -> Result<Option<[u8; 16]>, Fault<'a>> {
     match &job.file_key {
-        Some(name) if !job.raw => Ok(Some(read_just(rt, name.as_str(), Fault::FileKeyLength)?)),
+        Some(name) if !job.raw => {
+            let mut file = open_small(rt, job, Role::FileKey, name.as_str())?;
+            Ok(Some(read_just(&mut file, Fault::FileKeyLength)?))
+        }
         _ => Ok(None),
     }
 }
@@ -108,8 +113,9 @@ fn perform_range<'a, F: Files + AllocGlobal, W: Write>(
     let mut input = source_by_places(rt.alloc(), open_by_places(rt, name.as_str())?)?;
     match &job.output {
         Some(name) => {
-            let mut file = create(rt, name.as_str())?;
-            range(rt.alloc(), job, &secret, &mut input, &mut file)
+            let mut output = create(rt, job, name.as_str())?;
+            range(rt.alloc(), job, &secret, &mut input, &mut output)?;
+            output.finish()
         }
         None => range(rt.alloc(), job, &secret, &mut input, out),
     }
@@ -127,8 +133,9 @@ fn perform_on<'a, F: Files + AllocGlobal, R: Read, W: Write>(
 {
     match &job.output {
         Some(name) => {
-            let mut file = create(rt, name.as_str())?;
-            perform_between(rt.alloc(), job, task, input, &mut file)
+            let mut output = create(rt, job, name.as_str())?;
+            perform_between(rt.alloc(), job, task, input, &mut output)?;
+            output.finish()
         }
         None => perform_between(rt.alloc(), job, task, input, out),
     }
@@ -176,7 +183,7 @@ fn answer_refusal<W: Write, E: Write>(fault: &WordsFault, out: &mut W, err: &mut
     match fault {
         WordsFault::Refused(error) => {
             if error.use_stderr() {
-                return refuse(error, err);
+                return refuse(&Lines(error), err);
             }
             match write!(out, "{error}").and_then(|()| out.flush()) {
                 Ok(()) => DONE,

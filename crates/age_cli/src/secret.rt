@@ -1,9 +1,11 @@
 //! What must be kept from others: passphrases, keys and seeds, each read from a file that the words name.
 
 use crate::fault::Fault;
-use crate::files::{open, read_front, read_just};
+use crate::files::{open_small, read_front, read_just};
+use crate::names::Role;
 use age_file::{FileKey, Fresh};
 use age_words::Job;
+use std::alloc::Global;
 use std::io::{ErrorKind, Read};
 use std::rt::Files;
 
@@ -31,19 +33,21 @@ pub(crate) fn read_secret<'a, F: Files + AllocGlobal>(
     job: &'a Job,
 ) -> Result<Secret, Fault<'a>> {
     match (&job.pass, &job.key) {
-        (Some(name), None) => Ok(Secret::Passphrase(read_passphrase(rt, name.as_str())?)),
-        (None, Some(name)) => Ok(Secret::Key(read_just(rt, name.as_str(), Fault::KeyLength)?)),
+        (Some(name), None) => {
+            let file = open_small(rt, job, Role::Passphrase, name.as_str())?;
+            Ok(Secret::Passphrase(read_passphrase(rt.alloc(), file)?))
+        }
+        (None, Some(name)) => {
+            let mut file = open_small(rt, job, Role::Key, name.as_str())?;
+            Ok(Secret::Key(read_just(&mut file, Fault::KeyLength)?))
+        }
         _ => Err(Fault::KeyChoice),
     }
 }
 
 /// The bytes of this file, less one LF at their end.
-fn read_passphrase<'a, F: Files + AllocGlobal>(
-    rt: &F,
-    name: &'a str,
-) -> Result<Vec<u8>, Fault<'a>> {
-    let file = open(rt, name)?;
-    let mut passphrase = Vec::new(rt.alloc());
+fn read_passphrase<'a, R: Read + Drop>(alloc: Global, file: R) -> Result<Vec<u8>, Fault<'a>> {
+    let mut passphrase = Vec::new(alloc);
     match file.take(MOST_PASSPHRASE + 1).read_to_end(&mut passphrase) {
         Ok(_) => {}
         Err(error) if error.kind() == ErrorKind::OutOfMemory => {
@@ -60,9 +64,9 @@ fn read_passphrase<'a, F: Files + AllocGlobal>(
     Ok(passphrase)
 }
 
-/// The file key, the nonce and the salt, which are the first 48 bytes of this file.
-pub(crate) fn read_seed<'a, F: Files>(rt: &F, name: &'a str) -> Result<Seed, Fault<'a>> {
-    let mut file = open(rt, name)?;
+/// The file key, the nonce and the salt, which are the first 48 bytes of the job's seed file.
+pub(crate) fn read_seed<'a, F: Files>(rt: &F, job: &'a Job) -> Result<Seed, Fault<'a>> {
+    let mut file = open_small(rt, job, Role::Seed, job.seed.as_str())?;
     let file_key = read_front(&mut file, Fault::SeedLength)?;
     let nonce = read_front(&mut file, Fault::SeedLength)?;
     let salt = read_front(&mut file, Fault::SeedLength)?;

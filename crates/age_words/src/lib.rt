@@ -3,6 +3,7 @@
 
 mod job;
 mod options;
+mod texts;
 mod words;
 
 pub use job::{Command, Job, WordsFault};

@@ -2,6 +2,11 @@
 ghost use Rattle.std.specs.Prelude.{◌≡◌, true, false, IfOk};
 ghost use Rattle.clap.specs.Words.{app_of};
 
+use crate::texts::{
+    DECRYPT_END, ENCRYPT_END, ENCRYPTED_OUTPUT_HELP, FILE_KEY_HELP, INPUT_HELP, INSPECT_END,
+    KEY_HELP, MAX_HEADER_HELP, MAX_WORK_HELP, PASS_HELP, PLACES_HELP, PLAIN_OUTPUT_HELP, RANGE_END,
+    SEED_HELP, WHOLE_END, WORK_HELP,
+};
 use clap::{Arg, ArgAction, Command, value_parser};
 use std::alloc::{AllocError, Global};
 
@@ -45,7 +50,8 @@ pub(crate) const DEFAULT_SEED: &str = "/dev/urandom";
 
 const ABOUT: &str = "Works on files in the age v1 format";
 
-const VERSION: &str = "0.1.0";
+/// The newest version in `CHANGELOG.md`.
+const VERSION: &str = "0.2.0";
 
 /// The whole command line.
 pub(crate) fn whole_command<'a>(alloc: Global) -> Result<Command<'a>, AllocError>
@@ -54,6 +60,7 @@ pub(crate) fn whole_command<'a>(alloc: Global) -> Result<Command<'a>, AllocError
 {
     let command = Command::new(alloc, "agep")
         .about(ABOUT)
+        .after_help(WHOLE_END)
         .version(VERSION)
         .subcommand(encrypt_command(alloc)?)?
         .subcommand(decrypt_command(alloc)?)?
@@ -66,22 +73,23 @@ fn encrypt_command<'a>(alloc: Global) -> Result<Command<'a>, AllocError>
     ensures { IfOk result (λ command. (app_of command).top.is_plain ≡ true) }
 {
     Command::new(alloc, "encrypt")
-        .about("Encrypt a file with a passphrase or a key: give one of -p and -k")
+        .about("Encrypt a file with a passphrase or a key")
+        .after_help(ENCRYPT_END)
         .arg(pass_option(alloc))?
         .arg(key_option(alloc))?
         .arg(work_option(alloc))?
         .arg(seed_option(alloc))?
         .arg(max_header_option(alloc))?
-        .arg(output_option(alloc))?
+        .arg(output_option(alloc, ENCRYPTED_OUTPUT_HELP))?
         .arg(input_word(alloc))
 }
 
 fn decrypt_command<'a>(alloc: Global) -> Result<Command<'a>, AllocError>
     ensures { IfOk result (λ command. (app_of command).top.is_plain ≡ true) }
 {
-    let command = Command::new(alloc, "decrypt").about(
-        "Decrypt a file with a passphrase or a key: give one of -p and -k",
-    );
+    let command = Command::new(alloc, "decrypt")
+        .about("Decrypt a file with a passphrase or a key")
+        .after_help(DECRYPT_END);
     with_opening_options(alloc, command)?.arg(input_word(alloc))
 }
 
@@ -95,7 +103,7 @@ fn with_opening_options<'a>(alloc: Global, command: Command<'a>) -> Result<Comma
         .arg(key_option(alloc))?
         .arg(max_work_option(alloc))?
         .arg(max_header_option(alloc))?
-        .arg(output_option(alloc))
+        .arg(output_option(alloc, PLAIN_OUTPUT_HELP))
 }
 
 fn inspect_command<'a>(alloc: Global) -> Result<Command<'a>, AllocError>
@@ -106,15 +114,10 @@ fn inspect_command<'a>(alloc: Global) -> Result<Command<'a>, AllocError>
         .long(RAW)
         .help("Write the header's own bytes, and no table")
         .action(ArgAction::SetTrue);
-    let file_key = text_option(
-        alloc,
-        FILE_KEY,
-        'f',
-        "FILE",
-        "Check the header under the file key, which this file of 16 bytes holds; not read with -r",
-    );
+    let file_key = text_option(alloc, FILE_KEY, 'f', "FILE", FILE_KEY_HELP);
     Command::new(alloc, "inspect")
         .about("Show what the header of an age file holds")
+        .after_help(INSPECT_END)
         .arg(raw)?
         .arg(file_key)?
         .arg(max_header_option(alloc))?
@@ -124,9 +127,9 @@ fn inspect_command<'a>(alloc: Global) -> Result<Command<'a>, AllocError>
 fn range_command<'a>(alloc: Global) -> Result<Command<'a>, AllocError>
     ensures { IfOk result (λ command. (app_of command).top.is_plain ≡ true) }
 {
-    let command = Command::new(alloc, "range").about(
-        "Decrypt a part of a file with a passphrase or a key: give one of -p and -k",
-    );
+    let command = Command::new(alloc, "range")
+        .about("Decrypt a part of a file with a passphrase or a key")
+        .after_help(RANGE_END);
     with_opening_options(alloc, command)?
         .arg(place_word(
             alloc,
@@ -140,103 +143,55 @@ fn range_command<'a>(alloc: Global) -> Result<Command<'a>, AllocError>
             "LEN",
             "The most bytes to write; fewer where the plaintext ends before",
         ))?
-        .arg(required_word(
-            alloc,
-            INPUT,
-            "IN",
-            "The file to read: a pipe or a terminal cannot be read by places",
-        ))
+        .arg(required_word(alloc, INPUT, "IN", PLACES_HELP))
 }
 
 fn pass_option<'a>(alloc: Global) -> Arg<'a>
     ensures { result.global ≡ false }
 {
-    text_option(
-        alloc,
-        PASS,
-        'p',
-        "FILE",
-        "The file that holds the passphrase, at most 65536 bytes; one LF at its end is taken off",
-    )
+    text_option(alloc, PASS, 'p', "FILE", PASS_HELP)
 }
 
 fn key_option<'a>(alloc: Global) -> Arg<'a>
     ensures { result.global ≡ false }
 {
-    text_option(
-        alloc,
-        KEY,
-        'k',
-        "FILE",
-        "The file that holds the key, 32 bytes",
-    )
+    text_option(alloc, KEY, 'k', "FILE", KEY_HELP)
 }
 
 fn work_option<'a>(alloc: Global) -> Arg<'a>
     ensures { result.global ≡ false }
 {
-    text_option(
-        alloc,
-        WORK,
-        'w',
-        "N",
-        "The passphrase's work factor, 1 to 30: each try takes 2^N KiB of memory, and time in proportion; not used with -k",
-    )
-    .value_parser(value_parser!(u64).range(LEAST_WORK as i64..=MOST_WORK as i64))
-    .default_value("18")
+    text_option(alloc, WORK, 'w', "N", WORK_HELP)
+        .value_parser(value_parser!(u64).range(LEAST_WORK as i64..=MOST_WORK as i64))
+        .default_value("18")
 }
 
 fn seed_option<'a>(alloc: Global) -> Arg<'a>
     ensures { result.global ≡ false }
 {
-    text_option(
-        alloc,
-        SEED,
-        's',
-        "SEED",
-        "The file whose first 48 bytes are the file key, the nonce and the salt: a seed used twice repeats keys",
-    )
-    .default_value(DEFAULT_SEED)
+    text_option(alloc, SEED, 's', "SEED", SEED_HELP).default_value(DEFAULT_SEED)
 }
 
 fn max_work_option<'a>(alloc: Global) -> Arg<'a>
     ensures { result.global ≡ false }
 {
-    text_option(
-        alloc,
-        MAX_WORK,
-        'm',
-        "N",
-        "The greatest work factor to accept, 1 to 30: a try takes 2^N KiB of memory; not used with -k",
-    )
-    .value_parser(value_parser!(u64).range(LEAST_WORK as i64..=MOST_WORK as i64))
-    .default_value("22")
+    text_option(alloc, MAX_WORK, 'm', "N", MAX_WORK_HELP)
+        .value_parser(value_parser!(u64).range(LEAST_WORK as i64..=MOST_WORK as i64))
+        .default_value("22")
 }
 
 fn max_header_option<'a>(alloc: Global) -> Arg<'a>
     ensures { result.global ≡ false }
 {
-    text_option(
-        alloc,
-        MAX_HEADER,
-        'H',
-        "N",
-        "The most bytes that the header may have, 1024 to 16777216",
-    )
-    .value_parser(value_parser!(u64).range(LEAST_HEADER as i64..=MOST_HEADER as i64))
-    .default_value("65536")
+    text_option(alloc, MAX_HEADER, 'H', "N", MAX_HEADER_HELP)
+        .value_parser(value_parser!(u64).range(LEAST_HEADER as i64..=MOST_HEADER as i64))
+        .default_value("65536")
 }
 
-fn output_option<'a>(alloc: Global) -> Arg<'a>
+fn output_option<'a>(alloc: Global, help: &'a str) -> Arg<'a>
     ensures { result.global ≡ false }
 {
-    text_option(
-        alloc,
-        OUTPUT,
-        'o',
-        "OUT",
-        "The file to write; standard output where it is left out. OUT is made before the work begins: a refused file leaves it empty, and an OUT that names IN destroys it",
-    )
+    text_option(alloc, OUTPUT, 'o', "OUT", help)
 }
 
 fn input_word<'a>(alloc: Global) -> Arg<'a>
@@ -244,7 +199,7 @@ fn input_word<'a>(alloc: Global) -> Arg<'a>
 {
     Arg::new(alloc, INPUT)
         .value_name("IN")
-        .help("The file to read; standard input where it is left out")
+        .help(INPUT_HELP)
         .action(ArgAction::Set)
 }
 

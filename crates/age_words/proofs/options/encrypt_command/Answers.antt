@@ -8,7 +8,7 @@ plain a = a.top.is_plain
 
 pub returns : goal.returns
 returns c =
-    let first : plain (app_of c.about.result) ≡ true = search rules in
+    let first : plain (app_of c.after_help.result) ≡ true = search rules in
     IfOk-weaker c.arg-7.result _ _ (λ command h.
     ap plain (h.shape (search rules))
     ∙ ap plain (c.in_ok-arg-6.ensures.shape (search rules))

@@ -9,7 +9,7 @@ plain a = a.top.is_plain
 -- src/options.rt:110:1
 pub returns : goal.returns
 returns c =
-    let first : plain (app_of c.about.result) ≡ true = search rules in
+    let first : plain (app_of c.after_help.result) ≡ true = search rules in
     IfOk-weaker c.arg-4.result _ _ (λ command h.
     ap plain (h.shape (search rules))
     ∙ ap plain (c.in_ok-arg-3.ensures.shape (search rules))

@@ -1,0 +1,20 @@
+# Completions of agep for fish: commands, options and files.
+complete -c agep -n __fish_use_subcommand -f
+complete -c agep -n __fish_use_subcommand -f -a encrypt -d 'Encrypt a file with a passphrase or a key'
+complete -c agep -n __fish_use_subcommand -f -a decrypt -d 'Decrypt a file with a passphrase or a key'
+complete -c agep -n __fish_use_subcommand -f -a inspect -d 'Show what the header of an age file holds'
+complete -c agep -n __fish_use_subcommand -f -a range -d 'Decrypt a part of a file'
+complete -c agep -n __fish_use_subcommand -f -a help -d 'Print help'
+complete -c agep -n __fish_use_subcommand -s V -l version -d 'Print the version'
+complete -c agep -s h -l help -d 'Print help'
+complete -c agep -n '__fish_seen_subcommand_from help' -f -a 'encrypt decrypt inspect range'
+
+complete -c agep -n '__fish_seen_subcommand_from encrypt decrypt range' -s p -l passphrase -r -F -d 'File that holds the passphrase'
+complete -c agep -n '__fish_seen_subcommand_from encrypt decrypt range' -s k -l key -r -F -d 'File that holds the key'
+complete -c agep -n '__fish_seen_subcommand_from encrypt' -s w -l work -x -d 'Work factor, 1 to 30'
+complete -c agep -n '__fish_seen_subcommand_from encrypt' -s s -l seed -r -F -d 'File of the file key, the nonce and the salt'
+complete -c agep -n '__fish_seen_subcommand_from decrypt range' -s m -l max-work -x -d 'Greatest work factor to accept, 1 to 30'
+complete -c agep -n '__fish_seen_subcommand_from inspect' -s r -l raw -d 'Write the header\'s own bytes'
+complete -c agep -n '__fish_seen_subcommand_from inspect' -s f -l file-key -r -F -d 'File that holds the file key'
+complete -c agep -n '__fish_seen_subcommand_from encrypt decrypt inspect range' -s H -l max-header -x -d 'Most bytes of the header'
+complete -c agep -n '__fish_seen_subcommand_from encrypt decrypt range' -s o -l output -r -F -d 'File to write'

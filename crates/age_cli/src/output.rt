@@ -1,0 +1,109 @@
+//! The file that the words name to be written.
+ghost use Rattle.std.specs.Prelude.{◌≡◌, ◌<◌, false, length, IfOk, IsOk};
+ghost use Rattle.age_cli.specs.Mode.{new_mode};
+
+use crate::fault::Fault;
+use crate::files::refuse_read_file;
+use crate::names::Name;
+use age_words::{Command, Job};
+use std::fs::{OpenFile, OpenOptions};
+use std::io;
+use std::io::Write;
+use std::os::unix::fs::OpenOptionsExt;
+use std::rt::Files;
+
+/// A file to write. What a regular file held before stays until the first byte goes to it, or the work has ended well.
+#[derive(Drop)]
+pub(crate) struct Output<F> {
+    file: F,
+    is_regular: bool,
+    /// Whether it is a regular file that may still hold what it held before.
+    is_stale: bool,
+}
+
+/// The file of this name to be written, made where it isn't there.
+pub(crate) fn create<'a, F: Files>(
+    rt: &F,
+    job: &Job,
+    name: &'a str,
+) -> Result<Output<F::File>, Fault<'a>> {
+    refuse_read_file(rt, job, name)?;
+    open_output(rt, new_mode(job.command), name).map_err(|_| Fault::CannotCreate(Name(name)))
+}
+
+fn open_output<F: Files>(rt: &F, mode: u32, name: &str) -> io::Result<Output<F::File>>
+    ensures { IfOk result (λ output. output.is_stale ≡ output.is_regular) }
+{
+    let mut options = OpenOptions::new();
+    options.write(true).create(true).mode(mode);
+    let file = options.open(rt, name)?;
+    let is_regular = file.metadata()?.is_file();
+    Ok(Output {
+        file,
+        is_regular,
+        is_stale: is_regular,
+    })
+}
+
+/// The mode of a file that this command makes anew, from which the system takes the umask. A plaintext is its owner's alone.
+fn new_mode(command: Command) -> u32
+    ensures { result ≡ new_mode command }
+{
+    match command {
+        Command::Decrypt | Command::Range => 0o600,
+        Command::Encrypt | Command::Inspect => 0o666,
+    }
+}
+
+impl<F: OpenFile> Output<F> {
+    /// Empties a file that may still hold what it held before.
+    fn empty(&mut self) -> io::Result<()>
+        ensures { IsOk result → self.new.is_stale ≡ false }
+    {
+        if self.is_stale {
+            self.file.set_len(0)?;
+            self.is_stale = false;
+        }
+        Ok(())
+    }
+
+    /// Empties the file before the first byte of these is written to it.
+    fn make_room(&mut self, bytes: &[u8]) -> io::Result<()>
+        ensures waits { length bytes.now ≡ 0 → self.new.is_stale ≡ self.old.is_stale }
+        ensures emptied { IsOk result → 0 < length bytes.now → self.new.is_stale ≡ false }
+    {
+        if !bytes.is_empty() {
+            self.empty()?;
+        }
+        Ok(())
+    }
+
+    /// Ends the output of work that ended well: what a regular file holds then is on its device.
+    pub(crate) fn finish(mut self) -> Result<(), Fault<'static>>
+    where
+        F: Drop,
+    {
+        match self.empty().and_then(|()| self.sync()) {
+            Ok(()) => Ok(()),
+            Err(_) => Err(Fault::Engine(age_file::Fault::Write)),
+        }
+    }
+
+    fn sync(&self) -> io::Result<()> {
+        if self.is_regular {
+            return self.file.sync_all();
+        }
+        Ok(())
+    }
+}
+
+impl<F: Write + OpenFile> Write for Output<F> {
+    fn write(&mut self, buf: &[u8]) -> io::Result<usize> {
+        self.make_room(buf)?;
+        self.file.write(buf)
+    }
+
+    fn flush(&mut self) -> io::Result<()> {
+        self.file.flush()
+    }
+}

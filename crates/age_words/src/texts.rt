@@ -1,0 +1,99 @@
+//! The longer texts of help. Their lines fit 80 columns beside the options' names.
+
+pub(crate) const PASS_HELP: &str = "The file that holds the passphrase.\
+    \nOne LF at its end is taken off. At most 65536 bytes.\
+    \nGive one of -p and -k";
+
+pub(crate) const KEY_HELP: &str = "The file that holds the key, 32 bytes.\
+    \nOnly agep opens a file that is encrypted with -k";
+
+pub(crate) const WORK_HELP: &str = "The work factor of the passphrase, 1 to 30.\
+    \nEncrypting takes 2^N KiB of memory, and time in\
+    \nproportion; so does each try to decrypt. Above 22 a\
+    \nreader needs 8 GiB or more and has to allow it with\
+    \n-m, and other tools may refuse the file.\
+    \nNot used with -k";
+
+pub(crate) const MAX_WORK_HELP: &str = "The greatest work factor to accept, 1 to 30.\
+    \nA try takes 2^N KiB of memory.\
+    \nNot used with -k";
+
+pub(crate) const SEED_HELP: &str = "The file whose first 48 bytes are the file key, the\
+    \nnonce and the salt: a seed used twice repeats keys.\
+    \nFor tests alone";
+
+pub(crate) const MAX_HEADER_HELP: &str = "The most bytes that the header may have,\
+    \n1024 to 16777216";
+
+pub(crate) const ENCRYPTED_OUTPUT_HELP: &str = "The file to write; standard output where it is left\
+    \nout. What OUT held stays until the first byte is\
+    \nwritten to it, or the work has ended well. OUT is\
+    \nrefused where it is also IN, or a file that another\
+    \noption names. With status 0 it is on its device";
+
+pub(crate) const PLAIN_OUTPUT_HELP: &str = "The file to write; standard output where it is left\
+    \nout. What OUT held stays until the first byte is\
+    \nwritten to it, or the work has ended well. OUT is\
+    \nrefused where it is also IN, or a file that another\
+    \noption names. With status 0 it is on its device.\
+    \nA new OUT can be read by its owner alone";
+
+pub(crate) const FILE_KEY_HELP: &str = "The file that holds the file key, 16 bytes. The\
+    \nheader's MAC is checked under it. Not read with -r";
+
+pub(crate) const INPUT_HELP: &str = "The file to read; standard input where it is left out.\
+    \nThen no option may name standard input";
+
+pub(crate) const PLACES_HELP: &str =
+    "The file to read: a pipe or a terminal cannot be read by places";
+
+pub(crate) const ENCRYPT_END: &str = "Status:\
+    \n  0  the work is done\
+    \n  1  a fault ended it: one line on standard error says which\
+    \n  2  the command line was refused\
+    \n\
+    \nExamples:\
+    \n  agep encrypt -p passphrase -o notes.age notes\
+    \n  tar c folder | agep encrypt -p passphrase -o folder.tar.age\
+    \n  agep encrypt -k key -o dump.age dump";
+
+pub(crate) const DECRYPT_END: &str =
+    "Before a damaged chunk the chunks before it are written: use the plaintext after\
+    \nstatus 0 alone.\
+    \n\
+    \nStatus:\
+    \n  0  the work is done\
+    \n  1  a fault ended it: one line on standard error says which\
+    \n  2  the command line was refused\
+    \n\
+    \nExamples:\
+    \n  agep decrypt -p passphrase -o notes notes.age\
+    \n  agep decrypt -p passphrase folder.tar.age | tar x\
+    \n  agep decrypt -k key dump.age >/dev/null  # verifies it";
+
+pub(crate) const INSPECT_END: &str = "Status:\
+    \n  0  the work is done\
+    \n  1  a fault, or a bad check, ended it: one line on standard error says which\
+    \n  2  the command line was refused\
+    \n\
+    \nExamples:\
+    \n  agep inspect notes.age\
+    \n  agep inspect -f filekey notes.age\
+    \n  agep inspect -r notes.age >header";
+
+pub(crate) const RANGE_END: &str =
+    "Only the chunks that the range touches and the last one are read and verified.\
+    \n\
+    \nStatus:\
+    \n  0  the work is done\
+    \n  1  a fault ended it: one line on standard error says which\
+    \n  2  the command line was refused\
+    \n\
+    \nExamples:\
+    \n  agep range -p passphrase 0 512 disk.age\
+    \n  agep range -k key -o part 1048576 65536 disk.age";
+
+pub(crate) const WHOLE_END: &str = "Examples:\
+    \n  agep encrypt -p passphrase -o notes.age notes\
+    \n  agep decrypt -p passphrase -o notes notes.age\
+    \n  agep help encrypt";

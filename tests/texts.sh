@@ -1,0 +1,214 @@
+#!/bin/bash
+# Compares what tells users of the program with the built program: the texts of help, the manual page, the completions, the change log and
+# ./install. The last line is 'N passed, M failed'.
+source "$(dirname "$0")/checks.bash"
+
+# The commands that help shows, but for help itself.
+commands() {
+    "$agep" --help | awk '/^Commands:/ { shown = 1; next } /^$/ { shown = 0 } shown && $1 != "help" { print $1 }'
+}
+
+# The options of a command by its help, or of the whole program, one a line.
+options_of() {
+    "$agep" ${1:+"$1"} --help | grep -oE '^ +-[a-zA-Z], --[a-z-]+' | tr -d ' ' | tr , '\n' | sort
+}
+
+# Help fits a terminal of 80 columns, and ends with the statuses and examples.
+helps() {
+    local command
+    for command in "$@" ''; do
+        # shellcheck disable=SC2086
+        run $command --help
+        has_said 0 "" && ! LC_ALL=C grep -q '.\{81\}' out && ! LC_ALL=C grep -q '[^ -~]' out
+        check "help fits 80 columns: agep $command"
+        [[ $(sed -n '/^Examples:/,$p' out | grep -c '^  .*agep ') -ge 2 ]]
+        check "help ends with examples: agep $command"
+        [[ -n $command ]] || continue
+        [[ $(sed -n '/^Status:/,/^$/p' out | awk 'NF { printf "%s ", $1 }') == "Status: 0 1 2 " ]]
+        check "help says the statuses: agep $command"
+    done
+}
+
+# Runs each example of help in a folder that has the files it names.
+examples() {
+    local command line
+    mkdir -p bin scratch/folder
+    ln -s "$agep" bin/agep
+    (
+        cd scratch || exit 1
+        echo 'correct horse' >passphrase
+        head -c 32 /dev/urandom >key
+        head -c 48 /dev/urandom >seed
+        head -c 16 seed >filekey
+        echo notes >notes
+        echo dump >dump
+        cp notes folder/
+        head -c 1200000 /dev/zero >disk
+    )
+    for command in "$@"; do
+        (
+            cd scratch || exit 1
+            rm -rf x ./*.age
+            [[ $command == encrypt ]] && exit
+            "$agep" encrypt -p passphrase -s seed -o notes.age notes
+            tar c folder | "$agep" encrypt -p passphrase -w 10 -o folder.tar.age
+            "$agep" encrypt -k key -o dump.age dump
+            "$agep" encrypt -p passphrase -w 10 -o disk.age disk
+            "$agep" encrypt -k key -o keyed.age disk
+        )
+        while read -r line; do
+            [[ $line != *'range -k'* ]] || cp scratch/keyed.age scratch/disk.age
+            (cd scratch && PATH=$work/bin:$PATH bash -o pipefail -c "$line") >out 2>err
+            echo $? >status
+            has_said 0 ""
+            check "an example of help: $line"
+        done < <("$agep" "$command" --help | sed -n '/^Examples:/,$p' | sed 1d)
+    done
+}
+
+# The part of the manual page between this heading and the next.
+section() {
+    awk -v heading="$1" '/^\.SH/ { shown = ($0 == ".SH " heading) } shown' "$root/agep.1" | sed 's/\\-/-/g'
+}
+
+manual() {
+    local command
+    section SYNOPSIS >synopsis
+    section OPTIONS >described
+    for command in "$@"; do
+        awk -v command="agep $command" '/^\.B agep/ { shown = ($0 == ".B " command) } shown' synopsis |
+            grep -oE -- '-[a-zA-Z]\b' | sort >got
+        options_of "$command" | grep -v -e '^--' -e '^-h$' >expected
+        [[ -s expected ]] && cmp -s got expected
+        check "the manual page's synopsis has the options of $command"
+    done
+    grep -E '^\.BR -[a-zA-Z] ", " --' described | grep -oE -- '--?[a-zA-Z][a-z-]*' | sort >got
+    { for command in "$@" ''; do options_of "$command"; done; } | sort -u >expected
+    cmp -s got expected
+    check "the manual page describes each option once, by its letter and its name"
+    grep -q "\"agep $version\"" "$root/agep.1"
+    check "the manual page names the newest version"
+    if command -v mandoc >/dev/null; then
+        [[ -z $(mandoc -T lint -W warning "$root/agep.1" 2>&1) ]]
+        check "mandoc renders the manual page without a warning"
+    fi
+    if man --version 2>/dev/null | grep -q '^man [0-9]'; then
+        LC_ALL=C.UTF-8 man --warnings -l "$root/agep.1" 2>err >out </dev/null
+        [[ -s out && ! -s err ]]
+        check "man-db renders the manual page without a warning"
+    fi
+}
+
+# What bash offers after these words, the last of them begun.
+by_bash() {
+    bash -c 'source "$1"; shift; COMP_WORDS=("$@"); COMP_CWORD=$(($# - 1)); _agep; printf "%s\n" "${COMPREPLY[@]}"' \
+        bash "$root/completions/agep.bash" "$@" | sort
+}
+
+# What fish offers after these words.
+by_fish() {
+    fish --no-config -c "source $root/completions/agep.fish; complete -C '$*'" | cut -f 1 | sort
+}
+
+# The options that the file for zsh has in a command's part.
+by_zsh_file() {
+    awk -v command="$1)" '$1 == command { shown = 1 } /;;/ { shown = 0 } shown' "$root/completions/_agep" |
+        grep -oE '\{-[a-zA-Z],--[a-z-]+\}' | tr -d '{}' | tr , '\n' | sort
+}
+
+# The options that the file for fish has for a command.
+by_fish_file() {
+    {
+        grep -E "seen_subcommand_from [a-z ]*\b$1\b[a-z ]*'" "$root/completions/agep.fish"
+        grep -E '^complete -c agep -s' "$root/completions/agep.fish"
+    } | sed -nE 's/.* -s ([a-zA-Z]) -l ([a-z-]+) .*/-\1\n--\2/p' | sort
+}
+
+completions() {
+    local command
+    commands | sort >expected
+    by_bash agep '' | grep -v -e '^-' -e '^help$' | cmp -s - expected
+    check "bash offers the commands"
+    sed -n "s/^        '\([a-z]*\):.*/\1/p" "$root/completions/_agep" | grep -vx help | sort | cmp -s - expected
+    check "the file for zsh has the commands"
+    sed -n 's/.*__fish_use_subcommand -f -a \([a-z]*\) .*/\1/p' "$root/completions/agep.fish" | grep -vx help | sort | cmp -s - expected
+    check "the file for fish has the commands"
+    for command in "$@"; do
+        options_of "$command" >expected
+        [[ -s expected ]] && by_bash agep "$command" - | cmp -s - expected
+        check "bash offers the options of $command"
+        by_zsh_file "$command" | cmp -s - expected
+        check "the file for zsh has the options of $command"
+        by_fish_file "$command" | cmp -s - expected
+        check "the file for fish has the options of $command"
+        if command -v fish >/dev/null; then
+            by_fish agep "$command" - | cmp -s - expected
+            check "fish offers the options of $command"
+        fi
+    done
+    mkdir -p files && touch files/some.age
+    [[ -z $(cd files && by_bash agep decrypt so) ]] && grep -qx 'complete -o default -F _agep agep' "$root/completions/agep.bash"
+    check "bash offers files, which is its default, where it offers no option"
+    if command -v fish >/dev/null; then
+        (cd files && by_fish agep decrypt so | grep -qx some.age && by_fish agep decrypt -k so | grep -qx some.age &&
+            by_fish agep decrypt -o so | grep -qx some.age)
+        check "fish offers files"
+    fi
+    if command -v zsh >/dev/null; then
+        zsh -n "$root/completions/_agep" 2>err
+        [[ $? -eq 0 && ! -s err ]]
+        check "zsh reads its file"
+    fi
+}
+
+versions() {
+    local option
+    [[ $version =~ ^[0-9]+\.[0-9]+\.[0-9]+$ ]]
+    check "the change log has a newest version"
+    for option in -V --version; do
+        run "$option"
+        has_said 0 "" && [[ $(cat out) == "agep $version" ]]
+        check "agep $option names the newest version of the change log"
+    done
+}
+
+# The files under a folder.
+files_of() {
+    (cd "$1" && find . -type f -o -type l) | sort
+}
+
+installs() {
+    mkdir -p prefix/share/man/man1
+    echo other >prefix/share/man/man1/other.1
+    "$root/install" "$work/prefix" >out 2>err
+    echo $? >status
+    has_said 0 "" && files_of prefix | cmp -s - <(
+        printf './%s\n' bin/agep share/bash-completion/completions/agep share/fish/vendor_completions.d/agep.fish share/man/man1/agep.1 \
+            share/man/man1/other.1 share/zsh/site-functions/_agep
+    )
+    check "./install puts the program, its manual page and its completions under PREFIX"
+    [[ $(prefix/bin/agep --version) == "agep $version" && $(stat -c %a prefix/bin/agep prefix/share/man/man1/agep.1 | xargs) == "755 644" ]]
+    check "what ./install puts there runs, and has the usual modes"
+    "$root/install" --uninstall "$work/prefix" >out 2>err
+    echo $? >status
+    has_said 0 "" && [[ $(files_of prefix) == ./share/man/man1/other.1 ]]
+    check "./install --uninstall removes just these files"
+    "$root/install" --uninstall "$work/prefix" >out 2>err
+    echo $? >status
+    has_ended 0 ""
+    check "./install --uninstall where nothing is installed"
+    "$root/install" --other >out 2>err
+    [[ $? -eq 2 && $(cat err) == "usage: ./install [--uninstall] [PREFIX]" && ! -s out ]]
+    check "./install refuses another option"
+}
+
+mapfile -t all < <(commands)
+[[ ${#all[@]} -ge 4 ]]
+check "help shows the commands"
+helps "${all[@]}"
+examples "${all[@]}"
+manual "${all[@]}"
+completions "${all[@]}"
+versions
+installs
+finish
