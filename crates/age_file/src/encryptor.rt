@@ -39,9 +39,9 @@ impl Encryptor {
     /// Makes the header of a new file for these recipients.
     ///
     /// # Errors
-    /// In this order: `Refused` at the first recipient that refuses, `NoRecipients` where there is no stanza at all,
-    /// `MixedPassphrase` where a `scrypt` stanza stands beside another, `HeaderTooLarge`. `OutOfMemory` where an allocation was
-    /// refused.
+    /// In this order: `Refused` at the first recipient that refuses, `IncompatibleRecipients` at the first whose labels do not go
+    /// together with those of recipient 0, `NoRecipients` where there is no stanza at all, `MixedPassphrase` where a `scrypt` stanza
+    /// stands beside another, `HeaderTooLarge`. `OutOfMemory` where an allocation was refused.
     pub fn new(
         alloc: Global,
         recipients: &[Box<dyn Recipient>],

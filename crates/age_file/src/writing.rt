@@ -20,8 +20,9 @@ use std::alloc::Global;
 /// made before the first byte goes out, and each chunk goes out as soon as more text comes.
 ///
 /// # Errors
-/// In this order: `Refused` at the first recipient that refuses, `NoRecipients` where there is no stanza at all, `MixedPassphrase`
-/// where a `scrypt` stanza stands beside another, `HeaderTooLarge`. On these, and on `OutOfMemory`, nothing was written.
+/// In this order: `Refused` at the first recipient that refuses, `IncompatibleRecipients` at the first whose labels do not go together
+/// with those of recipient 0, `NoRecipients` where there is no stanza at all, `MixedPassphrase` where a `scrypt` stanza stands beside
+/// another, `HeaderTooLarge`. On these, and on `OutOfMemory`, nothing was written.
 /// `TooManyChunks` where the plaintext has more chunks than are allowed: the header, the nonce and the sealed chunks with an index
 /// below the limit less one were written. `Read` and `Write` where a device failed: a beginning of the file was written.
 pub fn encrypt<S: Source, W: Sink>(
