@@ -46,7 +46,7 @@ pub(crate) fn encrypt<'a, R: Read, W: Write>(
 }
 
 /// The recipient of this passphrase, with the job's work factor.
-fn pass_recipient<'a>(
+pub(crate) fn pass_recipient<'a>(
     alloc: Global,
     job: &Job,
     passphrase: &[u8],

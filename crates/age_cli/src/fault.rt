@@ -11,12 +11,14 @@ pub(crate) enum Fault<'a> {
     Engine(age_file::Fault),
     /// The words name a passphrase file and a key file, or neither.
     KeyChoice,
+    /// The words name a new passphrase file and a new key file, or neither.
+    NewKeyChoice,
     CannotOpen(Name<'a>),
     CannotCreate(Name<'a>),
     /// The file to write is one that is read.
     OutputIsRead(Role, Name<'a>),
-    /// Standard input is IN, and an option names it too.
-    InputIsSmallFile(Role),
+    /// Standard input has two roles.
+    StandardInputTwice(Role, Role),
     KeyLength,
     SeedLength,
     FileKeyLength,
@@ -46,11 +48,12 @@ impl fmt::Display for Fault<'_> {
         match self {
             Fault::Engine(fault) => write!(f, "{fault}"),
             Fault::KeyChoice => f.write_str("give one of -p and -k"),
+            Fault::NewKeyChoice => f.write_str("give one of -P and -K"),
             Fault::CannotOpen(name) => write!(f, "cannot open {name}"),
             Fault::CannotCreate(name) => write!(f, "cannot create {name}"),
             Fault::OutputIsRead(role, name) => write!(f, "OUT is also {role}: {name}"),
-            Fault::InputIsSmallFile(role) => {
-                write!(f, "standard input cannot be both IN and {role}")
+            Fault::StandardInputTwice(one, other) => {
+                write!(f, "standard input cannot be both {one} and {other}")
             }
             Fault::KeyLength => f.write_str("key file must hold 32 bytes"),
             Fault::SeedLength => f.write_str("seed file must hold 48 bytes"),

@@ -35,7 +35,7 @@ pub(crate) fn open_small<'a, F: Files>(
     name: &'a str,
 ) -> Result<F::File, Fault<'a>> {
     if reads_standard_input(rt, job) && is_standard_input(rt, name) {
-        return Err(Fault::InputIsSmallFile(role));
+        return Err(Fault::StandardInputTwice(Role::Input, role));
     }
     open(rt, name)
 }
@@ -74,6 +74,12 @@ fn role_of<F: Files>(rt: &F, job: &Job, file: &Metadata) -> Option<Role> {
     if is_named(rt, file, &job.key) {
         return Some(Role::Key);
     }
+    if is_named(rt, file, &job.new_pass) {
+        return Some(Role::NewPassphrase);
+    }
+    if is_named(rt, file, &job.new_key) {
+        return Some(Role::NewKey);
+    }
     if is_at(rt, file, job.seed.as_str()) {
         return Some(Role::Seed);
     }
@@ -98,7 +104,7 @@ fn is_at<F: Files>(rt: &F, file: &Metadata, name: &str) -> bool {
 
 /// Whether a read of the file of this name takes from standard input. What one reads of a character device, such as `/dev/null`,
 /// another doesn't lack: so such a device is standard input by its names alone.
-fn is_standard_input<F: Files>(rt: &F, name: &str) -> bool {
+pub(crate) fn is_standard_input<F: Files>(rt: &F, name: &str) -> bool {
     if name == STANDARD_INPUT || name == "/dev/fd/0" || name == "/proc/self/fd/0" {
         return true;
     }

@@ -14,6 +14,7 @@ mod names;
 mod output;
 mod program;
 mod range;
+mod rewrap;
 mod secret;
 
 pub use age_words::{Command, Job, WordsFault, read_words};

@@ -9,6 +9,8 @@ pub(crate) enum Role {
     Input,
     Passphrase,
     Key,
+    NewPassphrase,
+    NewKey,
     Seed,
     FileKey,
 }
@@ -19,6 +21,8 @@ impl fmt::Display for Role {
             Role::Input => "IN",
             Role::Passphrase => "the passphrase file",
             Role::Key => "the key file",
+            Role::NewPassphrase => "the new passphrase file",
+            Role::NewKey => "the new key file",
             Role::Seed => "the seed file",
             Role::FileKey => "the file key file",
         })

@@ -51,7 +51,7 @@ fn new_mode(command: Command) -> u32
 {
     match command {
         Command::Decrypt | Command::Range => 0o600,
-        Command::Encrypt | Command::Inspect => 0o666,
+        Command::Encrypt | Command::Inspect | Command::Rewrap => 0o666,
     }
 }
 

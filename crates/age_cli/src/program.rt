@@ -11,7 +11,10 @@ use crate::inspect::inspect;
 use crate::names::{Lines, Role};
 use crate::output::create;
 use crate::range::range;
-use crate::secret::{Secret, Seed, read_secret, read_seed};
+use crate::rewrap::rewrap;
+use crate::secret::{
+    Secret, Seed, new_secret_file, read_secret, read_seed, refuse_shared_input, secret_file,
+};
 use age_words::{Command, Job, WordsFault, read_words};
 use std::alloc::Global;
 use std::fmt::Display;
@@ -55,6 +58,8 @@ pub fn run<F: Files + AllocGlobal, R: Read, W: Write, E: Write>(
 enum Task {
     Encrypt(Secret, Seed),
     Decrypt(Secret),
+    /// With the old secret, the new one, and the salt.
+    Rewrap(Secret, Secret, [u8; 16]),
     /// With the file key, where the header is to be checked.
     Inspect(Option<[u8; 16]>),
 }
@@ -70,10 +75,11 @@ fn perform<'a, F: Files + AllocGlobal, R: Read, W: Write>(
 {
     let task = match job.command {
         Command::Encrypt => {
-            let secret = read_secret(rt, job)?;
+            let secret = read_secret(rt, job, secret_file(job)?)?;
             Task::Encrypt(secret, read_seed(rt, job)?)
         }
-        Command::Decrypt => Task::Decrypt(read_secret(rt, job)?),
+        Command::Decrypt => Task::Decrypt(read_secret(rt, job, secret_file(job)?)?),
+        Command::Rewrap => rewrap_task(rt, job)?,
         Command::Inspect => Task::Inspect(read_file_key(rt, job)?),
         Command::Range => return perform_range(rt, job, out),
     };
@@ -84,6 +90,16 @@ fn perform<'a, F: Files + AllocGlobal, R: Read, W: Write>(
         }
         None => perform_on(rt, job, &task, input, out),
     }
+}
+
+/// The old secret and the new one, whose files the words have to name, and the salt.
+fn rewrap_task<'a, F: Files + AllocGlobal>(rt: &F, job: &'a Job) -> Result<Task, Fault<'a>> {
+    let old = secret_file(job)?;
+    let new = new_secret_file(job)?;
+    refuse_shared_input(rt, old, new)?;
+    let old = read_secret(rt, job, old)?;
+    let new = read_secret(rt, job, new)?;
+    Ok(Task::Rewrap(old, new, read_seed(rt, job)?.salt))
 }
 
 /// The file key under which the header is to be checked.
@@ -106,7 +122,7 @@ fn perform_range<'a, F: Files + AllocGlobal, W: Write>(
     requires range { IsInRange job.now }
     requires command { job.now.command ≡ Command.Range }
 {
-    let secret = read_secret(rt, job)?;
+    let secret = read_secret(rt, job, secret_file(job)?)?;
     let Some(name) = &job.input else {
         unreachable!();
     };
@@ -154,6 +170,7 @@ fn perform_between<'a, R: Read, W: Write>(
     match task {
         Task::Encrypt(secret, seed) => encrypt(alloc, job, secret, seed, input, out),
         Task::Decrypt(secret) => decrypt(alloc, job, secret, input, out),
+        Task::Rewrap(old, new, salt) => rewrap(alloc, job, old, new, *salt, input, out),
         Task::Inspect(file_key) => inspect(alloc, job, file_key, input, out),
     }
 }

@@ -1,7 +1,7 @@
 //! What must be kept from others: passphrases, keys and seeds, each read from a file that the words name.
 
 use crate::fault::Fault;
-use crate::files::{open_small, read_front, read_just};
+use crate::files::{is_standard_input, open_small, read_front, read_just};
 use crate::names::Role;
 use age_file::{FileKey, Fresh};
 use age_words::Job;
@@ -27,21 +27,68 @@ pub(crate) struct Seed {
     pub(crate) salt: [u8; 16],
 }
 
-/// The passphrase or the key of the job, which has to name just one of them.
+/// The file of a secret, which an option names.
+#[derive(Clone, Copy, Drop)]
+pub(crate) enum SecretFile<'a> {
+    Passphrase(Role, &'a str),
+    Key(Role, &'a str),
+}
+
+impl<'a> SecretFile<'a> {
+    fn role_and_name(self) -> (Role, &'a str) {
+        match self {
+            SecretFile::Passphrase(role, name) | SecretFile::Key(role, name) => (role, name),
+        }
+    }
+}
+
+/// The file of the job's passphrase or key, of which it has to name just one.
+pub(crate) fn secret_file<'a>(job: &'a Job) -> Result<SecretFile<'a>, Fault<'a>> {
+    match (&job.pass, &job.key) {
+        (Some(name), None) => Ok(SecretFile::Passphrase(Role::Passphrase, name.as_str())),
+        (None, Some(name)) => Ok(SecretFile::Key(Role::Key, name.as_str())),
+        _ => Err(Fault::KeyChoice),
+    }
+}
+
+/// The same of the job's new passphrase or key.
+pub(crate) fn new_secret_file<'a>(job: &'a Job) -> Result<SecretFile<'a>, Fault<'a>> {
+    match (&job.new_pass, &job.new_key) {
+        (Some(name), None) => Ok(SecretFile::Passphrase(Role::NewPassphrase, name.as_str())),
+        (None, Some(name)) => Ok(SecretFile::Key(Role::NewKey, name.as_str())),
+        _ => Err(Fault::NewKeyChoice),
+    }
+}
+
+/// Refuses two secrets that are both standard input: what one takes of it, the other would lack.
+pub(crate) fn refuse_shared_input<'a, F: Files>(
+    rt: &F,
+    old: SecretFile<'a>,
+    new: SecretFile<'a>,
+) -> Result<(), Fault<'a>> {
+    let (old_role, old_name) = old.role_and_name();
+    let (new_role, new_name) = new.role_and_name();
+    if is_standard_input(rt, old_name) && is_standard_input(rt, new_name) {
+        return Err(Fault::StandardInputTwice(old_role, new_role));
+    }
+    Ok(())
+}
+
+/// The passphrase or the key of this file.
 pub(crate) fn read_secret<'a, F: Files + AllocGlobal>(
     rt: &F,
     job: &'a Job,
+    file: SecretFile<'a>,
 ) -> Result<Secret, Fault<'a>> {
-    match (&job.pass, &job.key) {
-        (Some(name), None) => {
-            let file = open_small(rt, job, Role::Passphrase, name.as_str())?;
+    match file {
+        SecretFile::Passphrase(role, name) => {
+            let file = open_small(rt, job, role, name)?;
             Ok(Secret::Passphrase(read_passphrase(rt.alloc(), file)?))
         }
-        (None, Some(name)) => {
-            let mut file = open_small(rt, job, Role::Key, name.as_str())?;
+        SecretFile::Key(role, name) => {
+            let mut file = open_small(rt, job, role, name)?;
             Ok(Secret::Key(read_just(&mut file, Fault::KeyLength)?))
         }
-        _ => Err(Fault::KeyChoice),
     }
 }
 

@@ -15,6 +15,8 @@ pub enum Command {
     Inspect,
     /// Gives a part of a file's plaintext.
     Range,
+    /// Gives a file a new header for another passphrase or key.
+    Rewrap,
 }
 
 /// A command with its options. A field whose option the command lacks has that option's default, or none.
@@ -25,11 +27,15 @@ pub struct Job {
     pub pass: Option<String>,
     /// The file that holds the key of 32 bytes.
     pub key: Option<String>,
-    /// The work factor that `encrypt` writes, 1 to 30.
+    /// The file that holds the passphrase for which `rewrap` makes a header.
+    pub new_pass: Option<String>,
+    /// The file that holds the key of 32 bytes for which `rewrap` makes a header.
+    pub new_key: Option<String>,
+    /// The work factor that `encrypt` and `rewrap` write, 1 to 30.
     pub work: u8,
-    /// The file whose first 48 bytes are the file key, the nonce and the salt that `encrypt` takes.
+    /// The file whose first 48 bytes are the file key, the nonce and the salt that `encrypt` takes, and of which `rewrap` takes the salt.
     pub seed: String,
-    /// The greatest work factor that `decrypt` and `range` take, 1 to 30.
+    /// The greatest work factor that `decrypt`, `range` and `rewrap` take, 1 to 30.
     pub max_work: u8,
     /// The most bytes that a header may have, 1,024 to 16,777,216.
     pub max_header: usize,

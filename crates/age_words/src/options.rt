@@ -4,8 +4,8 @@ ghost use Rattle.clap.specs.Words.{app_of};
 
 use crate::texts::{
     DECRYPT_END, ENCRYPT_END, ENCRYPTED_OUTPUT_HELP, FILE_KEY_HELP, INPUT_HELP, INSPECT_END,
-    KEY_HELP, MAX_HEADER_HELP, MAX_WORK_HELP, PASS_HELP, PLACES_HELP, PLAIN_OUTPUT_HELP, RANGE_END,
-    SEED_HELP, WHOLE_END, WORK_HELP,
+    KEY_HELP, MAX_HEADER_HELP, MAX_WORK_HELP, NEW_KEY_HELP, NEW_PASS_HELP, PASS_HELP, PLACES_HELP,
+    PLAIN_OUTPUT_HELP, RANGE_END, REWRAP_END, SALT_HELP, SEED_HELP, WHOLE_END, WORK_HELP,
 };
 use clap::{Arg, ArgAction, Command, value_parser};
 use std::alloc::{AllocError, Global};
@@ -13,6 +13,10 @@ use std::alloc::{AllocError, Global};
 pub(crate) const PASS: &str = "passphrase";
 
 pub(crate) const KEY: &str = "key";
+
+pub(crate) const NEW_PASS: &str = "new-passphrase";
+
+pub(crate) const NEW_KEY: &str = "new-key";
 
 pub(crate) const WORK: &str = "work";
 
@@ -58,15 +62,23 @@ pub(crate) fn whole_command<'a>(alloc: Global) -> Result<Command<'a>, AllocError
     ensures required { IfOk result (λ command. (app_of command).top.subcommand_required ≡ true) }
     ensures plain { IfOk result (λ command. (app_of command).top.is_plain ≡ true) }
 {
-    let command = Command::new(alloc, "agep")
-        .about(ABOUT)
-        .after_help(WHOLE_END)
-        .version(VERSION)
+    let command = bare_command(alloc)
         .subcommand(encrypt_command(alloc)?)?
         .subcommand(decrypt_command(alloc)?)?
         .subcommand(inspect_command(alloc)?)?
-        .subcommand(range_command(alloc)?)?;
+        .subcommand(range_command(alloc)?)?
+        .subcommand(rewrap_command(alloc)?)?;
     Ok(command.subcommand_required(true))
+}
+
+/// The program, without its commands.
+fn bare_command<'a>(alloc: Global) -> Command<'a>
+    ensures { (app_of result).top.is_plain ≡ true }
+{
+    Command::new(alloc, "agep")
+        .about(ABOUT)
+        .after_help(WHOLE_END)
+        .version(VERSION)
 }
 
 fn encrypt_command<'a>(alloc: Global) -> Result<Command<'a>, AllocError>
@@ -78,7 +90,7 @@ fn encrypt_command<'a>(alloc: Global) -> Result<Command<'a>, AllocError>
         .arg(pass_option(alloc))?
         .arg(key_option(alloc))?
         .arg(work_option(alloc))?
-        .arg(seed_option(alloc))?
+        .arg(seed_option(alloc, SEED_HELP))?
         .arg(max_header_option(alloc))?
         .arg(output_option(alloc, ENCRYPTED_OUTPUT_HELP))?
         .arg(input_word(alloc))
@@ -90,11 +102,15 @@ fn decrypt_command<'a>(alloc: Global) -> Result<Command<'a>, AllocError>
     let command = Command::new(alloc, "decrypt")
         .about("Decrypt a file with a passphrase or a key")
         .after_help(DECRYPT_END);
-    with_opening_options(alloc, command)?.arg(input_word(alloc))
+    with_opening_options(alloc, command, PLAIN_OUTPUT_HELP)?.arg(input_word(alloc))
 }
 
-/// The options of the commands that open a payload.
-fn with_opening_options<'a>(alloc: Global, command: Command<'a>) -> Result<Command<'a>, AllocError>
+/// The options of the commands that find a file's key.
+fn with_opening_options<'a>(
+    alloc: Global,
+    command: Command<'a>,
+    output_help: &'a str,
+) -> Result<Command<'a>, AllocError>
     requires { (app_of command).top.is_plain ≡ true }
     ensures { IfOk result (λ command. (app_of command).top.is_plain ≡ true) }
 {
@@ -103,7 +119,7 @@ fn with_opening_options<'a>(alloc: Global, command: Command<'a>) -> Result<Comma
         .arg(key_option(alloc))?
         .arg(max_work_option(alloc))?
         .arg(max_header_option(alloc))?
-        .arg(output_option(alloc, PLAIN_OUTPUT_HELP))
+        .arg(output_option(alloc, output_help))
 }
 
 fn inspect_command<'a>(alloc: Global) -> Result<Command<'a>, AllocError>
@@ -130,7 +146,7 @@ fn range_command<'a>(alloc: Global) -> Result<Command<'a>, AllocError>
     let command = Command::new(alloc, "range")
         .about("Decrypt a part of a file with a passphrase or a key")
         .after_help(RANGE_END);
-    with_opening_options(alloc, command)?
+    with_opening_options(alloc, command, PLAIN_OUTPUT_HELP)?
         .arg(place_word(
             alloc,
             AT,
@@ -144,6 +160,20 @@ fn range_command<'a>(alloc: Global) -> Result<Command<'a>, AllocError>
             "The most bytes to write; fewer where the plaintext ends before",
         ))?
         .arg(required_word(alloc, INPUT, "IN", PLACES_HELP))
+}
+
+fn rewrap_command<'a>(alloc: Global) -> Result<Command<'a>, AllocError>
+    ensures { IfOk result (λ command. (app_of command).top.is_plain ≡ true) }
+{
+    let command = Command::new(alloc, "rewrap")
+        .about("Give a file a new passphrase or key, without sealing it anew")
+        .after_help(REWRAP_END);
+    with_opening_options(alloc, command, ENCRYPTED_OUTPUT_HELP)?
+        .arg(text_option(alloc, NEW_PASS, 'P', "FILE", NEW_PASS_HELP))?
+        .arg(text_option(alloc, NEW_KEY, 'K', "FILE", NEW_KEY_HELP))?
+        .arg(work_option(alloc))?
+        .arg(seed_option(alloc, SALT_HELP))?
+        .arg(input_word(alloc))
 }
 
 fn pass_option<'a>(alloc: Global) -> Arg<'a>
@@ -166,10 +196,10 @@ fn work_option<'a>(alloc: Global) -> Arg<'a>
         .default_value("18")
 }
 
-fn seed_option<'a>(alloc: Global) -> Arg<'a>
+fn seed_option<'a>(alloc: Global, help: &'a str) -> Arg<'a>
     ensures { result.global ≡ false }
 {
-    text_option(alloc, SEED, 's', "SEED", SEED_HELP).default_value(DEFAULT_SEED)
+    text_option(alloc, SEED, 's', "SEED", help).default_value(DEFAULT_SEED)
 }
 
 fn max_work_option<'a>(alloc: Global) -> Arg<'a>

@@ -7,6 +7,13 @@ pub(crate) const PASS_HELP: &str = "The file that holds the passphrase.\
 pub(crate) const KEY_HELP: &str = "The file that holds the key, 32 bytes.\
     \nOnly agep opens a file that is encrypted with -k";
 
+pub(crate) const NEW_PASS_HELP: &str = "The file that holds the new passphrase.\
+    \nOne LF at its end is taken off. At most 65536 bytes.\
+    \nGive one of -P and -K";
+
+pub(crate) const NEW_KEY_HELP: &str = "The file that holds the new key, 32 bytes.\
+    \nOnly agep opens a file that is rewrapped with -K";
+
 pub(crate) const WORK_HELP: &str = "The work factor of the passphrase, 1 to 30.\
     \nEncrypting takes 2^N KiB of memory, and time in\
     \nproportion; so does each try to decrypt. Above 22 a\
@@ -20,6 +27,10 @@ pub(crate) const MAX_WORK_HELP: &str = "The greatest work factor to accept, 1 to
 
 pub(crate) const SEED_HELP: &str = "The file whose first 48 bytes are the file key, the\
     \nnonce and the salt: a seed used twice repeats keys.\
+    \nFor tests alone";
+
+pub(crate) const SALT_HELP: &str = "The file of 48 bytes or more whose bytes 32 to 47\
+    \nare the salt: a salt used twice repeats keys.\
     \nFor tests alone";
 
 pub(crate) const MAX_HEADER_HELP: &str = "The most bytes that the header may have,\
@@ -92,6 +103,19 @@ pub(crate) const RANGE_END: &str =
     \nExamples:\
     \n  agep range -p passphrase 0 512 disk.age\
     \n  agep range -k key -o part 1048576 65536 disk.age";
+
+pub(crate) const REWRAP_END: &str =
+    "The payload is copied as it is, and not verified. Whoever kept the old file and the\
+    \nold passphrase or key can still open it.\
+    \n\
+    \nStatus:\
+    \n  0  the work is done\
+    \n  1  a fault ended it: one line on standard error says which\
+    \n  2  the command line was refused\
+    \n\
+    \nExamples:\
+    \n  agep rewrap -p old -P new -o notes.age.new notes.age\
+    \n  agep rewrap -p passphrase -K key -o dump.age.new dump.age";
 
 pub(crate) const WHOLE_END: &str = "Examples:\
     \n  agep encrypt -p passphrase -o notes.age notes\

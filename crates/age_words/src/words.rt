@@ -5,15 +5,16 @@ ghost use Rattle.age_words.specs.Job.{IsInRange, Lies};
 use crate::job::{Command, Job, WordsFault};
 use crate::options::{
     AT, DEFAULT_SEED, FILE_KEY, INPUT, KEY, LEAST_HEADER, LEAST_WORK, LEN, MAX_HEADER, MAX_WORK,
-    MOST_HEADER, MOST_PLACE, MOST_WORK, OUTPUT, PASS, RAW, SEED, WORK, whole_command,
+    MOST_HEADER, MOST_PLACE, MOST_WORK, NEW_KEY, NEW_PASS, OUTPUT, PASS, RAW, SEED, WORK,
+    whole_command,
 };
 use clap::ArgMatches;
 use std::alloc::{AllocError, Global};
 
-/// The work factor that `encrypt` writes where the words name none.
+/// The work factor that `encrypt` and `rewrap` write where the words name none.
 const DEFAULT_WORK: u8 = 18;
 
-/// The greatest work factor that `decrypt` and `range` take where the words name none.
+/// The greatest work factor that `decrypt`, `range` and `rewrap` take where the words name none.
 const DEFAULT_MAX_WORK: u8 = 22;
 
 /// The job that the words ask for, the program's name first.
@@ -32,6 +33,7 @@ pub fn read_words(alloc: Global, words: &[&str]) -> Result<Job, WordsFault>
         Some(("decrypt", matches)) => decrypt_job(alloc, matches),
         Some(("inspect", matches)) => inspect_job(alloc, matches),
         Some(("range", matches)) => range_job(alloc, matches),
+        Some(("rewrap", matches)) => rewrap_job(alloc, matches),
         // `clap` adds a subcommand `help`, and does not promise that it is never entered
         Some(_) => Err(WordsFault::Lost),
         None => unreachable!(),
@@ -50,6 +52,8 @@ fn encrypt_job(alloc: Global, matches: &ArgMatches<'_>) -> Result<Job, WordsFaul
         command: Command::Encrypt,
         pass: text_of(alloc, matches, PASS)?,
         key: text_of(alloc, matches, KEY)?,
+        new_pass: None,
+        new_key: None,
         work,
         seed: String::from_str(alloc, seed)?,
         max_work: DEFAULT_MAX_WORK,
@@ -72,6 +76,8 @@ fn decrypt_job(alloc: Global, matches: &ArgMatches<'_>) -> Result<Job, WordsFaul
         command: Command::Decrypt,
         pass: text_of(alloc, matches, PASS)?,
         key: text_of(alloc, matches, KEY)?,
+        new_pass: None,
+        new_key: None,
         work: DEFAULT_WORK,
         seed: String::from_str(alloc, DEFAULT_SEED)?,
         max_work,
@@ -93,6 +99,8 @@ fn inspect_job(alloc: Global, matches: &ArgMatches<'_>) -> Result<Job, WordsFaul
         command: Command::Inspect,
         pass: None,
         key: None,
+        new_pass: None,
+        new_key: None,
         work: DEFAULT_WORK,
         seed: String::from_str(alloc, DEFAULT_SEED)?,
         max_work: DEFAULT_MAX_WORK,
@@ -120,6 +128,8 @@ fn range_job(alloc: Global, matches: &ArgMatches<'_>) -> Result<Job, WordsFault>
         command: Command::Range,
         pass: text_of(alloc, matches, PASS)?,
         key: text_of(alloc, matches, KEY)?,
+        new_pass: None,
+        new_key: None,
         work: DEFAULT_WORK,
         seed: String::from_str(alloc, DEFAULT_SEED)?,
         max_work,
@@ -130,6 +140,34 @@ fn range_job(alloc: Global, matches: &ArgMatches<'_>) -> Result<Job, WordsFault>
         input: Some(String::from_str(alloc, input)?),
         at,
         len,
+    })
+}
+
+fn rewrap_job(alloc: Global, matches: &ArgMatches<'_>) -> Result<Job, WordsFault>
+    ensures ranges { IfOk result IsInRange }
+{
+    let work = work_of(matches, WORK)?;
+    let max_work = work_of(matches, MAX_WORK)?;
+    let max_header = max_header_of(matches)?;
+    let Some(seed) = matches.get_str(SEED) else {
+        return Err(WordsFault::Lost);
+    };
+    Ok(Job {
+        command: Command::Rewrap,
+        pass: text_of(alloc, matches, PASS)?,
+        key: text_of(alloc, matches, KEY)?,
+        new_pass: text_of(alloc, matches, NEW_PASS)?,
+        new_key: text_of(alloc, matches, NEW_KEY)?,
+        work,
+        seed: String::from_str(alloc, seed)?,
+        max_work,
+        max_header,
+        output: text_of(alloc, matches, OUTPUT)?,
+        raw: false,
+        file_key: None,
+        input: text_of(alloc, matches, INPUT)?,
+        at: 0,
+        len: 0,
     })
 }
 

@@ -1,6 +1,6 @@
-use Rattle.std.proofs.Common.{rules, ap, ◌≡◌, ◌∙◌, true, Bool}
+use Rattle.std.proofs.Common.{rules, ap, ◌∙◌, Bool}
 use Rattle.std.proofs.lemmas.Result.{IfOk-weaker}
-use Rattle.clap.specs.Words.{App, app_of}
+use Rattle.clap.specs.Words.{App}
 use Rattle.age_words.proofs.options.decrypt_command.Goals as goal
 
 abbrev plain : App → Bool
