@@ -74,6 +74,9 @@ rows() {
     rewrap -p pass -P pass -w 1 -o made old.age
     has_ended 0 "" && has_tail 181 150 old.age 149 && decrypts made -p pass empty
     check "to the same passphrase at another work factor"
+    rewrap -p pass -P new.pass -w 10 -o made "$data/passphrase.age"
+    has_ended 0 "" && decrypts made -p new.pass hello
+    check "passphrase.age, made by age"
 }
 
 # Sizes of plaintext, from each kind of secret to each.
@@ -420,7 +423,7 @@ outputs() {
     check "the names of the keys' options"
 }
 
-# Runs the program's lines of OUT's sync, where there is a C compiler.
+# OUT is on its device before the end.
 syncs() {
     if ! cc -shared -fPIC -o sync.so "$root/tests/sync.c" -ldl 2>/dev/null; then
         echo "skipped: OUT is synced, since there is no C compiler"
