@@ -1,7 +1,7 @@
 # Completions of agep for bash: commands, options and files.
 _agep() {
     local word=${COMP_WORDS[COMP_CWORD]} options=
-    local commands="encrypt decrypt inspect range help"
+    local commands="encrypt decrypt inspect range rewrap help"
     COMPREPLY=()
     if [[ $COMP_CWORD -eq 1 ]]; then
         mapfile -t COMPREPLY < <(compgen -W "$commands -h --help -V --version" -- "$word")
@@ -13,7 +13,7 @@ _agep() {
             compopt +o default 2>/dev/null
             return
             ;;
-        -p | --passphrase | -k | --key | -s | --seed | -f | --file-key | -o | --output)
+        -p | --passphrase | -k | --key | -P | --new-passphrase | -K | --new-key | -s | --seed | -f | --file-key | -o | --output)
             # a file, by default
             return
             ;;
@@ -23,6 +23,10 @@ _agep() {
         decrypt) options="-p --passphrase -k --key -m --max-work -H --max-header -o --output -h --help" ;;
         inspect) options="-r --raw -f --file-key -H --max-header -h --help" ;;
         range) options="-p --passphrase -k --key -m --max-work -H --max-header -o --output -h --help" ;;
+        rewrap)
+            options="-p --passphrase -k --key -P --new-passphrase -K --new-key -m --max-work -w --work -s --seed -H --max-header"
+            options+=" -o --output -h --help"
+            ;;
         help) mapfile -t COMPREPLY < <(compgen -W "$commands" -- "$word") ;;
     esac
     if [[ $word == -* ]]; then

@@ -17,12 +17,17 @@ there_and_back() {
         rm -f made back
         typed -p -o made plain && "$agep" decrypt -p pass -o back made && cmp -s back plain
         check "$size bytes from age to agep"
+        rm -f back
+        "$agep" rewrap -p old.pass -P pass -w 10 -o made <("$agep" encrypt -p old.pass -w 10 plain) && typed -d -o back made &&
+            cmp -s back plain
+        check "$size bytes from agep to age, rewrapped"
     done
     "$agep" encrypt -p pass -o made plain && typed -d -o back made && cmp -s back plain
     check "$size bytes from agep to age, at the default work factor"
 }
 
 printf 'correct horse' >pass
+printf 'p1' >old.pass
 if command -v age >/dev/null && command -v python3 >/dev/null; then
     there_and_back
 else

@@ -39,6 +39,8 @@ examples() {
         echo 'correct horse' >passphrase
         head -c 32 /dev/urandom >key
         head -c 48 /dev/urandom >seed
+        cp passphrase old
+        echo 'another horse' >new
         head -c 16 seed >filekey
         echo notes >notes
         echo dump >dump
@@ -55,6 +57,7 @@ examples() {
             "$agep" encrypt -k key -o dump.age dump
             "$agep" encrypt -p passphrase -w 10 -o disk.age disk
             "$agep" encrypt -k key -o keyed.age disk
+            [[ $command != rewrap ]] || "$agep" encrypt -p passphrase -w 10 -o dump.age dump
         )
         while read -r line; do
             [[ $line != *'range -k'* ]] || cp scratch/keyed.age scratch/disk.age
