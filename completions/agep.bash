@@ -13,7 +13,7 @@ _agep() {
             compopt +o default 2>/dev/null
             return
             ;;
-        -p | --passphrase | -k | --key | -P | --new-passphrase | -K | --new-key | -s | --seed | -f | --file-key | -o | --output)
+        -p | --passphrase | -k | --key | -P | --new-pass | -K | --new-key | -s | --seed | -f | --file-key | -o | --output)
             # a file, by default
             return
             ;;
@@ -24,7 +24,7 @@ _agep() {
         inspect) options="-r --raw -f --file-key -H --max-header -h --help" ;;
         range) options="-p --passphrase -k --key -m --max-work -H --max-header -o --output -h --help" ;;
         rewrap)
-            options="-p --passphrase -k --key -P --new-passphrase -K --new-key -m --max-work -w --work -s --seed -H --max-header"
+            options="-p --passphrase -k --key -P --new-pass -K --new-key -m --max-work -w --work -s --seed -H --max-header"
             options+=" -o --output -h --help"
             ;;
         help) mapfile -t COMPREPLY < <(compgen -W "$commands" -- "$word") ;;

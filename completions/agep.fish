@@ -12,7 +12,7 @@ complete -c agep -n '__fish_seen_subcommand_from help' -f -a 'encrypt decrypt in
 
 complete -c agep -n '__fish_seen_subcommand_from encrypt decrypt range rewrap' -s p -l passphrase -r -F -d 'File that holds the passphrase'
 complete -c agep -n '__fish_seen_subcommand_from encrypt decrypt range rewrap' -s k -l key -r -F -d 'File that holds the key'
-complete -c agep -n '__fish_seen_subcommand_from rewrap' -s P -l new-passphrase -r -F -d 'File that holds the new passphrase'
+complete -c agep -n '__fish_seen_subcommand_from rewrap' -s P -l new-pass -r -F -d 'File that holds the new passphrase'
 complete -c agep -n '__fish_seen_subcommand_from rewrap' -s K -l new-key -r -F -d 'File that holds the new key'
 complete -c agep -n '__fish_seen_subcommand_from encrypt rewrap' -s w -l work -x -d 'Work factor, 1 to 30'
 complete -c agep -n '__fish_seen_subcommand_from encrypt' -s s -l seed -r -F -d 'File of the file key, the nonce and the salt'

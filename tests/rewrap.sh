@@ -289,7 +289,7 @@ order() {
         "-P new.pass|-w 0|error: invalid value '0' for '--work <N>': 0 is not in 1..=30" \
         "-P new.pass|-m 31|error: invalid value '31' for '--max-work <N>': 31 is not in 1..=30" \
         "-P new.pass|-H 1023|error: invalid value '1023' for '--max-header <N>': 1023 is not in 1024..=16777216" \
-        "-P new.pass|-P key|error: the argument '--new-passphrase <FILE>' cannot be used multiple times" \
+        "-P new.pass|-P key|error: the argument '--new-pass <FILE>' cannot be used multiple times" \
         "-K new.key|-K key|error: the argument '--new-key <FILE>' cannot be used multiple times" \
         "-K new.key|-r|error: unexpected argument '-r' found" "-K new.key|a b|error: unexpected argument 'b' found"; do
         IFS='|' read -r role words line <<<"$row"
@@ -415,7 +415,7 @@ outputs() {
     has_said 1 "agep: write failed"
     check "a closed pipe"
     rm -f made
-    rewrap --passphrase=pass --new-passphrase new.pass --max-work 10 --work=12 --seed seed --max-header 1024 --output made old.age
+    rewrap --passphrase=pass --new-pass new.pass --max-work 10 --work=12 --seed seed --max-header 1024 --output made old.age
     has_ended 0 "" && mv made named && rewrap -ppass -Pnew.pass -m10 -w12 -sseed -H1024 -omade -- old.age && has_ended 0 "" && cmp -s made named
     check "the options by their names, and by letters joined to their words"
     rewrap --key key --new-key=new.key key.age

@@ -14,7 +14,7 @@ pub(crate) const PASS: &str = "passphrase";
 
 pub(crate) const KEY: &str = "key";
 
-pub(crate) const NEW_PASS: &str = "new-passphrase";
+pub(crate) const NEW_PASS: &str = "new-pass";
 
 pub(crate) const NEW_KEY: &str = "new-key";
 

@@ -105,8 +105,8 @@ pub(crate) const RANGE_END: &str =
     \n  agep range -k key -o part 1048576 65536 disk.age";
 
 pub(crate) const REWRAP_END: &str =
-    "The payload is copied as it is, and not verified. Whoever kept the old file and the\
-    \nold passphrase or key can still open it.\
+    "The payload is copied as it is, and not verified. Whoever kept the old file and\
+    \nthe old passphrase or key can still open it.\
     \n\
     \nStatus:\
     \n  0  the work is done\
