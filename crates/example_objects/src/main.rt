@@ -32,44 +32,31 @@ fn main(rt: HostRuntime) -> io::Result<()> {
 
 /// The file of a text, and the text that is read from it.
 fn there_and_back(alloc: Global, text: &[u8]) -> Result<(Vec<u8>, Vec<u8>), Fault> {
-    let limits = Limits::default();
-    let file = encrypted(alloc, text, &limits)?;
-    let back = decrypted(alloc, file.as_slice(), &limits)?;
-    Ok((file, back))
-}
-
-fn encrypted(alloc: Global, text: &[u8], limits: &Limits) -> Result<Vec<u8>, Fault> {
     let mut recipients: Vec<Box<dyn Recipient>> = Vec::new(alloc);
-    let Ok(plug) = Box::new(alloc, Plug) else {
-        return Err(Fault::OutOfMemory);
-    };
-    if recipients.push(plug).is_err() {
-        return Err(Fault::OutOfMemory);
-    }
-    let mut source = MemSource::new(text);
-    let mut file = MemSink::new(Vec::new(alloc));
-    encrypt(
-        alloc,
-        &mut source,
-        &mut file,
-        recipients.as_slice(),
-        &FRESH,
-        limits,
-    )?;
-    Ok(file.into_vec())
-}
-
-fn decrypted(alloc: Global, file: &[u8], limits: &Limits) -> Result<Vec<u8>, Fault> {
     let mut identities: Vec<Box<dyn Identity>> = Vec::new(alloc);
     let key = FRESH.file_key;
-    let Ok(held) = Box::new(alloc, Held { key }) else {
+    let (Ok(plug), Ok(held)) = (Box::new(alloc, Plug), Box::new(alloc, Held { key })) else {
         return Err(Fault::OutOfMemory);
     };
-    if identities.push(held).is_err() {
+    if recipients.push(plug).is_err() || identities.push(held).is_err() {
         return Err(Fault::OutOfMemory);
     }
-    let mut source = MemSource::new(file);
-    let mut text = MemSink::new(Vec::new(alloc));
-    decrypt(alloc, &mut source, &mut text, identities.as_slice(), limits)?;
-    Ok(text.into_vec())
+    encrypt_and_decrypt(alloc, text, recipients.as_slice(), identities.as_slice())
+}
+
+fn encrypt_and_decrypt(
+    alloc: Global,
+    text: &[u8],
+    recipients: &[Box<dyn Recipient>],
+    identities: &[Box<dyn Identity>],
+) -> Result<(Vec<u8>, Vec<u8>), Fault> {
+    let limits = &Limits::default();
+    let (mut plain, mut file) = (MemSource::new(text), MemSink::new(Vec::new(alloc)));
+    encrypt(alloc, &mut plain, &mut file, recipients, &FRESH, limits)?;
+    let file = file.into_vec();
+    let mut source = MemSource::new(file.as_slice());
+    let mut back = MemSink::new(Vec::new(alloc));
+    decrypt(alloc, &mut source, &mut back, identities, limits)?;
+    let back = back.into_vec();
+    Ok((file, back))
 }
