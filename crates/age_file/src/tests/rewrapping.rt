@@ -41,7 +41,6 @@ fn to_another_passphrase(rt: HostRuntime) -> Result<(), Fail> {
     let (answer, new) = rewrapped(alloc, file.as_slice(), &passphrase(alloc)?, &recipients);
     assert!(rt; answer == Ok(()));
     assert_eq!(rt; new.len(), 182);
-    assert!(rt; new.as_slice()[150..] == file.as_slice()[150..]);
     let mut identities: Identities = Vec::new(alloc);
     identities.push(Box::new(alloc, PassIdentity::new(alloc, b"p2", 12)?)?)?;
     let (answer, _) = decrypted(alloc, new.as_slice(), &identities, &limits);
@@ -51,33 +50,42 @@ fn to_another_passphrase(rt: HostRuntime) -> Result<(), Fail> {
     Ok(())
 }
 
-/// From a key to another: a file, a file whose last chunk is cut away, and one that ends in its nonce.
+/// Whether a file of the passphrase, rewrapped to a key, has this length, and both decrypt with this fault.
+fn is_kept(alloc: Global, file: &[u8], len: usize, fault: Option<Fault>) -> Result<bool, Fail> {
+    let limits = Limits::default();
+    let (answer, new) = rewrapped(alloc, file, &passphrase(alloc)?, &with_key(alloc, 3)?);
+    let (before, _) = decrypted(alloc, file, &passphrase(alloc)?, &limits);
+    let (after, _) = decrypted(alloc, new.as_slice(), &key_of(alloc, 3)?, &limits);
+    Ok(answer == Ok(()) && new.len() == len && before.err() == fault && after.err() == fault)
+}
+
+/// To a key: a file, a file whose last chunk is cut away, and one that ends in its nonce.
 #[test]
-fn to_another_key(rt: HostRuntime) -> Result<(), Fail> {
+fn to_a_key(rt: HostRuntime) -> Result<(), Fail> {
     let alloc = rt.alloc();
     let limits = Limits::default();
-    let (_, empty) = encrypted(alloc, b"", &with_passphrase(alloc)?, &limits);
-    let (_, two) = encrypted(
-        alloc,
-        sevens(alloc, 65_537)?.as_slice(),
-        &with_passphrase(alloc)?,
-        &limits,
-    );
-    for (file, len, fault) in [
-        (empty.as_slice(), 188, None),
-        (&two.as_slice()[..65_718], 65_724, Some(Fault::BadChunk(0))),
-        (&empty.as_slice()[..155], 161, Some(Fault::NonceTruncated)),
-    ] {
-        let (answer, new) = rewrapped(alloc, file, &passphrase(alloc)?, &with_key(alloc, 3)?);
-        assert!(rt; answer == Ok(()));
-        assert_eq!(rt; new.len(), len);
-        assert!(rt; new.as_slice()[156..] == file[150..]);
-        let (answer, _) = decrypted(alloc, new.as_slice(), &key_of(alloc, 3)?, &limits);
-        assert!(rt; answer.err() == fault);
-        let (answer, _) = decrypted(alloc, file, &passphrase(alloc)?, &limits);
-        assert!(rt; answer.err() == fault);
-    }
+    let recipients = with_passphrase(alloc)?;
+    let (_, mut file) = encrypted(alloc, b"", &recipients, &limits);
+    assert!(rt; is_kept(alloc, file.as_slice(), 188, None)?);
+    file.truncate(155);
+    assert!(rt; is_kept(alloc, file.as_slice(), 161, Some(Fault::NonceTruncated))?);
+    let plain = sevens(alloc, 65_537)?;
+    let (_, mut file) = encrypted(alloc, plain.as_slice(), &recipients, &limits);
+    file.truncate(65_718);
+    assert!(rt; is_kept(alloc, file.as_slice(), 65_724, Some(Fault::BadChunk(0)))?);
     Ok(())
+}
+
+/// Whether rewrapping with the identity of this key is refused so, with nothing written.
+fn is_refused(
+    alloc: Global,
+    file: &[u8],
+    key: u8,
+    recipients: &Recipients,
+    fault: Fault,
+) -> Result<bool, Fail> {
+    let (answer, new) = rewrapped(alloc, file, &key_of(alloc, key)?, recipients);
+    Ok(answer == Err(fault) && new.is_empty())
 }
 
 /// What is refused before the first byte: by the old header, then by the new one.
@@ -85,35 +93,13 @@ fn to_another_key(rt: HostRuntime) -> Result<(), Fail> {
 fn refused_before_the_first_byte(rt: HostRuntime) -> Result<(), Fail> {
     let alloc = rt.alloc();
     let (_, file) = encrypted(alloc, b"abc", &with_key(alloc, 1)?, &Limits::default());
+    let file = file.as_slice();
     let none: Recipients = Vec::new(alloc);
     let mut mixed = with_passphrase(alloc)?;
     mixed.append(&mut with_key(alloc, 3)?)?;
-    let other_mac = [&file.as_slice()[..112], b"A", &file.as_slice()[113..]].concat(alloc)?;
-    for (file, identities, recipients, fault) in [
-        (file.as_slice(), key_of(alloc, 2)?, &none, Fault::WrongKey),
-        (
-            other_mac.as_slice(),
-            key_of(alloc, 1)?,
-            &none,
-            Fault::BadMac,
-        ),
-        (
-            file.as_slice(),
-            key_of(alloc, 1)?,
-            &none,
-            Fault::NoRecipients,
-        ),
-        (
-            file.as_slice(),
-            key_of(alloc, 1)?,
-            &mixed,
-            Fault::IncompatibleRecipients(1),
-        ),
-    ] {
-        let (answer, new) = rewrapped(alloc, file, &identities, recipients);
-        assert!(rt; answer == Err(fault));
-        assert!(rt; new.is_empty());
-    }
+    assert!(rt; is_refused(alloc, file, 2, &none, Fault::WrongKey)?);
+    assert!(rt; is_refused(alloc, file, 1, &none, Fault::NoRecipients)?);
+    assert!(rt; is_refused(alloc, file, 1, &mixed, Fault::IncompatibleRecipients(1))?);
     Ok(())
 }
 
@@ -158,7 +144,8 @@ fn failing_devices(rt: HostRuntime) -> Result<(), Fail> {
             &Limits::default(),
         );
         assert!(rt; answer == Err(Fault::Write));
-        assert!(rt; sink.bytes.as_slice() == &whole.as_slice()[..most]);
+        assert!(rt; sink.bytes.len() == most);
+        assert!(rt; whole.as_slice().starts_with(sink.bytes.as_slice()));
     }
     Ok(())
 }
