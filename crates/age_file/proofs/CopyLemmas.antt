@@ -1,5 +1,5 @@
 -- A source that is copied piece by piece.
-use Rattle.std.proofs.Common.{◌≡◌, ℕ, ◌+◌, ◌*◌, ◌^◌, ◌≤◌, Bool, true, false, List, [], ◌++◌, length, refl, sym, subst, arith, Option, Ok, Err, length-append, true≢false}
+use Rattle.std.proofs.Common.{◌≡◌, ℕ, ◌+◌, ◌*◌, ◌^◌, ◌≤◌, Bool, true, false, List, [], ◌++◌, length, refl, sym, subst, arith, append-nil, Option, Result, Ok, Err, length-append, true≢false}
 use Rattle.std.proofs.KnownBytes.{Appends-nil, Appends-trans, Consumes-nil, Consumes-trans}
 use Rattle.std.specs.Io.KnownBytes.{Appends, Consumes}
 use Rattle.age_header.specs.Device.{MayGive, WritesPart}
@@ -19,18 +19,20 @@ pub record Copied (from now old new : Option (List ℕ)) (k : ℕ) : Type 0 wher
 pub copied_none : (from old : Option (List ℕ)) → Copied from from old old 0
 copied_none from old = record { bytes = []; took = Consumes-nil from; put = Appends-nil old; long = omega arith }
 
-pub copied_more : (from a b old m n : Option (List ℕ)) (k : ℕ) (more : Bool) → more ≡ true → Copied from a old m k → CopiesPiece a b m n (Ok more) → Copied from b old n (k + 1)
-copied_more from a b old m n k false is c h = absurd (true≢false (sym is))
-copied_more from a b old m n k true is c (piece, took, put, full) = record {
+pub copied_more : (size : ℕ) (from a b old m n : Option (List ℕ)) (k : ℕ) (more : Bool) → size ≡ 65536 → more ≡ true → Copied from a old m k
+    → CopiesPiece size a b m n (Ok more) → Copied from b old n (k + 1)
+copied_more size from a b old m n k false full is c h = absurd (true≢false (sym is))
+copied_more _ from a b old m n k true size is c (piece, took, put, full) = record {
   bytes = c.bytes ++ piece;
   took = Consumes-trans from a b c.bytes piece c.took took;
   put = Appends-trans old m n c.bytes piece c.put put;
-  long = omega (arith, length-append c.bytes piece, full, c.long);
+  long = omega (arith, length-append c.bytes piece, full, size, c.long);
 }
 
-pub copied_all : (from a b old m n : Option (List ℕ)) (k : ℕ) (more : Bool) → more ≡ false → Copied from a old m k → CopiesPiece a b m n (Ok more) → Copies from old n (Ok tt)
-copied_all from a b old m n k true is c h = absurd (true≢false is)
-copied_all from a b old m n k false is c (piece, took, put, end) =
+pub copied_all : (size : ℕ) (from a b old m n : Option (List ℕ)) (k : ℕ) (more : Bool) → more ≡ false → Copied from a old m k → CopiesPiece size a b m n (Ok more)
+    → Copies from old n (Ok tt)
+copied_all size from a b old m n k true is c h = absurd (true≢false is)
+copied_all size from a b old m n k false is c (piece, took, put, end) =
     (c.bytes ++ piece, may-end from b (c.bytes ++ piece) (Consumes-trans from a b c.bytes piece c.took took) end, Appends-trans old m n c.bytes piece c.put put)
 
 -- a beginning of a text was written
@@ -56,27 +58,64 @@ write_failed from a b old m n k piece c took part =
       done_part old m n (c.bytes ++ (piece ++ more.0)) (piece ++ more.0) piece more.0 (record { front = c.bytes; took = c.put; is = refl }) refl part,
     )
 
-pub copied_failed : (from a b old m n : Option (List ℕ)) (k : ℕ) (fault : Fault) → Copied from a old m k → CopiesPiece a b m n (Err fault) → Copies from old n (Err fault)
-copied_failed from a b old m n k Read c h = let s = begun from a old m k c in (s.0, s.1, subst (λ t. WritesPart old t s.0) (sym h) s.2)
-copied_failed from a b old m n k Write c (piece, took, part) = write_failed from a b old m n k piece c took part
-copied_failed from a b old m n k NotAge c h = absurd h
-copied_failed from a b old m n k (BadLine i) c h = absurd h
-copied_failed from a b old m n k HeaderTruncated c h = absurd h
-copied_failed from a b old m n k HeaderTooLarge c h = absurd h
-copied_failed from a b old m n k MixedPassphrase c h = absurd h
-copied_failed from a b old m n k NoMatch c h = absurd h
-copied_failed from a b old m n k WrongKey c h = absurd h
-copied_failed from a b old m n k (Malformed s) c h = absurd h
-copied_failed from a b old m n k BadMac c h = absurd h
-copied_failed from a b old m n k NonceTruncated c h = absurd h
-copied_failed from a b old m n k (ChunkShort i) c h = absurd h
-copied_failed from a b old m n k (EmptyFinal i) c h = absurd h
-copied_failed from a b old m n k (BadChunk i) c h = absurd h
-copied_failed from a b old m n k TooManyChunks c h = absurd h
-copied_failed from a b old m n k OutOfMemory c h = absurd h
-copied_failed from a b old m n k NoRecipients c h = absurd h
-copied_failed from a b old m n k (Refused i code) c h = absurd h
-copied_failed from a b old m n k (IncompatibleRecipients i) c h = absurd h
+pub copied_failed : (size : ℕ) (from a b old m n : Option (List ℕ)) (k : ℕ) (fault : Fault) → Copied from a old m k → CopiesPiece size a b m n (Err fault)
+    → Copies from old n (Err fault)
+copied_failed size from a b old m n k Read c h = let s = begun from a old m k c in (s.0, s.1, subst (λ t. WritesPart old t s.0) (sym h) s.2)
+copied_failed size from a b old m n k Write c (piece, took, part) = write_failed from a b old m n k piece c took part
+copied_failed size from a b old m n k NotAge c h = absurd h
+copied_failed size from a b old m n k (BadLine i) c h = absurd h
+copied_failed size from a b old m n k HeaderTruncated c h = absurd h
+copied_failed size from a b old m n k HeaderTooLarge c h = absurd h
+copied_failed size from a b old m n k MixedPassphrase c h = absurd h
+copied_failed size from a b old m n k NoMatch c h = absurd h
+copied_failed size from a b old m n k WrongKey c h = absurd h
+copied_failed size from a b old m n k (Malformed s) c h = absurd h
+copied_failed size from a b old m n k BadMac c h = absurd h
+copied_failed size from a b old m n k NonceTruncated c h = absurd h
+copied_failed size from a b old m n k (ChunkShort i) c h = absurd h
+copied_failed size from a b old m n k (EmptyFinal i) c h = absurd h
+copied_failed size from a b old m n k (BadChunk i) c h = absurd h
+copied_failed size from a b old m n k TooManyChunks c h = absurd h
+copied_failed size from a b old m n k OutOfMemory c h = absurd h
+copied_failed size from a b old m n k NoRecipients c h = absurd h
+copied_failed size from a b old m n k (Refused i code) c h = absurd h
+copied_failed size from a b old m n k (IncompatibleRecipients i) c h = absurd h
 
 pub copied_beyond : (from a old m : Option (List ℕ)) (k : ℕ) → 2 ^ 89 ≤ k → Copied from a old m k → Copies from old m (Err TooManyChunks)
 copied_beyond from a old m k beyond c = let s = begun from a old m k c in (s.0, s.1, s.2, omega (arith, s.3, beyond))
+
+-- a piece, and then the rest: a beginning of the rest was written after the piece
+after_piece : (from a old m n : Option (List ℕ)) (piece rest : List ℕ) → Consumes from a piece → Appends old m piece → MayGive a rest → WritesPart m n rest
+    → MayGive from (piece ++ rest) × WritesPart old n (piece ++ rest)
+after_piece from a old m n piece rest took put may part =
+    (may-more from a piece rest took may, done_part old m n (piece ++ rest) rest rest [] (record { front = piece; took = put; is = refl }) (sym (append-nil rest)) part)
+
+pub copied_after : (size : ℕ) (from a old m n : Option (List ℕ)) (more : Bool) (r : Result (Unit {0}) Fault) → more ≡ true → CopiesPiece size from a old m (Ok more)
+    → Copies a m n r → Copies from old n r
+copied_after size from a old m n false r is c h = absurd (true≢false (sym is))
+copied_after size from a old m n true (Ok done) is (piece, took, put, full) (rest, may, written) =
+    (piece ++ rest, may-more from a piece rest took may, Appends-trans old m n piece rest put written)
+copied_after size from a old m n true (Err Read) is (piece, took, put, full) (rest, may, part) =
+    let after = after_piece from a old m n piece rest took put may part in (piece ++ rest, after.0, after.1)
+copied_after size from a old m n true (Err Write) is (piece, took, put, full) (rest, may, part) =
+    let after = after_piece from a old m n piece rest took put may part in (piece ++ rest, after.0, after.1)
+copied_after size from a old m n true (Err TooManyChunks) is (piece, took, put, full) (rest, may, part, long) =
+    let after = after_piece from a old m n piece rest took put may part in
+    (piece ++ rest, after.0, after.1, omega (arith, length-append piece rest, long))
+copied_after size from a old m n true (Err NotAge) is c h = absurd h
+copied_after size from a old m n true (Err (BadLine i)) is c h = absurd h
+copied_after size from a old m n true (Err HeaderTruncated) is c h = absurd h
+copied_after size from a old m n true (Err HeaderTooLarge) is c h = absurd h
+copied_after size from a old m n true (Err MixedPassphrase) is c h = absurd h
+copied_after size from a old m n true (Err NoMatch) is c h = absurd h
+copied_after size from a old m n true (Err WrongKey) is c h = absurd h
+copied_after size from a old m n true (Err (Malformed s)) is c h = absurd h
+copied_after size from a old m n true (Err BadMac) is c h = absurd h
+copied_after size from a old m n true (Err NonceTruncated) is c h = absurd h
+copied_after size from a old m n true (Err (ChunkShort i)) is c h = absurd h
+copied_after size from a old m n true (Err (EmptyFinal i)) is c h = absurd h
+copied_after size from a old m n true (Err (BadChunk i)) is c h = absurd h
+copied_after size from a old m n true (Err OutOfMemory) is c h = absurd h
+copied_after size from a old m n true (Err NoRecipients) is c h = absurd h
+copied_after size from a old m n true (Err (Refused i code)) is c h = absurd h
+copied_after size from a old m n true (Err (IncompatibleRecipients i)) is c h = absurd h

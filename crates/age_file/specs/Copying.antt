@@ -5,13 +5,13 @@ use Rattle.age_header.specs.Device.{MayGive, WritesPart}
 use Rattle.age_file.specs.declared.fault.Fault.{Fault}
 use Rattle.age_file.specs.declared.fault.Fault.TheVariants.{TooManyChunks, Read, Write}
 
--- one piece: a full one, or what was left of the source
-abbrev pub CopiesPiece : Option (List ℕ) → Option (List ℕ) → Option (List ℕ) → Option (List ℕ) → Result Bool Fault → Type 0
-CopiesPiece from to old new (Ok true) = (piece : List ℕ) × Consumes from to piece × Appends old new piece × (length piece ≡ 65536)
-CopiesPiece from to old new (Ok false) = (piece : List ℕ) × Consumes from to piece × Appends old new piece × IsAtEnd to
-CopiesPiece from to old new (Err Read) = new ≡ old
-CopiesPiece from to old new (Err Write) = (piece : List ℕ) × Consumes from to piece × WritesPart old new piece
-CopiesPiece from to old new (Err _) = ⊥
+-- one piece: a full one of this length, or what was left of the source
+abbrev pub CopiesPiece : ℕ → Option (List ℕ) → Option (List ℕ) → Option (List ℕ) → Option (List ℕ) → Result Bool Fault → Type 0
+CopiesPiece size from to old new (Ok true) = (piece : List ℕ) × Consumes from to piece × Appends old new piece × (length piece ≡ size)
+CopiesPiece size from to old new (Ok false) = (piece : List ℕ) × Consumes from to piece × Appends old new piece × IsAtEnd to
+CopiesPiece size from to old new (Err Read) = new ≡ old
+CopiesPiece size from to old new (Err Write) = (piece : List ℕ) × Consumes from to piece × WritesPart old new piece
+CopiesPiece size from to old new (Err _) = ⊥
 
 -- all of it; where a device failed a beginning; no more than 2^105 bytes
 abbrev pub Copies : Option (List ℕ) → Option (List ℕ) → Option (List ℕ) → Result (Unit {0}) Fault → Type 0

@@ -1,6 +1,6 @@
 //! Copying what follows a header.
 
-ghost use Rattle.std.specs.Prelude.{◌≡◌, length};
+ghost use Rattle.std.specs.Prelude.{◌≡◌, ◌≤◌, length};
 ghost use Rattle.age_file.specs.Copying.{Copies, CopiesPiece};
 ghost use Rattle.age_file.specs.Device.{CountsRead, CountsWrite};
 
@@ -10,12 +10,29 @@ use age_header::{Sink, Source, fill_from, write_all};
 /// How many full pieces are copied at most, 2^105 bytes in all: more than any payload has, so that the loop ends.
 const MAX_PIECES: u128 = 1 << 89;
 
-/// Copies all that the source still gives, a piece of the buffer's length at a time.
+/// Copies all that the source still gives: a piece of `first` bytes, and then pieces of the buffer's length.
 pub(crate) fn copy_all<S: Source, W: Sink>(
     input: &mut S,
     out: &mut W,
     buf: &mut [u8],
+    first: usize,
 ) -> Result<(), Fault>
+    requires size { length buf.old ≡ 65536 }
+    requires first { first ≤ 65536 }
+    ensures copies { Copies (S.to_come input.old) (W.taken out.old) (W.taken out.new) result }
+    ensures reads { CountsRead (S.failed input.old) (S.failed input.new) result }
+    ensures writes { CountsWrite (W.failed out.old) (W.failed out.new) result }
+{
+    let (front, _) = buf.split_at_mut(first);
+    match copy_piece(input, out, front) {
+        Ok(true) => copy_pieces(input, out, buf),
+        Ok(false) => Ok(()),
+        Err(fault) => Err(fault),
+    }
+}
+
+/// Copies all that the source still gives, a piece of the buffer's length at a time.
+fn copy_pieces<S: Source, W: Sink>(input: &mut S, out: &mut W, buf: &mut [u8]) -> Result<(), Fault>
     requires { length buf.old ≡ 65536 }
     ensures copies { Copies (S.to_come input.old) (W.taken out.old) (W.taken out.new) result }
     ensures reads { CountsRead (S.failed input.old) (S.failed input.new) result }
@@ -34,9 +51,8 @@ pub(crate) fn copy_all<S: Source, W: Sink>(
 
 /// Copies one piece of the buffer's length, or what is left of the source. Returns whether it was a full one.
 fn copy_piece<S: Source, W: Sink>(input: &mut S, out: &mut W, buf: &mut [u8]) -> Result<bool, Fault>
-    requires { length buf.old ≡ 65536 }
-    ensures len { length buf.new ≡ 65536 }
-    ensures copies { CopiesPiece (S.to_come input.old) (S.to_come input.new) (W.taken out.old) (W.taken out.new) result }
+    ensures len { length buf.new ≡ length buf.old }
+    ensures copies { CopiesPiece (length buf.old) (S.to_come input.old) (S.to_come input.new) (W.taken out.old) (W.taken out.new) result }
     ensures reads { CountsRead (S.failed input.old) (S.failed input.new) result }
     ensures writes { CountsWrite (W.failed out.old) (W.failed out.new) result }
 {

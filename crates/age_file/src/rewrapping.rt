@@ -59,5 +59,7 @@ pub fn rewrap<S: Source, W: Sink>(
         Err(_) => return Err(Fault::Write),
     }
     let mut buf = buf;
-    copy_all(input, out, buf.as_mut_slice())
+    // So that with a buffered sink of this size each write but the last begins and ends at a multiple of it.
+    let first = 65_536 - (new.text_len() % 65_536) as usize;
+    copy_all(input, out, buf.as_mut_slice(), first)
 }

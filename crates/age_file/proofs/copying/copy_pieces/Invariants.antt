@@ -1,6 +1,6 @@
 use Rattle.std.proofs.Common.{◌≡◌, ◌-◌, ◌^◌, length}
 use Rattle.age_file.proofs.CopyLemmas.{Copied}
-use Rattle.age_file.proofs.copying.copy_all.Given as goal
+use Rattle.age_file.proofs.copying.copy_pieces.Given as goal
 
 abbrev pub invariant-loop-copied : goal.invariant-loop-copied
 invariant-loop-copied g l = record {
