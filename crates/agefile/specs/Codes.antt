@@ -1,0 +1,56 @@
+-- The numbers by which C knows a fault.
+use Rattle.std.specs.Prelude.{ℕ, ◌-◌, ◌^◌, min, Option, Some, None}
+use Rattle.age_recipient.specs.declared.unwrapped.StanzaFault.{StanzaFault}
+use Rattle.age_recipient.specs.declared.unwrapped.StanzaFault.TheVariants.{ArgCount, Salt, WorkFactorText, WorkFactorTooHigh, BodyLength, Other}
+use Rattle.age_file.specs.declared.fault.Fault.{Fault}
+use Rattle.age_file.specs.declared.fault.Fault.TheVariants.{NotAge, BadLine, HeaderTruncated, HeaderTooLarge, MixedPassphrase, NoMatch, WrongKey, Malformed, BadMac, NonceTruncated, ChunkShort, EmptyFinal, BadChunk, TooManyChunks, Read, Write, OutOfMemory, NoRecipients, Refused, IncompatibleRecipients}
+
+-- a fault's number
+abbrev pub fault_code : Fault → ℕ
+fault_code NotAge = 1
+fault_code (BadLine line) = 2
+fault_code HeaderTruncated = 3
+fault_code HeaderTooLarge = 4
+fault_code MixedPassphrase = 5
+fault_code NoMatch = 6
+fault_code WrongKey = 7
+fault_code (Malformed part) = 8
+fault_code BadMac = 9
+fault_code NonceTruncated = 10
+fault_code (ChunkShort i) = 11
+fault_code (EmptyFinal i) = 12
+fault_code (BadChunk i) = 13
+fault_code TooManyChunks = 14
+fault_code Read = 15
+fault_code Write = 16
+fault_code OutOfMemory = 17
+fault_code NoRecipients = 18
+fault_code (Refused i reason) = 19
+fault_code (IncompatibleRecipients i) = 20
+
+-- the line or the chunk of a fault, else 0; of a chunk's number beyond 64 bits the largest of 64 bits
+abbrev pub fault_place : Fault → ℕ
+fault_place (BadLine line) = line
+fault_place (ChunkShort i) = min i (2 ^ 64 - 1)
+fault_place (EmptyFinal i) = min i (2 ^ 64 - 1)
+fault_place (BadChunk i) = min i (2 ^ 64 - 1)
+fault_place _ = 0
+
+-- which part of a stanza is malformed; this library's own identities look for no other one
+abbrev pub part_number : StanzaFault → ℕ
+part_number ArgCount = 1
+part_number Salt = 2
+part_number WorkFactorText = 3
+part_number WorkFactorTooHigh = 4
+part_number BodyLength = 5
+part_number (Other reason) = 0
+
+-- the part of a malformed stanza, of another fault 0
+abbrev pub fault_detail : Fault → ℕ
+fault_detail (Malformed part) = part_number part
+fault_detail _ = 0
+
+-- the number of a fault, or 0 where there is none
+abbrev pub code_of : Option Fault → ℕ
+code_of None = 0
+code_of (Some fault) = fault_code fault

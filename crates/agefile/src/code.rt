@@ -1,0 +1,85 @@
+//! Faults as numbers.
+
+ghost use Rattle.std.specs.Prelude.{◌≡◌, ◌-◌, ◌^◌, min};
+ghost use Rattle.agefile.specs.Codes.{fault_code, fault_detail, fault_place};
+
+use age_file::{Fault, StanzaFault};
+
+/// Nothing went wrong.
+pub(crate) const OK: u32 = 0;
+
+/// An allocation was refused.
+pub(crate) const OUT_OF_MEMORY: u32 = 17;
+
+/// The buffer is too small for what it was to get.
+pub(crate) const TOO_SMALL: u32 = 21;
+
+/// A work factor, or its maximum, is not 1 to 30.
+pub(crate) const WORK_FACTOR: u32 = 22;
+
+/// There is no such stanza or place, or the call does not fit the state.
+pub(crate) const OUT_OF_ORDER: u32 = 23;
+
+/// The number of a fault.
+pub(crate) fn code_of(fault: Fault) -> u32
+    ensures { result ≡ fault_code fault }
+{
+    match fault {
+        Fault::NotAge => 1,
+        Fault::BadLine(_) => 2,
+        Fault::HeaderTruncated => 3,
+        Fault::HeaderTooLarge => 4,
+        Fault::MixedPassphrase => 5,
+        Fault::NoMatch => 6,
+        Fault::WrongKey => 7,
+        Fault::Malformed(_) => 8,
+        Fault::BadMac => 9,
+        Fault::NonceTruncated => 10,
+        Fault::ChunkShort(_) => 11,
+        Fault::EmptyFinal(_) => 12,
+        Fault::BadChunk(_) => 13,
+        Fault::TooManyChunks => 14,
+        Fault::Read => 15,
+        Fault::Write => 16,
+        Fault::OutOfMemory => OUT_OF_MEMORY,
+        Fault::NoRecipients => 18,
+        Fault::Refused(_, _) => 19,
+        Fault::IncompatibleRecipients(_) => 20,
+    }
+}
+
+/// The line or the chunk of a fault, else 0. Of a chunk's number beyond `u64` it is the largest `u64`.
+pub(crate) fn place_of(fault: Fault) -> u64
+    ensures { result ≡ fault_place fault }
+{
+    match fault {
+        Fault::BadLine(line) => line,
+        Fault::ChunkShort(i) | Fault::EmptyFinal(i) | Fault::BadChunk(i) => capped(i),
+        _ => 0,
+    }
+}
+
+/// The smaller of a number and the largest `u64`.
+fn capped(n: u128) -> u64
+    ensures { result ≡ min n (2 ^ 64 - 1) }
+{
+    if n < 0xffff_ffff_ffff_ffff {
+        n as u64
+    } else {
+        u64::MAX
+    }
+}
+
+/// Which part of a stanza is malformed, from 1 up; of another fault 0.
+pub(crate) fn detail_of(fault: Fault) -> u64
+    ensures { result ≡ fault_detail fault }
+{
+    match fault {
+        Fault::Malformed(StanzaFault::ArgCount) => 1,
+        Fault::Malformed(StanzaFault::Salt) => 2,
+        Fault::Malformed(StanzaFault::WorkFactorText) => 3,
+        Fault::Malformed(StanzaFault::WorkFactorTooHigh) => 4,
+        Fault::Malformed(StanzaFault::BodyLength) => 5,
+        _ => 0,
+    }
+}

@@ -1,0 +1,7 @@
+//! Age v1 files (C2SP `age.md`) for callers in C: the exports of `agefile.h`. Each states the contract of what it calls again, over the
+//! bytes behind its pointers, and none has a `requires`. Nothing is kept between two calls but what the caller holds.
+#![tactic(auto)]
+
+mod bounds;
+mod code;
+mod report;
