@@ -4,4 +4,5 @@
 
 mod bounds;
 mod code;
+mod ranges;
 mod report;
