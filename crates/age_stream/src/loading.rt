@@ -9,7 +9,7 @@ ghost use Rattle.age_stream.specs.Slice.{text_len};
 
 use crate::fault::StreamFault;
 use crate::layout::Layout;
-use crate::opening::{open_front, open_piece};
+use crate::opening::{open_chunk, open_front};
 use crate::place::chunk_nonce;
 use crate::read_at::ReadAt;
 use age_header::DeviceFault;
@@ -169,7 +169,7 @@ pub(crate) fn load_last<D: ReadAt>(
         Ok(false) => return Err(StreamFault::BadChunk(last as u128)),
         Ok(true) => {}
     }
-    match open_piece(&key, max, last as u128, true, buf, end) {
+    match open_chunk(&key, max, last as u128, true, buf, end) {
         Ok(len) => Ok(Layout {
             key,
             first,

@@ -1,5 +1,5 @@
 //! Opening a payload's pieces, one after another.
-ghost use Rattle.std.specs.Prelude.{◌≡◌, ◌≢◌, ◌⊎◌, ◌<◌, ◌≤◌, ◌+◌, ◌-◌, ◌^◌, ◌++◌, ◌&&◌, ℕ, List, [], length, take, drop, Some, None, Ok, Err, IfOk, OnOk, IfErr, IfSome, IfNone, IsErrOf, nat_lt, nat_eq, true};
+ghost use Rattle.std.specs.Prelude.{◌≡◌, ◌≢◌, ◌⊎◌, ◌<◌, ◌≤◌, ◌+◌, ◌-◌, ◌^◌, ◌++◌, ◌&&◌, ℕ, List, [], length, take, drop, Some, None, Ok, Err, IfOk, OnOk, OnErr, IfErr, IfSome, IfNone, IsErrOf, nat_lt, nat_eq, true};
 ghost use Rattle.std.specs.Bool.{OnTrue, OnFalse};
 ghost use Rattle.age_cipher.specs.Sealing.{opened};
 ghost use Rattle.age_header.specs.Device.{GaveAtMost, MayGive};
@@ -201,12 +201,12 @@ fn next_piece<S: Source>(
         return Err(StreamFault::Read);
     };
     if n < 65_553 {
-        match open_piece(key, max, i, true, bytes, n) {
+        match open_chunk(key, max, i, true, bytes, n) {
             Ok(len) => Ok(Piece { len, more: false }),
             Err(fault) => Err(fault),
         }
     } else {
-        match open_piece(key, max, i, false, bytes, 65_552) {
+        match open_chunk(key, max, i, false, bytes, 65_552) {
             Ok(len) => Ok(Piece { len, more: true }),
             Err(fault) => Err(fault),
         }
@@ -240,8 +240,14 @@ fn carry(bytes: &mut [u8], ahead: usize)
     first.copy_from_slice(next);
 }
 
-/// Opens the first `end` bytes where they stand, as piece i; the length of their text, which is then in front.
-pub(crate) fn open_piece(
+/// Opens the first `end` bytes where they stand, as chunk i, and returns the length of their text, which is in front then. The tag, and
+/// what follows it, stays as it was. `last` says whether the chunk ends its payload. A payload may have `max` chunks.
+///
+/// # Errors
+/// The first that applies of `TooManyChunks` where `i` is `max`; `ChunkShort` where there are fewer bytes than a tag, 16; `EmptyFinal`
+/// where the last chunk, not being the first, is a tag alone; `BadChunk` where no plaintext seals to these bytes at their place. On
+/// each the buffer is as it was.
+pub fn open_chunk(
     key: &[u8; 32],
     max: u128,
     i: u128,
@@ -254,9 +260,10 @@ pub(crate) fn open_piece(
     requires index { i ≤ max }
     requires small { i < max → i < 2 ^ 88 }
     ensures len { length bytes.new ≡ length bytes.old }
-    ensures behind { drop end bytes.new ≡ drop end bytes.old }
+    ensures rest { drop (end - 16) bytes.new ≡ drop (end - 16) bytes.old }
     ensures size { IfOk result (λ n. n ≡ end - 16) }
     ensures text { GivesText (outcome key.now max i last (take end bytes.old)) bytes.new result }
+    ensures kept { OnErr result (bytes.new ≡ bytes.old) }
     ensures within { OnOk result (i < max) }
     ensures at { IfErr result (IsAtPiece max i) }
 {
@@ -283,13 +290,14 @@ fn is_empty_final(last: bool, i: u128, len: usize) -> bool
     last && i > 0 && len == 16
 }
 
-/// Opens the first `end` bytes where they stand.
+/// Opens the first `end` bytes where they stand; where they don't open, all is as it was.
 pub(crate) fn open_front(key: &[u8; 32], nonce: &[u8; 12], bytes: &mut [u8], end: usize) -> bool
     requires low { 16 ≤ end }
     requires high { end ≤ length bytes.old }
     requires size { end ≤ 65552 }
     ensures len { length bytes.new ≡ length bytes.old }
-    ensures behind { drop end bytes.new ≡ drop end bytes.old }
+    ensures rest { drop (end - 16) bytes.new ≡ drop (end - 16) bytes.old }
+    ensures kept { OnFalse result (bytes.new ≡ bytes.old) }
     ensures opened { OnTrue result (opened key.now nonce.now [] (take end bytes.old) ≡ Some (take (end - 16) bytes.new)) }
     ensures refused { OnFalse result (opened key.now nonce.now [] (take end bytes.old) ≡ None) }
 {

@@ -15,8 +15,8 @@ pub fn chunk_nonce(i: u128, last: bool) -> [u8; 12]
     [a, b, c, d, e, f, g, h, j, k, l, if last { 1 } else { 0 }]
 }
 
-/// The key of the chunks behind this nonce.
-pub(crate) fn payload_key(key: &FileKey, nonce: &[u8; 16]) -> [u8; 32]
+/// The key of the chunks that follow this nonce (C2SP `age.md`, "Payload").
+pub fn payload_key(key: &FileKey, nonce: &[u8; 16]) -> [u8; 32]
     ensures { result ≡ payload_key key.now nonce.now }
 {
     let mut chunk_key = [0; 32];

@@ -222,19 +222,21 @@ fn put_sealed<W: Sink>(
     ensures count { Counts (W.failed out.old) (W.failed out.new) result }
 {
     let (piece, _) = bytes.split_at_mut(len + 16);
-    seal_front(key, &chunk_nonce(i, last), piece);
+    seal_chunk(key, i, last, piece);
     write_all(out, piece)
 }
 
-/// Seals all but the last 16 bytes where they stand; the last 16 become the tag.
-fn seal_front(key: &[u8; 32], nonce: &[u8; 12], piece: &mut [u8])
-    requires low { 16 ≤ length piece.old }
-    requires high { length piece.old ≤ 65552 }
-    ensures len { length piece.new ≡ length piece.old }
-    ensures sealed { piece.new ≡ sealed key.now nonce.now [] (take (length piece.old - 16) piece.old) }
+/// Seals all but the last 16 bytes where they stand, as chunk i; the last 16 become the tag. `last` says whether the chunk ends its
+/// payload.
+pub fn seal_chunk(key: &[u8; 32], i: u128, last: bool, chunk: &mut [u8])
+    requires low { 16 ≤ length chunk.old }
+    requires high { length chunk.old ≤ 65552 }
+    requires small { i < 2 ^ 88 }
+    ensures len { length chunk.new ≡ length chunk.old }
+    ensures sealed { chunk.new ≡ sealed key.now (place i last) [] (take (length chunk.old - 16) chunk.old) }
 {
-    let len = piece.len() - 16;
-    let (text, end) = piece.split_at_mut(len);
-    let tag = seal_in_place(key, nonce, b"", text);
+    let len = chunk.len() - 16;
+    let (text, end) = chunk.split_at_mut(len);
+    let tag = seal_in_place(key, &chunk_nonce(i, last), b"", text);
     end.copy_from_slice(&tag);
 }

@@ -18,12 +18,12 @@ returns-in-Ok-false-clause-judges g c =
     inr (last-gone c.args.key c.args.max c.args.first c.args.sealed last (c.args.sealed - 65552 * last) (g.D.ReadAt.bytes c.args.dev.now) (BadChunk last)
     (ap (λ n. n / 65552) less) refl (OnFalse_at c.in-Ok-false.field-0-test c.in-Ok-false.ensures.short))
 
-pub returns-in-Err-open_piece-clause-judges : goal.returns-in-Err-open_piece-clause-judges
-returns-in-Err-open_piece-clause-judges g c =
+pub returns-in-Err-open_chunk-clause-judges : goal.returns-in-Err-open_chunk-clause-judges
+returns-in-Err-open_chunk-clause-judges g c =
     let less : c.saturating_sub-last.result ≡ c.args.sealed - 1 = search rules in
     let last = c.saturating_sub-last.result / 65552 in
-    inr (last-read c.args.key c.args.max c.args.first c.args.sealed last (c.args.sealed - 65552 * last) (g.D.ReadAt.bytes c.args.dev.now) c.read_full.new.buf (Err c.in-Err-open_piece.fault)
-    (ap (λ n. n / 65552) less) refl (c.read_full.auto.buf ∙ c.requires.room) (OnTrue_at c.in-Ok-true.field-0-test c.in-Ok-true.ensures.full) c.in-Err-open_piece.ensures.text)
+    inr (last-read c.args.key c.args.max c.args.first c.args.sealed last (c.args.sealed - 65552 * last) (g.D.ReadAt.bytes c.args.dev.now) c.read_full.new.buf (Err c.in-Err-open_chunk.fault)
+    (ap (λ n. n / 65552) less) refl (c.read_full.auto.buf ∙ c.requires.room) (OnTrue_at c.in-Ok-true.field-0-test c.in-Ok-true.ensures.full) c.in-Err-open_chunk.ensures.text)
 
 pub invariant_of-result : goal.invariant_of-result
 invariant_of-result g c =
@@ -32,7 +32,7 @@ invariant_of-result g c =
     let end = c.args.sealed - 65552 * last in
     let short : end ≤ 65552 = omega (arith, less) in
     let fits = c.requires.fits in
-    let len = open-len c.args.key c.args.max last end c.in-Ok.len c.read_full.new.buf c.open_piece.new.bytes (c.read_full.auto.buf ∙ c.requires.room) short
+    let len = open-len c.args.key c.args.max last end c.in-Ok.len c.read_full.new.buf c.open_chunk.new.bytes (c.read_full.auto.buf ∙ c.requires.room) short
     c.in-Ok.ensures.text.0 c.in-Ok.ensures.text.1 in
     let is : c.in-Ok.len + 16 ≡ end = len.0 in
     record {
@@ -50,16 +50,16 @@ returns-in-Ok-clause-judges g c =
     let n = c.in-Ok.len in
     let short : end ≤ 65552 = omega (arith, less) in
     let room = c.read_full.auto.buf ∙ c.requires.room in
-    let len = open-len c.args.key c.args.max last end n c.read_full.new.buf c.open_piece.new.bytes room short c.in-Ok.ensures.text.0 c.in-Ok.ensures.text.1 in
+    let len = open-len c.args.key c.args.max last end n c.read_full.new.buf c.open_chunk.new.bytes room short c.in-Ok.ensures.text.0 c.in-Ok.ensures.text.1 in
     let is : n + 16 ≡ end = len.0 in
     let text : n ≡ text_len (65536 * last + n) (last + 1 - 1) = omega (arith, is, short) in (
       refl,
       refl,
       omega (arith, is, less),
-      last-read c.args.key c.args.max c.args.first c.args.sealed last end (g.D.ReadAt.bytes c.args.dev.now) c.read_full.new.buf (Ok (take (text_len (65536 * last + n) (last + 1 - 1)) c.open_piece.new.bytes))
-          (ap (λ k. k / 65552) less) refl room (OnTrue_at c.in-Ok-true.field-0-test c.in-Ok-true.ensures.full) (c.in-Ok.ensures.text.0 ∙ ap (λ k. Ok (take k c.open_piece.new.bytes)) text),
+      last-read c.args.key c.args.max c.args.first c.args.sealed last end (g.D.ReadAt.bytes c.args.dev.now) c.read_full.new.buf (Ok (take (text_len (65536 * last + n) (last + 1 - 1)) c.open_chunk.new.bytes))
+          (ap (λ k. k / 65552) less) refl room (OnTrue_at c.in-Ok-true.field-0-test c.in-Ok-true.ensures.full) (c.in-Ok.ensures.text.0 ∙ ap (λ k. Ok (take k c.open_chunk.new.bytes)) text),
     )
 
-pub returns-in-Err-open_piece-clause-named : goal.returns-in-Err-open_piece-clause-named
-returns-in-Err-open_piece-clause-named g c =
-    piece-named c.args.max (c.saturating_sub-last.result / 65552) c.in-Err-open_piece.fault c.in-Err-open_piece.ensures.at
+pub returns-in-Err-open_chunk-clause-named : goal.returns-in-Err-open_chunk-clause-named
+returns-in-Err-open_chunk-clause-named g c =
+    piece-named c.args.max (c.saturating_sub-last.result / 65552) c.in-Err-open_chunk.fault c.in-Err-open_chunk.ensures.at

@@ -3,7 +3,7 @@ use Rattle.std.proofs.lemmas.Bool.{OnTrue_at, OnFalse_at}
 use Rattle.std.proofs.lemmas.List.{length-take-le}
 use Rattle.age_cipher.specs.Sealing.{opened}
 use Rattle.age_stream.proofs.OutcomeLemmas.{outcome-many, outcome-short, outcome-empty, outcome-open}
-use Rattle.age_stream.proofs.opening.open_piece.Goals as goal
+use Rattle.age_stream.proofs.opening.open_chunk.Goals as goal
 
 pub returns-then-i-max-clause-text : goal.returns-then-i-max-clause-text
 returns-then-i-max-clause-text c =
