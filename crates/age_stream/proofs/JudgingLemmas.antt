@@ -20,13 +20,13 @@ use Rattle.age_stream.proofs.PayloadLemmas.{outcome-opens}
 use Rattle.age_stream.proofs.LoadLemmas.{tight-at}
 use Rattle.age_stream.proofs.SliceLemmas.{cut-at, opening-at, plain-count}
 
-some-or-none : (last len : ℕ) → last ≡ (len - 1) / 65552 → (last ≡ 0) ⊎ (65552 * last < len)
+pub some-or-none : (last len : ℕ) → last ≡ (len - 1) / 65552 → (last ≡ 0) ⊎ (65552 * last < len)
 some-or-none last len is = elim (cases_lt 0 len) [
   | inl long ↦ inr (omega arith)
   | inr none ↦ inl (omega arith)
 ]
 
-piece-count : (rest : List ℕ) (last : ℕ) → last ≡ (length rest - 1) / 65552 → length (pieces rest) ≡ last + 1
+pub piece-count : (rest : List ℕ) (last : ℕ) → last ≡ (length rest - 1) / 65552 → length (pieces rest) ≡ last + 1
 piece-count rest last is = cut-count 65552 last rest (omega arith) (some-or-none last (length rest) is) (omega arith)
 
 last-piece : (rest : List ℕ) (last : ℕ) → last ≡ (length rest - 1) / 65552 → last_piece rest ≡ drop (65552 * last) rest
@@ -43,7 +43,7 @@ length-last rest =
     ap length (last-piece rest last refl) ∙ length-drop (65552 * last) rest
 
 -- what the last piece gives, its number and its place written out
-last-is : (key : List ℕ) (max : ℕ) (rest : List ℕ) (last : ℕ) → last ≡ (length rest - 1) / 65552
+pub last-is : (key : List ℕ) (max : ℕ) (rest : List ℕ) (last : ℕ) → last ≡ (length rest - 1) / 65552
     → last_outcome key max rest ≡ outcome key max last true (drop (65552 * last) rest)
 last-is key max rest last is =
     let n : length (pieces rest) ≡ last + 1 = piece-count rest last is in

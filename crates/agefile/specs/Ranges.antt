@@ -1,5 +1,5 @@
 -- Ranges of a plaintext in steps: the caller reads one sealed chunk of the file at a time (C2SP age.md, "Payload").
-use Rattle.std.specs.Prelude.{ℕ, List, ◌≡◌, ◌+◌, ◌-◌, ◌*◌, ◌/◌, ◌%◌, ◌^◌, ◌&&◌, Bool, length, take, min, nat_eq, nat_le, nat_lt, None, Some, Result, Ok, Err}
+use Rattle.std.specs.Prelude.{ℕ, List, ◌≡◌, ◌+◌, ◌-◌, ◌*◌, ◌/◌, ◌%◌, ◌^◌, ◌&&◌, Bool, length, take, drop, min, nat_eq, nat_le, nat_lt, None, Some, Result, Ok, Err}
 use Rattle.age_stream.specs.declared.fault.StreamFault.{StreamFault}
 use Rattle.age_stream.specs.Reading.{outcome}
 use Rattle.age_file.specs.Verdict.{of_stream}
@@ -20,6 +20,10 @@ piece_len sealed i = min 65552 (sealed - 65552 * i)
 -- the plaintext's length: each piece has a tag
 abbrev pub plain_of : ℕ → ℕ
 plain_of sealed = sealed - 16 * (last_index sealed + 1)
+
+-- the bytes of piece i in a file
+abbrev pub piece_at : Ranges → List ℕ → ℕ → List ℕ
+piece_at r b i = take (piece_len r.sealed_len i) (drop (r.first + 65552 * i) b)
 
 -- what these bytes give as piece i
 abbrev pub gives : Ranges → ℕ → List ℕ → Result (List ℕ) StreamFault

@@ -4,5 +4,6 @@
 
 mod bounds;
 mod code;
+mod range_laws;
 mod ranges;
 mod report;
