@@ -1,5 +1,6 @@
 #!/bin/bash
-# A new header: how fast agep rewrap copies a file from one key to another, beside cat of the same file, in the same run.
+# A new header: how fast agep rewrap copies a file from one key to another, beside cat and dd of the same file, in the same run. Between two
+# files cat copies inside the kernel (copy_file_range); dd reads and writes pieces of 64 KiB, as rewrap does.
 # Usage: bench/rewrap.sh [MIB [RUNS]]
 set -eu
 mib=${1:-1024}
@@ -39,6 +40,7 @@ show() {
 for ((run = 0; run < runs; run++)); do
     measure rewrap sh -c 'exec "$0" rewrap -k key -K new.key old.age >rewrap.age' "$agep"
     measure cat sh -c 'exec cat old.age >cat.age'
+    measure dd dd if=old.age of=dd.age bs=64K status=none
     cmp <(tail -c +157 old.age) <(tail -c +157 rewrap.age)
     measure rewrap_synced "$agep" rewrap -k key -K new.key -o rewrap_synced.age old.age
     measure cat_synced sh -c 'cat old.age >cat_synced.age && sync cat_synced.age'
@@ -46,6 +48,7 @@ for ((run = 0; run < runs; run++)); do
 done
 show rewrap cat "agep rewrap"
 show cat cat "cat"
+show dd cat "dd bs=64K"
 show rewrap_synced cat_synced "agep rewrap, synced"
 show cat_synced cat_synced "cat, synced"
 "$agep" decrypt -k new.key rewrap.age | cmp - <(head -c "$((mib << 20))" /dev/zero)
