@@ -1,3 +1,6 @@
+pub mod Answer
 pub mod Codes
 pub mod Limits
+pub mod Reader
 pub mod Report
+pub mod Start

@@ -4,4 +4,6 @@
 
 mod bounds;
 mod code;
+mod reader;
 mod report;
+mod start;
