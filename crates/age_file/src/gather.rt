@@ -13,8 +13,13 @@ use age_header::{Header, Stanza, mac_of};
 use age_recipient::{FileKey, Labels, Recipient, WrapFault};
 use std::alloc::{AllocError, Global};
 
-/// The header of a new file for these recipients.
-pub(crate) fn header_for(
+/// Makes the header of a new file for these recipients, with its MAC under the file key.
+///
+/// # Errors
+/// In this order: `Refused` at the first recipient that refuses, `IncompatibleRecipients` at the first whose labels do not go together
+/// with those of recipient 0, `NoRecipients` where there is no stanza at all, `MixedPassphrase` where a `scrypt` stanza stands beside
+/// another, `HeaderTooLarge`. `OutOfMemory` where an allocation was refused.
+pub fn header_for(
     alloc: Global,
     recipients: &[Box<dyn Recipient>],
     key: &FileKey,

@@ -29,8 +29,12 @@ pub fn inspect<S: Source>(alloc: Global, input: &mut S, limits: &Limits) -> Resu
     }
 }
 
-/// The file key of a header, which has to have the right MAC under it.
-pub(crate) fn unlock_header(
+/// Finds the file key of a header among these identities, and verifies the header's MAC under it.
+///
+/// # Errors
+/// The first that applies of `MixedPassphrase`; `NoMatch`, `WrongKey` and `Malformed` as `age_recipient::unlock` says; `BadMac`.
+/// `OutOfMemory` where an allocation was refused or an identity returned so.
+pub fn unlock_header(
     alloc: Global,
     identities: &[Box<dyn Identity>],
     header: &Header,

@@ -33,9 +33,10 @@ pub use age_stream::{
 pub use decryptor::Decryptor;
 pub use encryptor::Encryptor;
 pub use fault::Fault;
-pub use header::inspect;
+pub use gather::header_for;
+pub use header::{inspect, unlock_header};
 pub use limits::{Fresh, Limits};
 pub use ranges::open_ranges;
 pub use reading::decrypt;
 pub use rewrapping::rewrap;
-pub use writing::encrypt;
+pub use writing::{encrypt, write_front};

@@ -58,7 +58,10 @@ pub fn encrypt<S: Source, W: Sink>(
 }
 
 /// Writes a header, and after it the nonce of its payload.
-pub(crate) fn write_front<W: Sink>(
+///
+/// # Errors
+/// `DeviceFault` where the sink failed: a beginning of both was written.
+pub fn write_front<W: Sink>(
     header: &Header,
     nonce: &[u8; 16],
     out: &mut W,

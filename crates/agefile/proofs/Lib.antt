@@ -1,1 +1,2 @@
 pub mod RangeLemmas
+mod StartLemmas

@@ -7,7 +7,6 @@ use age_file::Limits;
 
 const MAX_HEADER: usize = 65_536;
 
-/// How many chunks a payload may have.
 pub(crate) const MAX_CHUNKS: u128 = 0xffff_ffff_ffff_ffff;
 
 /// A header of 65,536 bytes, and a payload of 2^64 - 1 chunks.

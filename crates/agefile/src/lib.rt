@@ -6,4 +6,6 @@ mod bounds;
 mod code;
 mod range_laws;
 mod ranges;
+mod reader;
 mod report;
+mod start;

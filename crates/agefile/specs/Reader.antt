@@ -1,0 +1,69 @@
+-- A reader of sealed chunks, which its caller holds between two calls.
+use Rattle.std.specs.Prelude.{◌≡◌, ◌⊎◌, ℕ, ◌+◌, ◌++◌, ◌&&◌, Bool, true, false, List, length, drop, replicate, nat_eq, nat_le, Some, None, Result, Ok, Err, if◌then◌else◌}
+use Rattle.age_stream.specs.declared.fault.StreamFault.{StreamFault}
+use Rattle.age_stream.specs.Reading.{outcome}
+use Rattle.age_file.specs.declared.fault.Fault.{Fault}
+use Rattle.age_file.specs.Verdict.{Answering, of_stream}
+use Rattle.agefile.specs.declared.reader.Reader.{Reader}
+use Rattle.agefile.specs.declared.report.Report.{Report}
+use Rattle.agefile.specs.declared.start.Start.{Start}
+use Rattle.agefile.specs.Codes.{fault_code}
+use Rattle.agefile.specs.Limits.{limits}
+use Rattle.agefile.specs.Report.{report_of}
+use Rattle.agefile.specs.Start.{FindsStart}
+
+-- not open
+abbrev pub closed : Reader
+closed = record { key = replicate 32 0; number = 0; state = 0 }
+
+-- before chunk 0
+abbrev pub before_first : List ℕ → Reader
+before_first key = record { key = key; number = 0; state = 1 }
+
+-- after a chunk that opened
+abbrev pub after_chunk : Reader → Bool → Reader
+after_chunk r last = record { key = r.key; number = r.number + 1; state = if last then 2 else 1 }
+
+-- after a chunk with a fault
+abbrev pub failed : Reader → Reader
+failed r = record { key = r.key; number = r.number; state = 3 }
+
+-- the call returns this code alone, and the reader is not open
+pub record StaysClosed (number : ℕ) (new : Reader) (told : Report) (result : ℕ) : Type 0 where
+  pub code : result ≡ number
+  pub report : told ≡ report_of 0 None
+  pub reader : new ≡ closed
+
+-- the reader stands before chunk 0, and the report says where that begins; or the fault is returned
+abbrev pub OpensAt : Result Start Fault → Reader → Report → ℕ → Type 0
+OpensAt (Ok start) new told result = (result ≡ 0) × (told ≡ report_of start.first None) × (new ≡ before_first start.key)
+OpensAt (Err fault) new told result = (result ≡ fault_code fault) × (told ≡ report_of 0 (Some fault)) × (new ≡ closed)
+
+-- what opening the file with this front gives
+abbrev pub OpensReader : Answering → List ℕ → Reader → Report → ℕ → Type 0
+OpensReader answers front new told result = (start : Result Start Fault) × FindsStart answers front start × OpensAt start new told result
+
+-- whether a reader takes a chunk of so many bytes: it is open, and the chunk is full, or the last and no longer
+abbrev pub takes : Reader → ℕ → Bool → Bool
+takes r len last = nat_eq r.state 1 && (if last then nat_le len 65552 else nat_eq len 65552)
+
+-- nothing happens
+pub record IsOutOfOrder (old new : Reader) (chunk after : List ℕ) (told : Report) (result : ℕ) : Type 0 where
+  pub code : result ≡ 23
+  pub report : told ≡ report_of 0 None
+  pub reader : new ≡ old
+  pub buffer : after ≡ chunk
+
+-- the text stands in front of the chunk, of which the rest is as it was; or its fault is returned, and all of it is as it was
+abbrev pub Reads : Reader → Reader → List ℕ → List ℕ → Bool → Report → ℕ → Result (List ℕ) StreamFault → Type 0
+Reads old new chunk after last told result (Ok text) =
+    (result ≡ 0) × (told ≡ report_of (length text) None) × (new ≡ after_chunk old last) × (after ≡ text ++ drop (length text) chunk)
+Reads old new chunk after last told result (Err fault) =
+    (result ≡ fault_code (of_stream fault)) × (told ≡ report_of 0 (Some (of_stream fault))) × (new ≡ failed old) × (after ≡ chunk)
+
+-- one call: the chunk's outcome as the next piece, where the reader takes it
+abbrev pub ReadsStep : Reader → Reader → List ℕ → List ℕ → Bool → Report → ℕ → Type 0
+ReadsStep old new chunk after last told result =
+    ((takes old (length chunk) last ≡ false) × IsOutOfOrder old new chunk after told result)
+    ⊎ ((takes old (length chunk) last ≡ true)
+    × Reads old new chunk after last told result (outcome old.key limits.max_chunks old.number last chunk))

@@ -1,0 +1,33 @@
+-- Where a file's sealed chunks begin, and their key.
+use Rattle.std.specs.Prelude.{◌≡◌, ◌⊎◌, ℕ, ◌+◌, List, length, take, drop, nat_lt, Result, Ok, Err, if◌then◌else◌}
+use Rattle.age_header.specs.declared.fault.HeaderFault.{HeaderFault}
+use Rattle.age_header.specs.Verdict.{Found, HeaderVerdict}
+use Rattle.age_recipient.specs.declared.key.FileKey.{FileKey}
+use Rattle.age_stream.specs.Payload.{payload_key}
+use Rattle.age_file.specs.declared.fault.Fault.{Fault}
+use Rattle.age_file.specs.declared.fault.Fault.TheVariants.{NonceTruncated, OutOfMemory}
+use Rattle.age_file.specs.Rewrap.{parts_of}
+use Rattle.age_file.specs.Verdict.{Answering, of_header, unlocked}
+use Rattle.agefile.specs.declared.start.Start.{Start}
+use Rattle.agefile.specs.Limits.{limits}
+
+-- the same, where a header of `len` bytes is followed by `rest`, under the file key
+abbrev pub start_under : ℕ → List ℕ → Result FileKey Fault → Result Start Fault
+start_under len rest (Err fault) = Err fault
+start_under len rest (Ok k) =
+    if nat_lt (length rest) 16 then Err NonceTruncated
+    else Ok (record { first = len + 16; key = payload_key k (take 16 rest) })
+
+-- the start of b, or the first fault before its first chunk, given its header verdict
+abbrev pub start_of : Answering → List ℕ → Result Found HeaderFault → Result Start Fault
+start_of answers b (Err fault) = Err (of_header fault)
+start_of answers b (Ok found) = start_under (length found.text) (drop (length found.text) b) (unlocked answers (parts_of found))
+
+-- the same, whatever the header verdict is
+abbrev pub IsStart : Answering → List ℕ → Result Start Fault → Type 0
+IsStart answers b start =
+    (header : Result Found HeaderFault) × HeaderVerdict b limits.max_header header × (start ≡ start_of answers b header)
+
+-- the start of b is returned, or its first fault; or out of memory
+abbrev pub FindsStart : Answering → List ℕ → Result Start Fault → Type 0
+FindsStart answers b result = (result ≡ Err OutOfMemory) ⊎ IsStart answers b result

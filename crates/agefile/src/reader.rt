@@ -1,0 +1,183 @@
+//! Reading a file in steps: its front, then one sealed chunk after another.
+
+ghost use Rattle.std.specs.Prelude.{◌≡◌};
+ghost use Rattle.age_recipient.specs.KeyHolders.{key_unwraps};
+ghost use Rattle.age_recipient.specs.Pass.{WorkFits, pass_unwraps};
+ghost use Rattle.agefile.specs.Answer.{alone};
+ghost use Rattle.agefile.specs.Reader.{OpensAt, OpensReader, ReadsStep, StaysClosed, closed, takes};
+
+use crate::bounds::MAX_CHUNKS;
+use crate::code::{OK, OUT_OF_ORDER, WORK_FACTOR, code_of};
+use crate::report::Report;
+use crate::start::{Start, start_for};
+use age_file::{Fault, KeyIdentity, PassError, PassIdentity};
+use age_stream::open_chunk;
+use std::alloc::Global;
+
+const SEALED_CHUNK: usize = 65_552;
+
+const CLOSED: u64 = 0;
+
+const OPEN: u64 = 1;
+
+const ENDED: u64 = 2;
+
+const FAILED: u64 = 3;
+
+/// A reader of a file's sealed chunks, in its caller's memory. Any bytes may stand in it.
+#[repr(C)]
+#[derive(Clone, Copy)]
+pub struct Reader {
+    /// The key of the file's chunks.
+    pub key: [u8; 32],
+    /// The number of the next chunk.
+    pub number: u64,
+    /// 0 not open, 1 open, 2 after the last chunk, 3 after a chunk with a fault.
+    pub state: u64,
+}
+
+impl Reader {
+    /// A reader that is not open.
+    fn closed() -> Reader
+        ensures { result ≡ closed }
+    {
+        Reader {
+            key: [0; 32],
+            number: 0,
+            state: CLOSED,
+        }
+    }
+
+    /// Whether it takes a chunk of so many bytes.
+    fn takes(&self, len: usize, last: bool) -> bool
+        ensures { result ≡ takes self.now len last }
+    {
+        self.state == OPEN
+            && if last {
+                len <= SEALED_CHUNK
+            } else {
+                len == SEALED_CHUNK
+            }
+    }
+}
+
+/// Opens a file with this front, its first 65,552 bytes or all of it, for a passphrase, any bytes, that takes work factors of at most
+/// `max_work`, 1 to 30. On 0 the report's length says where the first sealed chunk begins.
+///
+/// # Errors
+/// 22 where `max_work` is not 1 to 30, 17 where an allocation was refused. Else the first that applies of those of `age_file::inspect`
+/// and `age_file::unlock_header`, and 10 where fewer than 16 bytes follow the header. The reader is not open then.
+#[unsafe(no_mangle)]
+pub extern "C" fn agefile_reader_open_passphrase(
+    alloc: Global,
+    front: &[u8],
+    pass: &[u8],
+    max_work: u8,
+    reader: &mut Reader,
+    report: &mut Report,
+) -> u32
+    ensures answer { WorkFits max_work
+        → OpensReader (alone (pass_unwraps (record { pass = pass.now; max = max_work }))) front.now reader.new report.new result }
+    ensures unfit { (WorkFits max_work → ⊥) → StaysClosed 22 reader.new report.new result }
+{
+    let identity = match PassIdentity::new(alloc, pass, max_work) {
+        Ok(identity) => identity,
+        Err(PassError::WorkFactor) => return stay_closed(WORK_FACTOR, reader, report),
+        Err(PassError::Memory) => return open_at(Err(Fault::OutOfMemory), reader, report),
+    };
+    match Box::new(alloc, identity) {
+        Ok(identity) => open_at(start_for(alloc, front, identity), reader, report),
+        Err(_) => open_at(Err(Fault::OutOfMemory), reader, report),
+    }
+}
+
+/// Opens a file with this front, its first 65,552 bytes or all of it, for a key of 32 bytes, this project's own kind. On 0 the report's
+/// length says where the first sealed chunk begins.
+///
+/// # Errors
+/// 17 where an allocation was refused. Else the first that applies of those of `age_file::inspect` and `age_file::unlock_header`, and 10
+/// where fewer than 16 bytes follow the header. The reader is not open then.
+#[unsafe(no_mangle)]
+pub extern "C" fn agefile_reader_open_key(
+    alloc: Global,
+    front: &[u8],
+    key: &[u8; 32],
+    reader: &mut Reader,
+    report: &mut Report,
+) -> u32
+    ensures { OpensReader (alone (key_unwraps key.now)) front.now reader.new report.new result }
+{
+    match Box::new(alloc, KeyIdentity::new(*key)) {
+        Ok(identity) => open_at(start_for(alloc, front, identity), reader, report),
+        Err(_) => open_at(Err(Fault::OutOfMemory), reader, report),
+    }
+}
+
+/// A reader that is not open, and a code.
+fn stay_closed(code: u32, reader: &mut Reader, report: &mut Report) -> u32
+    ensures { StaysClosed code reader.new report.new result }
+{
+    *reader = Reader::closed();
+    *report = Report::default();
+    code
+}
+
+/// A reader before the first chunk, or not open.
+fn open_at(start: Result<Start, Fault>, reader: &mut Reader, report: &mut Report) -> u32
+    ensures { OpensAt start reader.new report.new result }
+{
+    match start {
+        Ok(start) => {
+            let key = start.key;
+            *reader = Reader {
+                key,
+                number: 0,
+                state: OPEN,
+            };
+            *report = Report::of_len(start.first);
+            OK
+        }
+        Err(fault) => {
+            *reader = Reader::closed();
+            *report = Report::of_fault(0, fault);
+            code_of(fault)
+        }
+    }
+}
+
+/// Opens the next sealed chunk where it stands: 65,552 bytes, or what is left where it is the last. On 0 its text is in front, and the
+/// report has its length. No memory is taken.
+///
+/// # Errors
+/// 23 where the reader is not open, or the chunk has another length: all is as it was. Else the first that applies of 14, 11, 12 and 13,
+/// as `age_stream::open_chunk` says: the chunk is as it was, and the reader takes no other.
+#[unsafe(no_mangle)]
+pub extern "C" fn agefile_reader_chunk(
+    reader: &mut Reader,
+    chunk: &mut [u8],
+    last: bool,
+    report: &mut Report,
+) -> u32
+    ensures { ReadsStep reader.old reader.new chunk.old chunk.new last report.new result }
+{
+    *report = Report::default();
+    let len = chunk.len();
+    if !reader.takes(len, last) {
+        return OUT_OF_ORDER;
+    }
+    let number = reader.number as u128;
+    match open_chunk(&reader.key, MAX_CHUNKS, number, last, chunk, len) {
+        Ok(text) => {
+            reader.number += 1;
+            reader.state = if last { ENDED } else { OPEN };
+            *report = Report::of_len(text as u64);
+            OK
+        }
+        Err(fault) => {
+            let fault = Fault::from(fault);
+            reader.state = FAILED;
+            *report = Report::of_fault(0, fault);
+            code_of(fault)
+        }
+    }
+}
