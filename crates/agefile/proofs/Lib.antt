@@ -1,2 +1,5 @@
 pub mod RangeLemmas
 mod StartLemmas
+mod PlainLemmas
+mod SealLemmas
+pub mod SizeLemmas

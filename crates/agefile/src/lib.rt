@@ -7,5 +7,8 @@ mod code;
 mod range_laws;
 mod ranges;
 mod reader;
+mod decrypting;
+mod encrypting;
+mod giving;
 mod report;
 mod start;
