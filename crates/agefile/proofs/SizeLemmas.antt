@@ -1,5 +1,5 @@
 -- How long the parts of a file are.
-use Rattle.std.proofs.Common.{◌≡◌, ℕ, zero, suc, ◌+◌, ◌-◌, ◌*◌, ◌/◌, ◌<◌, ◌≤◌, ◌^◌, List, [], ◌∷◌, ◌++◌, length, length-append, codes, flat_map, refl, sym, ap, subst, inl, inr, arith, ◌∙◌}
+use Rattle.std.proofs.Common.{◌≡◌, ℕ, ◌+◌, ◌*◌, ◌/◌, ◌<◌, ◌≤◌, List, [], ◌∷◌, ◌++◌, length, length-append, codes, flat_map, refl, ap, inl, inr, arith, ◌∙◌}
 use Rattle.std.specs.List.{AllByRecursion, concat}
 use Rattle.std.specs.Fmt.{decimal}
 use Rattle.std.proofs.lemmas.Fmt.{length-decimal-le}
@@ -12,8 +12,8 @@ use Rattle.age_recipient.specs.Keyed.{keyed_stanza, wrap_key}
 use Rattle.age_recipient.specs.Passphrase.{pass_key, pass_stanza}
 use Rattle.age_recipient.specs.Sealing.{zero_nonce}
 use Rattle.age_stream.proofs.CutLemmas.{is_cut}
-use Rattle.age_stream.specs.Cutting.{IsCut, IsFilled, cut}
-use Rattle.age_stream.specs.Payload.{chunks, is_end, payload, payload_key, place, sealed_from}
+use Rattle.age_stream.specs.Cutting.{IsFilled}
+use Rattle.age_stream.specs.Payload.{chunks}
 
 -- ---- headers
 

@@ -1,13 +1,16 @@
 -- Ranges of a plaintext in steps: the caller reads one sealed chunk of the file at a time (C2SP age.md, "Payload").
-use Rattle.std.specs.Prelude.{ℕ, List, ◌≡◌, ◌+◌, ◌-◌, ◌*◌, ◌/◌, ◌%◌, ◌^◌, ◌&&◌, Bool, length, take, drop, min, nat_eq, nat_le, nat_lt, None, Some, Result, Ok, Err}
+use Rattle.std.specs.Prelude.{ℕ, List, ◌≡◌, ◌⊎◌, ◌<◌, ◌≤◌, ◌+◌, ◌-◌, ◌*◌, ◌/◌, ◌%◌, ◌^◌, ◌&&◌, Bool, length, take, drop, min, nat_eq, nat_le, nat_lt, replicate, None, Some, Result, Ok, Err}
 use Rattle.age_stream.specs.declared.fault.StreamFault.{StreamFault}
 use Rattle.age_stream.specs.Reading.{outcome}
-use Rattle.age_file.specs.Verdict.{of_stream}
+use Rattle.age_file.specs.declared.fault.Fault.{Fault}
+use Rattle.age_file.specs.Verdict.{Answering, of_stream}
 use Rattle.agefile.specs.declared.ranges.Ranges.{Ranges}
 use Rattle.agefile.specs.declared.report.Report.{Report}
+use Rattle.agefile.specs.declared.start.Start.{Start}
 use Rattle.agefile.specs.Codes.{fault_code}
 use Rattle.agefile.specs.Limits.{limits}
 use Rattle.agefile.specs.Report.{report_of}
+use Rattle.agefile.specs.Start.{FindsStart}
 
 -- the number of the last of the pieces that so many bytes are
 abbrev pub last_index : ℕ → ℕ
@@ -20,6 +23,37 @@ piece_len sealed i = min 65552 (sealed - 65552 * i)
 -- the plaintext's length: each piece has a tag
 abbrev pub plain_of : ℕ → ℕ
 plain_of sealed = sealed - 16 * (last_index sealed + 1)
+
+-- no payload
+abbrev pub closed : Ranges
+closed = record { key = replicate 32 0; first = 0; sealed_len = 0; state = 0 }
+
+-- the payload from its start to the end of a file of so many bytes
+abbrev pub opened : Start → ℕ → Ranges
+opened start file_len = record { key = start.key; first = start.first; sealed_len = file_len - start.first; state = 1 }
+
+-- where piece i stands in the file, and how long it is
+abbrev pub place_of : Ranges → ℕ → Report
+place_of r i = record { len = piece_len r.sealed_len i; place = r.first + 65552 * i; detail = 0 }
+
+-- the call returns this code alone, and no payload is open
+pub record StaysClosed (number : ℕ) (new : Ranges) (told : Report) (result : ℕ) : Type 0 where
+  pub code : result ≡ number
+  pub report : told ≡ report_of 0 None
+  pub ranges : new ≡ closed
+
+-- the payload is open, and its last piece is reported; or the fault is returned; or the file ends before its first piece
+abbrev pub OpensAt : ℕ → Result Start Fault → Ranges → Report → ℕ → Type 0
+OpensAt file_len (Ok start) new told result =
+    ((file_len < start.first) × StaysClosed 23 new told result)
+    ⊎ ((start.first ≤ file_len) × (result ≡ 0) × (new ≡ opened start file_len)
+    × (told ≡ place_of (opened start file_len) (last_index (file_len - start.first))))
+OpensAt file_len (Err fault) new told result = (result ≡ fault_code fault) × (told ≡ report_of 0 (Some fault)) × (new ≡ closed)
+
+-- what opening a file of so many bytes with this front gives
+abbrev pub OpensRanges : Answering → List ℕ → ℕ → Ranges → Report → ℕ → Type 0
+OpensRanges answers front file_len new told result =
+    (start : Result Start Fault) × FindsStart answers front start × OpensAt file_len start new told result
 
 -- the bytes of piece i in a file
 abbrev pub piece_at : Ranges → List ℕ → ℕ → List ℕ
@@ -43,10 +77,6 @@ may_verify r chunk = nat_lt 0 r.state && nat_eq (length chunk) (piece_len r.seal
 -- the last piece was verified, and the plaintext has a byte at this place
 abbrev pub has_byte : Ranges → ℕ → Bool
 has_byte r at = nat_eq r.state 2 && nat_lt (r.first + r.sealed_len) (2 ^ 64) && nat_lt at (plain_of r.sealed_len)
-
--- where the piece that holds byte `at` of the plaintext stands in the file, and how long it is
-abbrev pub located : Ranges → ℕ → Report
-located r at = record { len = piece_len r.sealed_len (at / 65536); place = r.first + 65552 * (at / 65536); detail = 0 }
 
 -- there is such a byte, and these are as many bytes as the piece that holds it
 abbrev pub may_open : Ranges → ℕ → List ℕ → Bool

@@ -4,11 +4,11 @@
 
 mod bounds;
 mod code;
-mod range_laws;
-mod ranges;
-mod reader;
 mod decrypting;
 mod encrypting;
 mod giving;
+mod range_laws;
+mod ranges;
+mod reader;
 mod report;
 mod start;

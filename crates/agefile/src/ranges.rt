@@ -3,25 +3,33 @@
 ghost use Rattle.std.specs.Prelude.{◌≡◌, ◌≤◌, ◌/◌, None, true};
 ghost use Rattle.std.specs.Bool.{OnFalse, OnTrue};
 ghost use Rattle.age_stream.specs.Reading.{outcome};
+ghost use Rattle.age_recipient.specs.KeyHolders.{key_unwraps};
+ghost use Rattle.age_recipient.specs.Pass.{WorkFits, pass_unwraps};
+ghost use Rattle.agefile.specs.Answer.{alone};
 ghost use Rattle.agefile.specs.Limits.{limits};
-ghost use Rattle.agefile.specs.Ranges.{GivesFrom, Verified, gives, has_byte, last_index, located, may_open, may_verify, piece_len, plain_of};
+ghost use Rattle.agefile.specs.Ranges.{GivesFrom, OpensAt, OpensRanges, StaysClosed, Verified, closed, gives, has_byte, last_index, may_open, may_verify, piece_len, place_of, plain_of};
 ghost use Rattle.agefile.specs.Report.{report_of};
 
 use crate::bounds::MAX_CHUNKS;
-use crate::code::{OK, OUT_OF_ORDER, code_of};
+use crate::code::{OK, OUT_OF_ORDER, WORK_FACTOR, code_of};
 use crate::report::Report;
+use crate::start::{Start, start_for_key, start_for_passphrase};
 use age_file::Fault;
 use age_stream::open_chunk;
+use std::alloc::Global;
 
-/// The payload was opened.
-pub(crate) const OPEN: u64 = 1;
+/// No payload was opened.
+const CLOSED: u64 = 0;
+
+/// A payload was opened.
+const OPEN: u64 = 1;
 
 /// The last sealed chunk was verified.
 const VERIFIED: u64 = 2;
 
 /// A payload between two calls, in the caller's memory.
 #[repr(C)]
-#[derive(Clone, Copy, Default)]
+#[derive(Clone, Copy)]
 pub struct Ranges {
     /// The key of the chunks.
     pub key: [u8; 32],
@@ -31,6 +39,112 @@ pub struct Ranges {
     pub sealed_len: u64,
     /// 0 not open, 1 open, 2 the last sealed chunk was verified.
     pub state: u64,
+}
+
+impl Ranges {
+    /// No payload.
+    fn closed() -> Ranges
+        ensures { result ≡ closed }
+    {
+        Ranges {
+            key: [0; 32],
+            first: 0,
+            sealed_len: 0,
+            state: CLOSED,
+        }
+    }
+}
+
+/// Opens a file of `file_len` bytes with this front, its first 65,552 bytes or all of it, for a passphrase, any bytes, that takes work
+/// factors of at most `max_work`, 1 to 30. On 0 the report has the last sealed chunk's place in the file and its length.
+///
+/// # Errors
+/// 22 where `max_work` is not 1 to 30, 17 where an allocation was refused. Else the first that applies of those of `age_file::inspect`
+/// and `age_file::unlock_header`, and 10 where fewer than 16 bytes follow the header; then 23 where the file ends before its first
+/// sealed chunk. No payload is open then.
+#[unsafe(no_mangle)]
+pub extern "C" fn agefile_ranges_open_passphrase(
+    alloc: Global,
+    front: &[u8],
+    file_len: u64,
+    pass: &[u8],
+    max_work: u8,
+    ranges: &mut Ranges,
+    report: &mut Report,
+) -> u32
+    ensures answer { WorkFits max_work → OpensRanges (alone (pass_unwraps (record { pass = pass.now; max = max_work })))
+        front.now file_len ranges.new report.new result }
+    ensures unfit { (WorkFits max_work → ⊥) → StaysClosed 22 ranges.new report.new result }
+{
+    match start_for_passphrase(alloc, front, pass, max_work) {
+        Some(start) => open_at(start, file_len, ranges, report),
+        None => stay_closed(WORK_FACTOR, ranges, report),
+    }
+}
+
+/// Opens a file of `file_len` bytes with this front, its first 65,552 bytes or all of it, for a key of 32 bytes, this project's own kind.
+/// On 0 the report has the last sealed chunk's place in the file and its length.
+///
+/// # Errors
+/// Those of `agefile_ranges_open_passphrase`, but for 22.
+#[unsafe(no_mangle)]
+pub extern "C" fn agefile_ranges_open_key(
+    alloc: Global,
+    front: &[u8],
+    file_len: u64,
+    key: &[u8; 32],
+    ranges: &mut Ranges,
+    report: &mut Report,
+) -> u32
+    ensures { OpensRanges (alone (key_unwraps key.now)) front.now file_len ranges.new report.new result }
+{
+    open_at(start_for_key(alloc, front, key), file_len, ranges, report)
+}
+
+/// No payload, and a code.
+fn stay_closed(code: u32, ranges: &mut Ranges, report: &mut Report) -> u32
+    ensures { StaysClosed code ranges.new report.new result }
+{
+    *ranges = Ranges::closed();
+    *report = Report::default();
+    code
+}
+
+/// The payload from this start to the end of a file of so many bytes, or none.
+fn open_at(
+    start: Result<Start, Fault>,
+    file_len: u64,
+    ranges: &mut Ranges,
+    report: &mut Report,
+) -> u32
+    ensures { OpensAt file_len start ranges.new report.new result }
+{
+    let start = match start {
+        Ok(start) => start,
+        Err(fault) => {
+            *ranges = Ranges::closed();
+            *report = Report::of_fault(0, fault);
+            return code_of(fault);
+        }
+    };
+    if file_len < start.first {
+        return stay_closed(OUT_OF_ORDER, ranges, report);
+    }
+    let sealed_len = file_len - start.first;
+    let last = last_index(sealed_len);
+    let key = start.key;
+    *ranges = Ranges {
+        key,
+        first: start.first,
+        sealed_len,
+        state: OPEN,
+    };
+    *report = Report {
+        len: piece_len(sealed_len, last) as u64,
+        place: start.first + 65_552 * last,
+        detail: 0,
+    };
+    OK
 }
 
 /// Verifies the last sealed chunk, whose length and tag prove where the file ends, and opens it where it stands. It must come before
@@ -50,7 +164,7 @@ pub extern "C" fn agefile_ranges_last(
     let sealed_len = ranges.sealed_len;
     let last = last_index(sealed_len);
     let len = chunk.len();
-    if ranges.state == 0 || len != piece_len(sealed_len, last) {
+    if ranges.state == CLOSED || len != piece_len(sealed_len, last) {
         return OUT_OF_ORDER;
     }
     ranges.state = OPEN;
@@ -72,7 +186,7 @@ pub extern "C" fn agefile_ranges_last(
 #[unsafe(no_mangle)]
 pub extern "C" fn agefile_ranges_locate(ranges: &Ranges, at: u64, report: &mut Report) -> u32
     ensures out_of_order { OnFalse (has_byte ranges.now at) ((result ≡ 23) × (report.new ≡ report_of 0 None)) }
-    ensures located { OnTrue (has_byte ranges.now at) ((result ≡ 0) × (report.new ≡ located ranges.now at)) }
+    ensures located { OnTrue (has_byte ranges.now at) ((result ≡ 0) × (report.new ≡ place_of ranges.now (at / 65536))) }
 {
     *report = Report::of_len(0);
     if !has_byte(ranges, at) {

@@ -9,8 +9,8 @@ ghost use Rattle.agefile.specs.Reader.{OpensAt, OpensReader, ReadsStep, StaysClo
 use crate::bounds::MAX_CHUNKS;
 use crate::code::{OK, OUT_OF_ORDER, WORK_FACTOR, code_of};
 use crate::report::Report;
-use crate::start::{Start, start_for};
-use age_file::{Fault, KeyIdentity, PassError, PassIdentity};
+use crate::start::{Start, start_for_key, start_for_passphrase};
+use age_file::Fault;
 use age_stream::open_chunk;
 use std::alloc::Global;
 
@@ -80,14 +80,9 @@ pub extern "C" fn agefile_reader_open_passphrase(
         → OpensReader (alone (pass_unwraps (record { pass = pass.now; max = max_work }))) front.now reader.new report.new result }
     ensures unfit { (WorkFits max_work → ⊥) → StaysClosed 22 reader.new report.new result }
 {
-    let identity = match PassIdentity::new(alloc, pass, max_work) {
-        Ok(identity) => identity,
-        Err(PassError::WorkFactor) => return stay_closed(WORK_FACTOR, reader, report),
-        Err(PassError::Memory) => return open_at(Err(Fault::OutOfMemory), reader, report),
-    };
-    match Box::new(alloc, identity) {
-        Ok(identity) => open_at(start_for(alloc, front, identity), reader, report),
-        Err(_) => open_at(Err(Fault::OutOfMemory), reader, report),
+    match start_for_passphrase(alloc, front, pass, max_work) {
+        Some(start) => open_at(start, reader, report),
+        None => stay_closed(WORK_FACTOR, reader, report),
     }
 }
 
@@ -107,10 +102,7 @@ pub extern "C" fn agefile_reader_open_key(
 ) -> u32
     ensures { OpensReader (alone (key_unwraps key.now)) front.now reader.new report.new result }
 {
-    match Box::new(alloc, KeyIdentity::new(*key)) {
-        Ok(identity) => open_at(start_for(alloc, front, identity), reader, report),
-        Err(_) => open_at(Err(Fault::OutOfMemory), reader, report),
-    }
+    open_at(start_for_key(alloc, front, key), reader, report)
 }
 
 /// A reader that is not open, and a code.

@@ -1,11 +1,15 @@
 //! Where a file's sealed chunks begin, and their key.
 
-ghost use Rattle.std.specs.Prelude.{◌≡◌, map};
+ghost use Rattle.std.specs.Prelude.{◌≡◌, IfNone, IfSome, map};
+ghost use Rattle.age_recipient.specs.KeyHolders.{key_unwraps};
+ghost use Rattle.age_recipient.specs.Pass.{WorkFits, pass_unwraps};
 ghost use Rattle.agefile.specs.Answer.{alone};
 ghost use Rattle.agefile.specs.Start.{FindsStart};
 
 use crate::bounds::limits;
-use age_file::{Fault, Identity, MemSource, inspect, unlock_header};
+use age_file::{
+    Fault, Identity, KeyIdentity, MemSource, PassError, PassIdentity, inspect, unlock_header,
+};
 use age_stream::payload_key;
 use std::alloc::Global;
 
@@ -16,12 +20,41 @@ pub(crate) struct Start {
     pub(crate) key: [u8; 32],
 }
 
-/// Finds the start of a file with this front for one identity.
-pub(crate) fn start_for(
+/// Finds the start of a file with this front for a passphrase, any bytes, that takes work factors of at most `max_work`. None exactly
+/// where that is not 1 to 30.
+pub(crate) fn start_for_passphrase(
     alloc: Global,
     front: &[u8],
-    identity: Box<dyn Identity>,
-) -> Result<Start, Fault>
+    pass: &[u8],
+    max_work: u8,
+) -> Option<Result<Start, Fault>>
+    ensures some { IfSome result (λ start. WorkFits max_work
+        × FindsStart (alone (pass_unwraps (record { pass = pass.now; max = max_work }))) front.now start) }
+    ensures none { IfNone result (WorkFits max_work → ⊥) }
+{
+    let identity = match PassIdentity::new(alloc, pass, max_work) {
+        Ok(identity) => identity,
+        Err(PassError::WorkFactor) => return None,
+        Err(PassError::Memory) => return Some(Err(Fault::OutOfMemory)),
+    };
+    match Box::new(alloc, identity) {
+        Ok(identity) => Some(start_for(alloc, front, identity)),
+        Err(_) => Some(Err(Fault::OutOfMemory)),
+    }
+}
+
+/// Finds the start of a file with this front for a key.
+pub(crate) fn start_for_key(alloc: Global, front: &[u8], key: &[u8; 32]) -> Result<Start, Fault>
+    ensures { FindsStart (alone (key_unwraps key.now)) front.now result }
+{
+    match Box::new(alloc, KeyIdentity::new(*key)) {
+        Ok(identity) => start_for(alloc, front, identity),
+        Err(_) => Err(Fault::OutOfMemory),
+    }
+}
+
+/// Finds the start of a file with this front for one identity.
+fn start_for(alloc: Global, front: &[u8], identity: Box<dyn Identity>) -> Result<Start, Fault>
     ensures { FindsStart (alone (meaning identity)) front.now result }
 {
     match vec![in alloc; identity] {
