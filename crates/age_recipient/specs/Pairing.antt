@@ -14,10 +14,10 @@ use Rattle.age_header.proofs.Decoding.{decoded-signs_of}
 use Rattle.age_recipient.specs.declared.key.FileKey.{FileKey}
 use Rattle.age_recipient.specs.declared.unwrapped.Unwrapped.TheVariants.{Key}
 use Rattle.age_recipient.specs.Key.{IsFileKey}
-use Rattle.age_recipient.specs.KeyHolders.{KeySecret, key_unwraps, key_wraps}
-use Rattle.age_recipient.specs.Keyed.{keyed_answer, keyed_stanza, wrap_key}
-use Rattle.age_recipient.specs.Pass.{PairFits, PassSecret, PassGuess, pass_wraps, pass_unwraps}
-use Rattle.age_recipient.specs.Passphrase.{is_work_factor, number_from, pass_answer, pass_key, pass_stanza}
+use Rattle.age_recipient.specs.KeyedHolders.{KeySecret, key_unwraps, key_wraps}
+use Rattle.age_recipient.specs.KeyedStanza.{keyed_answer, keyed_stanza, wrap_key}
+use Rattle.age_recipient.specs.PassphraseHolders.{PairFits, PassSecret, PassGuess, pass_wraps, pass_unwraps}
+use Rattle.age_recipient.specs.PassphraseStanza.{is_work_factor, number_from, pass_answer, pass_key, pass_stanza}
 use Rattle.age_recipient.specs.Salt.{IsSalt, salt_of}
 use Rattle.age_recipient.specs.Sealing.{sealed_key, unsealed, zero_nonce}
 
