@@ -3,7 +3,7 @@ use Rattle.std.specs.Prelude.{ℕ, List, [], ◌∷◌, length, codes, nat_eq, i
 use Rattle.std.specs.declared.option.Option.{Option}
 use Rattle.std.specs.declared.option.Option.TheVariants.{None, Some}
 use Rattle.age_kdf.specs.Hkdf.{hkdf}
-use Rattle.age_header.specs.Base64.{decoded, signs_of}
+use Rattle.age_header.specs.Base64.{decoded, base64_of}
 use Rattle.age_header.specs.Header.{StanzaParts}
 use Rattle.age_recipient.specs.declared.key.FileKey.{FileKey}
 use Rattle.age_recipient.specs.declared.unwrapped.StanzaFault.TheVariants.{ArgCount, Salt, BodyLength}
@@ -20,7 +20,7 @@ wrap_key key salt = hkdf key salt (codes "example.org/key") 32
 -- the stanza that wraps a file key
 unfoldable pub keyed_stanza : List ℕ → List ℕ → FileKey → StanzaParts
 keyed_stanza key salt file_key = record {
-  args = codes "example.org/key" ∷ signs_of salt ∷ [];
+  args = codes "example.org/key" ∷ base64_of salt ∷ [];
   body = sealed_key (wrap_key key salt) file_key;
 }
 

@@ -5,7 +5,7 @@ use Rattle.std.specs.List.{list_all}
 use Rattle.std.specs.declared.option.Option.{Option}
 use Rattle.std.specs.declared.option.Option.TheVariants.{None, Some}
 use Rattle.age_kdf.specs.Scrypt.{scrypt}
-use Rattle.age_header.specs.Base64.{decoded, signs_of}
+use Rattle.age_header.specs.Base64.{decoded, base64_of}
 use Rattle.age_header.specs.Header.{StanzaParts}
 use Rattle.age_recipient.specs.declared.key.FileKey.{FileKey}
 use Rattle.age_recipient.specs.declared.unwrapped.StanzaFault.TheVariants.{ArgCount, Salt, WorkFactorText, WorkFactorTooHigh, BodyLength}
@@ -22,7 +22,7 @@ pass_key pass salt work = scrypt pass (codes "age-encryption.org/v1/scrypt" ++ s
 -- the stanza that wraps a file key
 unfoldable pub pass_stanza : List ℕ → ℕ → List ℕ → FileKey → StanzaParts
 pass_stanza pass work salt key = record {
-  args = codes "scrypt" ∷ signs_of salt ∷ decimal work ∷ [];
+  args = codes "scrypt" ∷ base64_of salt ∷ decimal work ∷ [];
   body = sealed_key (pass_key pass salt work) key;
 }
 

@@ -7,7 +7,7 @@ ghost use Rattle.age_recipient.specs.Answer.{behind_type, decided};
 ghost use Rattle.age_recipient.specs.Salt.{salt_of};
 
 use crate::unwrapped::Unwrapped;
-use age_header::{Stanza, signs};
+use age_header::{Stanza, base64_no_pad};
 use std::alloc::{AllocError, Global};
 use std::convert::TryFrom;
 
@@ -60,11 +60,11 @@ pub(crate) fn behind_type<'a>(stanza: &'a Stanza, kind: &str) -> Option<&'a [Str
     Some(rest)
 }
 
-/// The salt that these signs spell, if it is one of 16 bytes.
+/// The salt that these characters spell, if it is one of 16 bytes.
 pub(crate) fn salt_of(alloc: Global, text: &[u8]) -> Result<Option<[u8; 16]>, AllocError>
     ensures { IfOk result (λ salt. salt ≡ salt_of (decoded text.now)) }
 {
-    let Some(bytes) = signs::decode(alloc, &signs::engine(), text)? else {
+    let Some(bytes) = base64_no_pad::decode(alloc, &base64_no_pad::engine(), text)? else {
         return Ok(None);
     };
     match <[u8; 16]>::try_from(bytes.as_slice()) {

@@ -8,7 +8,7 @@ use crate::key::FileKey;
 use crate::sealing::{seal_key, unseal_key};
 use crate::stanza_list::{behind_type, salt_of};
 use crate::unwrapped::{StanzaFault, Unwrapped};
-use age_header::{Stanza, signs};
+use age_header::{Stanza, base64_no_pad};
 use age_kdf::hkdf;
 use std::alloc::{AllocError, Global};
 
@@ -30,10 +30,10 @@ pub(crate) fn keyed_stanza(
 ) -> Result<Stanza, AllocError>
     ensures { IfOk result (λ stanza. stanza ≡ keyed_stanza key.now salt.now file_key.now) }
 {
-    let salt_signs = signs::encode(alloc, &signs::engine(), salt)?;
+    let salt_text = base64_no_pad::encode(alloc, &base64_no_pad::engine(), salt)?;
     let body = seal_key(&wrap_key(key, salt), file_key);
     // its arguments are visible texts, so only memory can be wanting
-    let Ok(stanza) = Stanza::new(alloc, &["example.org/key", salt_signs.as_str()], &body) else {
+    let Ok(stanza) = Stanza::new(alloc, &["example.org/key", salt_text.as_str()], &body) else {
         return Err(AllocError);
     };
     Ok(stanza)

@@ -9,7 +9,7 @@ use crate::key::FileKey;
 use crate::sealing::{seal_key, unseal_key};
 use crate::stanza_list::{behind_type, salt_of};
 use crate::unwrapped::{StanzaFault, Unwrapped};
-use age_header::{Stanza, signs};
+use age_header::{Stanza, base64_no_pad};
 use age_kdf::{ScryptParams, scrypt};
 use std::alloc::{AllocError, Global};
 
@@ -53,13 +53,13 @@ pub(crate) fn pass_stanza(
     ensures { IfOk result (λ stanza. stanza ≡ pass_stanza pass.now work salt.now key.now) }
 {
     let wrap_key = pass_key(alloc, pass, salt, work)?;
-    let salt_signs = signs::encode(alloc, &signs::engine(), salt)?;
+    let salt_text = base64_no_pad::encode(alloc, &base64_no_pad::engine(), salt)?;
     let work_text = format!(in alloc; "{work}")?;
     let body = seal_key(&wrap_key, key);
     // its arguments are visible texts, so only memory can be wanting
     let Ok(stanza) = Stanza::new(
         alloc,
-        &["scrypt", salt_signs.as_str(), work_text.as_str()],
+        &["scrypt", salt_text.as_str(), work_text.as_str()],
         &body,
     ) else {
         return Err(AllocError);

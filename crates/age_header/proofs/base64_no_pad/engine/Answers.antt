@@ -1,6 +1,6 @@
 use Rattle.std.proofs.Common.{◌∙◌, rules}
 use Rattle.age_header.specs.Base64.{alphabet}
-use Rattle.age_header.proofs.signs.engine.Goals as goal
+use Rattle.age_header.proofs.base64_no_pad.engine.Goals as goal
 
 pub returns : goal.returns
 unfolding alphabet
