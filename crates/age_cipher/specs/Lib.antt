@@ -1,7 +1,7 @@
 pub mod Numbers
 pub mod ChaCha20
 pub mod Poly1305
-pub mod Authenticator
+pub mod Poly1305State
 pub mod Limbs
 pub mod LimbLanes
 pub mod Sealing

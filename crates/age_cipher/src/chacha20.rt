@@ -4,7 +4,7 @@ ghost use Rattle.std.specs.List.{flat_map};
 ghost use Rattle.age_cipher.specs.Numbers.{le, le_bytes};
 ghost use Rattle.age_cipher.specs.ChaCha20.{add_xor_rotate, quarter_round, double_round, ten_double_rounds, start, mixed, block, xored};
 
-use crate::blocks::{EIGHT_BLOCKS, FOUR_BLOCKS, xor_eight_blocks, xor_four_blocks};
+use crate::chacha20_blocks::{EIGHT_BLOCKS, FOUR_BLOCKS, xor_eight_blocks, xor_four_blocks};
 
 /// The bytes of a block.
 const BLOCK: usize = 64;

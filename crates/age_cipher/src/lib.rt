@@ -5,15 +5,15 @@
 #![tactic(auto)]
 
 mod aead;
-mod authenticator;
-mod blocks;
 mod chacha20;
-mod fours;
-mod lanes;
+mod chacha20_blocks;
+mod chacha20_lanes;
 pub mod laws;
 mod limb_lanes;
 mod limbs;
+mod poly1305;
+mod poly1305_fours;
 
 pub use crate::aead::{MAX_TEXT, open_in_place, seal_in_place};
-pub use crate::authenticator::Poly1305;
 pub use crate::chacha20::chacha20_xor;
+pub use crate::poly1305::Poly1305;

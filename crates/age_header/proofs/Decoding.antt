@@ -1,17 +1,17 @@
--- The function that decodes, against the relation between bytes and signs.
+-- The function that decodes, against the relation between bytes and characters.
 use Rattle.std.proofs.Common.{◌≡◌, ℕ, ◌+◌, ◌*◌, ◌/◌, ◌%◌, ◌<◌, List, [], ◌∷◌, zero, suc, slice_index, refl, sym, ap, arith, ◌∙◌, subst, Some, None, if◌then◌else◌, true, false}
 use Rattle.std.specs.declared.option.Option.{Option}
 use Rattle.std.specs.Str.{bytes_eq}
 use Rattle.std.proofs.lemmas.Slice.Eq.{bytes_eq-Decides}
 use Rattle.base64.specs.Rfc4648.{encode_symbols}
-use Rattle.age_header.specs.Base64.{B64, StandsFor, alphabet, value_of, candidate, decoded, signs_of}
+use Rattle.age_header.specs.Base64.{B64, StandsFor, alphabet, value_of, candidate, decoded, base64_of}
 use Rattle.age_header.proofs.Base64Lemmas.{B64-only, B64-encode}
 use Rattle.age_header.proofs.OneWay.{value_back}
 
 value_is : (c v : ℕ) → StandsFor c v → value_of c ≡ v
 value_is c v h = ap value_of h.1 ∙ value_back v h.0
 
--- the candidate of signs is the bytes that they stand for
+-- the candidate of characters is the bytes that they stand for
 candidate_is : (bytes signs : List ℕ) → B64 bytes signs → candidate signs ≡ bytes
 unfolding B64 candidate
 candidate_is [] [] h = refl
@@ -61,9 +61,9 @@ candidate_bytes (p ∷ q ∷ r ∷ s ∷ signs) (suc zero) = omega arith
 candidate_bytes (p ∷ q ∷ r ∷ s ∷ signs) (suc (suc zero)) = omega arith
 candidate_bytes (p ∷ q ∷ r ∷ s ∷ signs) (suc (suc (suc i))) = candidate_bytes signs i
 
--- what is decoded are the bytes that the signs stand for
+-- what is decoded are the bytes that the characters stand for
 pub decoded_b64 : (signs bytes : List ℕ) → decoded signs ≡ Some bytes → B64 bytes signs
-unfolding decoded signs_of
+unfolding decoded base64_of
 decoded_b64 signs bytes h =
     let c : List ℕ = candidate signs in
     let found : B64 c (encode_symbols alphabet c) = B64-encode c (candidate_bytes signs) in
@@ -77,14 +77,14 @@ decoded_b64 signs bytes h =
 
 -- and these are decoded
 pub b64_decoded : (signs bytes : List ℕ) → B64 bytes signs → decoded signs ≡ Some bytes
-unfolding decoded signs_of
+unfolding decoded base64_of
 b64_decoded signs bytes h =
     let is : candidate signs ≡ bytes = candidate_is bytes signs h in
     let spelled : signs ≡ encode_symbols alphabet (candidate signs) = B64-only bytes signs h ∙ ap (λ (z : List ℕ). encode_symbols alphabet z) (sym is) in
     let same : bytes_eq (encode_symbols alphabet (candidate signs)) signs ≡ true = (bytes_eq-Decides (encode_symbols alphabet (candidate signs)) signs).1 (sym spelled) in
     rw (same, is) refl
 
--- signs that stand for no bytes are not decoded
+-- characters that stand for no bytes are not decoded
 pub none_decoded : (signs : List ℕ) → ((bytes : List ℕ) → B64 bytes signs → ⊥) → decoded signs ≡ None
 none_decoded signs none = here (decoded signs) refl
   where
@@ -93,6 +93,6 @@ none_decoded signs none = here (decoded signs) refl
     here (Some bytes) e = absurd (none bytes (decoded_b64 signs bytes e))
 
 -- what bytes are encoded to is decoded to them
-pub decoded-signs_of : (bytes : List ℕ) → ((i : ℕ) → slice_index bytes i < 256) → decoded (signs_of bytes) ≡ Some bytes
-unfolding signs_of
-decoded-signs_of bytes h = b64_decoded (encode_symbols alphabet bytes) bytes (B64-encode bytes h)
+pub decoded-base64_of : (bytes : List ℕ) → ((i : ℕ) → slice_index bytes i < 256) → decoded (base64_of bytes) ≡ Some bytes
+unfolding base64_of
+decoded-base64_of bytes h = b64_decoded (encode_symbols alphabet bytes) bytes (B64-encode bytes h)

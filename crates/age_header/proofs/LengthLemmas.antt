@@ -3,7 +3,7 @@ use Rattle.std.proofs.Common.{◌≡◌, ℕ, zero, suc, ◌+◌, ◌-◌, ◌*�
 use Rattle.std.proofs.lemmas.List.{take_more, append-nil}
 use Rattle.std.proofs.lemmas.List.Concat.{flat_map-append}
 use Rattle.age_header.specs.Header.{StanzaParts, argument_line, line, version_line}
-use Rattle.age_header.specs.Base64.{signs_of}
+use Rattle.age_header.specs.Base64.{base64_of}
 use Rattle.age_header.specs.Text.{body_lines, body_text, stanza_text, signed, mac_end}
 use Rattle.age_header.proofs.TextLemmas.{signs_size}
 
@@ -12,7 +12,7 @@ line_size t = length-append t (10 ∷ [])
 
 lines_size : (n : ℕ) (b : List ℕ) → 48 * n ≤ length b → length (body_lines n b) ≡ 65 * n + ((4 * (length b - 48 * n) + 2) / 3 + 1)
 unfolding body_lines
-lines_size zero b low = omega (arith, line_size (signs_of b), signs_size b)
+lines_size zero b low = omega (arith, line_size (base64_of b), signs_size b)
 lines_size (suc n) b low =
     let back : List ℕ = drop 48 b in
     let m : length back ≡ length b - 48 = length-drop 48 b in
@@ -20,8 +20,8 @@ lines_size (suc n) b low =
     let left : length back - 48 * n ≡ length b - 48 * suc n = omega arith in
     let front : length (take 48 b) ≡ 48 = omega (arith, length-take 48 b) in
     let more : length (body_lines n back) ≡ 65 * n + ((4 * (length b - 48 * suc n) + 2) / 3 + 1) = rw (← left) rest in
-    let sum = length-append (line (signs_of (take 48 b))) (body_lines n back) in
-    let one = line_size (signs_of (take 48 b)) in
+    let sum = length-append (line (base64_of (take 48 b))) (body_lines n back) in
+    let one = line_size (base64_of (take 48 b)) in
     let signs = signs_size (take 48 b) in
     omega arith
 
@@ -49,7 +49,7 @@ version_size = refl
 
 pub mac_end_size : (mac : List ℕ) → length mac ≡ 32 → length (mac_end mac) ≡ 45
 unfolding mac_end
-mac_end_size mac n = omega (arith, signs_size mac, length-append (signs_of mac) (10 ∷ []))
+mac_end_size mac n = omega (arith, signs_size mac, length-append (base64_of mac) (10 ∷ []))
 
 pub header_size : (ss : List StanzaParts) (mac : List ℕ) → length mac ≡ 32 → length (signed ss ++ mac_end mac) ≡ 70 + length (flat_map stanza_text ss)
 unfolding signed

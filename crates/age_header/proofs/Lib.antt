@@ -14,7 +14,10 @@ mod Spelled
 mod StepRuns
 mod TakeLemmas
 mod TextLemmas
-mod VerdictLemmas
+mod VerdictPaths
+mod SourceVerdicts
+mod FirstLine
+mod LaterLines
 pub mod WriteLemmas
 pub mod OneVerdict
 mod HeadFacts

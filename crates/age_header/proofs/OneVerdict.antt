@@ -12,7 +12,8 @@ use Rattle.age_header.specs.Verdict.{IsLineText, lines_text, IsHeader, AreLines,
 use Rattle.age_header.proofs.LineLemmas.{lines_front}
 use Rattle.age_header.proofs.OneReading.{head_path, end_text, reading}
 use Rattle.age_header.proofs.PathLemmas.{version_text}
-use Rattle.age_header.proofs.VerdictLemmas.{path_first, begins, take_past, version_is_text, version_size, whole_lines, lines_push, both}
+use Rattle.age_header.proofs.VerdictPaths.{path_first, begins, take_past, version_is_text, version_size, whole_lines, both}
+use Rattle.age_header.proofs.LaterLines.{lines_push}
 
 -- fewer lines don't decide where more do
 not_fewer : (b : List ℕ) (ks ls : List (List ℕ)) → Decides ks b → Decides ls b → length ks < length ls → ⊥

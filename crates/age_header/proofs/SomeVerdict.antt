@@ -20,7 +20,9 @@ use Rattle.age_header.proofs.Decoding.{decoded_b64, b64_decoded}
 use Rattle.age_header.proofs.OneWay.{B64-injective}
 use Rattle.age_header.proofs.PathLemmas.{version_text}
 use Rattle.age_header.proofs.StepRuns.{no_arguments, no_base64}
-use Rattle.age_header.proofs.VerdictLemmas.{Reached, no_front, short_line, short_input, short_room, version_taken, path_start, path_more, path_header, path_bad, path_truncated, path_too_large}
+use Rattle.age_header.proofs.VerdictPaths.{Reached}
+use Rattle.age_header.proofs.FirstLine.{no_front, short_line, short_input, short_room, version_taken}
+use Rattle.age_header.proofs.LaterLines.{path_start, path_more, path_header, path_bad, path_truncated, path_too_large}
 
 -- ---- what can be decided
 

@@ -7,7 +7,7 @@ use Rattle.base64.specs.Rfc4648.{encode_symbols, unpadded_len}
 use Rattle.base64.proofs.RoundTrip.{length-encode_symbols}
 use Rattle.base64.specs.GeneralPurpose.{IsBytes, IsEncodedOver, encode_of, encoded_size_of}
 use Rattle.base64.specs.declared.engine.general_purpose.GeneralPurpose.{GeneralPurpose}
-use Rattle.age_header.specs.Base64.{B64, alphabet, signs_of}
+use Rattle.age_header.specs.Base64.{B64, alphabet, base64_of}
 use Rattle.age_header.specs.Header.{StanzaParts, Head, IsStanza, AreStanzas, IsFullLine, argument_line, line, version_line}
 use Rattle.age_header.specs.Text.{IsPlain, IsWhole, IsHeaderValue, body_lines, body_text, stanza_text, signed, mac_end}
 use Rattle.age_header.proofs.Base64Lemmas.{B64-encode, encode_of-unpadded}
@@ -15,8 +15,8 @@ use Rattle.age_header.proofs.Base64Joined.{B64-append}
 
 -- what the engine wrote into a buffer
 pub encoded : (e : GeneralPurpose) (m old new : List ℕ) (len : ℕ) → IsPlain e → IsEncodedOver e m old new → len ≡ encoded_size_of e (length m)
-    → take len new ≡ signs_of m
-unfolding signs_of
+    → take len new ≡ base64_of m
+unfolding base64_of
 encoded e m old new len p over is =
     let plain : encode_of e m ≡ encode_symbols alphabet m = encode_of-unpadded e m p.unpadded p.signs in
     let size : encoded_size_of e (length m) ≡ unpadded_len (length m) = rw p.unpadded refl in
@@ -28,13 +28,13 @@ encoded_size_plain e n p = rw p.unpadded refl
 
 -- one full line more
 pub body_step : (b piece after : List ℕ) → 48 ≤ length b → piece ≡ take 48 b → after ≡ drop 48 b
-    → body_text b ≡ signs_of piece ++ (10 ∷ body_text after)
+    → body_text b ≡ base64_of piece ++ (10 ∷ body_text after)
 unfolding body_text body_lines
 body_step b piece after h p a =
     let n : length b / 48 ≡ suc (length (drop 48 b) / 48) = omega (arith, length-drop 48 b) in
-    rw (n, p, a) (append_assoc (signs_of (take 48 b)) (10 ∷ []) _)
+    rw (n, p, a) (append_assoc (base64_of (take 48 b)) (10 ∷ []) _)
 
-pub body_end : (b : List ℕ) → length b < 48 → body_text b ≡ signs_of b ++ 10 ∷ []
+pub body_end : (b : List ℕ) → length b < 48 → body_text b ≡ base64_of b ++ 10 ∷ []
 unfolding body_text body_lines
 body_end b h =
     let n : length b / 48 ≡ 0 = omega arith in
@@ -76,12 +76,12 @@ bytes_take n b h i = elim (cases_lt i n) [
 bytes_drop : (n : ℕ) (b : List ℕ) → IsBytes b → IsBytes (drop n b)
 bytes_drop n b h i = rw (get_or-drop n b i 0) (h (n + i))
 
-pub signs_are : (b : List ℕ) → IsBytes b → B64 b (signs_of b)
-unfolding signs_of
+pub signs_are : (b : List ℕ) → IsBytes b → B64 b (base64_of b)
+unfolding base64_of
 signs_are b h = B64-encode b h
 
-pub signs_size : (b : List ℕ) → length (signs_of b) ≡ (4 * length b + 2) / 3
-unfolding signs_of
+pub signs_size : (b : List ℕ) → length (base64_of b) ≡ (4 * length b + 2) / 3
+unfolding base64_of
 signs_size b = length-encode_symbols alphabet b
 
 record Cut (n : ℕ) (b : List ℕ) : Type 0 where
@@ -96,7 +96,7 @@ cut : (n : ℕ) (b : List ℕ) → IsBytes b → 48 * n ≤ length b → length 
 unfolding body_lines
 cut zero b h low high = record {
   full = [];
-  last = signs_of b;
+  last = base64_of b;
   each = tt;
   low = omega (arith, signs_size b);
   text = signs_are b h;
@@ -106,17 +106,17 @@ cut (suc n) b h low high =
     let front : List ℕ = take 48 b in
     let back : List ℕ = drop 48 b in
     let size : length front ≡ 48 = omega (arith, length-take 48 b) in
-    let full : length (signs_of front) ≡ 64 = omega (arith, signs_size front) in
-    let four : length (signs_of front) ≡ 4 * 16 = full in
+    let full : length (base64_of front) ≡ 64 = omega (arith, signs_size front) in
+    let four : length (base64_of front) ≡ 4 * 16 = full in
     let rest = cut n back (bytes_drop 48 b h) (omega (arith, length-drop 48 b)) (omega (arith, length-drop 48 b)) in
-    let both = B64-append 16 front (signs_of front) back (concat rest.full ++ rest.last) four (signs_are front (bytes_take 48 b h)) rest.text in
+    let both = B64-append 16 front (base64_of front) back (concat rest.full ++ rest.last) four (signs_are front (bytes_take 48 b h)) rest.text in
     record {
-      full = signs_of front ∷ rest.full;
+      full = base64_of front ∷ rest.full;
       last = rest.last;
       each = (full, rest.each);
       low = rest.low;
-      text = rw (append_assoc (signs_of front) (concat rest.full) rest.last) (subst (λ (z : List ℕ). B64 z (signs_of front ++ (concat rest.full ++ rest.last))) (take-append-drop 48 b) both);
-      spelled = ap (λ (z : List ℕ). line (signs_of front) ++ z) rest.spelled ∙ sym (append_assoc (line (signs_of front)) (flat_map line rest.full) (line rest.last));
+      text = rw (append_assoc (base64_of front) (concat rest.full) rest.last) (subst (λ (z : List ℕ). B64 z (base64_of front ++ (concat rest.full ++ rest.last))) (take-append-drop 48 b) both);
+      spelled = ap (λ (z : List ℕ). line (base64_of front) ++ z) rest.spelled ∙ sym (append_assoc (line (base64_of front)) (flat_map line rest.full) (line rest.last));
     }
 
 pub stanza_text_is : (s : StanzaParts) → IsWhole s → IsStanza s (stanza_text s)
@@ -140,10 +140,10 @@ pub header_text_is : (ss : List StanzaParts) (mac : List ℕ) → IsHeaderValue 
 unfolding signed mac_end
 header_text_is ss mac h = record {
   body = flat_map stanza_text ss;
-  signs = signs_of mac;
+  signs = base64_of mac;
   some = h.some;
   stanza_text = stanzas_text_is ss h.each;
   mac_len = h.mac_len;
   mac_text = signs_are mac h.mac_bytes;
-  spelled = append_assoc (version_line ++ flat_map stanza_text ss) (codes "---") (32 ∷ (signs_of mac ++ 10 ∷ []));
+  spelled = append_assoc (version_line ++ flat_map stanza_text ss) (codes "---") (32 ∷ (base64_of mac ++ 10 ∷ []));
 }

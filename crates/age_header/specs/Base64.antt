@@ -1,4 +1,4 @@
--- Base64 without padding (RFC 4648, sections 3.2, 3.5 and 4), as a relation between bytes and signs. It is canonical:
+-- Base64 without padding (RFC 4648, sections 3.2, 3.5 and 4), as a relation between bytes and characters. It is canonical:
 -- bits that no byte fills are zero.
 use Rattle.std.specs.Prelude.{◌≡◌, ℕ, ◌+◌, ◌*◌, ◌/◌, ◌%◌, ◌<◌, ◌==◌, List, [], ◌∷◌, slice_index, codes, if◌then◌else◌}
 use Rattle.std.specs.List.{position_or_len}
@@ -7,7 +7,7 @@ use Rattle.std.specs.declared.option.Option.{Option}
 use Rattle.std.specs.declared.option.Option.TheVariants.{None, Some}
 use Rattle.base64.specs.Rfc4648.{encode_symbols}
 
--- the 64 signs, by their values
+-- the 64 characters, by their values
 unfoldable pub alphabet : List ℕ
 alphabet = codes "ABCDEFGHIJKLMNOPQRSTUVWXYZabcdefghijklmnopqrstuvwxyz0123456789+/"
 
@@ -15,25 +15,25 @@ alphabet = codes "ABCDEFGHIJKLMNOPQRSTUVWXYZabcdefghijklmnopqrstuvwxyz0123456789
 abbrev pub StandsFor : ℕ → ℕ → Type 0
 StandsFor c v = (v < 64) × (c ≡ slice_index alphabet v)
 
--- one byte as two signs: its eight bits, then four zero bits
+-- one byte as two characters: its eight bits, then four zero bits
 abbrev pub IsOne : ℕ → ℕ → ℕ → Type 0
 IsOne a p q =
     (u : ℕ) × (v : ℕ) × StandsFor p u × StandsFor q v × (a < 256) × (a * 16 ≡ u * 64 + v)
 
--- two bytes as three signs: their sixteen bits, then two zero bits
+-- two bytes as three characters: their sixteen bits, then two zero bits
 abbrev pub IsTwo : ℕ → ℕ → ℕ → ℕ → ℕ → Type 0
 IsTwo a b p q r =
     (u : ℕ) × (v : ℕ) × (w : ℕ) × StandsFor p u × StandsFor q v × StandsFor r w
     × (a < 256) × (b < 256) × ((a * 256 + b) * 4 ≡ (u * 64 + v) * 64 + w)
 
--- three bytes as four signs, the same twenty-four bits
+-- three bytes as four characters, the same twenty-four bits
 abbrev pub IsThree : ℕ → ℕ → ℕ → ℕ → ℕ → ℕ → ℕ → Type 0
 IsThree a b c p q r s =
     (u : ℕ) × (v : ℕ) × (w : ℕ) × (x : ℕ) × StandsFor p u × StandsFor q v × StandsFor r w × StandsFor s x
     × (a < 256) × (b < 256) × (c < 256)
     × ((a * 256 + b) * 256 + c ≡ ((u * 64 + v) * 64 + w) * 64 + x)
 
--- the signs are the base64 of the bytes
+-- the characters are the base64 of the bytes
 unfoldable pub B64 : List ℕ → List ℕ → Type 0
 B64 [] [] = Unit {0}
 B64 (a ∷ []) (p ∷ q ∷ []) = IsOne a p q
@@ -42,14 +42,14 @@ B64 (a ∷ b ∷ c ∷ bytes) (p ∷ q ∷ r ∷ s ∷ signs) = IsThree a b c p 
 B64 _ _ = ⊥
 
 -- the base64 of bytes, as a function
-unfoldable pub signs_of : List ℕ → List ℕ
-signs_of bytes = encode_symbols alphabet bytes
+unfoldable pub base64_of : List ℕ → List ℕ
+base64_of bytes = encode_symbols alphabet bytes
 
 -- the value of a sign
 unfoldable pub value_of : ℕ → ℕ
 value_of c = position_or_len (λ b. b == c) alphabet
 
--- the only bytes whose base64 these signs may be
+-- the only bytes whose base64 these characters may be
 unfoldable pub candidate : List ℕ → List ℕ
 candidate (p ∷ q ∷ []) = (value_of p * 4 + value_of q / 16) % 256 ∷ []
 candidate (p ∷ q ∷ r ∷ []) = (value_of p * 4 + value_of q / 16) % 256 ∷ (value_of q * 16 + value_of r / 4) % 256 ∷ []
@@ -57,6 +57,6 @@ candidate (p ∷ q ∷ r ∷ s ∷ signs) =
     (value_of p * 4 + value_of q / 16) % 256 ∷ (value_of q * 16 + value_of r / 4) % 256 ∷ (value_of r * 64 + value_of s) % 256 ∷ candidate signs
 candidate _ = []
 
--- the bytes whose base64 these signs are, where there are such bytes: the only candidate is tried
+-- the bytes whose base64 these characters are, where there are such bytes: the only candidate is tried
 unfoldable pub decoded : List ℕ → Option (List ℕ)
-decoded signs = if bytes_eq (signs_of (candidate signs)) signs then Some (candidate signs) else None
+decoded signs = if bytes_eq (base64_of (candidate signs)) signs then Some (candidate signs) else None

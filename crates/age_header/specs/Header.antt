@@ -32,11 +32,11 @@ AreArguments args = (args ≢ []) × AllByRecursion IsArgument args
 abbrev pub argument_line : List (List ℕ) → List ℕ
 argument_line args = line (codes "->" ++ flat_map (λ a. 32 ∷ a) args)
 
--- a body line of 64 signs
+-- a body line of 64 characters
 abbrev pub IsFullLine : List ℕ → Type 0
 IsFullLine signs = length signs ≡ 64
 
--- The text of a stanza: its argument line, full lines, and a last line of fewer than 64 signs. The signs of
+-- The text of a stanza: its argument line, full lines, and a last line of fewer than 64 characters. The characters of
 -- these lines, joined, are the base64 of the body.
 pub record IsStanza (s : StanzaParts) (text : List ℕ) : Type 0 where
   pub full : List (List ℕ)

@@ -3,7 +3,7 @@ use Rattle.std.specs.Prelude.{◌≡◌, ◌≢◌, ℕ, zero, suc, ◌/◌, fal
 use Rattle.std.specs.List.{AllByRecursion}
 use Rattle.base64.specs.GeneralPurpose.{IsBytes, IsStrict, engine_symbols, engine_config, config_padding}
 use Rattle.base64.specs.declared.engine.general_purpose.GeneralPurpose.{GeneralPurpose}
-use Rattle.age_header.specs.Base64.{alphabet, signs_of}
+use Rattle.age_header.specs.Base64.{alphabet, base64_of}
 use Rattle.age_header.specs.Header.{StanzaParts, AreArguments, argument_line, line, version_line}
 
 -- an engine for this alphabet, without padding, that decodes canonical text alone
@@ -14,8 +14,8 @@ pub record IsPlain (e : GeneralPurpose) : Type 0 where
 
 -- n full lines, and a last line
 unfoldable pub body_lines : ℕ → List ℕ → List ℕ
-body_lines zero body = line (signs_of body)
-body_lines (suc n) body = line (signs_of (take 48 body)) ++ body_lines n (drop 48 body)
+body_lines zero body = line (base64_of body)
+body_lines (suc n) body = line (base64_of (take 48 body)) ++ body_lines n (drop 48 body)
 
 -- a line for each 48 bytes, then the last
 unfoldable pub body_text : List ℕ → List ℕ
@@ -31,7 +31,7 @@ signed ss = version_line ++ flat_map stanza_text ss ++ codes "---"
 
 -- what follows them
 unfoldable pub mac_end : List ℕ → List ℕ
-mac_end mac = 32 ∷ (signs_of mac ++ 10 ∷ [])
+mac_end mac = 32 ∷ (base64_of mac ++ 10 ∷ [])
 
 -- a stanza that has a text
 abbrev pub IsWhole : StanzaParts → Type 0

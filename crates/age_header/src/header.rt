@@ -1,6 +1,6 @@
 ghost use Rattle.std.specs.Prelude.{◌≡◌, ◌≢◌, ◌-◌, ◌^◌, [], ℕ, List, length, min, IfSome, IfNone};
 
-use crate::signs;
+use crate::base64_no_pad;
 use crate::size::stanza_len;
 use crate::stanza::Stanza;
 use std::marker::Model;
@@ -64,7 +64,7 @@ impl Header {
         ensures { B64 self.now.mac result }
     {
         let mut signs = [0u8; 43];
-        let Ok(_) = signs::engine().encode_slice(&self.mac, &mut signs) else {
+        let Ok(_) = base64_no_pad::engine().encode_slice(&self.mac, &mut signs) else {
             unreachable!();
         };
         signs

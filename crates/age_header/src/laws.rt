@@ -4,15 +4,15 @@ ghost use Rattle.std.specs.Prelude.{◌≡◌, ◌↔◌, ◌++◌, ◌-◌, [],
 ghost use Rattle.std.specs.declared.result.Result.{Result};
 ghost use Rattle.age_header.specs.declared.fault.HeaderFault.{HeaderFault};
 ghost use Rattle.base64.specs.GeneralPurpose.{IsBytes};
-ghost use Rattle.age_header.specs.Base64.{B64, decoded, signs_of};
+ghost use Rattle.age_header.specs.Base64.{B64, decoded, base64_of};
 ghost use Rattle.age_header.specs.Header.{StanzaParts, Head};
 ghost use Rattle.age_header.specs.Text.{signed};
 ghost use Rattle.age_header.specs.Verdict.{Found, HeaderVerdict, BeginsWith};
 
-/// Signs are decoded to just the bytes whose base64 they are, and what bytes are encoded to is their base64.
+/// Characters are decoded to just the bytes whose base64 they are, and what bytes are encoded to is their base64.
 pub fn one_base64()
     ensures decoded { (signs bytes : List ℕ) → (decoded signs ≡ Some bytes) ↔ B64 bytes signs }
-    ensures encoded { (bytes : List ℕ) → IsBytes bytes → B64 bytes (signs_of bytes) }
+    ensures encoded { (bytes : List ℕ) → IsBytes bytes → B64 bytes (base64_of bytes) }
 {}
 
 /// A header's text has one reading, stanzas and a MAC have one text, and no header's text begins another one.
@@ -30,7 +30,7 @@ pub fn one_verdict()
     ensures header { (b : List ℕ) (max : ℕ) (found : Found) → HeaderVerdict b max (Ok found) ↔ BeginsWith b max found }
 {}
 
-/// What a header's MAC is taken over is its text without the last 45 bytes: the space, the MAC's 43 signs and the LF.
+/// What a header's MAC is taken over is its text without the last 45 bytes: the space, the MAC's 43 characters and the LF.
 pub fn signed_front()
     ensures { (ss : List StanzaParts) (mac h : List ℕ) → Head ss mac h → signed ss ≡ take (length h - 45) h }
 {}

@@ -2,6 +2,7 @@
 #![tactic(auto)]
 
 mod arguments;
+pub mod base64_no_pad;
 mod device;
 mod fault;
 mod filling;
@@ -11,7 +12,6 @@ mod lines;
 mod progress;
 mod reader;
 mod signing;
-pub mod signs;
 mod size;
 mod stanza;
 #[cfg(test)]

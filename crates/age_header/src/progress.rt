@@ -6,8 +6,8 @@ ghost use Rattle.age_header.specs.Steps.{State, Step, between, within};
 ghost use Rattle.age_header.specs.Text.{IsPlain};
 
 use crate::arguments::Arguments;
+use crate::base64_no_pad;
 use crate::header::Header;
-use crate::signs;
 use crate::stanza::Stanza;
 use base64::engine::general_purpose::GeneralPurpose;
 use std::alloc::{AllocError, Global};
@@ -104,7 +104,7 @@ fn body_line(
     if text.len() > 64 {
         return Ok(None);
     }
-    let Some(more) = signs::decode(alloc, engine, text)? else {
+    let Some(more) = base64_no_pad::decode(alloc, engine, text)? else {
         return Ok(None);
     };
     stanza.extend(more.as_slice())?;

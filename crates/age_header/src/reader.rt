@@ -8,12 +8,12 @@ ghost use Rattle.age_header.specs.Reader.{Answers, CountsRead};
 ghost use Rattle.age_header.specs.Text.{IsPlain};
 
 use crate::arguments::behind;
+use crate::base64_no_pad;
 use crate::device::Source;
 use crate::fault::HeaderFault;
 use crate::header::Header;
 use crate::lines::{LineEnd, read_line};
 use crate::progress::Progress;
-use crate::signs;
 use base64::engine::general_purpose::GeneralPurpose;
 use std::alloc::{AllocError, Global};
 use std::convert::TryFrom;
@@ -82,7 +82,7 @@ fn read_header<S: Source>(alloc: Global, input: &mut S, max: usize) -> Result<He
     ensures verdict { Answers (S.to_come input.old) (S.to_come input.new) max result }
 {
     read_version(alloc, input, max)?;
-    let engine = signs::engine();
+    let engine = base64_no_pad::engine();
     let mut room = max - 22;
     let mut lines = 1u64;
     let mut progress = Progress::new(alloc);
@@ -147,7 +147,7 @@ fn end_mac(
     let Some(signs) = behind(text, b"--- ") else {
         return Ok(None);
     };
-    let Some(mac) = signs::decode(alloc, engine, signs)? else {
+    let Some(mac) = base64_no_pad::decode(alloc, engine, signs)? else {
         return Ok(None);
     };
     match <[u8; 32]>::try_from(mac.as_slice()) {

@@ -4,8 +4,8 @@ ghost use Rattle.std.specs.Prelude.{◌≡◌, IfOk};
 ghost use Rattle.age_header.specs.Mac.{header_mac};
 ghost use Rattle.age_header.specs.Text.{signed};
 
+use crate::base64_no_pad;
 use crate::device::MemSink;
-use crate::signs;
 use crate::stanza::Stanza;
 use crate::writer::write_signed;
 use age_kdf::{hkdf, hmac};
@@ -17,7 +17,7 @@ pub fn signed_text(alloc: Global, stanzas: &[Stanza]) -> Result<Vec<u8>, AllocEr
     ensures { IfOk result (λ text. text.items ≡ signed stanzas.now) }
 {
     let mut text = MemSink::new(Vec::new(alloc));
-    match write_signed(stanzas, &signs::engine(), &mut text) {
+    match write_signed(stanzas, &base64_no_pad::engine(), &mut text) {
         Ok(()) => Ok(text.into_vec()),
         Err(_) => Err(AllocError),
     }

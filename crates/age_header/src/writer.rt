@@ -4,12 +4,12 @@ ghost use Rattle.std.specs.Prelude.{◌≡◌, ◌≤◌, ℕ, List, length, map
 ghost use Rattle.std.specs.String.{string_bytes};
 ghost use Rattle.age_header.specs.Device.{Counts, Writes};
 ghost use Rattle.age_header.specs.Header.{Head, argument_line};
-ghost use Rattle.age_header.specs.Base64.{signs_of};
+ghost use Rattle.age_header.specs.Base64.{base64_of};
 ghost use Rattle.age_header.specs.Text.{IsPlain, body_text, stanza_text, signed, mac_end};
 
+use crate::base64_no_pad;
 use crate::device::{DeviceFault, Sink, write_all};
 use crate::header::Header;
-use crate::signs;
 use crate::stanza::Stanza;
 use base64::engine::general_purpose::GeneralPurpose;
 
@@ -19,7 +19,7 @@ pub fn write_header<W: Sink>(header: &Header, out: &mut W) -> Result<(), DeviceF
         × Writes (W.taken out.old) (W.taken out.new) result h }
     ensures count { Counts (W.failed out.old) (W.failed out.new) result }
 {
-    let engine = signs::engine();
+    let engine = base64_no_pad::engine();
     write_signed(header.stanzas(), &engine, out)?;
     write_mac(header.mac(), &engine, out)
 }
@@ -95,7 +95,7 @@ fn write_signs<W: Sink>(
 ) -> Result<(), DeviceFault>
     requires short { length bytes.now ≤ 48 }
     requires plain { IsPlain engine.now }
-    ensures text { Writes (W.taken out.old) (W.taken out.new) result (signs_of bytes.now) }
+    ensures text { Writes (W.taken out.old) (W.taken out.new) result (base64_of bytes.now) }
     ensures count { Counts (W.failed out.old) (W.failed out.new) result }
 {
     let mut signs = [0u8; 64];

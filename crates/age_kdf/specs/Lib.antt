@@ -7,5 +7,5 @@ pub mod BlockMix
 pub mod RoMix
 pub mod Scrypt
 pub mod Params
-pub mod Fed
+pub mod HmacState
 pub use Rattle.sha2.specs.Sha256

@@ -9,23 +9,23 @@ ghost use Rattle.std.specs.Prelude.{◌≡◌};
 ghost use Rattle.std.specs.List.{flat_map};
 ghost use Rattle.age_kdf.specs.Hmac.{hmac};
 
-mod expand;
-mod mac;
-mod mixing;
-mod output;
+mod block_mix;
+mod hkdf_sha256;
+mod hmac_sha256;
+mod output_blocks;
 mod params;
-mod run;
+mod pbkdf2_sha256;
+mod romix;
 mod salsa;
-mod stretch;
-mod table;
+mod scrypt_kdf;
 #[cfg(test)]
 mod tests;
 
-pub use expand::hkdf;
-use mac::Mac;
+pub use hkdf_sha256::hkdf;
+use hmac_sha256::Mac;
 pub use params::ScryptParams;
-pub use run::{scrypt, scrypt_with};
-pub use stretch::pbkdf2;
+pub use pbkdf2_sha256::pbkdf2;
+pub use scrypt_kdf::{scrypt, scrypt_with};
 
 /// HMAC-SHA-256 (RFC 2104, section 2): the MAC under `key` of the text that the parts make when
 /// joined.

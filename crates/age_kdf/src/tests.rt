@@ -3,9 +3,9 @@
 ghost use Rattle.std.specs.Prelude.{◌≤◌, length};
 
 use super::*;
-use crate::mixing::block_mix;
+use crate::block_mix::block_mix;
+use crate::romix::romix;
 use crate::salsa::salsa8;
-use crate::table::romix;
 use sha2::{Digest, Sha256};
 use std::alloc::{AllocError, Global};
 

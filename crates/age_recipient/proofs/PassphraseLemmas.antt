@@ -4,7 +4,7 @@ use Rattle.std.proofs.lemmas.Bool.{and_parts, leb-true}
 use Rattle.std.specs.String.{string_bytes}
 use Rattle.age_recipient.specs.declared.unwrapped.StanzaFault.TheVariants.{ArgCount}
 use Rattle.age_recipient.specs.declared.unwrapped.Unwrapped.TheVariants.{Malformed}
-use Rattle.age_recipient.specs.Passphrase.{arguments_answer, is_work_factor, number_from}
+use Rattle.age_recipient.specs.PassphraseStanza.{arguments_answer, is_work_factor, number_from}
 
 -- digits make a number no smaller
 number_grows : (n : ℕ) (digits : List ℕ) → n ≤ number_from n digits

@@ -1,12 +1,12 @@
 pub mod Answer
 pub mod Choice
 pub mod Key
-pub mod KeyHolders
-pub mod Keyed
+pub mod KeyedHolders
+pub mod KeyedStanza
 pub mod Labels
 pub mod Pairing
-pub mod Pass
-pub mod Passphrase
+pub mod PassphraseHolders
+pub mod PassphraseStanza
 pub mod Salt
 pub mod Sealing
 pub mod Wrap

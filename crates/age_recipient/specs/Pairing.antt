@@ -8,16 +8,16 @@ use Rattle.std.specs.Fmt.{decimal}
 use Rattle.std.specs.Int.Digits.{digits_of}
 use Rattle.std.specs.declared.result.Result.{Result}
 use Rattle.age_cipher.proofs.OpeningLemmas.{length-sealed, opened-sealed}
-use Rattle.age_header.specs.Base64.{decoded, signs_of}
+use Rattle.age_header.specs.Base64.{decoded, base64_of}
 use Rattle.age_header.specs.Header.{StanzaParts}
-use Rattle.age_header.proofs.Decoding.{decoded-signs_of}
+use Rattle.age_header.proofs.Decoding.{decoded-base64_of}
 use Rattle.age_recipient.specs.declared.key.FileKey.{FileKey}
 use Rattle.age_recipient.specs.declared.unwrapped.Unwrapped.TheVariants.{Key}
 use Rattle.age_recipient.specs.Key.{IsFileKey}
-use Rattle.age_recipient.specs.KeyHolders.{KeySecret, key_unwraps, key_wraps}
-use Rattle.age_recipient.specs.Keyed.{keyed_answer, keyed_stanza, wrap_key}
-use Rattle.age_recipient.specs.Pass.{PairFits, PassSecret, PassGuess, pass_wraps, pass_unwraps}
-use Rattle.age_recipient.specs.Passphrase.{is_work_factor, number_from, pass_answer, pass_key, pass_stanza}
+use Rattle.age_recipient.specs.KeyedHolders.{KeySecret, key_unwraps, key_wraps}
+use Rattle.age_recipient.specs.KeyedStanza.{keyed_answer, keyed_stanza, wrap_key}
+use Rattle.age_recipient.specs.PassphraseHolders.{PairFits, PassSecret, PassGuess, pass_wraps, pass_unwraps}
+use Rattle.age_recipient.specs.PassphraseStanza.{is_work_factor, number_from, pass_answer, pass_key, pass_stanza}
 use Rattle.age_recipient.specs.Salt.{IsSalt, salt_of}
 use Rattle.age_recipient.specs.Sealing.{sealed_key, unsealed, zero_nonce}
 
@@ -68,9 +68,9 @@ sealed_whole : (wrap_key : List ℕ) (key : FileKey) → IsFileKey key → nat_e
 sealed_whole wrap_key key is =
     eq-eqb (length (sealed_key wrap_key key)) 32 (length-sealed wrap_key zero_nonce [] key.0 ∙ ap (λ n. n + 16) is.len)
 
--- a salt's signs spell it
-salt_spelled : (salt : List ℕ) → IsSalt salt → salt_of (decoded (signs_of salt)) ≡ Some salt
-salt_spelled salt is = rw (decoded-signs_of salt is.bytes, eq-eqb (length salt) 16 is.len) refl
+-- a salt's characters spell it
+salt_spelled : (salt : List ℕ) → IsSalt salt → salt_of (decoded (base64_of salt)) ≡ Some salt
+salt_spelled salt is = rw (decoded-base64_of salt is.bytes, eq-eqb (length salt) 16 is.len) refl
 
 -- an identity's answer to the stanza that a recipient of the same passphrase makes
 pass_opens : (pass salt : List ℕ) (work max : ℕ) (key : FileKey) → IsSalt salt → PairFits work max → IsFileKey key

@@ -4,28 +4,23 @@
 mod choice;
 mod identity;
 mod key;
-mod key_pair;
 mod keyed;
 mod labels;
 mod matched;
-mod pair;
-mod pass;
 mod passphrase;
 mod recipient;
 mod sealing;
-mod stanzas;
+mod stanza_list;
 #[cfg(test)]
 mod tests;
 mod unwrapped;
-mod work;
 
 pub use choice::{UnlockFault, unlock};
 pub use identity::Identity;
 pub use key::FileKey;
-pub use key_pair::{KeyIdentity, KeyPair, KeyRecipient};
+pub use keyed::{KeyIdentity, KeyPair, KeyRecipient};
 pub use labels::{LabelSet, Labels};
 pub use matched::Matched;
-pub use pair::PassPair;
-pub use pass::{PassError, PassIdentity, PassRecipient};
+pub use passphrase::{PassError, PassIdentity, PassPair, PassRecipient};
 pub use recipient::{Recipient, WrapFault};
 pub use unwrapped::{StanzaFault, Unwrapped};

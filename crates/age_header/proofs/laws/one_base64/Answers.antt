@@ -1,4 +1,4 @@
-use Rattle.age_header.specs.Base64.{signs_of}
+use Rattle.age_header.specs.Base64.{base64_of}
 use Rattle.age_header.proofs.Base64Lemmas.{B64-encode}
 use Rattle.age_header.proofs.Decoding.{decoded_b64, b64_decoded}
 use Rattle.age_header.proofs.laws.one_base64.Goals as goal
@@ -7,5 +7,5 @@ pub returns-clause-decoded : goal.returns-clause-decoded
 returns-clause-decoded c signs bytes = (decoded_b64 signs bytes, b64_decoded signs bytes)
 
 pub returns-clause-encoded : goal.returns-clause-encoded
-unfolding signs_of
+unfolding base64_of
 returns-clause-encoded c bytes h = B64-encode bytes h

@@ -3,7 +3,7 @@ use Rattle.std.proofs.lemmas.Bool.{iff_false}
 use Rattle.std.proofs.lemmas.Grind.{common_steps}
 use Rattle.age_header.specs.Base64.{B64}
 use Rattle.age_header.specs.Steps.{Step}
-use Rattle.age_header.proofs.VerdictLemmas.{path_truncated, path_too_large, path_header, path_bad, path_more, path_lines}
+use Rattle.age_header.proofs.LaterLines.{path_truncated, path_too_large, path_header, path_bad, path_more, path_lines}
 use Rattle.age_header.proofs.reader.read_header.Goals as goal
 use Rattle.age_header.proofs.reader.read_header.Goals.{then-is_whole+in-Ok-None, else-is_whole}
 

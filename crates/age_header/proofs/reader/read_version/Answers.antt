@@ -2,7 +2,7 @@ use Rattle.std.proofs.Common.{◌≡◌, ◌∙◌, List, ℕ, ◌++◌, length,
 use Rattle.std.proofs.lemmas.Grind.{common_steps}
 use Rattle.std.proofs.lemmas.List.{nil_from_length}
 use Rattle.age_header.proofs.PathLemmas.{version_text}
-use Rattle.age_header.proofs.VerdictLemmas.{no_front, short_line, short_input, short_room, version_taken}
+use Rattle.age_header.proofs.FirstLine.{no_front, short_line, short_input, short_room, version_taken}
 use Rattle.age_header.proofs.reader.read_version.Goals as goal
 
 pub returns-in_default-clause-err : goal.returns-in_default-clause-err

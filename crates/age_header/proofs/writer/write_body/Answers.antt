@@ -1,5 +1,5 @@
 use Rattle.std.proofs.Common.{◌∙◌, [], ◌∷◌, refl, arith}
-use Rattle.age_header.specs.Base64.{signs_of}
+use Rattle.age_header.specs.Base64.{base64_of}
 use Rattle.age_header.specs.Text.{body_text}
 use Rattle.age_header.proofs.TextLemmas.{body_step, body_end}
 use Rattle.age_header.proofs.WriteLemmas.{done_more, done_part, part_at_exit, writes_last}
@@ -9,7 +9,7 @@ pub returns-in_err-write_signs-clause-text : goal.returns-in_err-write_signs-cla
 returns-in_err-write_signs-clause-text g c =
     let step = body_step c.loop-rest.rest.now c.split_at.result.0.now c.split_at.result.1.now (omega arith) c.split_at.ensures.front c.split_at.ensures.back in
     part_at_exit _ _ _ _ _ c.from_residual.ensures.1
-    (done_part _ _ _ _ _ (signs_of c.split_at.result.0.now) _ c.loop-rest.invariant.written step c.in_err-write_signs.ensures.text)
+    (done_part _ _ _ _ _ (base64_of c.split_at.result.0.now) _ c.loop-rest.invariant.written step c.in_err-write_signs.ensures.text)
 
 pub returns-in_err-write_all-clause-text : goal.returns-in_err-write_all-clause-text
 returns-in_err-write_all-clause-text g c =
@@ -31,7 +31,7 @@ pub returns-in_err-write_signs-2-clause-text : goal.returns-in_err-write_signs-2
 returns-in_err-write_signs-2-clause-text g c =
     let end = body_end c.loop-rest.rest.now (omega arith) in
     part_at_exit _ _ _ _ _ c.from_residual-in_err-write_signs-2.ensures.1
-    (done_part _ _ _ _ _ (signs_of c.loop-rest.rest.now) (10 ∷ []) c.loop-rest.invariant.written end c.in_err-write_signs-2.ensures.text)
+    (done_part _ _ _ _ _ (base64_of c.loop-rest.rest.now) (10 ∷ []) c.loop-rest.invariant.written end c.in_err-write_signs-2.ensures.text)
 
 pub returns-clause-text : goal.returns-clause-text
 returns-clause-text g c =

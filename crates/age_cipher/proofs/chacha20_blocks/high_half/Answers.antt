@@ -1,0 +1,11 @@
+use Rattle.std.proofs.Common.{◌≡◌, ℕ, ◌<◌, ◌+◌, [], ◌∷◌, ◌++◌, get_or, slice_index, arith}
+use Rattle.std.proofs.lemmas.List.{get_or_append_left}
+use Rattle.age_cipher.proofs.LaneLemmas.{four_cases}
+use Rattle.age_cipher.proofs.chacha20_blocks.high_half.Goals as goal
+
+pub returns : goal.returns
+returns c =
+    let v = c.args.v in
+    let front : (k : ℕ) → k < 8 → get_or (v ++ v) k 0 ≡ slice_index v k = λ k below. get_or_append_left v v 0 k (omega (arith, c.fits-v.0)) in
+    four_cases (λ j. slice_index (get_or (v ++ v) 4 0 ∷ get_or (v ++ v) 5 0 ∷ get_or (v ++ v) 6 0 ∷ get_or (v ++ v) 7 0 ∷ []) j ≡ slice_index v (4 + j))
+    (front 4 (omega arith)) (front 5 (omega arith)) (front 6 (omega arith)) (front 7 (omega arith))

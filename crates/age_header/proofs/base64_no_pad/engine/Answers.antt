@@ -1,0 +1,11 @@
+use Rattle.std.proofs.Common.{◌∙◌, rules}
+use Rattle.age_header.specs.Base64.{alphabet}
+use Rattle.age_header.proofs.base64_no_pad.engine.Goals as goal
+
+pub returns : goal.returns
+unfolding alphabet
+returns c = record {
+  strict = search rules;
+  unpadded = search rules;
+  signs = c.new-2.ensures.symbols ∙ c.in-Ok.ensures.ok.0;
+}

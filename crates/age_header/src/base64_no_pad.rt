@@ -1,0 +1,49 @@
+//! Base64 without padding (RFC 4648, section 4), canonical, by the crate `base64` with an alphabet of this project's own.
+
+ghost use Rattle.std.specs.Prelude.{◌≡◌, ℕ, List, IfOk, IfSome, IfNone, option_map};
+ghost use Rattle.std.specs.String.{string_bytes};
+ghost use Rattle.age_header.specs.Base64.{B64, decoded, base64_of};
+ghost use Rattle.age_header.specs.Text.{IsPlain};
+
+use base64::DecodeAllocError;
+use base64::alphabet::Alphabet;
+use base64::engine::general_purpose::{GeneralPurpose, NO_PAD};
+use std::alloc::{AllocError, Global};
+
+const ALPHABET: &str = "ABCDEFGHIJKLMNOPQRSTUVWXYZabcdefghijklmnopqrstuvwxyz0123456789+/";
+
+/// The engine for base64 without padding, canonical. It holds a table: make it once for many lines.
+pub fn engine() -> GeneralPurpose
+    ensures { IsPlain result }
+{
+    let Ok(alphabet) = Alphabet::new(ALPHABET) else {
+        unreachable!();
+    };
+    GeneralPurpose::new(&alphabet, NO_PAD)
+}
+
+/// The bytes whose base64 these characters are; None where there are no such bytes.
+pub fn decode(
+    alloc: Global,
+    engine: &GeneralPurpose,
+    text: &[u8],
+) -> Result<Option<Vec<u8>>, AllocError>
+    requires { IsPlain engine.now }
+    ensures value { IfOk result (λ o. option_map (λ v. v.items) o ≡ decoded text.now) }
+    ensures some { IfOk result (λ o. IfSome o (λ v. B64 v.items text.now)) }
+    ensures none { IfOk result (λ o. IfNone o ((b : List ℕ) → B64 b text.now → ⊥)) }
+{
+    match engine.decode(alloc, text) {
+        Ok(bytes) => Ok(Some(bytes)),
+        Err(DecodeAllocError::DecodeError(_)) => Ok(None),
+        Err(DecodeAllocError::OutOfMemory) => Err(AllocError),
+    }
+}
+
+/// The base64 of these bytes.
+pub fn encode(alloc: Global, engine: &GeneralPurpose, bytes: &[u8]) -> Result<String, AllocError>
+    requires { IsPlain engine.now }
+    ensures { IfOk result (λ text. string_bytes text ≡ base64_of bytes.now) }
+{
+    engine.encode(alloc, bytes)
+}

@@ -1,0 +1,34 @@
+use Rattle.std.proofs.Common.{arith, rules, sym, subst, ◌∙◌, ap, refl, ◌≡◌, length, ◌+◌, ◌/◌, ℕ, List, []}
+use Rattle.std.proofs.lemmas.List.{take_all, append-nil}
+use Rattle.age_kdf.specs.Hmac.{hmac}
+use Rattle.age_kdf.specs.Hkdf.{hkdf, hkdf_block, hkdf_blocks}
+use Rattle.age_kdf.specs.HmacState.{IsFed}
+use Rattle.age_kdf.proofs.ListLemmas.{filled}
+use Rattle.age_kdf.proofs.HkdfLemmas.{hkdf_next, length-hkdf_blocks}
+use Rattle.age_kdf.proofs.hkdf_sha256.hkdf.Goals as goal
+
+pub each_block-init : goal.each_block-init
+unfolding hkdf_block hkdf_blocks
+each_block-init c = record { out = sym (take_all _ [] (search rules)); last = refl; len = search rules }
+
+pub each_block-preserved : goal.each_block-preserved
+each_block-preserved c =
+    let prk-is : c.hmac.result ≡ hmac c.args.salt.now c.args.ikm.now =
+    c.hmac.ensures ∙ ap (hmac c.args.salt.now) (append-nil c.args.ikm.now) in
+    let P : List ℕ → Type 0 = λ k. IsFed c.new-extracted.result k [] in
+    let fed = subst P prk-is c.new-extracted.ensures in
+    let turn = hkdf_next c.put_block.new.out c.tag_with-block.result _ _ _ c.each_block.i (length c.each_block.out)
+    c.each_block.invariant.last (c.tag_with-block.ensures _ _ fed)
+    (c.put_block.ensures _ (length-hkdf_blocks _ _ _) c.each_block.invariant.out) in
+    record {
+      out = rw c.put_block.auto.out turn.out;
+      last = take_all 32 _ (search rules) ∙ turn.last;
+      len = search rules;
+    }
+
+pub returns : goal.returns
+unfolding hkdf
+returns c =
+    let end : c.each_block.i ≡ (length c.args.out.now + 31) / 32 = omega arith in
+    filled _ _ _ (omega (arith, c.each_block.auto.out)) c.each_block.invariant.out
+    ∙ rw (c.each_block.auto.out, end) refl

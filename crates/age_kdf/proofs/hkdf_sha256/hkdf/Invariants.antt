@@ -1,0 +1,13 @@
+use Rattle.std.proofs.Common.{◌≡◌, ◌*◌, ◌≤◌, length, take}
+use Rattle.age_kdf.specs.Hmac.{hmac}
+use Rattle.age_kdf.specs.Hkdf.{hkdf_block, hkdf_blocks}
+use Rattle.age_kdf.proofs.hkdf_sha256.hkdf.Given as goal
+
+abbrev pub invariant-each_block : goal.invariant-each_block
+invariant-each_block l =
+    let prk = hmac l.salt l.ikm in
+    record {
+      out : take (32 * l.i) l.out ≡ take (length l.out) (hkdf_blocks prk l.info l.i);
+      last : take l.block_len l.block ≡ hkdf_block prk l.info l.i;
+      len : l.block_len ≤ 32;
+    }

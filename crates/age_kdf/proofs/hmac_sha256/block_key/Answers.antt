@@ -1,0 +1,7 @@
+use Rattle.std.proofs.Common.{◌∙◌}
+use Rattle.std.proofs.lemmas.Bool.{le-leb}
+use Rattle.age_kdf.proofs.HmacLemmas.{zeros_behind}
+use Rattle.age_kdf.proofs.hmac_sha256.block_key.Goals as goal
+
+pub returns-then-key-le64 : goal.returns-then-key-le64
+returns-then-key-le64 c = rw (le-leb _ _ c.if-key-le64.true) (c.put_front.ensures ∙ zeros_behind _)

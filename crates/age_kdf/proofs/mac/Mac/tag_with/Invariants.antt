@@ -1,8 +1,0 @@
-use Rattle.std.proofs.Common.{ℕ, List, ◌++◌, take}
-use Rattle.std.specs.List.{flat_map}
-use Rattle.age_kdf.specs.Fed.{IsFed}
-use Rattle.age_kdf.proofs.mac.Mac.tag_with.Given as goal
-
-abbrev pub invariant-parts : goal.invariant-parts
-invariant-parts l = (key text : List ℕ) → IsFed l.self key text
-    → IsFed l.mac key (text ++ flat_map (λ p. p.now) (take l.part-index l.parts))

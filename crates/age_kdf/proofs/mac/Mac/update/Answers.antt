@@ -1,7 +1,0 @@
-use Rattle.std.proofs.Common.{append_assoc}
-use Rattle.age_kdf.specs.Fed.{IsFed}
-use Rattle.age_kdf.proofs.mac.Mac.update.Goals as goal
-
-pub returns : goal.returns
-unfolding IsFed
-returns c key text fed = (rw append_assoc at (c.update.ensures _ fed.0), fed.1)

@@ -1,7 +1,0 @@
-use Rattle.std.proofs.Common.{ℕ, List, ◌++◌, take}
-use Rattle.age_kdf.specs.Scrypt.{bytes_of}
-use Rattle.age_kdf.specs.Fed.{IsFed}
-use Rattle.age_kdf.proofs.run.feed_words.Given as goal
-
-abbrev pub invariant-loop-word : goal.invariant-loop-word
-invariant-loop-word l = (key m : List ℕ) → IsFed l.fn.mac key m → IsFed l.mac key (m ++ bytes_of (take l.word-index l.words))

@@ -1,6 +1,0 @@
-use Rattle.std.proofs.Common.{◌≡◌, take}
-use Rattle.age_kdf.specs.Scrypt.{words_of}
-use Rattle.age_kdf.proofs.run.load_block.Given as goal
-
-abbrev pub invariant-words : goal.invariant-words
-invariant-words l = take l.i l.words ≡ words_of l.block l.i

@@ -1,0 +1,27 @@
+use Rattle.std.proofs.Common.{arith, rules, ◌∙◌, ap, refl, ◌≡◌, ◌+◌, ◌*◌, ◌^◌, take}
+use Rattle.age_kdf.proofs.ListLemmas.{filled}
+use Rattle.age_kdf.specs.Scrypt.{parts_mixed}
+use Rattle.age_kdf.proofs.RoMixLemmas.{rows_apart}
+use Rattle.age_kdf.proofs.ScryptLemmas.{part_mixed}
+use Rattle.age_kdf.proofs.scrypt_kdf.mix_parts.Goals as goal
+
+pub each_part-init : goal.each_part-init
+unfolding parts_mixed
+each_part-init c =
+    let none : 32 * c.args.r * 0 ≡ 0 = omega arith in
+    record { done = ap (λ k. take k c.args.parts.now) none; rest = refl }
+
+pub each_part-preserved : goal.each_part-preserved
+each_part-preserved c =
+    let i = c.each_part.i in
+    let size = 32 * c.args.r in
+    part_mixed c.args.r (2 ^ c.args.log_n) size i _ (size * (i + 1)) c.args.parts.now c.each_part.parts _
+    refl (omega arith) (omega arith) c.each_part.invariant.done c.each_part.invariant.rest
+    c.romix.ensures (search rules)
+    (omega (arith, rows_apart size c.args.p i (omega arith), c.each_part.auto.parts))
+
+pub returns : goal.returns
+returns c =
+    let end : c.each_part.i ≡ c.args.p = omega arith in
+    filled _ _ _ (rw end (omega (arith, c.each_part.auto.parts))) c.each_part.invariant.done
+    ∙ ap (parts_mixed c.args.r (2 ^ c.args.log_n) c.args.parts.now) end

@@ -1,0 +1,27 @@
+// HKDF (RFC 5869).
+
+ghost use Rattle.std.specs.Prelude.{◌≡◌, ◌≤◌, length};
+ghost use Rattle.age_kdf.specs.Hkdf.{hkdf};
+
+use crate::hmac;
+use crate::hmac_sha256::Mac;
+use crate::output_blocks::put_block;
+
+/// HKDF-SHA-256 (RFC 5869): fills `out` with the output keying material of its length.
+///
+/// The caller asks for at most 255 blocks of 32 bytes. An empty salt is the same as 32 zero bytes.
+pub fn hkdf(ikm: &[u8], salt: &[u8], info: &[u8], out: &mut [u8])
+    requires { length out.old ≤ 8160 }
+    ensures { out.new ≡ hkdf ikm.now salt.now info.now (length out.old) }
+{
+    let extracted = Mac::new(&hmac(salt, &[ikm]));
+    let count = out.len().div_ceil(32);
+    // T(0) is empty: no byte of the block counts yet.
+    let mut block = [0u8; 32];
+    let mut block_len = 0;
+    'each_block: for i in 0..count {
+        block = extracted.tag_with(&[&block[..block_len], info, &[(i + 1) as u8]]);
+        block_len = 32;
+        put_block(out, i, &block);
+    }
+}

@@ -1,0 +1,104 @@
+// A running HMAC-SHA-256 (RFC 2104), which can be copied between two pieces of its text.
+
+ghost use Rattle.std.specs.Prelude.{◌≡◌, ℕ, ◌≤◌, ◌++◌, List, [], map, length, drop, bit_xor};
+ghost use Rattle.std.specs.List.{flat_map};
+ghost use Rattle.age_kdf.specs.Hmac.{hmac, block_key};
+
+use sha2::{Digest, Sha256};
+
+const IPAD: u8 = 0x36;
+
+const OPAD: u8 = 0x5c;
+
+// Writes `bytes` over the front of `block`.
+fn put_front(block: &mut [u8; 64], bytes: &[u8])
+    requires { length bytes.now ≤ 64 }
+    ensures { block.new ≡ bytes.now ++ drop (length bytes.now) block.old }
+{
+    block[..bytes.len()].copy_from_slice(bytes);
+}
+
+// The key as one block: hashed if it is longer, and filled up with zeros.
+fn block_key(key: &[u8]) -> [u8; 64]
+    ensures { result ≡ block_key key.now }
+{
+    let mut block = [0u8; 64];
+    if key.len() <= 64 {
+        put_front(&mut block, key);
+    } else {
+        put_front(&mut block, &Sha256::digest(key));
+    }
+    block
+}
+
+// `block` with each byte xored with `pad`.
+fn xored(block: &[u8; 64], pad: u8) -> [u8; 64]
+    ensures { result ≡ map (λ k. bit_xor k pad) block.now }
+{
+    let mut out = *block;
+    'bytes: for i in 0..64 {
+        out[i] ^= pad;
+    }
+    out
+}
+
+/// The inner and the outer hash of an HMAC; the inner one takes the text.
+#[derive(Clone, Drop)]
+pub(crate) struct Mac {
+    inner: Sha256,
+    outer: Sha256,
+}
+
+impl Mac {
+    ghost use Rattle.age_kdf.specs.HmacState.{IsFed};
+
+    /// A running HMAC under `key` that has been fed nothing.
+    pub(crate) fn new(key: &[u8]) -> Mac
+        ensures { IsFed result key.now [] }
+    {
+        let block = block_key(key);
+        Mac {
+            inner: Sha256::new_with_prefix(&xored(&block, IPAD)),
+            outer: Sha256::new_with_prefix(&xored(&block, OPAD)),
+        }
+    }
+
+    /// A copy, which takes no memory.
+    pub(crate) fn copy(&self) -> Mac
+        ensures { result ≡ self.now }
+    {
+        match self.clone() {
+            Ok(copy) => copy,
+            Err(_) => unreachable!(),
+        }
+    }
+
+    /// Feeds `bytes`.
+    pub(crate) fn update(&mut self, bytes: &[u8])
+        ensures { (key text : List ℕ) → IsFed self.old key text
+            → IsFed self.new key (text ++ bytes.now) }
+    {
+        self.inner.update(bytes);
+    }
+
+    /// The MAC of what was fed.
+    fn finalize(self) -> [u8; 32]
+        ensures { (key text : List ℕ) → IsFed self key text → result ≡ hmac key text }
+    {
+        let Mac { inner, mut outer } = self;
+        outer.update(&inner.finalize());
+        outer.finalize()
+    }
+
+    /// The MAC of what was fed followed by the parts; the running HMAC stays as it is.
+    pub(crate) fn tag_with(&self, parts: &[&[u8]]) -> [u8; 32]
+        ensures { (key text : List ℕ) → IsFed self.now key text
+            → result ≡ hmac key (text ++ flat_map (λ p. p.now) parts.now) }
+    {
+        let mut mac = self.copy();
+        'parts: for part in parts {
+            mac.update(part);
+        }
+        mac.finalize()
+    }
+}

@@ -1,0 +1,45 @@
+-- What a passphrase's recipient and identity hold and mean.
+use Rattle.std.specs.Prelude.{ℕ, ◌≤◌, List, [], ◌∷◌, map}
+use Rattle.std.specs.declared.result.Result.{Result}
+use Rattle.std.specs.declared.result.Result.TheVariants.{Ok}
+use Rattle.age_header.specs.Header.{StanzaParts}
+use Rattle.age_recipient.specs.declared.key.FileKey.{FileKey}
+use Rattle.age_recipient.specs.declared.unwrapped.Unwrapped.{Unwrapped}
+use Rattle.age_recipient.specs.declared.passphrase.recipient.PassError.{PassError}
+use Rattle.age_recipient.specs.declared.passphrase.recipient.PassError.TheVariants.{WorkFactor, Memory}
+use Rattle.age_recipient.specs.Answer.{decided}
+use Rattle.age_recipient.specs.PassphraseStanza.{pass_answer, pass_stanza}
+
+-- what a recipient holds
+pub record PassSecret : Type 0 where
+  pub pass : List ℕ
+  pub salt : List ℕ
+  pub work : ℕ
+
+-- what an identity holds
+pub record PassGuess : Type 0 where
+  pub pass : List ℕ
+  pub max : ℕ
+
+-- a work factor is 1 to 30
+abbrev pub WorkFits : ℕ → Type 0
+WorkFits work = (1 ≤ work) × (work ≤ 30)
+
+-- a pair's work factor is at most its maximum
+pub record PairFits (work max : ℕ) : Type 0 where
+  pub low : 1 ≤ work
+  pub within : work ≤ max
+  pub top : max ≤ 30
+
+-- a work factor is refused exactly where it does not fit
+abbrev pub IsPassError : Type 0 → PassError → Type 0
+IsPassError fits WorkFactor = fits → ⊥
+IsPassError fits Memory = fits
+
+-- a recipient gives one stanza for each key
+abbrev pub pass_wraps : PassSecret → FileKey → Result (List StanzaParts) ℕ
+pass_wraps r key = Ok (pass_stanza r.pass r.work r.salt key ∷ [])
+
+-- an identity goes through the stanzas in order
+abbrev pub pass_unwraps : PassGuess → List StanzaParts → Unwrapped
+pass_unwraps i stanzas = decided (map (pass_answer i.pass i.max) stanzas)

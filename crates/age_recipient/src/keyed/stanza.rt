@@ -1,0 +1,82 @@
+//! Keyed stanzas, this project's own: they wrap a file key under a secret of 32 bytes.
+
+ghost use Rattle.std.specs.Prelude.{◌≡◌, Some, map, IfOk};
+ghost use Rattle.std.specs.String.{string_bytes};
+ghost use Rattle.age_recipient.specs.KeyedStanza.{arguments_answer, keyed_answer, keyed_stanza, salted_answer, wrap_key};
+
+use crate::key::FileKey;
+use crate::sealing::{seal_key, unseal_key};
+use crate::stanza_list::{behind_type, salt_of};
+use crate::unwrapped::{StanzaFault, Unwrapped};
+use age_header::{Stanza, base64_no_pad};
+use age_kdf::hkdf;
+use std::alloc::{AllocError, Global};
+
+/// The key that wraps the file key.
+fn wrap_key(key: &[u8; 32], salt: &[u8; 16]) -> [u8; 32]
+    ensures { result ≡ wrap_key key.now salt.now }
+{
+    let mut wrapping = [0; 32];
+    hkdf(key, salt, b"example.org/key", &mut wrapping);
+    wrapping
+}
+
+/// The stanza that wraps this file key.
+pub(crate) fn keyed_stanza(
+    alloc: Global,
+    key: &[u8; 32],
+    salt: &[u8; 16],
+    file_key: &FileKey,
+) -> Result<Stanza, AllocError>
+    ensures { IfOk result (λ stanza. stanza ≡ keyed_stanza key.now salt.now file_key.now) }
+{
+    let salt_text = base64_no_pad::encode(alloc, &base64_no_pad::engine(), salt)?;
+    let body = seal_key(&wrap_key(key, salt), file_key);
+    // its arguments are visible texts, so only memory can be wanting
+    let Ok(stanza) = Stanza::new(alloc, &["example.org/key", salt_text.as_str()], &body) else {
+        return Err(AllocError);
+    };
+    Ok(stanza)
+}
+
+/// What one stanza gives to a key.
+pub(crate) fn keyed_answer(
+    alloc: Global,
+    key: &[u8; 32],
+    stanza: &Stanza,
+) -> Result<Unwrapped, AllocError>
+    ensures { IfOk result (λ answer. answer ≡ keyed_answer key.now stanza.now) }
+{
+    match behind_type(stanza, "example.org/key") {
+        None => Ok(Unwrapped::NotMine),
+        Some(args) => arguments_answer(alloc, key, args, stanza.body()),
+    }
+}
+
+/// What a keyed stanza gives, whose arguments behind the type are these.
+fn arguments_answer(
+    alloc: Global,
+    key: &[u8; 32],
+    args: &[String],
+    body: &[u8],
+) -> Result<Unwrapped, AllocError>
+    ensures { IfOk result (λ answer. answer ≡ arguments_answer key.now (map string_bytes args.now) body.now) }
+{
+    let [salt] = args else {
+        return Ok(Unwrapped::Malformed(StanzaFault::ArgCount));
+    };
+    match salt_of(alloc, salt.as_bytes())? {
+        None => Ok(Unwrapped::Malformed(StanzaFault::Salt)),
+        Some(salt) => Ok(salted_answer(key, body, &salt)),
+    }
+}
+
+/// What a stanza with this salt gives.
+fn salted_answer(key: &[u8; 32], body: &[u8], salt: &[u8; 16]) -> Unwrapped
+    ensures { result ≡ salted_answer key.now body.now (Some salt.now) }
+{
+    if body.len() != 32 {
+        return Unwrapped::Malformed(StanzaFault::BodyLength);
+    }
+    unseal_key(&wrap_key(key, salt), body)
+}

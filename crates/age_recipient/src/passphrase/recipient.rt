@@ -1,0 +1,147 @@
+//! The passphrase's recipient and identity.
+
+ghost use Rattle.std.specs.Prelude.{◌≡◌, Ok, IfOk, IfErr};
+ghost use Rattle.age_recipient.specs.PassphraseHolders.{IsPassError, WorkFits};
+
+use super::stanza::{pass_answer, pass_stanza};
+use crate::identity::Identity;
+use crate::key::FileKey;
+use crate::labels::Labels;
+use crate::recipient::{Recipient, WrapFault};
+use crate::stanza_list::{Opener, first_opened};
+use crate::unwrapped::Unwrapped;
+use age_header::Stanza;
+use std::alloc::{AllocError, Global};
+use std::marker::Model;
+
+/// Why a passphrase's recipient or identity could not be made.
+#[derive(Clone, Copy, Debug, Drop, PartialEq, Eq)]
+pub enum PassError {
+    /// A work factor is not 1 to 30, or a pair's is above its maximum.
+    WorkFactor,
+    /// An allocation was refused.
+    Memory,
+}
+
+/// Wraps a file key under a passphrase (C2SP `age.md`, "The scrypt recipient type"). The salt must be fresh for each file.
+#[derive(Drop)]
+pub struct PassRecipient {
+    pass: Vec<u8>,
+    salt: [u8; 16],
+    work: u8,
+}
+
+impl Model for PassRecipient {
+    ghost use Rattle.age_recipient.specs.PassphraseHolders.{PassSecret, WorkFits};
+
+    ghost Value = { PassSecret };
+
+    ghost view = { λ r. record { pass = r.pass.items; salt = r.salt; work = r.work } };
+
+    ghost invariant = { λ r. WorkFits r.work };
+}
+
+impl PassRecipient {
+    /// A recipient of this passphrase, any bytes, with a salt and a work factor, the base-2 logarithm of scrypt's N.
+    ///
+    /// # Errors
+    /// `WorkFactor` where `work` is not 1 to 30, else `Memory`.
+    pub fn new(
+        alloc: Global,
+        pass: &[u8],
+        salt: [u8; 16],
+        work: u8,
+    ) -> Result<PassRecipient, PassError>
+        ensures ok { IfOk result (λ r. WorkFits work × (r ≡ record { pass = pass.now; salt = salt; work = work })) }
+        ensures err { IfErr result (IsPassError (WorkFits work)) }
+    {
+        if work < 1 || work > 30 {
+            return Err(PassError::WorkFactor);
+        }
+        match Vec::from_slice(alloc, pass) {
+            Ok(pass) => Ok(PassRecipient { pass, salt, work }),
+            Err(_) => Err(PassError::Memory),
+        }
+    }
+}
+
+impl Recipient for PassRecipient {
+    ghost use Rattle.age_recipient.specs.declared.labels.Labels.TheVariants.{Alone};
+    ghost use Rattle.age_recipient.specs.PassphraseHolders.{pass_wraps};
+
+    ghost wraps = { λ r key. pass_wraps r key };
+
+    ghost the_labels = { λ _. Alone };
+
+    fn wrap(&self, alloc: Global, key: &FileKey) -> Result<Vec<Stanza>, WrapFault> {
+        let Ok(stanza) = pass_stanza(alloc, self.pass.as_slice(), self.work, &self.salt, key) else {
+            return Err(WrapFault::Memory);
+        };
+        match vec![in alloc; stanza] {
+            Ok(stanzas) => Ok(stanzas),
+            Err(_) => Err(WrapFault::Memory),
+        }
+    }
+
+    fn labels(&self, _alloc: Global) -> Result<Labels, AllocError>
+        ensures { result ≡ Ok Labels.Alone }
+    {
+        Ok(Labels::Alone)
+    }
+}
+
+/// Unwraps a file key with a passphrase. Of the stanzas of type `scrypt`, the first that is malformed or that opens decides.
+#[derive(Drop)]
+pub struct PassIdentity {
+    pass: Vec<u8>,
+    max: u8,
+}
+
+impl Model for PassIdentity {
+    ghost use Rattle.age_recipient.specs.PassphraseHolders.{PassGuess, WorkFits};
+
+    ghost Value = { PassGuess };
+
+    ghost view = { λ i. record { pass = i.pass.items; max = i.max } };
+
+    ghost invariant = { λ i. WorkFits i.max };
+}
+
+impl PassIdentity {
+    /// An identity of this passphrase, any bytes, which takes work factors of at most `max`.
+    ///
+    /// # Errors
+    /// `WorkFactor` where `max` is not 1 to 30, else `Memory`.
+    pub fn new(alloc: Global, pass: &[u8], max: u8) -> Result<PassIdentity, PassError>
+        ensures ok { IfOk result (λ i. WorkFits max × (i ≡ record { pass = pass.now; max = max })) }
+        ensures err { IfErr result (IsPassError (WorkFits max)) }
+    {
+        if max < 1 || max > 30 {
+            return Err(PassError::WorkFactor);
+        }
+        match Vec::from_slice(alloc, pass) {
+            Ok(pass) => Ok(PassIdentity { pass, max }),
+            Err(_) => Err(PassError::Memory),
+        }
+    }
+}
+
+impl Identity for PassIdentity {
+    ghost use Rattle.age_recipient.specs.PassphraseHolders.{pass_unwraps};
+
+    ghost meaning = { λ i stanzas. pass_unwraps i stanzas };
+
+    fn unwrap(&self, alloc: Global, stanzas: &[Stanza]) -> Result<Unwrapped, AllocError> {
+        first_opened(alloc, self, stanzas)
+    }
+}
+
+impl Opener for PassIdentity {
+    ghost use Rattle.age_recipient.specs.PassphraseStanza.{pass_answer};
+
+    ghost gives = { λ i stanza. pass_answer i.pass i.max stanza };
+
+    fn open(&self, alloc: Global, stanza: &Stanza) -> Result<Unwrapped, AllocError> {
+        pass_answer(alloc, self.pass.as_slice(), self.max, stanza)
+    }
+}

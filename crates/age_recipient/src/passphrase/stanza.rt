@@ -1,0 +1,129 @@
+//! Passphrases (C2SP `age.md`, "The scrypt recipient type").
+
+ghost use Rattle.std.specs.Prelude.{◌≡◌, ◌≤◌, ◌++◌, Some, map, length, true, IfOk, IfErr};
+ghost use Rattle.std.specs.String.{string_bytes};
+ghost use Rattle.age_recipient.specs.PassphraseStanza.{arguments_answer, is_work_factor, number_from, pass_answer, pass_key, pass_stanza, salted_answer};
+
+use super::work::{is_work_factor, work_at_most};
+use crate::key::FileKey;
+use crate::sealing::{seal_key, unseal_key};
+use crate::stanza_list::{behind_type, salt_of};
+use crate::unwrapped::{StanzaFault, Unwrapped};
+use age_header::{Stanza, base64_no_pad};
+use age_kdf::{ScryptParams, scrypt};
+use std::alloc::{AllocError, Global};
+
+const LABEL: &[u8; 28] = b"age-encryption.org/v1/scrypt";
+
+/// The key that wraps the file key.
+fn pass_key(alloc: Global, pass: &[u8], salt: &[u8; 16], work: u8) -> Result<[u8; 32], AllocError>
+    requires low { 1 ≤ work }
+    requires high { work ≤ 30 }
+    ensures { IfOk result (λ key. key ≡ pass_key pass.now salt.now work) }
+{
+    let Some(params) = ScryptParams::new(u32::from(work), 8, 1) else {
+        unreachable!();
+    };
+    let mut key = [0; 32];
+    scrypt(alloc, pass, &labelled(salt), &params, &mut key)?;
+    Ok(key)
+}
+
+/// The salt that scrypt gets.
+fn labelled(salt: &[u8; 16]) -> [u8; 44]
+    ensures { result ≡ LABEL.now ++ salt.now }
+{
+    let mut text = [0; 44];
+    let (front, back) = text.split_at_mut(28);
+    front.copy_from_slice(LABEL);
+    back.copy_from_slice(salt);
+    text
+}
+
+/// The stanza that wraps this file key.
+pub(crate) fn pass_stanza(
+    alloc: Global,
+    pass: &[u8],
+    work: u8,
+    salt: &[u8; 16],
+    key: &FileKey,
+) -> Result<Stanza, AllocError>
+    requires low { 1 ≤ work }
+    requires high { work ≤ 30 }
+    ensures { IfOk result (λ stanza. stanza ≡ pass_stanza pass.now work salt.now key.now) }
+{
+    let wrap_key = pass_key(alloc, pass, salt, work)?;
+    let salt_text = base64_no_pad::encode(alloc, &base64_no_pad::engine(), salt)?;
+    let work_text = format!(in alloc; "{work}")?;
+    let body = seal_key(&wrap_key, key);
+    // its arguments are visible texts, so only memory can be wanting
+    let Ok(stanza) = Stanza::new(
+        alloc,
+        &["scrypt", salt_text.as_str(), work_text.as_str()],
+        &body,
+    ) else {
+        return Err(AllocError);
+    };
+    Ok(stanza)
+}
+
+/// What one stanza gives to a passphrase. Everything about it is checked before scrypt is run.
+pub(crate) fn pass_answer(
+    alloc: Global,
+    pass: &[u8],
+    max: u8,
+    stanza: &Stanza,
+) -> Result<Unwrapped, AllocError>
+    requires { max ≤ 30 }
+    ensures { IfOk result (λ answer. answer ≡ pass_answer pass.now max stanza.now) }
+{
+    match behind_type(stanza, "scrypt") {
+        None => Ok(Unwrapped::NotMine),
+        Some(args) => arguments_answer(alloc, pass, max, args, stanza.body()),
+    }
+}
+
+/// What a passphrase stanza gives, whose arguments behind the type are these.
+fn arguments_answer(
+    alloc: Global,
+    pass: &[u8],
+    max: u8,
+    args: &[String],
+    body: &[u8],
+) -> Result<Unwrapped, AllocError>
+    requires { max ≤ 30 }
+    ensures { IfOk result (λ answer. answer ≡ arguments_answer pass.now max (map string_bytes args.now) body.now) }
+{
+    let [salt, work] = args else {
+        return Ok(Unwrapped::Malformed(StanzaFault::ArgCount));
+    };
+    match salt_of(alloc, salt.as_bytes())? {
+        None => Ok(Unwrapped::Malformed(StanzaFault::Salt)),
+        Some(salt) => salted_answer(alloc, pass, max, work.as_bytes(), body, &salt),
+    }
+}
+
+/// What a stanza with this salt gives. Memory is taken, and scrypt run, only for a work factor and a body that are well formed.
+fn salted_answer(
+    alloc: Global,
+    pass: &[u8],
+    max: u8,
+    work: &[u8],
+    body: &[u8],
+    salt: &[u8; 16],
+) -> Result<Unwrapped, AllocError>
+    requires { max ≤ 30 }
+    ensures answer { IfOk result (λ answer. answer ≡ salted_answer pass.now max work.now body.now (Some salt.now)) }
+    ensures memory { IfErr result (λ _. (is_work_factor work.now ≡ true) × (number_from 0 work.now ≤ max) × (length body.now ≡ 32)) }
+{
+    if !is_work_factor(work) {
+        return Ok(Unwrapped::Malformed(StanzaFault::WorkFactorText));
+    }
+    let Some(work) = work_at_most(work, max) else {
+        return Ok(Unwrapped::Malformed(StanzaFault::WorkFactorTooHigh));
+    };
+    if body.len() != 32 {
+        return Ok(Unwrapped::Malformed(StanzaFault::BodyLength));
+    }
+    Ok(unseal_key(&pass_key(alloc, pass, salt, work)?, body))
+}

@@ -1,0 +1,74 @@
+//! How an identity goes through a header's stanzas.
+
+ghost use Rattle.std.specs.Prelude.{◌≡◌, map, option_map, IfOk};
+ghost use Rattle.std.specs.String.{string_bytes};
+ghost use Rattle.age_header.specs.Base64.{decoded};
+ghost use Rattle.age_recipient.specs.Answer.{behind_type, decided};
+ghost use Rattle.age_recipient.specs.Salt.{salt_of};
+
+use crate::unwrapped::Unwrapped;
+use age_header::{Stanza, base64_no_pad};
+use std::alloc::{AllocError, Global};
+use std::convert::TryFrom;
+
+/// Who looks at one stanza at a time.
+pub(crate) trait Opener {
+    ghost use Rattle.std.specs.Prelude.{◌≡◌, IfOk};
+    ghost use Rattle.age_header.specs.Header.{StanzaParts};
+    ghost use Rattle.age_recipient.specs.declared.unwrapped.Unwrapped.{Unwrapped};
+
+    // What a stanza gives.
+    ghost gives: { Self → StanzaParts → Unwrapped };
+
+    fn open(&self, alloc: Global, stanza: &Stanza) -> Result<Unwrapped, AllocError>
+        ensures { IfOk result (λ answer. answer ≡ gives self.now stanza.now) };
+}
+
+/// The answer that decides, of what each of these stanzas gives. What comes behind it is not looked at.
+pub(crate) fn first_opened<O: Opener>(
+    alloc: Global,
+    opener: &O,
+    stanzas: &[Stanza],
+) -> Result<Unwrapped, AllocError>
+    ensures { IfOk result (λ answer. answer ≡ decided (map (O.gives opener.now) stanzas.now)) }
+{
+    let mut rest = Unwrapped::NotMine;
+    for stanza in stanzas {
+        match opener.open(alloc, stanza)? {
+            Unwrapped::NotMine => continue,
+            Unwrapped::Failed => {
+                rest = Unwrapped::Failed;
+                continue;
+            }
+            Unwrapped::Key(key) => return Ok(Unwrapped::Key(key)),
+            Unwrapped::Malformed(fault) => return Ok(Unwrapped::Malformed(fault)),
+        }
+    }
+    Ok(rest)
+}
+
+/// The arguments behind the type, if the stanza is of this type.
+pub(crate) fn behind_type<'a>(stanza: &'a Stanza, kind: &str) -> Option<&'a [String]>
+    ensures { option_map (λ args. map string_bytes args.now) result ≡ behind_type kind.now stanza.now.args }
+{
+    let Some((first, rest)) = stanza.args().split_first() else {
+        return None;
+    };
+    if first.as_str() != kind {
+        return None;
+    }
+    Some(rest)
+}
+
+/// The salt that these characters spell, if it is one of 16 bytes.
+pub(crate) fn salt_of(alloc: Global, text: &[u8]) -> Result<Option<[u8; 16]>, AllocError>
+    ensures { IfOk result (λ salt. salt ≡ salt_of (decoded text.now)) }
+{
+    let Some(bytes) = base64_no_pad::decode(alloc, &base64_no_pad::engine(), text)? else {
+        return Ok(None);
+    };
+    match <[u8; 16]>::try_from(bytes.as_slice()) {
+        Ok(salt) => Ok(Some(salt)),
+        Err(_) => Ok(None),
+    }
+}
