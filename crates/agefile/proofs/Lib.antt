@@ -1,3 +1,5 @@
+mod HeaderLemmas
 mod PlainLemmas
+mod PlainSizes
 mod SealLemmas
 pub mod SizeLemmas

@@ -7,4 +7,6 @@ mod code;
 mod decrypting;
 mod encrypting;
 mod giving;
+mod inspecting;
 mod report;
+mod sizes;
