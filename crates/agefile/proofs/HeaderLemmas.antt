@@ -8,16 +8,14 @@ use Rattle.std.proofs.lemmas.Option.{slice_get_past}
 use Rattle.age_header.specs.declared.fault.HeaderFault.{HeaderFault}
 use Rattle.age_header.specs.declared.fault.HeaderFault.TheVariants as header
 use Rattle.age_header.specs.Header.{Head, HeaderParts, StanzaParts}
-use Rattle.age_header.specs.Verdict.{Found, HeaderVerdict}
+use Rattle.age_header.specs.Verdict.{HeaderVerdict}
 use Rattle.age_header.specs.Reader.{AnswersOf}
 use Rattle.age_header.proofs.OneText.{one_text}
 use Rattle.age_header.proofs.OneVerdict.{begins_found}
 use Rattle.age_file.specs.declared.fault.Fault.{Fault}
-use Rattle.age_file.specs.declared.fault.Fault.TheVariants.{OutOfMemory}
 use Rattle.age_file.specs.AgeFile.{Bounds}
 use Rattle.age_file.specs.Device.{CountsRead}
 use Rattle.age_file.specs.Inspect.{Inspects, file_answer}
-use Rattle.age_file.specs.Verdict.{of_header}
 use Rattle.agefile.specs.declared.inspecting.StanzaSummary.{StanzaSummary}
 use Rattle.agefile.specs.declared.inspecting.Summary.{Summary}
 use Rattle.agefile.specs.declared.report.Report.{Report}

@@ -1,5 +1,5 @@
 -- How long the plaintext of a verdict is at most.
-use Rattle.std.proofs.Common.{◌≡◌, ℕ, ◌+◌, ◌-◌, ◌*◌, ◌/◌, ◌%◌, ◌<◌, ◌≤◌, List, [], ◌∷◌, ◌++◌, length, length-append, length-drop, drop, take, Bool, true, false, nat_lt, cond, refl, sym, ap, subst, inl, inr, arith, ◌∙◌, Option, Some, None, Result, Ok, Err}
+use Rattle.std.proofs.Common.{◌≡◌, ℕ, ◌+◌, ◌-◌, ◌*◌, ◌/◌, ◌≤◌, List, [], ◌∷◌, ◌++◌, length, length-append, length-drop, drop, take, true, false, nat_lt, cond, sym, ap, subst, inl, inr, arith, ◌∙◌, Result, Ok, Err}
 use Rattle.std.specs.List.{AllByRecursion, concat}
 use Rattle.std.proofs.lemmas.Bool.{cases_lt}
 use Rattle.age_cipher.proofs.OpeningLemmas.{length-sealed}
@@ -11,9 +11,9 @@ use Rattle.age_stream.specs.declared.fault.StreamFault.TheVariants.{NonceTruncat
 use Rattle.age_stream.specs.Payload.{is_end, payload_key, pieces, place}
 use Rattle.age_stream.specs.Reading.{Reading, front, outcome, outcomes, payload_reading, reading_from, stops}
 use Rattle.age_stream.proofs.CutLemmas.{AtMost, cut-at_most, concat-cut_into}
-use Rattle.age_stream.proofs.PayloadLemmas.{Opens, outcome-opens, result_cases}
+use Rattle.age_stream.proofs.PayloadLemmas.{outcome-opens, result_cases}
 use Rattle.age_file.specs.declared.fault.Fault.{Fault}
-use Rattle.age_file.specs.Verdict.{Answering, IsVerdict, judged, read_under, unlocked}
+use Rattle.age_file.specs.Verdict.{Answering, IsVerdict, judged, read_under}
 use Rattle.agefile.specs.Limits.{limits}
 use Rattle.agefile.specs.Sizes.{opened_len, plain_len_at_most}
 use Rattle.agefile.proofs.SizeLemmas.{least_header}

@@ -1,6 +1,5 @@
 -- What a caller is given of a plaintext that was encrypted through memory.
-use Rattle.std.proofs.Common.{◌≡◌, ℕ, ◌≤◌, ◌<◌, ◌+◌, ◌-◌, ◌/◌, ◌^◌, List, [], ◌∷◌, length, map, false, ◌∙◌, ap, subst, inl, inr, arith, Option, Some, None, Result, Ok, Err}
-use Rattle.std.specs.Prelude.{◌⊎◌}
+use Rattle.std.proofs.Common.{◌≡◌, ℕ, ◌≤◌, ◌<◌, ◌-◌, ◌^◌, List, [], ◌∷◌, length, map, false, ◌∙◌, ap, subst, inl, inr, arith, Option, Some, None, Result, Ok, Err}
 use Rattle.age_header.specs.Header.{Head, StanzaParts}
 use Rattle.age_recipient.specs.declared.key.FileKey.{FileKey}
 use Rattle.age_recipient.specs.declared.labels.Labels.{Labels}
@@ -13,9 +12,9 @@ use Rattle.age_file.specs.declared.fault.Fault.TheVariants.{HeaderTooLarge, Mixe
 use Rattle.age_file.specs.declared.limits.Fresh.{Fresh}
 use Rattle.age_file.specs.AgeFile.{Bounds}
 use Rattle.age_file.specs.Device.{CountsRead}
-use Rattle.age_file.specs.NewFile.{CutFile, EncryptsGiven, EncryptsText, Gathered, IsApart, IsRefusal, NewFile, RefusesFirst, together}
+use Rattle.age_file.specs.NewFile.{EncryptsGiven, EncryptsText, Gathered, IsApart, IsRefusal, RefusesFirst, together}
 use Rattle.agefile.specs.declared.report.Report.{Report}
-use Rattle.agefile.specs.Answer.{Gives, GivesFile, Seals, fresh_of, only, salt_of}
+use Rattle.agefile.specs.Answer.{Gives, GivesFile, Seals, fresh_of, salt_of}
 use Rattle.agefile.specs.Codes.{is_memory}
 use Rattle.agefile.specs.Limits.{limits}
 use Rattle.agefile.proofs.SizeLemmas.{chunks_size, key_header, key_size, pass_header, salt_size}

@@ -1,5 +1,5 @@
 -- How long the parts of a file are.
-use Rattle.std.proofs.Common.{◌≡◌, ℕ, zero, suc, ◌+◌, ◌-◌, ◌*◌, ◌/◌, ◌<◌, ◌≤◌, ◌^◌, List, [], ◌∷◌, ◌++◌, length, length-append, length-drop, length-take, drop, codes, flat_map, refl, sym, ap, subst, inl, inr, arith, ◌∙◌}
+use Rattle.std.proofs.Common.{◌≡◌, ℕ, ◌+◌, ◌*◌, ◌/◌, ◌<◌, ◌≤◌, List, [], ◌∷◌, ◌++◌, length, length-append, length-drop, length-take, drop, codes, flat_map, refl, sym, ap, subst, inl, inr, arith, ◌∙◌}
 use Rattle.std.specs.List.{AllByRecursion, concat}
 use Rattle.std.specs.Fmt.{decimal}
 use Rattle.std.proofs.lemmas.Fmt.{length-decimal-le}
@@ -12,7 +12,7 @@ use Rattle.age_recipient.specs.Keyed.{keyed_stanza, wrap_key}
 use Rattle.age_recipient.specs.Passphrase.{pass_key, pass_stanza}
 use Rattle.age_recipient.specs.Sealing.{zero_nonce}
 use Rattle.age_stream.proofs.CutLemmas.{filled-some, is_cut}
-use Rattle.age_stream.specs.Cutting.{IsCut, IsFilled, cut}
+use Rattle.age_stream.specs.Cutting.{IsFilled}
 use Rattle.age_cipher.specs.Sealing.{sealed}
 use Rattle.age_header.specs.Mac.{header_mac}
 use Rattle.age_file.specs.NewFile.{NewFile}
