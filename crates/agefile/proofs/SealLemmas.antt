@@ -1,10 +1,10 @@
 -- What a caller is given of a plaintext that was encrypted through memory.
-use Rattle.std.proofs.Common.{◌≡◌, ℕ, ◌≤◌, ◌<◌, ◌+◌, ◌-◌, ◌/◌, ◌^◌, List, [], ◌∷◌, length, length-take, length-drop, drop, take, map, false, ◌∙◌, ap, subst, inl, inr, arith, Option, Some, None, Result, Ok, Err}
+use Rattle.std.proofs.Common.{◌≡◌, ℕ, ◌≤◌, ◌<◌, ◌-◌, ◌^◌, List, [], ◌∷◌, length, map, false, ◌∙◌, ap, subst, inl, inr, arith, Option, Some, None, Result, Ok, Err}
 use Rattle.age_header.specs.Header.{Head, StanzaParts}
 use Rattle.age_recipient.specs.declared.key.FileKey.{FileKey}
 use Rattle.age_recipient.specs.declared.labels.Labels.{Labels}
-use Rattle.age_recipient.specs.Keyed.{keyed_stanza}
-use Rattle.age_recipient.specs.Passphrase.{pass_stanza}
+use Rattle.age_recipient.specs.KeyedStanza.{keyed_stanza}
+use Rattle.age_recipient.specs.PassphraseStanza.{pass_stanza}
 use Rattle.age_stream.specs.declared.done.Done.{Done}
 use Rattle.age_stream.specs.Payload.{chunks}
 use Rattle.age_file.specs.declared.fault.Fault.{Fault}
@@ -17,7 +17,7 @@ use Rattle.agefile.specs.declared.report.Report.{Report}
 use Rattle.agefile.specs.Answer.{Gives, GivesFile, Seals, fresh_of, salt_of}
 use Rattle.agefile.specs.Codes.{is_memory}
 use Rattle.agefile.specs.Limits.{limits}
-use Rattle.agefile.proofs.SizeLemmas.{chunk_count, key_header, pass_header}
+use Rattle.agefile.proofs.SizeLemmas.{chunks_size, key_header, key_size, pass_header, salt_size}
 
 -- what recipients give
 abbrev pub Given : Type 1
@@ -86,7 +86,7 @@ seals_stanza seed stanza meant plain old new told result short bound (inl up) = 
 seals_stanza seed stanza meant plain old new told result short bound (inr (inl (fault, refused))) = absurd (no_refusal _ _ meant fault short refused)
 seals_stanza seed stanza meant plain old new told result short bound (inr (inr (inl (begun, cut)))) =
     let many : 2 ^ 64 - 1 < length (chunks plain) = cut.too_many in
-    let few : length (chunks plain) ≤ length plain / 65536 + 1 = chunk_count plain in
+    let few = chunks_size plain in
     absurd (omega arith)
 seals_stanza seed stanza meant plain old new told result short bound (inr (inr (inr (file, is, gives)))) =
     inr (
@@ -114,13 +114,6 @@ pub seals_alone : {X : Type 0} (w : X → Result (List StanzaParts) ℕ) (l : X 
     → items ≡ x ∷ [] → Seals seed (Gathered (map w items) (map l items)) plain old new told result
     → Seals seed (Gathered (w x ∷ []) (l x ∷ [])) plain old new told result
 seals_alone w l items x seed plain old new told result one h = subst (λ xs. Seals seed (Gathered (map w xs) (map l xs)) plain old new told result) one h
-
--- the salt and the file key of a seed have 16 bytes
-salt_size : (seed : List ℕ) → length seed ≡ 48 → length (salt_of seed) ≡ 16
-salt_size seed size = omega (arith, length-take 16 (drop 32 seed), length-drop 32 seed)
-
-key_size : (seed : List ℕ) → length seed ≡ 48 → length (take 16 seed) ≡ 16
-key_size seed size = omega (arith, length-take 16 seed)
 
 pub pass_short : (pass seed : List ℕ) (work : ℕ) → length seed ≡ 48 → work ≤ 30 → IsShort (pass_stanza pass work (salt_of seed) (fresh_of seed).file_key)
 pass_short pass seed work size high mac text h =

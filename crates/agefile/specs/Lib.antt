@@ -1,7 +1,9 @@
 pub mod Answer
 pub mod Codes
+pub mod Inspect
 pub mod Limits
 pub mod Reader
 pub mod Report
 pub mod Ranges
 pub mod Start
+pub mod Sizes

@@ -1,8 +1,8 @@
 //! Decrypting a whole file.
 
 ghost use Rattle.std.specs.Prelude.{◌≡◌, map};
-ghost use Rattle.age_recipient.specs.KeyHolders.{key_unwraps};
-ghost use Rattle.age_recipient.specs.Pass.{WorkFits, pass_unwraps};
+ghost use Rattle.age_recipient.specs.KeyedHolders.{key_unwraps};
+ghost use Rattle.age_recipient.specs.PassphraseHolders.{WorkFits, pass_unwraps};
 ghost use Rattle.agefile.specs.Answer.{GivesPlain, GivesUp, alone};
 
 use crate::bounds::limits;

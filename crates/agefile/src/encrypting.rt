@@ -1,9 +1,9 @@
 //! Encrypting a whole plaintext.
 
 ghost use Rattle.std.specs.Prelude.{◌≡◌, ◌≤◌, [], ◌∷◌, drop, map, take};
-ghost use Rattle.age_recipient.specs.Keyed.{keyed_stanza};
-ghost use Rattle.age_recipient.specs.Pass.{WorkFits};
-ghost use Rattle.age_recipient.specs.Passphrase.{pass_stanza};
+ghost use Rattle.age_recipient.specs.KeyedStanza.{keyed_stanza};
+ghost use Rattle.age_recipient.specs.PassphraseHolders.{WorkFits};
+ghost use Rattle.age_recipient.specs.PassphraseStanza.{pass_stanza};
 ghost use Rattle.age_file.specs.NewFile.{Gathered};
 ghost use Rattle.agefile.specs.Answer.{GivesFile, GivesUp, Seals, fresh_of, salt_of};
 

@@ -12,3 +12,6 @@ mod ranges;
 mod reader;
 mod report;
 mod start;
+mod inspecting;
+mod report;
+mod sizes;

@@ -3,8 +3,8 @@
 ghost use Rattle.std.specs.Prelude.{◌≡◌, ◌≤◌, ◌/◌, None, true};
 ghost use Rattle.std.specs.Bool.{OnFalse, OnTrue};
 ghost use Rattle.age_stream.specs.Reading.{outcome};
-ghost use Rattle.age_recipient.specs.KeyHolders.{key_unwraps};
-ghost use Rattle.age_recipient.specs.Pass.{WorkFits, pass_unwraps};
+ghost use Rattle.age_recipient.specs.KeyedHolders.{key_unwraps};
+ghost use Rattle.age_recipient.specs.PassphraseHolders.{WorkFits, pass_unwraps};
 ghost use Rattle.agefile.specs.Answer.{alone};
 ghost use Rattle.agefile.specs.Limits.{limits};
 ghost use Rattle.agefile.specs.Ranges.{GivesFrom, OpensAt, OpensRanges, StaysClosed, Verified, closed, gives, has_byte, last_index, may_open, may_verify, piece_len, place_of, plain_of};

@@ -1,8 +1,8 @@
 //! Reading a file in steps: its front, then one sealed chunk after another.
 
 ghost use Rattle.std.specs.Prelude.{◌≡◌};
-ghost use Rattle.age_recipient.specs.KeyHolders.{key_unwraps};
-ghost use Rattle.age_recipient.specs.Pass.{WorkFits, pass_unwraps};
+ghost use Rattle.age_recipient.specs.KeyedHolders.{key_unwraps};
+ghost use Rattle.age_recipient.specs.PassphraseHolders.{WorkFits, pass_unwraps};
 ghost use Rattle.agefile.specs.Answer.{alone};
 ghost use Rattle.agefile.specs.Reader.{OpensAt, OpensReader, ReadsStep, StaysClosed, closed, takes};
 

@@ -1,8 +1,8 @@
 //! Where a file's sealed chunks begin, and their key.
 
 ghost use Rattle.std.specs.Prelude.{◌≡◌, IfNone, IfSome, map};
-ghost use Rattle.age_recipient.specs.KeyHolders.{key_unwraps};
-ghost use Rattle.age_recipient.specs.Pass.{WorkFits, pass_unwraps};
+ghost use Rattle.age_recipient.specs.KeyedHolders.{key_unwraps};
+ghost use Rattle.age_recipient.specs.PassphraseHolders.{WorkFits, pass_unwraps};
 ghost use Rattle.agefile.specs.Answer.{alone};
 ghost use Rattle.agefile.specs.Start.{FindsStart};
 

@@ -1,7 +1,7 @@
 use Rattle.std.proofs.Common.{◌≡◌, ◌∙◌, ap, length, rules}
 use denote.Param.Object.{read_made}
-use Rattle.age_recipient.specs.Pass.{pass_wraps}
-use Rattle.age_recipient.specs.Passphrase.{pass_stanza}
+use Rattle.age_recipient.specs.PassphraseHolders.{pass_wraps}
+use Rattle.age_recipient.specs.PassphraseStanza.{pass_stanza}
 use Rattle.agefile.specs.Answer.{fresh_of, salt_of}
 use Rattle.agefile.proofs.SealLemmas.{pass_short, seals_one}
 use Rattle.agefile.proofs.encrypting.agefile_encrypt_passphrase.Goals as goal

@@ -1,6 +1,6 @@
 use Rattle.std.proofs.Common.{◌∙◌, ap}
 use denote.Param.Object.{read_made}
-use Rattle.age_recipient.specs.KeyHolders.{key_unwraps}
+use Rattle.age_recipient.specs.KeyedHolders.{key_unwraps}
 use Rattle.agefile.proofs.StartLemmas.{start_meant}
 use Rattle.agefile.proofs.start.start_for_key.Goals as goal
 use Rattle.agefile.proofs.start.start_for_key.OwnLists.{own-1, entry-1-1, at-1-1, same-1-1}
