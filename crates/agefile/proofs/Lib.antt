@@ -1,7 +1,7 @@
-pub mod RangeLemmas
-mod StartLemmas
 mod HeaderLemmas
 mod PlainLemmas
 mod PlainSizes
+pub mod RangeLemmas
 mod SealLemmas
 pub mod SizeLemmas
+mod StartLemmas

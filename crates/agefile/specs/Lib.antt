@@ -2,8 +2,8 @@ pub mod Answer
 pub mod Codes
 pub mod Inspect
 pub mod Limits
+pub mod Ranges
 pub mod Reader
 pub mod Report
-pub mod Ranges
-pub mod Start
 pub mod Sizes
+pub mod Start
