@@ -55,7 +55,7 @@ pub(crate) const DEFAULT_SEED: &str = "/dev/urandom";
 const ABOUT: &str = "Works on files in the age v1 format";
 
 /// The newest version in `CHANGELOG.md`.
-const VERSION: &str = "0.2.0";
+const VERSION: &str = "0.3.0";
 
 /// The whole command line.
 pub(crate) fn whole_command<'a>(alloc: Global) -> Result<Command<'a>, AllocError>
