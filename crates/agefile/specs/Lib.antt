@@ -4,3 +4,5 @@ pub mod Limits
 pub mod Reader
 pub mod Report
 pub mod Start
+pub mod Steps
+pub mod Writer

@@ -7,3 +7,5 @@ mod code;
 mod reader;
 mod report;
 mod start;
+mod state;
+mod writer;
