@@ -1,1 +1,2 @@
 mod StartLemmas
+mod RunLemmas

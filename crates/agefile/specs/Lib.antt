@@ -3,6 +3,7 @@ pub mod Codes
 pub mod Limits
 pub mod Reader
 pub mod Report
+pub mod Runs
 pub mod Start
 pub mod Steps
 pub mod Writer

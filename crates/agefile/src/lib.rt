@@ -4,6 +4,7 @@
 
 mod bounds;
 mod code;
+pub mod laws;
 mod reader;
 mod report;
 mod start;
