@@ -1,2 +1,6 @@
-mod StartLemmas
+mod FrontLemmas
+mod PlainLemmas
 mod RunLemmas
+mod SealLemmas
+pub mod SizeLemmas
+mod StartLemmas

@@ -6,7 +6,7 @@ use Rattle.age_recipient.specs.declared.unwrapped.Unwrapped.{Unwrapped}
 use Rattle.age_stream.specs.Reading.{Reading}
 use Rattle.age_file.specs.declared.fault.Fault.{Fault}
 use Rattle.age_file.specs.declared.limits.Fresh.{Fresh}
-use Rattle.age_file.specs.NewFile.{NewFile}
+use Rattle.age_file.specs.NewFile.{CutFile, IsRefusal, NewFile}
 use Rattle.age_file.specs.Verdict.{Answering, IsVerdict}
 use Rattle.agefile.specs.declared.report.Report.{Report}
 use Rattle.agefile.specs.Codes.{code_of}
@@ -65,3 +65,11 @@ GivesFile seed stanza plain old new told result =
     GivesUp 17 old new told result
     ⊎ ((file : List ℕ) × NewFile limits (fresh_of seed) (only (stanza (fresh_of seed).file_key)) plain file
     × Gives file None old new told result)
+
+-- the same for whatever recipients give, where there may be a refusal or too many chunks too
+abbrev pub Seals : List ℕ → (Result (List StanzaParts) Fault → Type 0) → List ℕ → List ℕ → List ℕ → Report → ℕ → Type 0
+Seals seed given plain old new told result =
+    GivesUp 17 old new told result
+    ⊎ (((fault : Fault) × IsRefusal limits (fresh_of seed).file_key given fault)
+    ⊎ (((begun : List ℕ) × CutFile limits (fresh_of seed) given plain begun)
+    ⊎ ((file : List ℕ) × NewFile limits (fresh_of seed) given plain file × Gives file None old new told result)))

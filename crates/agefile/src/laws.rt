@@ -1,12 +1,26 @@
 //! Laws over the definitions alone: functions that do nothing, with the law as their contract.
 
-ghost use Rattle.std.specs.Prelude.{◌≡◌, ℕ, List};
-ghost use Rattle.agefile.specs.Runs.{ReadsRun};
-ghost use Rattle.agefile.specs.Reader.{before_first};
+ghost use Rattle.std.specs.Prelude.{◌≡◌, ◌≢◌, ℕ, List, [], drop, take};
 ghost use Rattle.age_stream.specs.Payload.{pieces};
-ghost use Rattle.agefile.proofs.RunLemmas.{IsRead};
+ghost use Rattle.age_stream.specs.Reading.{Reading};
+ghost use Rattle.age_file.specs.declared.fault.Fault.{Fault};
+ghost use Rattle.age_file.specs.Verdict.{Answering, IsVerdict};
+ghost use Rattle.agefile.specs.declared.reader.Reader.{Reader};
+ghost use Rattle.agefile.specs.declared.report.Report.{Report};
+ghost use Rattle.agefile.specs.Codes.{code_of};
+ghost use Rattle.agefile.specs.Limits.{limits};
+ghost use Rattle.agefile.specs.Reader.{OpensReader};
+ghost use Rattle.agefile.specs.Report.{report_of};
+ghost use Rattle.agefile.specs.Runs.{ReadsRun};
 
-/// test
-pub fn reads()
-    ensures { (key rest text : List ℕ) (code place : ℕ) → ReadsRun (before_first key) (pieces rest) text code place → IsRead key 0 (pieces rest) text code place }
+/// Reading a file in steps gives what decrypting it does. Of bytes b the front of 65,552 is enough to open. A fault of the opening is the
+/// verdict's, before any plaintext. Else the texts of the sealed chunks after the nonce, joined up to the first fault, are the verdict's
+/// plaintext, and that fault, with its place, is the verdict's.
+pub fn steps_read()
+    ensures refused { (answers : Answering) (b : List ℕ) (reader : Reader) (told : Report) (result : ℕ) (v : Reading Fault)
+        → OpensReader answers (take 65552 b) reader told result → IsVerdict limits answers b v → result ≢ 0 → result ≢ 17
+        → (v.front ≡ []) × (code_of v.fault ≡ result) }
+    ensures read { (answers : Answering) (b : List ℕ) (reader : Reader) (told : Report) (text : List ℕ) (code place : ℕ) (v : Reading Fault)
+        → OpensReader answers (take 65552 b) reader told 0 → ReadsRun reader (pieces (drop told.len b)) text code place
+        → IsVerdict limits answers b v → (v.front ≡ text) × ((code_of v.fault ≡ code) × ((report_of 0 v.fault).place ≡ place)) }
 {}

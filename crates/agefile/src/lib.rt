@@ -4,6 +4,9 @@
 
 mod bounds;
 mod code;
+mod decrypting;
+mod encrypting;
+mod giving;
 pub mod laws;
 mod reader;
 mod report;
