@@ -4,3 +4,4 @@ mod RunLemmas
 mod SealLemmas
 pub mod SizeLemmas
 mod StartLemmas
+mod WriterLemmas

@@ -55,10 +55,11 @@ read-by : (r new : Reader) (chunk after text : List ℕ) (more : List (List ℕ)
     → Reads r new chunk after last told result o
     → ((result ≡ 0) × ((rest : List ℕ) × (text ≡ take told.len after ++ rest) × ReadsRun new more rest code place))
     ⊎ ((result ≢ 0) × ((text ≡ []) × ((code ≡ result) × (place ≡ told.place)))) → RunsBy r last more text code place o
-read-by r new chunk after text more last told result code place (Ok t) (is, report, state, buffer) (inl (zero, (rest, joined, run))) =
-    (rest,
-      joined ∙ ap (λ n. take n after ++ rest) (ap (λ (x : Report). x.len) report) ∙ ap (λ b. take (length t) b ++ rest) buffer ∙ ap (λ x. x ++ rest) (take-append_seam t _),
-      subst (λ n. ReadsRun n more rest code place) state run)
+read-by r new chunk after text more last told result code place (Ok t) (is, report, state, buffer) (inl (zero, (rest, joined, run))) = (
+  rest,
+  joined ∙ ap (λ n. take n after ++ rest) (ap (λ (x : Report). x.len) report) ∙ ap (λ b. take (length t) b ++ rest) buffer ∙ ap (λ x. x ++ rest) (take-append_seam t _),
+  subst (λ n. ReadsRun n more rest code place) state run,
+)
 read-by r new chunk after text more last told result code place (Ok t) (is, report, state, buffer) (inr (nonzero, h)) = absurd (nonzero is)
 read-by r new chunk after text more last told result code place (Err f) (is, report, state, buffer) (inl (zero, h)) = absurd (some-code (of_stream f) (sym is ∙ zero))
 read-by r new chunk after text more last told result code place (Err f) (is, report, state, buffer) (inr (nonzero, (none, (codes, places)))) =
