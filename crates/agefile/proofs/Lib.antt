@@ -4,4 +4,5 @@ mod RunLemmas
 mod SealLemmas
 pub mod SizeLemmas
 mod StartLemmas
+mod WriteRunLemmas
 mod WriterLemmas
