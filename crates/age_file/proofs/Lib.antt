@@ -3,7 +3,7 @@ mod AtLemmas
 mod CopyLemmas
 mod DecryptLemmas
 mod EncryptLemmas
-mod FileLemmas
+pub mod FileLemmas
 mod GatherLemmas
 mod OwnLemmas
 mod PayloadLemmas

@@ -1,7 +1,11 @@
+mod FrontLemmas
 mod HeaderLemmas
 mod PlainLemmas
 mod PlainSizes
 pub mod RangeLemmas
+mod RunLemmas
 mod SealLemmas
 pub mod SizeLemmas
 mod StartLemmas
+mod WriteRunLemmas
+mod WriterLemmas

@@ -57,7 +57,7 @@ one_place meant place (l ∷ [], may, is) = is
 one_place meant place (l ∷ m ∷ rest, may, is) = absurd may.1
 
 -- what one recipient gives that wraps a key in one stanza
-gathered_one : (stanza : StanzaParts) (meant : Labels) (given : Result (List StanzaParts) Fault) → Gathered (Ok (stanza ∷ []) ∷ []) (meant ∷ []) given → given ≡ Ok (stanza ∷ [])
+pub gathered_one : (stanza : StanzaParts) (meant : Labels) (given : Result (List StanzaParts) Fault) → Gathered (Ok (stanza ∷ []) ∷ []) (meant ∷ []) given → given ≡ Ok (stanza ∷ [])
 gathered_one stanza meant given (place, apart, is) = is ∙ ap (together (Ok (stanza ∷ []))) (one_place meant place apart)
 
 -- each header of this stanza alone is short
@@ -65,7 +65,7 @@ abbrev pub IsShort : StanzaParts → Type 0
 IsShort stanza = (mac text : List ℕ) → Head (stanza ∷ []) mac text → length text ≤ 156
 
 -- no header of one short stanza is refused
-no_refusal : (k : FileKey) (stanza : StanzaParts) (meant : Labels) (fault : Fault) → IsShort stanza
+pub no_refusal : (k : FileKey) (stanza : StanzaParts) (meant : Labels) (fault : Fault) → IsShort stanza
     → IsRefusal limits k (Gathered (Ok (stanza ∷ []) ∷ []) (meant ∷ [])) fault → ⊥
 no_refusal k stanza meant (Refused i code) short h = let same = gathered_one stanza meant _ h in cc
 no_refusal k stanza meant (IncompatibleRecipients i) short h = let same = gathered_one stanza meant _ h in cc

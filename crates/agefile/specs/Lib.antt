@@ -5,5 +5,8 @@ pub mod Limits
 pub mod Ranges
 pub mod Reader
 pub mod Report
+pub mod Runs
 pub mod Sizes
 pub mod Start
+pub mod Steps
+pub mod Writer

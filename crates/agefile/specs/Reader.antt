@@ -11,6 +11,7 @@ use Rattle.agefile.specs.Codes.{fault_code}
 use Rattle.agefile.specs.Limits.{limits}
 use Rattle.agefile.specs.Report.{report_of}
 use Rattle.agefile.specs.Start.{FindsStart}
+use Rattle.agefile.specs.Steps.{IsOutOfOrder}
 
 -- not open
 abbrev pub closed : Reader
@@ -46,13 +47,6 @@ OpensReader answers front new told result = (start : Result Start Fault) × Find
 -- whether a reader takes a chunk of so many bytes: it is open, and the chunk is full, or the last and no longer
 abbrev pub takes : Reader → ℕ → Bool → Bool
 takes r len last = nat_eq r.state 1 && (if last then nat_le len 65552 else nat_eq len 65552)
-
--- nothing happens
-pub record IsOutOfOrder (old new : Reader) (chunk after : List ℕ) (told : Report) (result : ℕ) : Type 0 where
-  pub code : result ≡ 23
-  pub report : told ≡ report_of 0 None
-  pub reader : new ≡ old
-  pub buffer : after ≡ chunk
 
 -- the text stands in front of the chunk, of which the rest is as it was; or its fault is returned, and all of it is as it was
 abbrev pub Reads : Reader → Reader → List ℕ → List ℕ → Bool → Report → ℕ → Result (List ℕ) StreamFault → Type 0

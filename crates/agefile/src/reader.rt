@@ -10,19 +10,10 @@ use crate::bounds::MAX_CHUNKS;
 use crate::code::{OK, OUT_OF_ORDER, WORK_FACTOR, code_of};
 use crate::report::Report;
 use crate::start::{Start, start_for_key, start_for_passphrase};
+use crate::state::{CLOSED, ENDED, FAILED, OPEN, SEALED_CHUNK};
 use age_file::Fault;
 use age_stream::open_chunk;
 use std::alloc::Global;
-
-const SEALED_CHUNK: usize = 65_552;
-
-const CLOSED: u64 = 0;
-
-const OPEN: u64 = 1;
-
-const ENDED: u64 = 2;
-
-const FAILED: u64 = 3;
 
 /// A reader of a file's sealed chunks, in its caller's memory. Any bytes may stand in it.
 #[repr(C)]

@@ -1,0 +1,113 @@
+-- What runs of steps give.
+use Rattle.std.proofs.Common.{◌≡◌, ◌≢◌, ◌⊎◌, ℕ, suc, ◌+◌, ◌-◌, ◌<◌, ◌≤◌, ◌^◌, List, [], ◌∷◌, ◌++◌, length, take, drop, nat_eq, nat_le, Bool, true, false, cond, sym, ◌∙◌, ap, refl, subst, arith, inl, inr, length-append, Option, Some, None, Result, Ok, Err}
+use Rattle.std.specs.Prelude.{option_map, ◌&&◌}
+use Rattle.std.specs.List.{concat}
+use Rattle.std.proofs.lemmas.Bool.{le-leb}
+use Rattle.std.proofs.Math.Seq.{take-append_seam}
+use Rattle.age_stream.specs.declared.fault.StreamFault.{StreamFault}
+use Rattle.age_stream.specs.Payload.{is_end, pieces}
+use Rattle.age_stream.specs.Reading.{first_fault, front, outcome, outcomes}
+use Rattle.age_stream.proofs.CutLemmas.{AtMost, cut-at_most}
+use Rattle.age_file.specs.declared.fault.Fault.{Fault}
+use Rattle.age_file.specs.declared.fault.Fault.TheVariants.{NotAge, BadLine, HeaderTruncated, HeaderTooLarge, MixedPassphrase, NoMatch, WrongKey, Malformed, BadMac, NonceTruncated, ChunkShort, EmptyFinal, BadChunk, TooManyChunks, Read, Write, OutOfMemory, NoRecipients, Refused, IncompatibleRecipients}
+use Rattle.age_file.specs.Verdict.{of_stream}
+use Rattle.agefile.specs.declared.reader.Reader.{Reader}
+use Rattle.agefile.specs.declared.report.Report.{Report}
+use Rattle.agefile.specs.Codes.{code_of, fault_code, fault_place}
+use Rattle.agefile.specs.Limits.{limits}
+use Rattle.agefile.specs.Report.{report_of}
+use Rattle.agefile.specs.Reader.{Reads, ReadsStep, after_chunk, takes}
+use Rattle.agefile.specs.Runs.{ReadsRun}
+
+-- an open reader before chunk i
+abbrev pub reader_at : List ℕ → ℕ → Reader
+reader_at key i = record { key = key; number = i; state = 1 }
+
+-- no fault has the number 0
+pub some-code : (f : Fault) → fault_code f ≡ 0 → ⊥
+some-code NotAge e = absurd (omega arith)
+some-code (BadLine n) e = absurd (omega arith)
+some-code HeaderTruncated e = absurd (omega arith)
+some-code HeaderTooLarge e = absurd (omega arith)
+some-code MixedPassphrase e = absurd (omega arith)
+some-code NoMatch e = absurd (omega arith)
+some-code WrongKey e = absurd (omega arith)
+some-code (Malformed s) e = absurd (omega arith)
+some-code BadMac e = absurd (omega arith)
+some-code NonceTruncated e = absurd (omega arith)
+some-code (ChunkShort i) e = absurd (omega arith)
+some-code (EmptyFinal i) e = absurd (omega arith)
+some-code (BadChunk i) e = absurd (omega arith)
+some-code TooManyChunks e = absurd (omega arith)
+some-code Read e = absurd (omega arith)
+some-code Write e = absurd (omega arith)
+some-code OutOfMemory e = absurd (omega arith)
+some-code NoRecipients e = absurd (omega arith)
+some-code (Refused i n) e = absurd (omega arith)
+some-code (IncompatibleRecipients i) e = absurd (omega arith)
+
+-- what a run gives, where its first chunk's outcome is known
+abbrev RunsBy : Reader → Bool → List (List ℕ) → List ℕ → ℕ → ℕ → Result (List ℕ) StreamFault → Type 0
+RunsBy r last more text code place (Ok t) = (rest : List ℕ) × (text ≡ t ++ rest) × ReadsRun (after_chunk r last) more rest code place
+RunsBy r last more text code place (Err f) = (text ≡ []) × ((code ≡ fault_code (of_stream f)) × (place ≡ fault_place (of_stream f)))
+
+read-by : (r new : Reader) (chunk after text : List ℕ) (more : List (List ℕ)) (last : Bool) (told : Report) (result code place : ℕ) (o : Result (List ℕ) StreamFault)
+    → Reads r new chunk after last told result o
+    → ((result ≡ 0) × ((rest : List ℕ) × (text ≡ take told.len after ++ rest) × ReadsRun new more rest code place))
+    ⊎ ((result ≢ 0) × ((text ≡ []) × ((code ≡ result) × (place ≡ told.place)))) → RunsBy r last more text code place o
+read-by r new chunk after text more last told result code place (Ok t) (is, report, state, buffer) (inl (zero, (rest, joined, run))) = (
+  rest,
+  joined ∙ ap (λ n. take n after ++ rest) (ap (λ (x : Report). x.len) report) ∙ ap (λ b. take (length t) b ++ rest) buffer ∙ ap (λ x. x ++ rest) (take-append_seam t _),
+  subst (λ n. ReadsRun n more rest code place) state run,
+)
+read-by r new chunk after text more last told result code place (Ok t) (is, report, state, buffer) (inr (nonzero, h)) = absurd (nonzero is)
+read-by r new chunk after text more last told result code place (Err f) (is, report, state, buffer) (inl (zero, h)) = absurd (some-code (of_stream f) (sym is ∙ zero))
+read-by r new chunk after text more last told result code place (Err f) (is, report, state, buffer) (inr (nonzero, (none, (codes, places)))) =
+    (none, (codes ∙ is, places ∙ ap (λ (x : Report). x.place) report))
+
+run-first : (key : List ℕ) (i : ℕ) (chunk text : List ℕ) (more : List (List ℕ)) (code place : ℕ) → takes (reader_at key i) (length chunk) (is_end more) ≡ true
+    → ReadsRun (reader_at key i) (chunk ∷ more) text code place
+    → RunsBy (reader_at key i) (is_end more) more text code place (outcome key limits.max_chunks i (is_end more) chunk)
+run-first key i chunk text more code place fits (new, after, told, result, inl (unfit, _), on) = absurd (cc)
+run-first key i chunk text more code place fits (new, after, told, result, inr (_, reads), on) =
+    read-by (reader_at key i) new chunk after text more (is_end more) told result code place _ reads on
+
+-- the reading of pieces from number i on
+abbrev pub IsRead : List ℕ → ℕ → List (List ℕ) → List ℕ → ℕ → ℕ → Type 0
+IsRead key i cs text code place = (text ≡ front (outcomes key limits.max_chunks i cs))
+    × ((code ≡ code_of (option_map of_stream (first_fault (outcomes key limits.max_chunks i cs))))
+    × (place ≡ (report_of 0 (option_map of_stream (first_fault (outcomes key limits.max_chunks i cs)))).place))
+
+last-fits : (key : List ℕ) (i : ℕ) (chunk : List ℕ) → length chunk ≤ 65552 → takes (reader_at key i) (length chunk) true ≡ true
+last-fits key i chunk le = le-leb (length chunk) 65552 le
+
+full-fits : (key : List ℕ) (i : ℕ) (chunk : List ℕ) → length chunk ≡ 65552 → takes (reader_at key i) (length chunk) false ≡ true
+full-fits key i chunk is = ap (λ n. nat_eq n 65552) is
+
+read-last : (key : List ℕ) (i : ℕ) (chunk text : List ℕ) (code place : ℕ) (o : Result (List ℕ) StreamFault)
+    → RunsBy (reader_at key i) true [] text code place o
+    → (text ≡ front (o ∷ [])) × ((code ≡ code_of (option_map of_stream (first_fault (o ∷ [])))) × (place ≡ (report_of 0 (option_map of_stream (first_fault (o ∷ [])))).place))
+read-last key i chunk text code place (Ok t) (rest, joined, (none, (zero, nowhere))) = (joined ∙ ap (λ r. t ++ r) none, (zero, nowhere))
+read-last key i chunk text code place (Err f) h = h
+
+read-more : (key : List ℕ) (i : ℕ) (text : List ℕ) (code place : ℕ) (more : List (List ℕ)) (o : Result (List ℕ) StreamFault) (os : List (Result (List ℕ) StreamFault))
+    → ((rest : List ℕ) → ReadsRun (reader_at key (i + 1)) more rest code place → (rest ≡ front os)
+    × ((code ≡ code_of (option_map of_stream (first_fault os))) × (place ≡ (report_of 0 (option_map of_stream (first_fault os))).place)))
+    → RunsBy (reader_at key i) false more text code place o
+    → (text ≡ front (o ∷ os)) × ((code ≡ code_of (option_map of_stream (first_fault (o ∷ os)))) × (place ≡ (report_of 0 (option_map of_stream (first_fault (o ∷ os)))).place))
+read-more key i text code place more (Ok t) os next (rest, joined, run) = let h = next rest run in (joined ∙ ap (λ r. t ++ r) h.0, h.1)
+read-more key i text code place more (Err f) os next h = h
+
+pub run_reads : (key : List ℕ) (i : ℕ) (cs : List (List ℕ)) (text : List ℕ) (code place : ℕ) → AtMost 65552 cs → ReadsRun (reader_at key i) cs text code place
+    → IsRead key i cs text code place
+run_reads key i [] text code place sizes run = absurd sizes
+run_reads key i (c ∷ []) text code place sizes run =
+    read-last key i c text code place (outcome key limits.max_chunks i true c) (run-first key i c text [] code place (last-fits key i c sizes) run)
+run_reads key i (c ∷ d ∷ more) text code place sizes run =
+    read-more key i text code place (d ∷ more) (outcome key limits.max_chunks i false c) (outcomes key limits.max_chunks (i + 1) (d ∷ more))
+    (λ rest on. run_reads key (i + 1) (d ∷ more) rest code place sizes.1 on)
+    (run-first key i c text (d ∷ more) code place (full-fits key i c sizes.0) run)
+
+-- the same of all that follows a nonce
+pub payload_reads : (key rest text : List ℕ) (code place : ℕ) → ReadsRun (reader_at key 0) (pieces rest) text code place → IsRead key 0 (pieces rest) text code place
+payload_reads key rest text code place run = run_reads key 0 (pieces rest) text code place (cut-at_most 65552 rest (omega arith)) run

@@ -1,0 +1,164 @@
+-- What a run of a writer's steps gives is the file.
+use Rattle.std.proofs.Common.{◌≡◌, ◌≢◌, ◌⊎◌, ℕ, ◌+◌, ◌-◌, ◌<◌, ◌≤◌, ◌^◌, List, [], ◌∷◌, ◌++◌, length, take, drop, nat_eq, nat_le, Bool, true, false, sym, ◌∙◌, ap, refl, subst, arith, inl, inr, append_assoc, length-append, length-take, length-drop, Option, None}
+use Rattle.std.specs.Prelude.{◌&&◌, ◌||◌}
+use Rattle.std.specs.List.{concat}
+use Rattle.std.proofs.lemmas.Bool.{cases_lt, le-leb, lt-ltb}
+use Rattle.std.proofs.Math.Seq.{take-append_seam}
+use Rattle.age_cipher.specs.Sealing.{sealed}
+use Rattle.age_header.specs.Header.{StanzaParts}
+use Rattle.age_recipient.specs.declared.key.FileKey.{FileKey}
+use Rattle.age_stream.specs.Cutting.{IsFilled}
+use Rattle.age_stream.specs.Payload.{chunks, is_end, payload, payload_key, place, sealed_from}
+use Rattle.age_stream.proofs.CutLemmas.{is_cut}
+use Rattle.age_file.specs.NewFile.{NewFile}
+use Rattle.agefile.specs.declared.report.Report.{Report}
+use Rattle.agefile.specs.declared.writer.Writer.{Writer}
+use Rattle.agefile.specs.Answer.{fresh_of, only}
+use Rattle.agefile.specs.Limits.{limits}
+use Rattle.agefile.specs.Runs.{WritesRun}
+use Rattle.agefile.specs.Writer.{OpensWriter, WritesStep, after_chunk, before_first, has_text, takes}
+
+-- an open writer before chunk i
+abbrev pub writer_at : List ℕ → ℕ → Writer
+writer_at key i = record { key = key; number = i; state = 1 }
+
+-- the sizes of the chunks of a plaintext from number i on
+abbrev pub AreChunks : ℕ → List (List ℕ) → Type 0
+AreChunks i [] = ⊥
+AreChunks i (c ∷ []) = (length c ≤ 65536) × ((0 < length c) ⊎ (i ≡ 0))
+AreChunks i (c ∷ d ∷ more) = (length c ≡ 65536) × AreChunks (i + 1) (d ∷ more)
+
+filled-chunks : (i : ℕ) (cs : List (List ℕ)) → IsFilled 65536 cs → AreChunks i cs
+filled-chunks i [] h = h
+filled-chunks i (c ∷ []) h = (h.1, inl h.0)
+filled-chunks i (c ∷ d ∷ more) h = (h.0, filled-chunks (i + 1) (d ∷ more) h.1)
+
+plain-chunks : (plain : List ℕ) → AreChunks 0 (chunks plain)
+plain-chunks plain = elim (is_cut 65536 plain (omega arith)).sizes [
+  | inl one ↦ subst (AreChunks 0) (sym one) (omega arith, inr refl)
+  | inr filled ↦ filled-chunks 0 (chunks plain) filled
+]
+
+-- ---- one step
+
+some-text : (i n : ℕ) → 0 < n → has_text i (n + 16) ≡ true
+some-text i n pos = ap (λ t. t || (nat_eq (n + 16) 16 && nat_eq i 0)) (lt-ltb 16 (n + 16) (omega arith))
+
+text-there : (i n : ℕ) → (0 < n) ⊎ (i ≡ 0) → has_text i (n + 16) ≡ true
+text-there i n (inl pos) = some-text i n pos
+text-there i n (inr zero) = elim (cases_lt 0 n) [
+  | inl pos ↦ some-text i n pos
+  | inr none ↦ let empty : n ≡ 0 = omega arith in ap (λ k. has_text k (n + 16)) zero ∙ ap (λ m. has_text 0 (m + 16)) empty
+]
+
+last-fits : (key : List ℕ) (i : ℕ) (c : List ℕ) → length c ≤ 65536 → (0 < length c) ⊎ (i ≡ 0) → takes (writer_at key i) (length c + 16) true ≡ true
+last-fits key i c le some = ap (λ t. t && has_text i (length c + 16)) (le-leb (length c + 16) 65552 (omega arith)) ∙ text-there i (length c) some
+
+full-fits : (key : List ℕ) (i : ℕ) (c : List ℕ) → length c ≡ 65536 → takes (writer_at key i) (length c + 16) false ≡ true
+full-fits key i c is = ap (λ n. nat_eq (n + 16) 65552) is
+
+-- what a run gives, by its first step: a sealed chunk and more, or one too many
+abbrev WritesBy : List ℕ → ℕ → Bool → List ℕ → List (List ℕ) → List ℕ → ℕ → Type 0
+WritesBy key i last c more out code =
+    ((i < limits.max_chunks) × ((rest : List ℕ) × (out ≡ sealed key (place i last) [] c ++ rest) × WritesRun (after_chunk (writer_at key i) last) more rest code))
+    ⊎ ((limits.max_chunks ≤ i) × (code ≡ 14))
+
+text-of : (c room : List ℕ) → length room ≡ 16 → take (length (c ++ room) - 16) (c ++ room) ≡ c
+text-of c room size =
+    let n : length (c ++ room) - 16 ≡ length c = omega (arith, length-append c room) in
+    ap (λ k. take k (c ++ room)) n ∙ take-append_seam c room
+
+write-by : (key : List ℕ) (i : ℕ) (last : Bool) (c room : List ℕ) (more : List (List ℕ)) (out : List ℕ) (code : ℕ) (new : Writer) (after : List ℕ) (told : Report) (result : ℕ)
+    → takes (writer_at key i) (length c + 16) last ≡ true → length room ≡ 16 → WritesStep (writer_at key i) new (c ++ room) after last told result
+    → ((result ≡ 0) × ((rest : List ℕ) × (out ≡ after ++ rest) × WritesRun new more rest code)) ⊎ ((result ≢ 0) × ((out ≡ []) × (code ≡ result)))
+    → WritesBy key i last c more out code
+write-by key i last c room more out code new after told result fits size (inl (unfit, _)) on =
+    let n : length (c ++ room) ≡ length c + 16 = omega (arith, length-append c room) in
+    let clash : true ≡ false = sym fits ∙ ap (λ k. takes (writer_at key i) k last) (sym n) ∙ unfit in
+    absurd (cc)
+write-by key i last c room more out code new after told result fits size (inr (_, inl many)) (inl (zero, _)) =
+    let code14 : result ≡ 14 = many.code in absurd (omega arith)
+write-by key i last c room more out code new after told result fits size (inr (_, inl many)) (inr (_, (none, is))) = inr (many.many, is ∙ many.code)
+write-by key i last c room more out code new after told result fits size (inr (_, inr seals)) (inl (zero, (rest, joined, run))) =
+    inl (
+      seals.few,
+      (
+        rest,
+        joined ∙ ap (λ b. b ++ rest) (seals.buffer ∙ ap (sealed key (place i last) []) (text-of c room size)),
+        subst (λ w. WritesRun w more rest code) seals.writer run,
+      ),
+    )
+write-by key i last c room more out code new after told result fits size (inr (_, inr seals)) (inr (nonzero, _)) = absurd (nonzero seals.code)
+
+write-first : (key : List ℕ) (i : ℕ) (c : List ℕ) (more : List (List ℕ)) (out : List ℕ) (code : ℕ) → takes (writer_at key i) (length c + 16) (is_end more) ≡ true
+    → WritesRun (writer_at key i) (c ∷ more) out code → WritesBy key i (is_end more) c more out code
+write-first key i c more out code fits (new, room, size, after, told, result, step, on) =
+    write-by key i (is_end more) c room more out code new after told result fits size step on
+
+-- ---- all steps
+
+-- all chunks are sealed, or there are too many
+abbrev pub AreSealed : List ℕ → ℕ → List (List ℕ) → List ℕ → ℕ → Type 0
+AreSealed key i cs out code =
+    ((code ≡ 0) × ((out ≡ concat (sealed_from key i cs)) × (i + length cs ≤ limits.max_chunks))) ⊎ ((code ≡ 14) × (limits.max_chunks < i + length cs))
+
+write-last : (key : List ℕ) (i : ℕ) (c out : List ℕ) (code : ℕ) → WritesBy key i true c [] out code → AreSealed key i (c ∷ []) out code
+write-last key i c out code (inl (few, (rest, joined, (none, zero)))) = inl (zero, (joined ∙ ap (λ r. sealed key (place i true) [] c ++ r) none, omega arith))
+write-last key i c out code (inr (many, is)) = inr (is, omega arith)
+
+write-more : (key : List ℕ) (i : ℕ) (c : List ℕ) (d : List ℕ) (more : List (List ℕ)) (rest out : List ℕ) (code : ℕ) → out ≡ sealed key (place i false) [] c ++ rest
+    → AreSealed key (i + 1) (d ∷ more) rest code → AreSealed key i (c ∷ d ∷ more) out code
+write-more key i c d more rest out code joined (inl (zero, (is, fits))) = inl (zero, (joined ∙ ap (λ r. sealed key (place i false) [] c ++ r) is, omega (arith, fits)))
+write-more key i c d more rest out code joined (inr (is, many)) = inr (is, omega (arith, many))
+
+run_writes : (key : List ℕ) (i : ℕ) (cs : List (List ℕ)) (out : List ℕ) (code : ℕ) → AreChunks i cs → WritesRun (writer_at key i) cs out code → AreSealed key i cs out code
+run_writes key i [] out code sizes run = absurd sizes
+run_writes key i (c ∷ []) out code sizes run = write-last key i c out code (write-first key i c [] out code (last-fits key i c sizes.0 sizes.1) run)
+run_writes key i (c ∷ d ∷ more) out code sizes run =
+    elim (write-first key i c (d ∷ more) out code (full-fits key i c sizes.0) run) [
+      | inl (few, (rest, joined, on)) ↦ write-more key i c d more rest out code joined (run_writes key (i + 1) (d ∷ more) rest code sizes.1 on)
+      | inr (many, is) ↦ inr (is, omega arith)
+    ]
+
+-- ---- the law
+
+-- the whole file, or too many chunks
+abbrev pub WritesFile : List ℕ → (FileKey → StanzaParts) → List ℕ → List ℕ → ℕ → Type 0
+WritesFile seed stanza plain file code =
+    ((code ≡ 0) × NewFile limits (fresh_of seed) (only (stanza (fresh_of seed).file_key)) plain file) ⊎ ((code ≡ 14) × (limits.max_chunks < length (chunks plain)))
+
+pub steps_write : (seed : List ℕ) (stanza : FileKey → StanzaParts) (plain old new : List ℕ) (writer : Writer) (told : Report) (out : List ℕ) (code : ℕ) → length seed ≡ 48
+    → OpensWriter seed stanza old new writer told 0 → WritesRun writer (chunks plain) out code → WritesFile seed stanza plain (take told.len new ++ out) code
+steps_write seed stanza plain old new writer told out code size (inl up) run = let none : 0 ≡ 17 = up.0.code in absurd (omega arith)
+steps_write seed stanza plain old new writer told out code size (inr (text, short, heading, inr (exceeds, _))) run = let none : 0 ≡ 21 = exceeds.code in absurd (omega arith)
+steps_write seed stanza plain old new writer told out code size (inr (text, short, heading, inl (fits, state))) run =
+    let k : FileKey = (fresh_of seed).file_key in
+    let nonce : List ℕ = (fresh_of seed).nonce in
+    let key : List ℕ = payload_key k nonce in
+    let front : take told.len new ≡ text ++ nonce =
+    ap (λ (x : Report). take x.len new) fits.report ∙ ap (take (length (text ++ nonce))) fits.buffer ∙ take-append_seam (text ++ nonce) _ in
+    elim (run_writes key 0 (chunks plain) out code (plain-chunks plain) (subst (λ w. WritesRun w (chunks plain) out code) state run)) [
+      | inr (is, many) ↦ inr (is, omega (arith, many))
+      | inl (zero, (is, few)) ↦
+          let spelled : take told.len new ++ out ≡ text ++ payload k nonce plain =
+          ap (λ t. t ++ out) front ∙ append_assoc text nonce out ∙ ap (λ t. text ++ (nonce ++ t)) is in
+          inl (
+            zero,
+            record {
+              stanzas = stanza k ∷ [];
+              text = text;
+              heading = heading;
+              spelled = spelled;
+              file = record {
+                header = text;
+                nonce = nonce;
+                head = heading.head;
+                nonce_len = omega (arith, size, length-take 16 (drop 16 seed), length-drop 16 seed);
+                spelled = spelled;
+                header_fits = heading.fits;
+                chunks_fit = omega (arith, few);
+                unmixed = heading.unmixed;
+              };
+            },
+          )
+    ]

@@ -1,0 +1,89 @@
+-- A writer of sealed chunks, which its caller holds between two calls.
+use Rattle.std.specs.Prelude.{◌≡◌, ◌⊎◌, ℕ, ◌+◌, ◌-◌, ◌<◌, ◌≤◌, ◌&&◌, ◌||◌, Bool, true, false, List, [], ◌∷◌, ◌++◌, length, take, replicate, nat_eq, nat_le, nat_lt, Some, None, Result, if◌then◌else◌}
+use Rattle.age_cipher.specs.Sealing.{sealed}
+use Rattle.age_header.specs.Header.{StanzaParts}
+use Rattle.age_recipient.specs.declared.key.FileKey.{FileKey}
+use Rattle.age_stream.specs.Payload.{payload_key, place}
+use Rattle.age_file.specs.declared.fault.Fault.{Fault}
+use Rattle.age_file.specs.declared.fault.Fault.TheVariants.{TooManyChunks}
+use Rattle.age_file.specs.declared.limits.Fresh.{Fresh}
+use Rattle.age_file.specs.NewFile.{IsHeading, IsRefusal}
+use Rattle.agefile.specs.declared.report.Report.{Report}
+use Rattle.agefile.specs.declared.writer.Writer.{Writer}
+use Rattle.agefile.specs.Answer.{Exceeds, Fits, GivesUp, fresh_of, only}
+use Rattle.agefile.specs.Limits.{limits}
+use Rattle.agefile.specs.Report.{report_of}
+use Rattle.agefile.specs.Steps.{IsOutOfOrder}
+
+-- not open
+abbrev pub closed : Writer
+closed = record { key = replicate 32 0; number = 0; state = 0 }
+
+-- before chunk 0
+abbrev pub before_first : List ℕ → Writer
+before_first key = record { key = key; number = 0; state = 1 }
+
+-- after a chunk that was sealed
+abbrev pub after_chunk : Writer → Bool → Writer
+after_chunk w last = record { key = w.key; number = w.number + 1; state = if last then 2 else 1 }
+
+-- after one chunk too many
+abbrev pub failed : Writer → Writer
+failed w = record { key = w.key; number = w.number; state = 3 }
+
+-- the call returns this code alone, the buffer is as it was, and the writer is not open
+abbrev pub StaysClosed : ℕ → List ℕ → List ℕ → Writer → Report → ℕ → Type 0
+StaysClosed number old new writer told result = GivesUp number old new told result × (writer ≡ closed)
+
+-- a file's front, its header and its nonce, stands in front of the buffer, and the writer before chunk 0; or the buffer is too small for it
+abbrev pub GivesFront : List ℕ → Fresh → List ℕ → List ℕ → Writer → Report → ℕ → Type 0
+GivesFront front fresh old new writer told result =
+    (Fits front None old new told result × (writer ≡ before_first (payload_key fresh.file_key fresh.nonce)))
+    ⊎ (Exceeds front old new told result × (writer ≡ closed))
+
+-- what opening a new file under this seed gives, whose header has this stanza alone, and at most 156 bytes: its front; or out of memory
+abbrev pub OpensWriter : List ℕ → (FileKey → StanzaParts) → List ℕ → List ℕ → Writer → Report → ℕ → Type 0
+OpensWriter seed stanza old new writer told result =
+    StaysClosed 17 old new writer told result
+    ⊎ ((text : List ℕ) × (length text ≤ 156)
+    × IsHeading limits (fresh_of seed).file_key (only (stanza (fresh_of seed).file_key)) (stanza (fresh_of seed).file_key ∷ []) text
+    × GivesFront (text ++ (fresh_of seed).nonce) (fresh_of seed) old new writer told result)
+
+-- the same for whatever recipients give, where there may be a refusal too
+abbrev pub OpensFor : Fresh → (Result (List StanzaParts) Fault → Type 0) → List ℕ → List ℕ → Writer → Report → ℕ → Type 0
+OpensFor fresh given old new writer told result =
+    StaysClosed 17 old new writer told result
+    ⊎ (((fault : Fault) × IsRefusal limits fresh.file_key given fault)
+    ⊎ ((stanzas : List StanzaParts) × (text : List ℕ) × IsHeading limits fresh.file_key given stanzas text
+    × GivesFront (text ++ fresh.nonce) fresh old new writer told result))
+
+-- whether a last chunk of so many bytes, of which 16 are for the tag, has some text; that of an empty plaintext has none
+abbrev pub has_text : ℕ → ℕ → Bool
+has_text number len = nat_lt 16 len || (nat_eq len 16 && nat_eq number 0)
+
+-- whether a writer takes a chunk of so many bytes: it is open, and the chunk is full, or the last and no longer, with some text
+abbrev pub takes : Writer → ℕ → Bool → Bool
+takes w len last = nat_eq w.state 1 && (if last then nat_le len 65552 && has_text w.number len else nat_eq len 65552)
+
+-- the chunk's text, all but the last 16 bytes, was sealed at its place
+pub record Seals (old new : Writer) (chunk after : List ℕ) (last : Bool) (told : Report) (result : ℕ) : Type 0 where
+  pub few : old.number < limits.max_chunks
+  pub code : result ≡ 0
+  pub report : told ≡ report_of (length chunk) None
+  pub writer : new ≡ after_chunk old last
+  pub buffer : after ≡ sealed old.key (place old.number last) [] (take (length chunk - 16) chunk)
+
+-- the file has as many chunks as it may have
+pub record IsTooMany (old new : Writer) (chunk after : List ℕ) (told : Report) (result : ℕ) : Type 0 where
+  pub many : limits.max_chunks ≤ old.number
+  pub code : result ≡ 14
+  pub report : told ≡ report_of 0 (Some TooManyChunks)
+  pub writer : new ≡ failed old
+  pub buffer : after ≡ chunk
+
+-- one call: the chunk is sealed as the next one, where the writer takes it
+abbrev pub WritesStep : Writer → Writer → List ℕ → List ℕ → Bool → Report → ℕ → Type 0
+WritesStep old new chunk after last told result =
+    ((takes old (length chunk) last ≡ false) × IsOutOfOrder old new chunk after told result)
+    ⊎ ((takes old (length chunk) last ≡ true)
+    × (IsTooMany old new chunk after told result ⊎ Seals old new chunk after last told result))

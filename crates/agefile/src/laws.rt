@@ -1,0 +1,41 @@
+//! Laws over the definitions alone: functions that do nothing, with the law as their contract.
+
+ghost use Rattle.std.specs.Prelude.{◌≡◌, ◌≢◌, ◌⊎◌, ◌<◌, ◌++◌, ℕ, List, [], drop, length, take};
+ghost use Rattle.age_header.specs.Header.{StanzaParts};
+ghost use Rattle.age_recipient.specs.declared.key.FileKey.{FileKey};
+ghost use Rattle.age_stream.specs.Payload.{chunks, pieces};
+ghost use Rattle.age_stream.specs.Reading.{Reading};
+ghost use Rattle.age_file.specs.declared.fault.Fault.{Fault};
+ghost use Rattle.age_file.specs.NewFile.{NewFile};
+ghost use Rattle.age_file.specs.Verdict.{Answering, IsVerdict};
+ghost use Rattle.agefile.specs.declared.reader.Reader.{Reader};
+ghost use Rattle.agefile.specs.declared.report.Report.{Report};
+ghost use Rattle.agefile.specs.declared.writer.Writer.{Writer};
+ghost use Rattle.agefile.specs.Answer.{fresh_of, only};
+ghost use Rattle.agefile.specs.Codes.{code_of};
+ghost use Rattle.agefile.specs.Limits.{limits};
+ghost use Rattle.agefile.specs.Reader.{OpensReader};
+ghost use Rattle.agefile.specs.Report.{report_of};
+ghost use Rattle.agefile.specs.Runs.{ReadsRun, WritesRun};
+ghost use Rattle.agefile.specs.Writer.{OpensWriter};
+
+/// Reading a file in steps gives what decrypting it does. Of bytes b the front of 65,552 is enough to open. A fault of the opening is the
+/// verdict's, before any plaintext. Else the texts of the sealed chunks after the nonce, joined up to the first fault, are the verdict's
+/// plaintext, and that fault, with its place, is the verdict's.
+pub fn steps_read()
+    ensures refused { (answers : Answering) (b : List ℕ) (reader : Reader) (told : Report) (result : ℕ) (v : Reading Fault)
+        → OpensReader answers (take 65552 b) reader told result → IsVerdict limits answers b v → result ≢ 0 → result ≢ 17
+        → (v.front ≡ []) × (code_of v.fault ≡ result) }
+    ensures read { (answers : Answering) (b : List ℕ) (reader : Reader) (told : Report) (text : List ℕ) (code place : ℕ) (v : Reading Fault)
+        → OpensReader answers (take 65552 b) reader told 0 → ReadsRun reader (pieces (drop told.len b)) text code place
+        → IsVerdict limits answers b v → (v.front ≡ text) × ((code_of v.fault ≡ code) × ((report_of 0 v.fault).place ≡ place)) }
+{}
+
+/// Writing a file in steps gives what encrypting does: the front that the opening gave and the sealed chunks of a plaintext, joined, are the
+/// plaintext's file. Else the plaintext has more chunks than the limit, and a step returns 14.
+pub fn steps_write()
+    ensures { (seed : List ℕ) (stanza : FileKey → StanzaParts) (plain old new : List ℕ) (writer : Writer) (told : Report) (out : List ℕ) (code : ℕ)
+        → length seed ≡ 48 → OpensWriter seed stanza old new writer told 0 → WritesRun writer (chunks plain) out code
+        → ((code ≡ 0) × NewFile limits (fresh_of seed) (only (stanza (fresh_of seed).file_key)) plain (take told.len new ++ out))
+        ⊎ ((code ≡ 14) × (limits.max_chunks < length (chunks plain))) }
+{}
