@@ -1,5 +1,5 @@
 -- What a run of a writer's steps gives is the file.
-use Rattle.std.proofs.Common.{◌≡◌, ◌≢◌, ◌⊎◌, ℕ, ◌+◌, ◌-◌, ◌<◌, ◌≤◌, ◌^◌, List, [], ◌∷◌, ◌++◌, length, take, drop, nat_eq, nat_le, Bool, true, false, sym, ◌∙◌, ap, refl, subst, arith, inl, inr, append_assoc, length-append, length-take, length-drop, Option, None}
+use Rattle.std.proofs.Common.{◌≡◌, ◌≢◌, ◌⊎◌, ℕ, ◌+◌, ◌-◌, ◌<◌, ◌≤◌, List, [], ◌∷◌, ◌++◌, length, take, drop, nat_eq, Bool, true, false, sym, ◌∙◌, ap, refl, subst, arith, inl, inr, append_assoc, length-append, length-take, length-drop}
 use Rattle.std.specs.Prelude.{◌&&◌, ◌||◌}
 use Rattle.std.specs.List.{concat}
 use Rattle.std.proofs.lemmas.Bool.{cases_lt, le-leb, lt-ltb}
@@ -16,7 +16,7 @@ use Rattle.agefile.specs.declared.writer.Writer.{Writer}
 use Rattle.agefile.specs.Answer.{fresh_of, only}
 use Rattle.agefile.specs.Limits.{limits}
 use Rattle.agefile.specs.Runs.{WritesRun}
-use Rattle.agefile.specs.Writer.{OpensWriter, WritesStep, after_chunk, before_first, has_text, takes}
+use Rattle.agefile.specs.Writer.{OpensWriter, WritesStep, after_chunk, has_text, takes}
 
 -- an open writer before chunk i
 abbrev pub writer_at : List ℕ → ℕ → Writer

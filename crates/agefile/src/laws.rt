@@ -1,10 +1,10 @@
 //! Laws over the definitions alone: functions that do nothing, with the law as their contract.
 
-ghost use Rattle.std.specs.Prelude.{◌≡◌, ◌≢◌, ◌⊎◌, ◌<◌, ◌++◌, ℕ, List, [], drop, length, take};
+ghost use Rattle.std.specs.Prelude.{List, Ok, [], drop, length, take, true, ℕ, ◌%◌, ◌++◌, ◌+◌, ◌/◌, ◌<◌, ◌≡◌, ◌≢◌, ◌⊎◌};
 ghost use Rattle.age_header.specs.Header.{StanzaParts};
 ghost use Rattle.age_recipient.specs.declared.key.FileKey.{FileKey};
 ghost use Rattle.age_stream.specs.Payload.{chunks, pieces};
-ghost use Rattle.age_stream.specs.Reading.{Reading};
+ghost use Rattle.age_stream.specs.Reading.{Reading, outcome};
 ghost use Rattle.age_file.specs.declared.fault.Fault.{Fault};
 ghost use Rattle.age_file.specs.NewFile.{NewFile};
 ghost use Rattle.age_file.specs.Verdict.{Answering, IsVerdict};
@@ -18,6 +18,9 @@ ghost use Rattle.agefile.specs.Reader.{OpensReader};
 ghost use Rattle.agefile.specs.Report.{report_of};
 ghost use Rattle.agefile.specs.Runs.{ReadsRun, WritesRun};
 ghost use Rattle.agefile.specs.Writer.{OpensWriter};
+ghost use Rattle.age_stream.specs.Slice.{IsSlice, last_outcome, plain_len};
+ghost use Rattle.agefile.specs.declared.ranges.Ranges.{Ranges};
+ghost use Rattle.agefile.specs.Ranges.{gives, last_index, piece_at, plain_of};
 
 /// Reading a file in steps gives what decrypting it does. Of bytes b the front of 65,552 is enough to open. A fault of the opening is the
 /// verdict's, before any plaintext. Else the texts of the sealed chunks after the nonce, joined up to the first fault, are the verdict's
@@ -38,4 +41,16 @@ pub fn steps_write()
         → length seed ≡ 48 → OpensWriter seed stanza old new writer told 0 → WritesRun writer (chunks plain) out code
         → ((code ≡ 0) × NewFile limits (fresh_of seed) (only (stanza (fresh_of seed).file_key)) plain (take told.len new ++ out))
         ⊎ ((code ≡ 14) × (limits.max_chunks < length (chunks plain))) }
+{}
+
+/// Reading ranges in steps gives slices of the plaintext. Where a payload's sealed chunks are all that a file has from a place on, the piece that is verified first is the payload's last one,
+/// and with it the plaintext's length is known. The text that a located piece gives is the plaintext from the asked byte on.
+pub fn ranges_in_steps()
+    ensures last { (r : Ranges) (b : List ℕ) → length b ≡ r.first + r.sealed_len
+        → outcome r.key limits.max_chunks (last_index r.sealed_len) true (piece_at r b (last_index r.sealed_len))
+        ≡ last_outcome r.key limits.max_chunks (drop r.first b) }
+    ensures len { (r : Ranges) (b text : List ℕ) → length b ≡ r.first + r.sealed_len
+        → last_outcome r.key limits.max_chunks (drop r.first b) ≡ Ok text → plain_len (drop r.first b) ≡ plain_of r.sealed_len }
+    ensures slice { (r : Ranges) (b text : List ℕ) (at : ℕ) → length b ≡ r.first + r.sealed_len → at < plain_of r.sealed_len
+        → gives r (at / 65536) (piece_at r b (at / 65536)) ≡ Ok text → IsSlice r.key (drop r.first b) at (drop (at % 65536) text) }
 {}

@@ -9,7 +9,6 @@ mod encrypting;
 mod giving;
 mod inspecting;
 pub mod laws;
-mod range_laws;
 mod ranges;
 mod reader;
 mod report;

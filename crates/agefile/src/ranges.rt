@@ -14,15 +14,10 @@ use crate::bounds::MAX_CHUNKS;
 use crate::code::{OK, OUT_OF_ORDER, WORK_FACTOR, code_of};
 use crate::report::Report;
 use crate::start::{Start, start_for_key, start_for_passphrase};
+use crate::state::{CLOSED, OPEN};
 use age_file::Fault;
 use age_stream::open_chunk;
 use std::alloc::Global;
-
-/// No payload was opened.
-const CLOSED: u64 = 0;
-
-/// A payload was opened.
-const OPEN: u64 = 1;
 
 /// The last sealed chunk was verified.
 const VERIFIED: u64 = 2;

@@ -1,5 +1,5 @@
 use Rattle.agefile.proofs.RangeLemmas.{last-there, len-there, slice-there}
-use Rattle.agefile.proofs.range_laws.ranges_in_steps.Goals as goal
+use Rattle.agefile.proofs.laws.ranges_in_steps.Goals as goal
 
 pub returns : goal.returns
 returns c = record {
