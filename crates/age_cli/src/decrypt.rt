@@ -1,7 +1,7 @@
 //! The command `decrypt`: the plaintext of a file of the format.
 ghost use Rattle.age_words.specs.Job.{IsInRange};
 
-use crate::buffers::{buffer_of, end, file_source, limits_of};
+use crate::buffering::{buffer_of, end, file_source, limits_of};
 use crate::fault::Fault;
 use crate::secret::Secret;
 use age_file::{Identity, KeyIdentity, PassError, PassIdentity, WriteSink};

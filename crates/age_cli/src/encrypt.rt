@@ -1,7 +1,7 @@
 //! The command `encrypt`: a file of the format, made of any bytes.
 ghost use Rattle.age_words.specs.Job.{IsInRange};
 
-use crate::buffers::{buffer_of, end, limits_of};
+use crate::buffering::{buffer_of, end, limits_of};
 use crate::fault::Fault;
 use crate::secret::{Secret, Seed};
 use age_file::{KeyRecipient, PassError, PassRecipient, ReadSource, Recipient, WriteSink};

@@ -1,6 +1,6 @@
 //! Why a command ends without its work done.
 
-use crate::names::{Name, Role};
+use crate::file_names::{Name, Role};
 use std::alloc::{AllocError, AllocFailed};
 use std::fmt;
 

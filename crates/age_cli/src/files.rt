@@ -1,7 +1,7 @@
 //! The files that the words name to be read, and which of them are the same.
 
 use crate::fault::Fault;
-use crate::names::{Name, Role};
+use crate::file_names::{Name, Role};
 use age_words::Job;
 use std::fs;
 use std::fs::Metadata;

@@ -3,7 +3,7 @@ ghost use Rattle.std.specs.Prelude.{◌≡◌, IfOk};
 ghost use Rattle.age_cli.specs.Check.{check_of};
 ghost use Rattle.age_words.specs.Job.{IsInRange};
 
-use crate::buffers::{buffer_of, end, header_source, limits_of};
+use crate::buffering::{buffer_of, end, header_source, limits_of};
 use crate::fault::Fault;
 use age_file::{Header, Stanza, WriteSink, mac_of, write_header};
 use age_words::Job;

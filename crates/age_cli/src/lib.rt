@@ -4,13 +4,13 @@
 //! streams. The command line is read by `age_words`.
 #![tactic(auto)]
 
-mod buffers;
+mod buffering;
 mod decrypt;
 mod encrypt;
 mod fault;
+mod file_names;
 mod files;
 mod inspect;
-mod names;
 mod output;
 mod program;
 mod range;

@@ -3,8 +3,8 @@ ghost use Rattle.std.specs.Prelude.{◌≡◌, ◌<◌, false, length, IfOk, IsO
 ghost use Rattle.age_cli.specs.Mode.{new_mode};
 
 use crate::fault::Fault;
+use crate::file_names::Name;
 use crate::files::refuse_read_file;
-use crate::names::Name;
 use age_words::{Command, Job};
 use std::fs::{OpenFile, OpenOptions};
 use std::io;

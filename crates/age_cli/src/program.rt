@@ -2,13 +2,13 @@
 ghost use Rattle.std.specs.Prelude.{◌≡◌, ◌≤◌};
 ghost use Rattle.age_words.specs.Job.{IsInRange};
 
-use crate::buffers::source_by_places;
+use crate::buffering::source_by_places;
 use crate::decrypt::decrypt;
 use crate::encrypt::encrypt;
 use crate::fault::Fault;
+use crate::file_names::{Lines, Role};
 use crate::files::{open, open_by_places, open_small, read_just};
 use crate::inspect::inspect;
-use crate::names::{Lines, Role};
 use crate::output::create;
 use crate::range::range;
 use crate::rewrap::rewrap;

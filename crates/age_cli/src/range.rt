@@ -2,7 +2,7 @@
 ghost use Rattle.std.specs.Prelude.{◌≤◌, ◌≡◌, length};
 ghost use Rattle.age_words.specs.Job.{IsInRange};
 
-use crate::buffers::{buffer_of, end, limits_of};
+use crate::buffering::{buffer_of, end, limits_of};
 use crate::decrypt::pass_identity;
 use crate::fault::Fault;
 use crate::secret::Secret;

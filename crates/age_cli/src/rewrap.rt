@@ -1,7 +1,7 @@
 //! The command `rewrap`: a file with a new header for the same file key.
 ghost use Rattle.age_words.specs.Job.{IsInRange};
 
-use crate::buffers::{buffer_of, end, file_source, limits_of};
+use crate::buffering::{buffer_of, end, file_source, limits_of};
 use crate::decrypt::pass_identity;
 use crate::encrypt::pass_recipient;
 use crate::fault::Fault;

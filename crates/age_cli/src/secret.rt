@@ -1,8 +1,8 @@
 //! What must be kept from others: passphrases, keys and seeds, each read from a file that the words name.
 
 use crate::fault::Fault;
+use crate::file_names::Role;
 use crate::files::{is_standard_input, open_small, read_front, read_just};
-use crate::names::Role;
 use age_file::{FileKey, Fresh};
 use age_words::Job;
 use std::alloc::Global;

@@ -9,9 +9,9 @@ ghost use Rattle.age_file.specs.Inspect.{Inspects};
 ghost use Rattle.age_file.specs.Verdict.{unlocked};
 
 use crate::fault::Fault;
-use crate::header::{inspect, is_mixed, unlock_header};
+use crate::fault_names::stream_fault;
+use crate::key_finding::{inspect, is_mixed, unlock_header};
 use crate::limits::Limits;
-use crate::names::stream_fault;
 use age_header::{Header, Source, Stanza};
 use age_recipient::Identity;
 use age_stream::{ChunkBuf, ChunkOpener, Refused, StreamReader};

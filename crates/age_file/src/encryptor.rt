@@ -8,8 +8,8 @@ ghost use Rattle.age_stream.specs.Writer.{device_of, fault_of, sealer_of, sink_o
 ghost use Rattle.age_file.specs.NewFile.{FailsHeading, Gathered, IsHeading};
 
 use crate::fault::Fault;
-use crate::gather::header_for;
 use crate::limits::{Fresh, Limits};
+use crate::new_header::header_for;
 use crate::writing::write_front;
 use age_header::{Header, Sink};
 use age_recipient::Recipient;

@@ -7,9 +7,9 @@ ghost use Rattle.age_file.specs.Ranges.{HasFront, IsOpenFault, IsRangesOf, Misse
 
 use crate::at_source::{AtSource, Origin};
 use crate::fault::Fault;
-use crate::header::{inspect, unlock_header};
+use crate::fault_names::stream_fault;
+use crate::key_finding::{inspect, unlock_header};
 use crate::limits::Limits;
-use crate::names::stream_fault;
 use age_header::Header;
 use age_recipient::Identity;
 use age_stream::{RangeReader, ReadAt};

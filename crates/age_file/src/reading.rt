@@ -6,9 +6,9 @@ ghost use Rattle.age_file.specs.Decrypt.{Decrypts, Takes};
 ghost use Rattle.age_file.specs.Device.{CountsRead, CountsWrite, IsLate};
 
 use crate::fault::Fault;
-use crate::header::{inspect, unlock_header};
+use crate::fault_names::stream_fault;
+use crate::key_finding::{inspect, unlock_header};
 use crate::limits::Limits;
-use crate::names::stream_fault;
 use age_header::{Sink, Source};
 use age_recipient::Identity;
 use age_stream::{Done, StreamReader};

@@ -8,9 +8,9 @@ ghost use Rattle.age_file.specs.Rewrap.{Rewraps};
 
 use crate::copying::copy_all;
 use crate::fault::Fault;
-use crate::gather::header_for;
-use crate::header::{inspect, unlock_header};
+use crate::key_finding::{inspect, unlock_header};
 use crate::limits::Limits;
+use crate::new_header::header_for;
 use age_header::{Sink, Source, write_header};
 use age_recipient::{Identity, Recipient};
 use std::alloc::Global;

@@ -8,9 +8,9 @@ ghost use Rattle.age_file.specs.Device.{CountsRead, CountsWrite, IsLate};
 ghost use Rattle.age_file.specs.NewFile.{EncryptsGiven, RefusesFirst, Gathered, TakesOf};
 
 use crate::fault::Fault;
-use crate::gather::header_for;
+use crate::fault_names::stream_fault;
 use crate::limits::{Fresh, Limits};
-use crate::names::stream_fault;
+use crate::new_header::header_for;
 use age_header::{DeviceFault, Header, Sink, Source, write_all, write_header};
 use age_recipient::Recipient;
 use age_stream::{ChunkBuf, ChunkSealer, Done, StreamWriter};

@@ -9,7 +9,7 @@ use Rattle.age_stream.specs.declared.fault.StreamFault.{StreamFault}
 use Rattle.age_stream.specs.declared.fault.StreamFault.TheVariants.{NonceTruncated, ChunkShort, EmptyFinal, BadChunk, TooManyChunks, Read, Write, Memory}
 use Rattle.age_stream.specs.declared.layout.Layout.{Layout}
 use Rattle.age_stream.specs.Opening.{IsAtPiece}
-use Rattle.age_stream.specs.Payload.{pieces, place, payload_key}
+use Rattle.age_stream.specs.Payload.{pieces, chunk_nonce, payload_key}
 use Rattle.age_stream.specs.Places.{EndsBefore, HasAt}
 use Rattle.age_stream.specs.Reading.{opened_at, outcome}
 use Rattle.age_stream.specs.Ranges.{last_len, opens_to, IsOpenFault, JudgesLast, OpensRanges}
@@ -89,7 +89,7 @@ pub open-len : (key : List ℕ) (max i end n : ℕ) (buf after : List ℕ) → l
     → (n + 16 ≡ end) × (0 < i → 0 < n)
 open-len key max i end n buf after room le opens within =
     let o = outcome-opens key max i true (take end buf) (take n after) opens in
-    let len : length (take end buf) ≡ length (take n after) + 16 = ap length o.sealed_so ∙ length-sealed key (place i true) [] (take n after) in
+    let len : length (take end buf) ≡ length (take n after) + 16 = ap length o.sealed_so ∙ length-sealed key (chunk_nonce i true) [] (take n after) in
     let a : length (take end buf) ≡ end = length-take-le end buf (omega arith) in
     let b : length (take n after) ≡ n = length-take-le n after within in
     (omega arith, λ pos. let some : 0 < length (take n after) = o.some refl pos in omega arith)
@@ -102,7 +102,7 @@ last-opens key max rest t last is h =
     let n : length (pieces rest) ≡ last + 1 = piece-count rest last is in
     let o = outcome-opens key max last true piece t (sym (last-is key max rest last is) ∙ h) in
     opening-at key rest last (omega arith) ∙ ap (λ b. opened_at key last b (take 65552 piece)) (le-leb (length rest) (65552 * (last + 1)) (omega arith))
-    ∙ ap (opened_at key last true) (take_all 65552 piece (omega arith)) ∙ ap (opened_at key last true) o.sealed_so ∙ opened-sealed key (place last true) [] t
+    ∙ ap (opened_at key last true) (take_all 65552 piece (omega arith)) ∙ ap (opened_at key last true) o.sealed_so ∙ opened-sealed key (chunk_nonce last true) [] t
 
 -- what is known of a nonce that was read, and of the n bytes behind it
 abbrev pub IsNonce : Option (List ℕ) → ℕ → List ℕ → ℕ → Type 0

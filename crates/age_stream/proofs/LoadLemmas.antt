@@ -3,7 +3,7 @@ use Rattle.std.proofs.Common.{◌≡◌, ◌⊎◌, ℕ, List, [], ◌+◌, ◌-
 use Rattle.std.proofs.lemmas.Bool.{cases_lt, le-leb, lt-leb, eq-eqb, eqb-true, false_from_ne_true, false≢true}
 use Rattle.std.proofs.lemmas.List.{take_all, length-drop, length-take-le, drop-drop}
 use Rattle.age_cipher.specs.Sealing.{opened}
-use Rattle.age_stream.specs.Payload.{place, pieces}
+use Rattle.age_stream.specs.Payload.{chunk_nonce, pieces}
 use Rattle.age_stream.specs.Reading.{opened_at}
 use Rattle.age_stream.proofs.ReadingLemmas.{cut-count}
 use Rattle.age_stream.specs.declared.layout.Layout.{Layout}
@@ -69,7 +69,7 @@ there-piece (Some bytes) layout i piece there lt has len =
 -- what was read at the place of piece i and opened there
 pub open-there : (told : Option (List ℕ)) (layout : Layout) (nonce buf : List ℕ) (i end : ℕ) (o : Option (List ℕ)) → IsThere told layout → i < layout.count
     → HasAt told (layout.first + 65552 * i) (take end buf) → end ≡ text_len layout.plain i + 16 → length buf ≡ 65553
-    → nonce ≡ place i (nat_eq (i + 1) layout.count) → opened layout.key nonce [] (take end buf) ≡ o → opens_to told layout i ≡ o
+    → nonce ≡ chunk_nonce i (nat_eq (i + 1) layout.count) → opened layout.key nonce [] (take end buf) ≡ o → opens_to told layout i ≡ o
 open-there told layout nonce buf i end o there lt has len room at opens =
     let rest : List ℕ = bytes_from told layout.first in
     let count : length (pieces rest) ≡ layout.count = there-count layout rest there.size in

@@ -4,7 +4,7 @@ use Rattle.std.specs.Prelude.{ok_or}
 use Rattle.std.proofs.lemmas.Bool.{le-ltb, lt-ltb, le-leb, lt-leb, cond-false, cond-true}
 use Rattle.age_stream.specs.declared.fault.StreamFault.TheVariants.{ChunkShort, EmptyFinal, BadChunk, TooManyChunks}
 use Rattle.age_cipher.specs.Sealing.{opened}
-use Rattle.age_stream.specs.Payload.{place}
+use Rattle.age_stream.specs.Payload.{chunk_nonce}
 use Rattle.age_stream.specs.Reading.{outcome}
 
 pub outcome-many : (key : List ℕ) (max i : ℕ) (last : Bool) (c : List ℕ) → max ≤ i → outcome key max i last c ≡ Err TooManyChunks
@@ -22,7 +22,7 @@ outcome-empty key max i last c lt some empty =
     cond-false (nat_le max i) _ _ (lt-leb max i lt) ∙ cond-false (nat_lt (length c) 16) _ _ (le-ltb (length c) 16 some) ∙ cond-true (last && nat_lt 0 i && nat_eq (length c) 16) _ _ empty
 
 pub outcome-open : (key : List ℕ) (max i : ℕ) (last : Bool) (c : List ℕ) (o : Option (List ℕ)) → i < max → 16 ≤ length c → (last && nat_lt 0 i && nat_eq (length c) 16) ≡ false
-    → opened key (place i last) [] c ≡ o → outcome key max i last c ≡ ok_or o (BadChunk i)
+    → opened key (chunk_nonce i last) [] c ≡ o → outcome key max i last c ≡ ok_or o (BadChunk i)
 unfolding outcome
 outcome-open key max i last c o lt some empty is =
     cond-false (nat_le max i) _ _ (lt-leb max i lt) ∙ cond-false (nat_lt (length c) 16) _ _ (le-ltb (length c) 16 some)

@@ -9,7 +9,7 @@ use Rattle.age_stream.specs.declared.fault.StreamFault.{StreamFault}
 use Rattle.age_stream.specs.declared.fault.StreamFault.TheVariants.{NonceTruncated, ChunkShort, EmptyFinal, BadChunk, TooManyChunks}
 use Rattle.age_stream.specs.Cutting.{IsCut, IsFilled}
 use Rattle.age_cipher.specs.Sealing.{sealed, opened}
-use Rattle.age_stream.specs.Payload.{chunks, pieces, place, is_end, sealed_from, payload_key, payload}
+use Rattle.age_stream.specs.Payload.{chunks, pieces, chunk_nonce, is_end, sealed_from, payload_key, payload}
 use Rattle.age_stream.specs.Reading.{Reading, outcome, outcomes, first_fault, front, stops, reading_from, payload_reading, whole}
 use Rattle.age_stream.proofs.CutLemmas.{is_cut, one-cut, filled-cut, AtMost, cut-at_most}
 use Rattle.age_cipher.proofs.OpeningLemmas.{length-sealed, opened_is}
@@ -34,19 +34,19 @@ two_not_one h = cc
 -- piece i opens to t
 pub record Opens (key : List ℕ) (max i : ℕ) (last : Bool) (c t : List ℕ) : Type 0 where
   pub within : i < max
-  pub sealed_so : c ≡ sealed key (place i last) [] t
+  pub sealed_so : c ≡ sealed key (chunk_nonce i last) [] t
   pub some : last ≡ true → 0 < i → 0 < length t
 
 pub outcome-opens : (key : List ℕ) (max i : ℕ) (last : Bool) (c t : List ℕ) → outcome key max i last c ≡ Ok t → Opens key max i last c t
 unfolding outcome
 outcome-opens key max i last c t h =
     let empty : Bool = last && nat_lt 0 i && nat_eq (length c) 16 in
-    let inner : Result (List ℕ) StreamFault = ok_or (opened key (place i last) [] c) (BadChunk i) in
+    let inner : Result (List ℕ) StreamFault = ok_or (opened key (chunk_nonce i last) [] c) (BadChunk i) in
     let a = cond-ok (nat_le max i) TooManyChunks (cond (nat_lt (length c) 16) (Err (ChunkShort i)) (cond empty (Err (EmptyFinal i)) inner)) t h in
     let b = cond-ok (nat_lt (length c) 16) (ChunkShort i) (cond empty (Err (EmptyFinal i)) inner) t a.1 in
     let d = cond-ok empty (EmptyFinal i) inner t b.1 in
-    let is : c ≡ sealed key (place i last) [] t = sym ((opened_is key (place i last) [] c t).0 (ok_or-ok _ (BadChunk i) t d.1)) in
-    let len : length c ≡ length t + 16 = ap length is ∙ length-sealed key (place i last) [] t in
+    let is : c ≡ sealed key (chunk_nonce i last) [] t = sym ((opened_is key (chunk_nonce i last) [] c t).0 (ok_or-ok _ (BadChunk i) t d.1)) in
+    let len : length c ≡ length t + 16 = ap length is ∙ length-sealed key (chunk_nonce i last) [] t in
     record {
       within = leb-false max i a.0;
       sealed_so = is;
@@ -60,9 +60,9 @@ pub opens-outcome : (key : List ℕ) (max i : ℕ) (last : Bool) (c t : List ℕ
 unfolding outcome
 opens-outcome key max i last c t h =
     let within : i < max = h.within in
-    let len : length c ≡ length t + 16 = ap length h.sealed_so ∙ length-sealed key (place i last) [] t in
+    let len : length c ≡ length t + 16 = ap length h.sealed_so ∙ length-sealed key (chunk_nonce i last) [] t in
     let empty : Bool = last && nat_lt 0 i && nat_eq (length c) 16 in
-    let inner : Result (List ℕ) StreamFault = ok_or (opened key (place i last) [] c) (BadChunk i) in
+    let inner : Result (List ℕ) StreamFault = ok_or (opened key (chunk_nonce i last) [] c) (BadChunk i) in
     let not_empty : empty ≡ false = false_from_ne_true empty (λ e.
     let both = and_parts (last && nat_lt 0 i) (nat_eq (length c) 16) e in
     let one = and_parts last (nat_lt 0 i) both.0 in
@@ -72,7 +72,7 @@ opens-outcome key max i last c t h =
     cond-false (nat_le max i) _ _ (lt-leb max i within)
     ∙ cond-false (nat_lt (length c) 16) _ _ (le-ltb (length c) 16 (omega arith))
     ∙ cond-false empty _ _ not_empty
-    ∙ ap (λ o. ok_or o (BadChunk i)) ((opened_is key (place i last) [] c t).1 (sym h.sealed_so))
+    ∙ ap (λ o. ok_or o (BadChunk i)) ((opened_is key (chunk_nonce i last) [] c t).1 (sym h.sealed_so))
 
 -- texts that stand at the places from i on: all but the last are full, and the last is empty only at place 0
 abbrev pub Sized : ℕ → List (List ℕ) → Type 0
@@ -111,7 +111,7 @@ no_fault-open key max i c [] h =
       | inl r ↦
           let o = outcome-opens key max i true c r.0 r.1 in
           let within : i < max = o.within in
-          let len : length c ≡ length r.0 + 16 = ap length o.sealed_so ∙ length-sealed key (place i true) [] r.0 in
+          let len : length c ≡ length r.0 + 16 = ap length o.sealed_so ∙ length-sealed key (chunk_nonce i true) [] r.0 in
           record {
             texts = r.0 ∷ [];
             sealed_so = ap (λ x. x ∷ []) (sym o.sealed_so);
@@ -130,12 +130,12 @@ no_fault-open key max i c (d ∷ more) h =
           let more_left : is_end rest.texts ≡ false = sym (is_end-each key (i + 1) rest.texts) ∙ ap is_end rest.sealed_so in
           record {
             texts = r.0 ∷ rest.texts;
-            sealed_so = ap (λ b. sealed key (place i b) [] r.0 ∷ sealed_from key (i + 1) rest.texts) more_left
+            sealed_so = ap (λ b. sealed key (chunk_nonce i b) [] r.0 ∷ sealed_from key (i + 1) rest.texts) more_left
                 ∙ ap (λ x. x ∷ sealed_from key (i + 1) rest.texts) (sym o.sealed_so) ∙ ap (λ x. c ∷ x) rest.sealed_so;
             joined = ap (λ x. r.0 ++ x) rest.joined ∙ sym (ap (λ x. front (x ∷ outcomes key max (i + 1) (d ∷ more))) r.1);
             count = omega arith;
             sizes = λ le.
-                let len : length c ≡ length r.0 + 16 = ap length o.sealed_so ∙ length-sealed key (place i false) [] r.0 in
+                let len : length c ≡ length r.0 + 16 = ap length o.sealed_so ∙ length-sealed key (chunk_nonce i false) [] r.0 in
                 let full : length c ≡ 65552 = le.0 in
                 sized-more i r.0 rest.texts (omega arith) (rest.sizes le.1);
           }
@@ -145,15 +145,15 @@ no_fault-open key max i c (d ∷ more) h =
 pub each-opens : (key : List ℕ) (max i : ℕ) (ts : List (List ℕ)) → Sized i ts → length ts + i ≤ max → outcomes key max i (sealed_from key i ts) ≡ map Ok ts
 each-opens key max i [] s le = refl
 each-opens key max i (t ∷ []) s le =
-    ap (λ r. r ∷ []) (opens-outcome key max i true (sealed key (place i true) [] t) t (record {
+    ap (λ r. r ∷ []) (opens-outcome key max i true (sealed key (chunk_nonce i true) [] t) t (record {
       within = omega arith;
       sealed_so = refl;
       some = λ _ pos. elim s [ inl e ↦ absurd (let z : i ≡ 0 = e.1 in omega arith) | inr f ↦ f.0 ];
     }))
 each-opens key max i (t ∷ u ∷ ts) s le =
     let rest : Sized (i + 1) (u ∷ ts) = elim s [ inl e ↦ absurd (two_not_one e.0) | inr f ↦ inr f.1 ] in
-    ap (λ b. outcome key max i b (sealed key (place i false) [] t) ∷ outcomes key max (i + 1) (sealed_from key (i + 1) (u ∷ ts))) (is_end-each key (i + 1) (u ∷ ts))
-    ∙ ap (λ r. r ∷ outcomes key max (i + 1) (sealed_from key (i + 1) (u ∷ ts))) (opens-outcome key max i false (sealed key (place i false) [] t) t (record {
+    ap (λ b. outcome key max i b (sealed key (chunk_nonce i false) [] t) ∷ outcomes key max (i + 1) (sealed_from key (i + 1) (u ∷ ts))) (is_end-each key (i + 1) (u ∷ ts))
+    ∙ ap (λ r. r ∷ outcomes key max (i + 1) (sealed_from key (i + 1) (u ∷ ts))) (opens-outcome key max i false (sealed key (chunk_nonce i false) [] t) t (record {
       within = omega arith;
       sealed_so = refl;
       some = λ no _. absurd (false≢true no);
@@ -172,10 +172,10 @@ fault-all (t ∷ ts) = fault-all ts
 each-filled : (key : List ℕ) (i : ℕ) (ts : List (List ℕ)) → AtMost 65536 ts → IsFilled 65552 (sealed_from key i ts)
 each-filled key i [] h = h
 each-filled key i (t ∷ []) h =
-    let l : length (sealed key (place i true) [] t) ≡ length t + 16 = length-sealed key (place i true) [] t in
+    let l : length (sealed key (chunk_nonce i true) [] t) ≡ length t + 16 = length-sealed key (chunk_nonce i true) [] t in
     let le : length t ≤ 65536 = h in (omega arith, omega arith)
 each-filled key i (t ∷ u ∷ ts) h =
-    let l : length (sealed key (place i false) [] t) ≡ length t + 16 = length-sealed key (place i false) [] t in
+    let l : length (sealed key (chunk_nonce i false) [] t) ≡ length t + 16 = length-sealed key (chunk_nonce i false) [] t in
     let le : length t ≡ 65536 = h.0 in (omega arith, each-filled key (i + 1) (u ∷ ts) h.1)
 
 pub pieces-each : (key : List ℕ) (ts : List (List ℕ)) → AtMost 65536 ts → pieces (concat (sealed_from key 0 ts)) ≡ sealed_from key 0 ts

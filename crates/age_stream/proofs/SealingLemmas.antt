@@ -14,7 +14,7 @@ use Rattle.age_header.proofs.WriteLemmas.{Done, done_part}
 use Rattle.age_stream.specs.declared.fault.StreamFault.{StreamFault}
 use Rattle.age_stream.specs.declared.fault.StreamFault.TheVariants.{Read, Write, TooManyChunks}
 use Rattle.age_stream.specs.Cutting.{cut, cut_into}
-use Rattle.age_stream.specs.Payload.{place, sealed_from}
+use Rattle.age_stream.specs.Payload.{chunk_nonce, sealed_from}
 use Rattle.std.specs.Prelude.{IfNone}
 use Rattle.age_stream.specs.declared.done.Done.{Done as StreamDone}
 use Rattle.age_stream.specs.Sealing.{FinishesBy, SealerState, SealsAll, TakesAll, Fed, IsFed, Stopped, WroteAtLeast, sealed_after}
@@ -24,10 +24,10 @@ use Rattle.age_stream.proofs.ReadingLemmas.{is_end-cut, cut-some}
 
 -- a full chunk with more to come is sealed as one that is not the last
 pub chunks-full : (key : List ℕ) (i : ℕ) (held text : List ℕ) → 0 < length text → length held ≡ 65536
-    → sealed_after key i held text ≡ sealed key (place i false) [] held ∷ sealed_after key (i + 1) [] text
+    → sealed_after key i held text ≡ sealed key (chunk_nonce i false) [] held ∷ sealed_after key (i + 1) [] text
 chunks-full key i held text some full =
     ap (λ cs. sealed_from key i cs) (cut-full 65536 held text (omega arith) some full)
-    ∙ ap (λ b. sealed key (place i b) [] held ∷ sealed_from key (i + 1) (cut 65536 text)) (is_end-cut 65536 [] text)
+    ∙ ap (λ b. sealed key (chunk_nonce i b) [] held ∷ sealed_from key (i + 1) (cut 65536 text)) (is_end-cut 65536 [] text)
 
 pub fed-none : (key : List ℕ) (i : ℕ) (held : List ℕ) (a : Option (List ℕ)) → Fed key i i held [] held a a
 fed-none key i held a = record {
@@ -68,7 +68,7 @@ piece-len now piece full next h =
 
 -- the chunks of what came, of the full chunk, and of what may still come
 pub chunks-after : (key : List ℕ) (i j : ℕ) (held text now piece full next more : List ℕ) (a b : Option (List ℕ)) (h : IsFull now piece full next) (f : Fed key i j held text now a b)
-    → sealed_after key i held ((text ++ piece) ++ more) ≡ f.gone ++ sealed key (place j false) [] full ∷ sealed_after key (j + 1) next more
+    → sealed_after key i held ((text ++ piece) ++ more) ≡ f.gone ++ sealed key (chunk_nonce j false) [] full ∷ sealed_after key (j + 1) next more
 chunks-after key i j held text now piece full next more a b h f =
     let m : ℕ = 65536 - length now in
     let at : length now + m ≡ 65536 = omega (arith, h.fits) in
@@ -86,14 +86,14 @@ chunks-after key i j held text now piece full next more a b h f =
     ∙ ap (λ t. f.gone ++ sealed_after key j t (back ++ more)) whole
     ∙ ap (λ t. f.gone ++ sealed_after key j full (t ++ more)) rest
     ∙ ap (λ cs. f.gone ++ cs) (chunks-full key j full (next ++ more) (omega (arith, h.one)) h.size)
-    ∙ ap (λ cs. f.gone ++ sealed key (place j false) [] full ∷ sealed_from key (j + 1) cs) (cut-fits 65536 [] next more (omega (arith, h.one)))
+    ∙ ap (λ cs. f.gone ++ sealed key (chunk_nonce j false) [] full ∷ sealed_from key (j + 1) cs) (cut-fits 65536 [] next more (omega (arith, h.one)))
 
 -- a chunk became full and one byte more came: the chunk went out
 pub fed-full : (key : List ℕ) (i j : ℕ) (held text now piece full next : List ℕ) (a b c : Option (List ℕ)) → IsFull now piece full next
-    → Fed key i j held text now a b → Appends b c (sealed key (place j false) [] full) → Fed key i (j + 1) held (text ++ piece) next a c
+    → Fed key i j held text now a b → Appends b c (sealed key (chunk_nonce j false) [] full) → Fed key i (j + 1) held (text ++ piece) next a c
 fed-full key i j held text now piece full next a b c h f put =
-    let chunk : List ℕ = sealed key (place j false) [] full in
-    let l : length chunk ≡ 65552 = length-sealed key (place j false) [] full ∙ ap (λ n. n + 16) h.size in
+    let chunk : List ℕ = sealed key (chunk_nonce j false) [] full in
+    let l : length chunk ≡ 65552 = length-sealed key (chunk_nonce j false) [] full ∙ ap (λ n. n + 16) h.size in
     let gone : List (List ℕ) = f.gone ++ chunk ∷ [] in
     let lg : length gone ≡ length f.gone + 1 = length-append f.gone (chunk ∷ []) in
     let joined : concat gone ≡ concat f.gone ++ chunk = concat-append f.gone (chunk ∷ []) ∙ ap (λ t. concat f.gone ++ t) (append-nil chunk) in
@@ -139,10 +139,10 @@ gave-full key i j held text now piece full next from mid to a b h f took more =
 
 -- a write failed
 pub stopped-write : (key : List ℕ) (max i j : ℕ) (held text now piece full next : List ℕ) (from mid to a b c : Option (List ℕ)) → IsFull now piece full next
-    → Consumes from mid text → Consumes mid to piece → Fed key i j held text now a b → WritesPart b c (sealed key (place j false) [] full) → Stopped key max i j held from to a c Write
+    → Consumes from mid text → Consumes mid to piece → Fed key i j held text now a b → WritesPart b c (sealed key (chunk_nonce j false) [] full) → Stopped key max i j held from to a c Write
 stopped-write key max i j held text now piece full next from mid to a b c h took more f part =
     let d = may-some to in
-    let chunk : List ℕ = sealed key (place j false) [] full in
+    let chunk : List ℕ = sealed key (chunk_nonce j false) [] full in
     let rest : List (List ℕ) = sealed_after key (j + 1) next d.0 in
     let done = done-fed key i j held text now ((text ++ piece) ++ d.0) (chunk ∷ rest) a b f (chunks-after key i j held text now piece full next d.0 a b h f) in
     record {
@@ -159,7 +159,7 @@ pub stopped-many : (key : List ℕ) (max i j : ℕ) (held text now piece full ne
 stopped-many key max i j held text now piece full next from mid to a b c h within many took more f none =
     let d = may-some to in
     let all : List ℕ = (text ++ piece) ++ d.0 in
-    let chunk : List ℕ = sealed key (place j false) [] full in
+    let chunk : List ℕ = sealed key (chunk_nonce j false) [] full in
     let rest : List (List ℕ) = sealed_after key (j + 1) next d.0 in
     let is : sealed_after key i held all ≡ f.gone ++ chunk ∷ rest = chunks-after key i j held text now piece full next d.0 a b h f in
     let lr : length rest ≡ length (cut_into 65536 next d.0) = length-each key (j + 1) (cut_into 65536 next d.0) in
@@ -190,7 +190,7 @@ fed-end key i j held text now piece from mid to a b fits took more end f = recor
 -- a chunk that did not go out
 pub stopped-full : (key : List ℕ) (max i j k : ℕ) (held text now piece full next : List ℕ) (from mid to a b c : Option (List ℕ)) (fault : StreamFault) → IsFull now piece full next → j < max
     → Consumes from mid text → Consumes mid to piece → Fed key i j held text now a b
-    → (k ≡ j) × (((fault ≡ Write) × WritesPart b c (sealed key (place j false) [] full)) ⊎ ((fault ≡ TooManyChunks) × (max ≤ j + 1) × Appends b c []))
+    → (k ≡ j) × (((fault ≡ Write) × WritesPart b c (sealed key (chunk_nonce j false) [] full)) ⊎ ((fault ≡ TooManyChunks) × (max ≤ j + 1) × Appends b c []))
     → Stopped key max i k held from to a c fault
 stopped-full key max i j k held text now piece full next from mid to a b c fault h within took more f (same, inl (is, part)) =
     subst (λ n. Stopped key max i n held from to a c fault) (sym same)
@@ -222,7 +222,7 @@ first-of (x ∷ xs) (suc k) lt = first-of xs k (omega arith)
 
 -- a chunk that went out, by the byte that is then in front
 pub fed-next : (key : List ℕ) (i j k : ℕ) (held text now piece full next front : List ℕ) (a b c : Option (List ℕ)) → IsFull now piece full next → Fed key i j held text now a b
-    → k ≡ j + 1 → front ≡ next → Appends b c (sealed key (place j false) [] full) → Fed key i k held (text ++ piece) front a c
+    → k ≡ j + 1 → front ≡ next → Appends b c (sealed key (chunk_nonce j false) [] full) → Fed key i k held (text ++ piece) front a c
 fed-next key i j k held text now piece full next front a b c h f is same put =
     subst (λ n. Fed key i n held (text ++ piece) front a c) (sym is)
     (subst (λ t. Fed key i (j + 1) held (text ++ piece) t a c) (sym same) (fed-full key i j held text now piece full next a b c h f put))

@@ -11,7 +11,7 @@ use Rattle.age_cipher.proofs.OpeningLemmas.{length-sealed, opened-sealed}
 use Rattle.age_recipient.specs.declared.key.FileKey.{FileKey}
 use Rattle.age_stream.specs.declared.fault.StreamFault.{StreamFault}
 use Rattle.age_stream.specs.declared.fault.StreamFault.TheVariants.{TooManyChunks}
-use Rattle.age_stream.specs.Payload.{chunks, pieces, place, is_end, sealed_from, payload_key}
+use Rattle.age_stream.specs.Payload.{chunks, pieces, chunk_nonce, is_end, sealed_from, payload_key}
 use Rattle.age_stream.specs.Reading.{opened_at, outcome, outcomes, payload_reading, whole}
 use Rattle.age_stream.proofs.CutLemmas.{is_cut, cut-at_most}
 use Rattle.age_stream.proofs.PayloadLemmas.{ok-payload, pieces-each, each-opens, is_end-each, length-each, at_most-chunks}
@@ -39,18 +39,18 @@ whole-is k b p max h =
 openings-each : (key : List ℕ) (i : ℕ) (ts : List (List ℕ)) → openings key i (sealed_from key i ts) ≡ map Some ts
 openings-each key i [] = refl
 openings-each key i (t ∷ ts) =
-    ap (λ b. opened_at key i b (sealed key (place i (is_end ts)) [] t) ∷ openings key (i + 1) (sealed_from key (i + 1) ts)) (is_end-each key (i + 1) ts)
-    ∙ ap (λ o. o ∷ openings key (i + 1) (sealed_from key (i + 1) ts)) (opened-sealed key (place i (is_end ts)) [] t)
+    ap (λ b. opened_at key i b (sealed key (chunk_nonce i (is_end ts)) [] t) ∷ openings key (i + 1) (sealed_from key (i + 1) ts)) (is_end-each key (i + 1) ts)
+    ∙ ap (λ o. o ∷ openings key (i + 1) (sealed_from key (i + 1) ts)) (opened-sealed key (chunk_nonce i (is_end ts)) [] t)
     ∙ ap (λ x. Some t ∷ x) (openings-each key (i + 1) ts)
 
 plain-each : (key : List ℕ) (i : ℕ) (ts : List (List ℕ)) → sum_by (λ piece. length piece - 16) (sealed_from key i ts) ≡ length (concat ts)
 plain-each key i [] = refl
 plain-each key i (t ∷ ts) =
-    let l : length (sealed key (place i (is_end ts)) [] t) ≡ length t + 16 = length-sealed key (place i (is_end ts)) [] t in
+    let l : length (sealed key (chunk_nonce i (is_end ts)) [] t) ≡ length t + 16 = length-sealed key (chunk_nonce i (is_end ts)) [] t in
     let a : length (t ++ concat ts) ≡ length t + length (concat ts) = length-append t (concat ts) in
     let rest : sum_by (λ piece. length piece - 16) (sealed_from key (i + 1) ts) ≡ length (concat ts) = plain-each key (i + 1) ts in
-    sum_by-cons (λ piece. length piece - 16) (sealed key (place i (is_end ts)) [] t) (sealed_from key (i + 1) ts)
-    ∙ ap (λ n. (length (sealed key (place i (is_end ts)) [] t) - 16) + n) rest ∙ ap (λ n. (n - 16) + length (concat ts)) l ∙ omega arith
+    sum_by-cons (λ piece. length piece - 16) (sealed key (chunk_nonce i (is_end ts)) [] t) (sealed_from key (i + 1) ts)
+    ∙ ap (λ n. (length (sealed key (chunk_nonce i (is_end ts)) [] t) - 16) + n) rest ∙ ap (λ n. (n - 16) + length (concat ts)) l ∙ omega arith
 
 pub whole-len : (k : FileKey) (b p : List ℕ) (max : ℕ) → payload_reading k max b ≡ whole p → plain_len (drop 16 b) ≡ length p
 whole-len k b p max h =

@@ -16,8 +16,8 @@ abbrev pub pieces : List ℕ → List (List ℕ)
 pieces rest = cut 65552 rest
 
 -- the nonce of chunk i: its number in eleven big-endian bytes, then 1 for the last chunk and 0 for the others
-unfoldable pub place : ℕ → Bool → List ℕ
-place i last = bytes_high_first 11 i ++ (if last then 1 else 0) ∷ []
+unfoldable pub chunk_nonce : ℕ → Bool → List ℕ
+chunk_nonce i last = bytes_high_first 11 i ++ (if last then 1 else 0) ∷ []
 
 -- nothing comes behind
 abbrev pub is_end : List (List ℕ) → Bool
@@ -27,7 +27,7 @@ is_end (_ ∷ _) = false
 -- chunks, each sealed at its place, from number i on
 abbrev pub sealed_from : List ℕ → ℕ → List (List ℕ) → List (List ℕ)
 sealed_from key i [] = []
-sealed_from key i (chunk ∷ more) = sealed key (place i (is_end more)) [] chunk ∷ sealed_from key (i + 1) more
+sealed_from key i (chunk ∷ more) = sealed key (chunk_nonce i (is_end more)) [] chunk ∷ sealed_from key (i + 1) more
 
 -- the key of the chunks
 unfoldable pub payload_key : FileKey → List ℕ → List ℕ

@@ -4,11 +4,11 @@ use Rattle.age_cipher.specs.Sealing.{opened}
 use Rattle.age_recipient.specs.declared.key.FileKey.{FileKey}
 use Rattle.age_stream.specs.declared.fault.StreamFault.{StreamFault}
 use Rattle.age_stream.specs.declared.fault.StreamFault.TheVariants.{NonceTruncated, ChunkShort, EmptyFinal, BadChunk, TooManyChunks}
-use Rattle.age_stream.specs.Payload.{pieces, place, is_end, payload_key}
+use Rattle.age_stream.specs.Payload.{pieces, chunk_nonce, is_end, payload_key}
 
 -- what piece i opens to at its place
 abbrev pub opened_at : List ℕ → ℕ → Bool → List ℕ → Option (List ℕ)
-opened_at key i last piece = opened key (place i last) [] piece
+opened_at key i last piece = opened key (chunk_nonce i last) [] piece
 
 -- what piece i gives: the first fault that applies, or its opening
 unfoldable pub outcome : List ℕ → ℕ → ℕ → Bool → List ℕ → Result (List ℕ) StreamFault

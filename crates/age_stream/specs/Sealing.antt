@@ -8,7 +8,7 @@ use Rattle.age_stream.specs.declared.done.Done.{Done}
 use Rattle.age_stream.specs.declared.fault.StreamFault.{StreamFault}
 use Rattle.age_stream.specs.declared.fault.StreamFault.TheVariants.{Read, Write, TooManyChunks}
 use Rattle.age_stream.specs.Cutting.{cut_into}
-use Rattle.age_stream.specs.Payload.{place, sealed_from}
+use Rattle.age_stream.specs.Payload.{chunk_nonce, sealed_from}
 
 -- a sealer: its key and limit, the number of the next chunk, the text that it holds of it, and the fault that it keeps
 pub record SealerState : Type 0 where
@@ -89,6 +89,6 @@ SealsAll s from to old new (Err fault) = (chunk : ℕ) × Stopped s.key s.max_ch
 -- the full chunk in front was written as chunk i, and the byte that followed it is in front; or a write of it failed, or there is no room for one more
 abbrev pub PutsFull : {A : Type 0} → List ℕ → ℕ → ℕ → ℕ → List ℕ → List ℕ → Option (List ℕ) → Option (List ℕ) → Result A StreamFault → Type 0
 PutsFull key max i j bytes after old new r = MatchResult r
-    (λ _. (j ≡ i + 1) × Appends old new (sealed key (place i false) [] (take 65536 bytes)) × (take 1 after ≡ take 1 (drop 65536 bytes)))
-    (λ fault. (j ≡ i) × (((fault ≡ Write) × WritesPart old new (sealed key (place i false) [] (take 65536 bytes)))
+    (λ _. (j ≡ i + 1) × Appends old new (sealed key (chunk_nonce i false) [] (take 65536 bytes)) × (take 1 after ≡ take 1 (drop 65536 bytes)))
+    (λ fault. (j ≡ i) × (((fault ≡ Write) × WritesPart old new (sealed key (chunk_nonce i false) [] (take 65536 bytes)))
     ⊎ ((fault ≡ TooManyChunks) × (max ≤ i + 1) × Appends old new [])))

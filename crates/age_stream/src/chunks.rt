@@ -5,10 +5,10 @@ ghost use Rattle.age_stream.specs.Ranges.{Counts, Fills, IsLost, IsOpenFault, Is
 ghost use Rattle.age_stream.specs.Slice.{text_len};
 
 use crate::buffer::ChunkBuf;
+use crate::chunk_keys::payload_key;
 use crate::fault::StreamFault;
 use crate::layout::Layout;
 use crate::loading::{chunk_len, load, load_last, nonce_at};
-use crate::place::payload_key;
 use crate::read_at::ReadAt;
 use age_recipient::FileKey;
 use std::alloc::Global;

@@ -3,6 +3,7 @@
 #![tactic(auto)]
 
 mod buffer;
+mod chunk_keys;
 mod chunks;
 mod done;
 mod fault;
@@ -10,7 +11,6 @@ pub mod laws;
 mod layout;
 mod loading;
 mod opening;
-mod place;
 mod ranges;
 mod read_at;
 mod reader;
@@ -21,10 +21,10 @@ mod tests;
 mod writer;
 
 pub use buffer::ChunkBuf;
+pub use chunk_keys::{chunk_nonce, payload_key};
 pub use done::Done;
 pub use fault::StreamFault;
 pub use opening::{ChunkOpener, open_chunk};
-pub use place::{chunk_nonce, payload_key};
 pub use ranges::RangeReader;
 pub use read_at::{FileAt, MemAt, ReadAt};
 pub use reader::StreamReader;

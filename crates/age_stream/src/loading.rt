@@ -7,10 +7,10 @@ ghost use Rattle.age_stream.specs.Places.{EndsBefore, HasAt, IsPast};
 ghost use Rattle.age_stream.specs.Ranges.{IsOpenFault, IsThere, JudgesLast, last_len, opens_to};
 ghost use Rattle.age_stream.specs.Slice.{text_len};
 
+use crate::chunk_keys::chunk_nonce;
 use crate::fault::StreamFault;
 use crate::layout::Layout;
 use crate::opening::{open_chunk, open_front};
-use crate::place::chunk_nonce;
 use crate::read_at::ReadAt;
 use age_header::DeviceFault;
 

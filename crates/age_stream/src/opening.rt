@@ -8,9 +8,9 @@ ghost use Rattle.age_stream.specs.Opening.{Advances, EndsAt, GivesNonce, GivesTe
 ghost use Rattle.age_stream.specs.Reading.{outcome};
 
 use crate::buffer::ChunkBuf;
+use crate::chunk_keys::{chunk_nonce, payload_key};
 use crate::done::Done;
 use crate::fault::StreamFault;
-use crate::place::{chunk_nonce, payload_key};
 use age_cipher::open_in_place;
 use age_header::{Sink, Source, fill_from, write_all};
 use age_recipient::FileKey;

@@ -6,12 +6,12 @@ ghost use Rattle.age_header.specs.Device.{Counts, Writes};
 ghost use Rattle.age_header.specs.Filling.{Filled};
 ghost use Rattle.age_stream.specs.Counts.{CountsRead, CountsWrite};
 ghost use Rattle.age_stream.specs.Sealing.{IsFed, PutsFull, Stopped, TakesAll, FinishesBy};
-ghost use Rattle.age_stream.specs.Payload.{payload_key, place};
+ghost use Rattle.age_stream.specs.Payload.{payload_key, chunk_nonce};
 
 use crate::buffer::ChunkBuf;
+use crate::chunk_keys::{chunk_nonce, payload_key};
 use crate::done::Done;
 use crate::fault::StreamFault;
-use crate::place::{chunk_nonce, payload_key};
 use age_cipher::seal_in_place;
 use age_header::{DeviceFault, Sink, Source, fill_from, write_all};
 use age_recipient::FileKey;
@@ -218,7 +218,7 @@ fn put_sealed<W: Sink>(
     requires len { len ≤ 65536 }
     requires small { i < 2 ^ 88 }
     ensures size { length bytes.new ≡ 65553 }
-    ensures text { Writes (W.taken out.old) (W.taken out.new) result (sealed key.now (place i last) [] (take len bytes.old)) }
+    ensures text { Writes (W.taken out.old) (W.taken out.new) result (sealed key.now (chunk_nonce i last) [] (take len bytes.old)) }
     ensures count { Counts (W.failed out.old) (W.failed out.new) result }
 {
     let (piece, _) = bytes.split_at_mut(len + 16);
@@ -233,7 +233,7 @@ pub fn seal_chunk(key: &[u8; 32], i: u128, last: bool, chunk: &mut [u8])
     requires high { length chunk.old ≤ 65552 }
     requires small { i < 2 ^ 88 }
     ensures len { length chunk.new ≡ length chunk.old }
-    ensures sealed { chunk.new ≡ sealed key.now (place i last) [] (take (length chunk.old - 16) chunk.old) }
+    ensures sealed { chunk.new ≡ sealed key.now (chunk_nonce i last) [] (take (length chunk.old - 16) chunk.old) }
 {
     let len = chunk.len() - 16;
     let (text, end) = chunk.split_at_mut(len);

@@ -8,7 +8,7 @@ use Rattle.age_header.specs.Verdict.{Found, HeaderVerdict}
 use Rattle.age_recipient.specs.declared.key.FileKey.{FileKey}
 use Rattle.age_stream.specs.declared.fault.StreamFault.{StreamFault}
 use Rattle.age_stream.specs.declared.fault.StreamFault.TheVariants.{NonceTruncated}
-use Rattle.age_stream.specs.Payload.{is_end, payload_key, pieces, place}
+use Rattle.age_stream.specs.Payload.{is_end, payload_key, pieces, chunk_nonce}
 use Rattle.age_stream.specs.Reading.{Reading, front, outcome, outcomes, payload_reading, reading_from, stops}
 use Rattle.age_stream.proofs.CutLemmas.{AtMost, cut-at_most, concat-cut_into}
 use Rattle.age_stream.proofs.PayloadLemmas.{outcome-opens, result_cases}
@@ -36,7 +36,7 @@ front_comes key max i (c ∷ more) all = elim (result_cases (outcome key max i (
   | inl some ↦
       let rest = front_comes key max (i + 1) more all.1 in
       let size : length c ≤ 65552 = all.0 in
-      let len : length c ≡ length some.0 + 16 = ap length (outcome-opens key max i (is_end more) c some.0 some.1).sealed_so ∙ length-sealed key (place i (is_end more)) [] some.0 in
+      let len : length c ≡ length some.0 + 16 = ap length (outcome-opens key max i (is_end more) c some.0 some.1).sealed_so ∙ length-sealed key (chunk_nonce i (is_end more)) [] some.0 in
       let low : length (front (outcomes key max (i + 1) more)) ≤ 65536 * rest.0 = rest.1 in
       let high : length (front (outcomes key max (i + 1) more)) + 16 * rest.0 ≤ length (concat more) = rest.2 in
       let both = length-append some.0 (front (outcomes key max (i + 1) more)) in

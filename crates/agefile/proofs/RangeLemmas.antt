@@ -2,7 +2,7 @@
 use Rattle.std.proofs.Common.{◌≡◌, ℕ, List, [], ◌++◌, ◌+◌, ◌-◌, ◌*◌, ◌/◌, ◌%◌, ◌<◌, length, take, drop, min, nat_le, sym, ◌∙◌, ap, arith, true, Bool, Some, Ok, subst}
 use Rattle.std.proofs.lemmas.List.{length-drop, length-take, drop-drop, take_all, take_min}
 use Rattle.age_cipher.proofs.OpeningLemmas.{length-sealed, opened-sealed}
-use Rattle.age_stream.specs.Payload.{pieces, place}
+use Rattle.age_stream.specs.Payload.{pieces, chunk_nonce}
 use Rattle.age_stream.specs.Reading.{opened_at, outcome}
 use Rattle.age_stream.specs.Slice.{IsSlice, last_outcome, opening, plain_len}
 use Rattle.age_stream.proofs.JudgingLemmas.{last-is, piece-count, some-or-none}
@@ -44,7 +44,7 @@ len-there r b text size h =
     let is : last ≡ (length rest - 1) / 65552 = ap last_index (sym n) in
     let d : length (drop (65552 * last) rest) ≡ length rest - 65552 * last = length-drop (65552 * last) rest in
     let o = outcome-opens r.key limits.max_chunks last true (drop (65552 * last) rest) text (sym (last-is r.key limits.max_chunks rest last is) ∙ h) in
-    let len : length (drop (65552 * last) rest) ≡ length text + 16 = ap length o.sealed_so ∙ length-sealed r.key (place last true) [] text in
+    let len : length (drop (65552 * last) rest) ≡ length text + 16 = ap length o.sealed_so ∙ length-sealed r.key (chunk_nonce last true) [] text in
     let count : plain_len rest + 16 * (last + 1) ≡ length rest = plain-count last rest (some-or-none last (length rest) is) (omega arith) (omega arith) in
     omega arith
 
@@ -63,10 +63,10 @@ slice-there r b text at size within h =
     let l : length piece ≡ min 65552 (length (drop (65552 * i) rest)) = length-take 65552 (drop (65552 * i) rest) in
     let flag : Bool = nat_le r.sealed_len (65552 * (i + 1)) in
     let o = outcome-opens r.key limits.max_chunks i flag piece text (ap (outcome r.key limits.max_chunks i flag) (sym there) ∙ h) in
-    let len : length piece ≡ length text + 16 = ap length o.sealed_so ∙ length-sealed r.key (place i flag) [] text in
+    let len : length piece ≡ length text + 16 = ap length o.sealed_so ∙ length-sealed r.key (chunk_nonce i flag) [] text in
     let opens : opening r.key rest i ≡ Some text =
     opening-at r.key rest i (omega arith) ∙ ap (λ m. opened_at r.key i (nat_le m (65552 * (i + 1))) piece) n
-    ∙ ap (opened_at r.key i flag) o.sealed_so ∙ opened-sealed r.key (place i flag) [] text in
+    ∙ ap (opened_at r.key i flag) o.sealed_so ∙ opened-sealed r.key (chunk_nonce i flag) [] text in
     let t : length (drop skip text) ≡ length text - skip = length-drop skip text in
     let part : IsSlice r.key rest at ([] ++ take (length text - skip) (drop skip text)) =
     slice-on r.key rest [] text at i skip (length text - skip) (omega arith) opens (omega arith) (omega arith) (λ k lt. absurd (omega arith)) in

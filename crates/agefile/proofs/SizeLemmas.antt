@@ -19,7 +19,7 @@ use Rattle.age_file.specs.NewFile.{NewFile}
 use Rattle.agefile.specs.Answer.{fresh_of, only, salt_of}
 use Rattle.agefile.specs.Limits.{limits}
 use Rattle.agefile.specs.Sizes.{chunk_count, sealed_len}
-use Rattle.age_stream.specs.Payload.{chunks, is_end, payload, payload_key, place, sealed_from}
+use Rattle.age_stream.specs.Payload.{chunks, is_end, payload, payload_key, chunk_nonce, sealed_from}
 
 -- ---- headers
 
@@ -138,9 +138,9 @@ chunks_size plain = let is = is_cut 65536 plain (omega arith) in elim is.sizes [
 sealed_size : (key : List ℕ) (i : ℕ) (cs : List (List ℕ)) → length (concat (sealed_from key i cs)) ≡ length (concat cs) + 16 * length cs
 sealed_size key i [] = refl
 sealed_size key i (c ∷ more) =
-    let one = length-sealed key (place i (is_end more)) [] c in
+    let one = length-sealed key (chunk_nonce i (is_end more)) [] c in
     let rest = sealed_size key (i + 1) more in
-    omega (arith, length-append (sealed key (place i (is_end more)) [] c) (concat (sealed_from key (i + 1) more)), length-append c (concat more))
+    omega (arith, length-append (sealed key (chunk_nonce i (is_end more)) [] c) (concat (sealed_from key (i + 1) more)), length-append c (concat more))
 
 pub payload_size : (k : FileKey) (nonce plain : List ℕ) → length (payload k nonce plain) ≡ length nonce + (length plain + 16 * chunk_count (length plain))
 payload_size k nonce plain =

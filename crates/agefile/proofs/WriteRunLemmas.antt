@@ -8,7 +8,7 @@ use Rattle.age_cipher.specs.Sealing.{sealed}
 use Rattle.age_header.specs.Header.{StanzaParts}
 use Rattle.age_recipient.specs.declared.key.FileKey.{FileKey}
 use Rattle.age_stream.specs.Cutting.{IsFilled}
-use Rattle.age_stream.specs.Payload.{chunks, is_end, payload, payload_key, place, sealed_from}
+use Rattle.age_stream.specs.Payload.{chunks, is_end, payload, payload_key, chunk_nonce, sealed_from}
 use Rattle.age_stream.proofs.CutLemmas.{is_cut}
 use Rattle.age_file.specs.NewFile.{NewFile}
 use Rattle.agefile.specs.declared.report.Report.{Report}
@@ -60,7 +60,7 @@ full-fits key i c is = ap (λ n. nat_eq (n + 16) 65552) is
 -- what a run gives, by its first step: a sealed chunk and more, or one too many
 abbrev WritesBy : List ℕ → ℕ → Bool → List ℕ → List (List ℕ) → List ℕ → ℕ → Type 0
 WritesBy key i last c more out code =
-    ((i < limits.max_chunks) × ((rest : List ℕ) × (out ≡ sealed key (place i last) [] c ++ rest) × WritesRun (after_chunk (writer_at key i) last) more rest code))
+    ((i < limits.max_chunks) × ((rest : List ℕ) × (out ≡ sealed key (chunk_nonce i last) [] c ++ rest) × WritesRun (after_chunk (writer_at key i) last) more rest code))
     ⊎ ((limits.max_chunks ≤ i) × (code ≡ 14))
 
 text-of : (c room : List ℕ) → length room ≡ 16 → take (length (c ++ room) - 16) (c ++ room) ≡ c
@@ -84,7 +84,7 @@ write-by key i last c room more out code new after told result fits size (inr (_
       seals.few,
       (
         rest,
-        joined ∙ ap (λ b. b ++ rest) (seals.buffer ∙ ap (sealed key (place i last) []) (text-of c room size)),
+        joined ∙ ap (λ b. b ++ rest) (seals.buffer ∙ ap (sealed key (chunk_nonce i last) []) (text-of c room size)),
         subst (λ w. WritesRun w more rest code) seals.writer run,
       ),
     )
@@ -103,12 +103,12 @@ AreSealed key i cs out code =
     ((code ≡ 0) × ((out ≡ concat (sealed_from key i cs)) × (i + length cs ≤ limits.max_chunks))) ⊎ ((code ≡ 14) × (limits.max_chunks < i + length cs))
 
 write-last : (key : List ℕ) (i : ℕ) (c out : List ℕ) (code : ℕ) → WritesBy key i true c [] out code → AreSealed key i (c ∷ []) out code
-write-last key i c out code (inl (few, (rest, joined, (none, zero)))) = inl (zero, (joined ∙ ap (λ r. sealed key (place i true) [] c ++ r) none, omega arith))
+write-last key i c out code (inl (few, (rest, joined, (none, zero)))) = inl (zero, (joined ∙ ap (λ r. sealed key (chunk_nonce i true) [] c ++ r) none, omega arith))
 write-last key i c out code (inr (many, is)) = inr (is, omega arith)
 
-write-more : (key : List ℕ) (i : ℕ) (c : List ℕ) (d : List ℕ) (more : List (List ℕ)) (rest out : List ℕ) (code : ℕ) → out ≡ sealed key (place i false) [] c ++ rest
+write-more : (key : List ℕ) (i : ℕ) (c : List ℕ) (d : List ℕ) (more : List (List ℕ)) (rest out : List ℕ) (code : ℕ) → out ≡ sealed key (chunk_nonce i false) [] c ++ rest
     → AreSealed key (i + 1) (d ∷ more) rest code → AreSealed key i (c ∷ d ∷ more) out code
-write-more key i c d more rest out code joined (inl (zero, (is, fits))) = inl (zero, (joined ∙ ap (λ r. sealed key (place i false) [] c ++ r) is, omega (arith, fits)))
+write-more key i c d more rest out code joined (inl (zero, (is, fits))) = inl (zero, (joined ∙ ap (λ r. sealed key (chunk_nonce i false) [] c ++ r) is, omega (arith, fits)))
 write-more key i c d more rest out code joined (inr (is, many)) = inr (is, omega (arith, many))
 
 run_writes : (key : List ℕ) (i : ℕ) (cs : List (List ℕ)) (out : List ℕ) (code : ℕ) → AreChunks i cs → WritesRun (writer_at key i) cs out code → AreSealed key i cs out code

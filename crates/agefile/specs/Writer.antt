@@ -3,7 +3,7 @@ use Rattle.std.specs.Prelude.{◌≡◌, ◌⊎◌, ℕ, ◌+◌, ◌-◌, ◌<�
 use Rattle.age_cipher.specs.Sealing.{sealed}
 use Rattle.age_header.specs.Header.{StanzaParts}
 use Rattle.age_recipient.specs.declared.key.FileKey.{FileKey}
-use Rattle.age_stream.specs.Payload.{payload_key, place}
+use Rattle.age_stream.specs.Payload.{payload_key, chunk_nonce}
 use Rattle.age_file.specs.declared.fault.Fault.{Fault}
 use Rattle.age_file.specs.declared.fault.Fault.TheVariants.{TooManyChunks}
 use Rattle.age_file.specs.declared.limits.Fresh.{Fresh}
@@ -71,7 +71,7 @@ pub record Seals (old new : Writer) (chunk after : List ℕ) (last : Bool) (told
   pub code : result ≡ 0
   pub report : told ≡ report_of (length chunk) None
   pub writer : new ≡ after_chunk old last
-  pub buffer : after ≡ sealed old.key (place old.number last) [] (take (length chunk - 16) chunk)
+  pub buffer : after ≡ sealed old.key (chunk_nonce old.number last) [] (take (length chunk - 16) chunk)
 
 -- the file has as many chunks as it may have
 pub record IsTooMany (old new : Writer) (chunk after : List ℕ) (told : Report) (result : ℕ) : Type 0 where

@@ -1,6 +1,6 @@
 use Rattle.std.proofs.Common.{map}
 use Rattle.age_file.proofs.ApartLemmas.{Seen}
-use Rattle.age_file.proofs.gather.apart_from.Given as goal
+use Rattle.age_file.proofs.new_header.apart_from.Given as goal
 
 -- those before place i go together with the first
 abbrev pub invariant-loop-i : goal.invariant-loop-i

@@ -1,6 +1,6 @@
 use Rattle.std.proofs.Common.{◌≡◌, map, drop}
 use Rattle.age_file.specs.NewFile.{before, gathered_from}
-use Rattle.age_file.proofs.gather.wrap_all.Given as goal
+use Rattle.age_file.proofs.new_header.wrap_all.Given as goal
 
 -- what was gathered, before what is left, is what there is to gather
 abbrev pub invariant-loop-i : goal.invariant-loop-i

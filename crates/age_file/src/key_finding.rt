@@ -8,8 +8,8 @@ ghost use Rattle.age_file.specs.Inspect.{Inspects};
 ghost use Rattle.age_file.specs.Verdict.{checked, unlocked};
 
 use crate::fault::Fault;
+use crate::fault_names::{header_fault, unlock_fault};
 use crate::limits::Limits;
-use crate::names::{header_fault, unlock_fault};
 use age_header::{Header, HeaderReader, Source, Stanza, mac_of};
 use age_recipient::{FileKey, Identity, UnlockFault, unlock};
 use std::alloc::Global;

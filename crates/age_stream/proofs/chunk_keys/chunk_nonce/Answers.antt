@@ -1,10 +1,10 @@
-use Rattle.age_stream.specs.Payload.{place}
-use Rattle.age_stream.proofs.place.chunk_nonce.Goals as goal
+use Rattle.age_stream.specs.Payload.{chunk_nonce}
+use Rattle.age_stream.proofs.chunk_keys.chunk_nonce.Goals as goal
 
 pub returns-then-last : goal.returns-then-last
-unfolding place
+unfolding chunk_nonce
 returns-then-last c = rw (c.to_be_bytes.ensures, c.if-last.true)
 
 pub returns-else-last : goal.returns-else-last
-unfolding place
+unfolding chunk_nonce
 returns-else-last c = rw (c.to_be_bytes.ensures, c.if-last.false)

@@ -1,6 +1,6 @@
 //! The keys and nonces of a payload's chunks.
 ghost use Rattle.std.specs.Prelude.{◌≡◌, ◌^◌, ◌<◌};
-ghost use Rattle.age_stream.specs.Payload.{payload_key, place};
+ghost use Rattle.age_stream.specs.Payload.{payload_key, chunk_nonce};
 
 use age_kdf::hkdf;
 use age_recipient::FileKey;
@@ -9,7 +9,7 @@ use age_recipient::FileKey;
 /// "Payload"). Eleven bytes hold the numbers below 2^88.
 pub fn chunk_nonce(i: u128, last: bool) -> [u8; 12]
     requires { i < 2 ^ 88 }
-    ensures { result ≡ place i last }
+    ensures { result ≡ chunk_nonce i last }
 {
     let [_, _, _, _, _, a, b, c, d, e, f, g, h, j, k, l] = i.to_be_bytes();
     [a, b, c, d, e, f, g, h, j, k, l, if last { 1 } else { 0 }]

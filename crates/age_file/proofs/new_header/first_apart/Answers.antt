@@ -1,5 +1,5 @@
 use Rattle.age_file.proofs.ApartLemmas.{apart_with}
-use Rattle.age_file.proofs.gather.first_apart.Goals as goal
+use Rattle.age_file.proofs.new_header.first_apart.Goals as goal
 
 pub returns-in_ok-labels_of-in-Some : goal.returns-in_ok-labels_of-in-Some
 returns-in_ok-labels_of-in-Some g c =

@@ -7,7 +7,7 @@ ghost use Rattle.age_recipient.specs.Wrap.{WrapsAs};
 ghost use Rattle.age_file.specs.NewFile.{FailsHeading, Gathered, Gathers, IsApart, IsApartFrom, IsHeading, WrapsAll, gathered_from};
 
 use crate::fault::Fault;
-use crate::header::is_mixed;
+use crate::key_finding::is_mixed;
 use crate::limits::Limits;
 use age_header::{Header, Stanza, mac_of};
 use age_recipient::{FileKey, Labels, Recipient, WrapFault};
