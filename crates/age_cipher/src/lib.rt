@@ -1,7 +1,15 @@
 //! ChaCha20, Poly1305 and ChaCha20-Poly1305 as RFC 8439 defines them.
 //!
-//! Nothing here takes memory, and no call can fail under its condition. Secrecy, constant time and
-//! wiped memory are not claimed.
+//! ```
+//! let tag = seal_in_place(&key, &nonce, b"", &mut text); // text is the ciphertext now
+//! if open_in_place(&key, &nonce, b"", &mut text, &tag) {
+//!     // text is the plaintext again; a wrong tag leaves the ciphertext as it was
+//! }
+//! ```
+//!
+//! Limits: one call takes at most `MAX_TEXT` bytes, 2^38 - 64. A key and a nonce must seal one text only. Nothing
+//! here takes memory, and no call can fail under its condition. Secrecy, constant time and wiped memory
+//! are not claimed.
 #![tactic(auto)]
 
 mod aead;

@@ -76,7 +76,8 @@ impl Default for Limits {
     }
 }
 
-/// What a file needs that no file before it may have had.
+/// What a file needs that no file before it may have had: 32 random bytes. With the salts of its recipients, of 16 bytes each, they are
+/// what makes two files of one plaintext differ. The same values for two files repeat the keys of their payloads.
 #[derive(Clone, Copy, PartialEq, Eq)]
 pub struct Fresh {
     /// The file key.

@@ -16,6 +16,9 @@ use std::alloc::Global;
 
 /// Decrypts a file (C2SP `age.md`), all that the source still gives: writes the plaintext of each chunk as soon as it is verified.
 ///
+/// What was written before an error is genuine, and incomplete: only after Ok is it the whole plaintext. A passphrase identity takes
+/// 2^work KiB of memory for the stanza's work factor, up to its maximum.
+///
 /// # Errors
 /// The first that applies of `NotAge`, `BadLine`, `HeaderTruncated`, `HeaderTooLarge` as `inspect` says; `MixedPassphrase`; `NoMatch`,
 /// `WrongKey`, `Malformed` as `age_recipient::unlock` says; `BadMac`; `NonceTruncated`; then, chunk by chunk, `TooManyChunks`,

@@ -19,6 +19,9 @@ use std::alloc::Global;
 /// Writes the age file of a plaintext, all that the source still gives, for these recipients (C2SP `age.md`). Every allocation is
 /// made before the first byte goes out, and each chunk goes out as soon as more text comes.
 ///
+/// `fresh`, and the salts of the recipients, must be random and used for this file alone: the same again repeats the keys of a file.
+/// A passphrase recipient takes 2^work KiB of memory while it wraps. What was written before an error is no whole file.
+///
 /// # Errors
 /// In this order: `Refused` at the first recipient that refuses, `IncompatibleRecipients` at the first whose labels do not go together
 /// with those of recipient 0, `NoRecipients` where there is no stanza at all, `MixedPassphrase` where a `scrypt` stanza stands beside

@@ -1,8 +1,21 @@
 //! The key derivations that age uses: HMAC, HKDF, PBKDF2 and scrypt, all over SHA-256.
 //!
 //! Each function gives exactly what its RFC defines. The definitions stand in `specs/`, on lists of
-//! bytes and over the SHA-256 of the crate `sha2`, and the contracts name them. Only `scrypt` takes
-//! memory, and only it can fail, where that memory is refused.
+//! bytes and over the SHA-256 of the crate `sha2`, and the contracts name them.
+//!
+//! ```
+//! let mut wrap_key = [0; 32];
+//! hkdf(&secret, &salt, b"info", &mut wrap_key);
+//! let tag = hmac(&wrap_key, &[b"first part", b"second part"]);
+//!
+//! if let Some(params) = ScryptParams::new(18, 8, 1) {
+//!     scrypt(alloc, b"passphrase", &salt, &params, &mut wrap_key)?; // takes 2^18 KiB
+//! }
+//! ```
+//!
+//! Limits: only `scrypt` takes memory, and only it can fail, where that memory is refused; `scrypt_with`
+//! works in the caller's. Parameters go up to log_n 30, r 32 and p 32. Constant time and wiping of memory
+//! are not claimed.
 #![tactic(auto)]
 
 ghost use Rattle.std.specs.Prelude.{◌≡◌};

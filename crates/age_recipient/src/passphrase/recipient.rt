@@ -23,7 +23,9 @@ pub enum PassError {
     Memory,
 }
 
-/// Wraps a file key under a passphrase (C2SP `age.md`, "The scrypt recipient type"). The salt must be fresh for each file.
+/// Wraps a file key under a passphrase (C2SP `age.md`, "The scrypt recipient type"). The salt must be 16 random bytes, fresh for each
+/// file. The work factor is the base-2 logarithm of the KiB of memory that wrapping and unwrapping take; 18 is usual, and takes about a
+/// second.
 #[derive(Drop)]
 pub struct PassRecipient {
     pass: Vec<u8>,
