@@ -1,18 +1,17 @@
 -- What is found in a file's front is what is found in the file, and what its steps give is the file's verdict.
-use Rattle.std.proofs.Common.{◌≡◌, ◌≢◌, ◌⊎◌, ℕ, ◌+◌, ◌-◌, ◌<◌, ◌≤◌, List, [], ◌∷◌, ◌++◌, length, take, drop, nat_lt, Bool, true, false, cond, sym, ◌∙◌, ap, refl, subst, arith, inl, inr, length-take, length-drop, Option, Some, None, Result, Ok, Err}
+use Rattle.std.proofs.Common.{◌≡◌, ◌≢◌, ℕ, ◌+◌, ◌-◌, ◌<◌, ◌≤◌, List, [], length, take, drop, nat_lt, Bool, true, false, cond, sym, ◌∙◌, ap, refl, subst, arith, inl, inr, length-take, length-drop, Result, Ok, Err}
 use Rattle.std.specs.Prelude.{option_map}
 use Rattle.std.proofs.lemmas.Bool.{cases_lt, lt-ltb, le-ltb}
 use Rattle.std.proofs.lemmas.List.{take-take, drop-take, drop-drop}
 use Rattle.age_header.specs.declared.fault.HeaderFault.{HeaderFault}
 use Rattle.age_header.specs.declared.fault.HeaderFault.TheVariants as header
-use Rattle.age_header.specs.Header.{HeaderParts}
-use Rattle.age_header.specs.Verdict.{BeginsAsAge, Decides, Finds, Found, HeaderVerdict, IsUndecided}
+use Rattle.age_header.specs.Verdict.{BeginsAsAge, Decides, Found, HeaderVerdict, IsUndecided}
 use Rattle.age_header.proofs.OneVerdict.{begins_found}
 use Rattle.age_recipient.specs.declared.key.FileKey.{FileKey}
 use Rattle.age_stream.specs.declared.fault.StreamFault.{StreamFault}
 use Rattle.age_stream.specs.declared.fault.StreamFault.TheVariants as stream
 use Rattle.age_stream.specs.Payload.{payload_key, pieces}
-use Rattle.age_stream.specs.Reading.{Reading, payload_reading, reading_from, stops}
+use Rattle.age_stream.specs.Reading.{Reading, reading_from, stops}
 use Rattle.age_file.specs.declared.fault.Fault.{Fault}
 use Rattle.age_file.specs.declared.fault.Fault.TheVariants.{NonceTruncated, OutOfMemory}
 use Rattle.age_file.specs.Rewrap.{parts_of}
@@ -21,12 +20,12 @@ use Rattle.age_file.proofs.FileLemmas.{one_verdict}
 use Rattle.agefile.specs.declared.reader.Reader.{Reader}
 use Rattle.agefile.specs.declared.report.Report.{Report}
 use Rattle.agefile.specs.declared.start.Start.{Start}
-use Rattle.agefile.specs.Codes.{code_of, fault_code}
+use Rattle.agefile.specs.Codes.{code_of}
 use Rattle.agefile.specs.Limits.{limits}
 use Rattle.agefile.specs.Reader.{OpensAt, OpensReader, before_first}
 use Rattle.agefile.specs.Report.{report_of}
 use Rattle.agefile.specs.Runs.{ReadsRun}
-use Rattle.agefile.specs.Start.{FindsStart, IsStart, start_of, start_under}
+use Rattle.agefile.specs.Start.{IsStart, start_under}
 use Rattle.agefile.proofs.RunLemmas.{payload_reads, some-code}
 
 -- ---- a front of 65,552 bytes is enough

@@ -1,7 +1,6 @@
 -- What runs of steps give.
-use Rattle.std.proofs.Common.{◌≡◌, ◌≢◌, ◌⊎◌, ℕ, suc, ◌+◌, ◌-◌, ◌<◌, ◌≤◌, ◌^◌, List, [], ◌∷◌, ◌++◌, length, take, drop, nat_eq, nat_le, Bool, true, false, cond, sym, ◌∙◌, ap, refl, subst, arith, inl, inr, length-append, Option, Some, None, Result, Ok, Err}
-use Rattle.std.specs.Prelude.{option_map, ◌&&◌}
-use Rattle.std.specs.List.{concat}
+use Rattle.std.proofs.Common.{◌≡◌, ◌≢◌, ◌⊎◌, ℕ, ◌+◌, ◌≤◌, List, [], ◌∷◌, ◌++◌, length, take, nat_eq, Bool, true, false, sym, ◌∙◌, ap, subst, arith, inl, inr, Result, Ok, Err}
+use Rattle.std.specs.Prelude.{option_map}
 use Rattle.std.proofs.lemmas.Bool.{le-leb}
 use Rattle.std.proofs.Math.Seq.{take-append_seam}
 use Rattle.age_stream.specs.declared.fault.StreamFault.{StreamFault}
@@ -16,7 +15,7 @@ use Rattle.agefile.specs.declared.report.Report.{Report}
 use Rattle.agefile.specs.Codes.{code_of, fault_code, fault_place}
 use Rattle.agefile.specs.Limits.{limits}
 use Rattle.agefile.specs.Report.{report_of}
-use Rattle.agefile.specs.Reader.{Reads, ReadsStep, after_chunk, takes}
+use Rattle.agefile.specs.Reader.{Reads, after_chunk, takes}
 use Rattle.agefile.specs.Runs.{ReadsRun}
 
 -- an open reader before chunk i

@@ -1,5 +1,5 @@
 -- Where a file's chunks begin, from what its parts return.
-use Rattle.std.proofs.Common.{◌≡◌, ◌⊎◌, ℕ, ◌+◌, ◌-◌, ◌<◌, ◌≤◌, List, [], ◌∷◌, map, ◌++◌, length, take, drop, nat_lt, sym, ◌∙◌, ap, refl, subst, arith, inl, inr, length-append, Option, Some, None, Result, Ok, Err}
+use Rattle.std.proofs.Common.{◌≡◌, ◌⊎◌, ℕ, ◌+◌, ◌-◌, ◌<◌, ◌≤◌, List, [], ◌∷◌, map, ◌++◌, length, take, drop, nat_lt, sym, ◌∙◌, ap, refl, subst, arith, inl, inr, length-append, Option, Some, Result, Ok, Err}
 use Rattle.std.proofs.lemmas.Bool.{le-ltb, lt-ltb, cond-false, cond-true}
 use Rattle.std.proofs.lemmas.List.{drop_at}
 use Rattle.age_header.specs.declared.fault.HeaderFault.{HeaderFault}

@@ -1,5 +1,5 @@
 -- What a run of a writer's steps gives is the file.
-use Rattle.std.proofs.Common.{◌≡◌, ◌≢◌, ◌⊎◌, ℕ, ◌+◌, ◌-◌, ◌<◌, ◌≤◌, ◌^◌, List, [], ◌∷◌, ◌++◌, length, take, drop, nat_eq, nat_le, Bool, true, false, sym, ◌∙◌, ap, refl, subst, arith, inl, inr, append_assoc, length-append, length-take, length-drop, Option, None}
+use Rattle.std.proofs.Common.{◌≡◌, ◌≢◌, ◌⊎◌, ℕ, ◌+◌, ◌-◌, ◌<◌, ◌≤◌, List, [], ◌∷◌, ◌++◌, length, take, drop, nat_eq, Bool, true, false, sym, ◌∙◌, ap, refl, subst, arith, inl, inr, append_assoc, length-append, length-take, length-drop}
 use Rattle.std.specs.Prelude.{◌&&◌, ◌||◌}
 use Rattle.std.specs.List.{concat}
 use Rattle.std.proofs.lemmas.Bool.{cases_lt, le-leb, lt-ltb}
@@ -16,7 +16,7 @@ use Rattle.agefile.specs.declared.writer.Writer.{Writer}
 use Rattle.agefile.specs.Answer.{fresh_of, only}
 use Rattle.agefile.specs.Limits.{limits}
 use Rattle.agefile.specs.Runs.{WritesRun}
-use Rattle.agefile.specs.Writer.{OpensWriter, WritesStep, after_chunk, before_first, has_text, takes}
+use Rattle.agefile.specs.Writer.{OpensWriter, WritesStep, after_chunk, has_text, takes}
 
 -- an open writer before chunk i
 abbrev pub writer_at : List ℕ → ℕ → Writer
@@ -129,8 +129,8 @@ WritesFile seed stanza plain file code =
 
 pub steps_write : (seed : List ℕ) (stanza : FileKey → StanzaParts) (plain old new : List ℕ) (writer : Writer) (told : Report) (out : List ℕ) (code : ℕ) → length seed ≡ 48
     → OpensWriter seed stanza old new writer told 0 → WritesRun writer (chunks plain) out code → WritesFile seed stanza plain (take told.len new ++ out) code
-steps_write seed stanza plain old new writer told out code size (inl up) run = let none : 0 ≡ 17 = up.0.code in absurd (omega arith)
-steps_write seed stanza plain old new writer told out code size (inr (text, short, heading, inr (exceeds, _))) run = let none : 0 ≡ 21 = exceeds.code in absurd (omega arith)
+steps_write seed stanza plain old new writer told out code size (inl up) run = let none : ◌≡◌ {A = ℕ} 0 17 = up.0.code in absurd (omega arith)
+steps_write seed stanza plain old new writer told out code size (inr (text, short, heading, inr (exceeds, _))) run = let none : ◌≡◌ {A = ℕ} 0 21 = exceeds.code in absurd (omega arith)
 steps_write seed stanza plain old new writer told out code size (inr (text, short, heading, inl (fits, state))) run =
     let k : FileKey = (fresh_of seed).file_key in
     let nonce : List ℕ = (fresh_of seed).nonce in

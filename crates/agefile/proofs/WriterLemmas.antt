@@ -1,18 +1,18 @@
 -- What opening a new file gives.
-use Rattle.std.proofs.Common.{◌≡◌, ◌⊎◌, ℕ, ◌≤◌, List, [], ◌∷◌, ◌++◌, map, length, false, sym, ◌∙◌, ap, refl, subst, inl, inr, Option, Some, None, Result, Ok, Err}
+use Rattle.std.proofs.Common.{◌≡◌, ℕ, List, [], ◌∷◌, ◌++◌, map, false, ◌∙◌, ap, refl, subst, inl, inr, Result, Ok}
 use Rattle.age_header.specs.Header.{Head, HeaderParts, StanzaParts}
 use Rattle.age_header.specs.Mac.{header_mac}
 use Rattle.age_header.proofs.OneText.{one_text}
 use Rattle.age_recipient.specs.declared.key.FileKey.{FileKey}
 use Rattle.age_recipient.specs.declared.labels.Labels.{Labels}
 use Rattle.age_file.specs.declared.fault.Fault.{Fault}
-use Rattle.age_file.specs.declared.fault.Fault.TheVariants.{HeaderTooLarge, IncompatibleRecipients, MixedPassphrase, NoRecipients, OutOfMemory, Refused}
+use Rattle.age_file.specs.declared.fault.Fault.TheVariants.{HeaderTooLarge, IncompatibleRecipients, MixedPassphrase, NoRecipients, Refused}
 use Rattle.age_file.specs.declared.limits.Fresh.{Fresh}
 use Rattle.age_file.specs.AgeFile.{Bounds, is_mixed}
-use Rattle.age_file.specs.NewFile.{FailsHeading, Gathered, IsHeading, IsRefusal}
+use Rattle.age_file.specs.NewFile.{FailsHeading, Gathered, IsHeading}
 use Rattle.agefile.specs.declared.report.Report.{Report}
 use Rattle.agefile.specs.declared.writer.Writer.{Writer}
-use Rattle.agefile.specs.Answer.{fresh_of, only}
+use Rattle.agefile.specs.Answer.{fresh_of}
 use Rattle.agefile.specs.Codes.{fault_code}
 use Rattle.agefile.specs.Limits.{limits}
 use Rattle.agefile.specs.Writer.{GivesFront, OpensFor, OpensWriter, StaysClosed}
