@@ -10,3 +10,5 @@ mod giving;
 mod inspecting;
 mod report;
 mod sizes;
+#[cfg(test)]
+mod tests;
