@@ -1,5 +1,7 @@
 mod FrontLemmas
+mod HeaderLemmas
 mod PlainLemmas
+mod PlainSizes
 mod RunLemmas
 mod SealLemmas
 pub mod SizeLemmas

@@ -1,5 +1,5 @@
 -- What a caller is given of a file that was decrypted through memory.
-use Rattle.std.proofs.Common.{◌≡◌, false, ℕ, List, [], ◌∷◌, map, ◌∙◌, sym, ap, refl, subst, inl, inr, arith, Option, Some, None, Result, Ok, Err}
+use Rattle.std.proofs.Common.{◌≡◌, false, ℕ, List, [], ◌∷◌, map, sym, subst, inr, arith, Option, Some, None, Ok, Err}
 use Rattle.age_header.specs.Header.{StanzaParts}
 use Rattle.age_recipient.specs.declared.unwrapped.Unwrapped.{Unwrapped}
 use Rattle.age_stream.specs.declared.done.Done.{Done}

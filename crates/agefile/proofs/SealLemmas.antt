@@ -1,6 +1,5 @@
 -- What a caller is given of a plaintext that was encrypted through memory.
-use Rattle.std.proofs.Common.{◌≡◌, ℕ, ◌≤◌, ◌<◌, ◌+◌, ◌-◌, ◌/◌, ◌^◌, List, [], ◌∷◌, length, length-take, length-drop, drop, take, map, false, ◌∙◌, ap, subst, inl, inr, arith, Option, Some, None, Result, Ok, Err}
-use Rattle.std.specs.Prelude.{◌⊎◌}
+use Rattle.std.proofs.Common.{◌≡◌, ℕ, ◌≤◌, ◌<◌, ◌-◌, ◌^◌, List, [], ◌∷◌, length, map, false, ◌∙◌, ap, subst, inl, inr, arith, Option, Some, None, Result, Ok, Err}
 use Rattle.age_header.specs.Header.{Head, StanzaParts}
 use Rattle.age_recipient.specs.declared.key.FileKey.{FileKey}
 use Rattle.age_recipient.specs.declared.labels.Labels.{Labels}
@@ -13,12 +12,12 @@ use Rattle.age_file.specs.declared.fault.Fault.TheVariants.{HeaderTooLarge, Mixe
 use Rattle.age_file.specs.declared.limits.Fresh.{Fresh}
 use Rattle.age_file.specs.AgeFile.{Bounds}
 use Rattle.age_file.specs.Device.{CountsRead}
-use Rattle.age_file.specs.NewFile.{CutFile, EncryptsGiven, EncryptsText, Gathered, IsApart, IsRefusal, NewFile, RefusesFirst, together}
+use Rattle.age_file.specs.NewFile.{EncryptsGiven, EncryptsText, Gathered, IsApart, IsRefusal, RefusesFirst, together}
 use Rattle.agefile.specs.declared.report.Report.{Report}
-use Rattle.agefile.specs.Answer.{Gives, GivesFile, Seals, fresh_of, only, salt_of}
+use Rattle.agefile.specs.Answer.{Gives, GivesFile, Seals, fresh_of, salt_of}
 use Rattle.agefile.specs.Codes.{is_memory}
 use Rattle.agefile.specs.Limits.{limits}
-use Rattle.agefile.proofs.SizeLemmas.{chunk_count, key_header, pass_header}
+use Rattle.agefile.proofs.SizeLemmas.{chunks_size, key_header, key_size, pass_header, salt_size}
 
 -- what recipients give
 abbrev pub Given : Type 1
@@ -87,7 +86,7 @@ seals_stanza seed stanza meant plain old new told result short bound (inl up) = 
 seals_stanza seed stanza meant plain old new told result short bound (inr (inl (fault, refused))) = absurd (no_refusal _ _ meant fault short refused)
 seals_stanza seed stanza meant plain old new told result short bound (inr (inr (inl (begun, cut)))) =
     let many : 2 ^ 64 - 1 < length (chunks plain) = cut.too_many in
-    let few : length (chunks plain) ≤ length plain / 65536 + 1 = chunk_count plain in
+    let few = chunks_size plain in
     absurd (omega arith)
 seals_stanza seed stanza meant plain old new told result short bound (inr (inr (inr (file, is, gives)))) =
     inr (
@@ -115,13 +114,6 @@ pub seals_alone : {X : Type 0} (w : X → Result (List StanzaParts) ℕ) (l : X 
     → items ≡ x ∷ [] → Seals seed (Gathered (map w items) (map l items)) plain old new told result
     → Seals seed (Gathered (w x ∷ []) (l x ∷ [])) plain old new told result
 seals_alone w l items x seed plain old new told result one h = subst (λ xs. Seals seed (Gathered (map w xs) (map l xs)) plain old new told result) one h
-
--- the salt and the file key of a seed have 16 bytes
-salt_size : (seed : List ℕ) → length seed ≡ 48 → length (salt_of seed) ≡ 16
-salt_size seed size = omega (arith, length-take 16 (drop 32 seed), length-drop 32 seed)
-
-key_size : (seed : List ℕ) → length seed ≡ 48 → length (take 16 seed) ≡ 16
-key_size seed size = omega (arith, length-take 16 seed)
 
 pub pass_short : (pass seed : List ℕ) (work : ℕ) → length seed ≡ 48 → work ≤ 30 → IsShort (pass_stanza pass work (salt_of seed) (fresh_of seed).file_key)
 pass_short pass seed work size high mac text h =

@@ -1,5 +1,5 @@
 -- How long the parts of a file are.
-use Rattle.std.proofs.Common.{◌≡◌, ℕ, zero, suc, ◌+◌, ◌-◌, ◌*◌, ◌/◌, ◌<◌, ◌≤◌, ◌^◌, List, [], ◌∷◌, ◌++◌, length, length-append, codes, flat_map, refl, sym, ap, subst, inl, inr, arith, ◌∙◌}
+use Rattle.std.proofs.Common.{◌≡◌, ℕ, ◌+◌, ◌*◌, ◌/◌, ◌<◌, ◌≤◌, List, [], ◌∷◌, ◌++◌, length, length-append, length-drop, length-take, drop, codes, flat_map, refl, sym, ap, subst, inl, inr, arith, ◌∙◌}
 use Rattle.std.specs.List.{AllByRecursion, concat}
 use Rattle.std.specs.Fmt.{decimal}
 use Rattle.std.proofs.lemmas.Fmt.{length-decimal-le}
@@ -11,8 +11,14 @@ use Rattle.age_recipient.specs.declared.key.FileKey.{FileKey}
 use Rattle.age_recipient.specs.Keyed.{keyed_stanza, wrap_key}
 use Rattle.age_recipient.specs.Passphrase.{pass_key, pass_stanza}
 use Rattle.age_recipient.specs.Sealing.{zero_nonce}
-use Rattle.age_stream.proofs.CutLemmas.{is_cut}
-use Rattle.age_stream.specs.Cutting.{IsCut, IsFilled, cut}
+use Rattle.age_stream.proofs.CutLemmas.{filled-some, is_cut}
+use Rattle.age_stream.specs.Cutting.{IsFilled}
+use Rattle.age_cipher.specs.Sealing.{sealed}
+use Rattle.age_header.specs.Mac.{header_mac}
+use Rattle.age_file.specs.NewFile.{NewFile}
+use Rattle.agefile.specs.Answer.{fresh_of, only, salt_of}
+use Rattle.agefile.specs.Limits.{limits}
+use Rattle.agefile.specs.Sizes.{chunk_count, sealed_len}
 use Rattle.age_stream.specs.Payload.{chunks, is_end, payload, payload_key, place, sealed_from}
 
 -- ---- headers
@@ -52,6 +58,14 @@ stanza_size s text size is =
     let signs : length (concat is.full ++ is.last) ≡ 43 = omega (arith, b64_size s.body (concat is.full ++ is.last) is.body) in
     let lines = body_lines_size is.full is.last is.cut.0 signs in
     ap length is.spelled ∙ omega (arith, length-append (argument_line s.args ++ flat_map line is.full) (line is.last), length-append (argument_line s.args) (flat_map line is.full), length-append (flat_map line is.full) (line is.last))
+
+-- every header has its first line and its last
+pub least_header : (ss : List StanzaParts) (mac text : List ℕ) → Head ss mac text → 70 ≤ length text
+least_header ss mac text h =
+    let signs : length h.signs ≡ 43 = omega (arith, b64_size mac h.signs h.mac_text, h.mac_len) in
+    let end = line_size (codes "--- " ++ h.signs) in
+    let all : length text ≡ length (version_line ++ h.body ++ line (codes "--- " ++ h.signs)) = ap length h.spelled in
+    omega (arith, version_size, length-append (codes "--- ") h.signs, length-append (version_line ++ h.body) (line (codes "--- " ++ h.signs)), length-append version_line h.body)
 
 -- a header of one stanza with a body of 32 bytes
 pub header_size : (s : StanzaParts) (mac text : List ℕ) → length s.body ≡ 32 → Head (s ∷ []) mac text → length text ≡ length (argument_line s.args) + 114
@@ -108,9 +122,69 @@ filled_count size (c ∷ d ∷ more) pos h =
     let all = length-append c (concat (d ∷ more)) in
     (omega (arith, rest.0, all), omega (arith, rest.1, all))
 
+filled_chunks : (plain : List ℕ) → IsFilled 65536 (chunks plain) → length (concat (chunks plain)) ≡ length plain → length (chunks plain) ≡ chunk_count (length plain)
+filled_chunks plain filled join =
+    let n = filled_count 65536 (chunks plain) (omega arith) filled in
+    let some = filled-some 65536 (chunks plain) (omega arith) filled in
+    omega (arith, n.0, n.1)
+
 -- the number of chunks
-pub chunk_count : (plain : List ℕ) → length (chunks plain) ≤ length plain / 65536 + 1
-chunk_count plain = let is = is_cut 65536 plain (omega arith) in elim is.sizes [
-  | inl one ↦ let n : length (chunks plain) ≡ 1 = ap length one in omega arith
-  | inr filled ↦ let n = filled_count 65536 (chunks plain) (omega arith) filled in let join : length (concat (chunks plain)) ≡ length plain = ap length is.joined in omega (arith, n.0)
+pub chunks_size : (plain : List ℕ) → length (chunks plain) ≡ chunk_count (length plain)
+chunks_size plain = let is = is_cut 65536 plain (omega arith) in elim is.sizes [
+  | inl one ↦ let n : length (chunks plain) ≡ 1 = ap length one in let none : length plain ≡ 0 = sym (ap length is.joined) ∙ ap (λ cs. length (concat cs)) one in omega arith
+  | inr filled ↦ filled_chunks plain filled (ap length is.joined)
 ]
+
+sealed_size : (key : List ℕ) (i : ℕ) (cs : List (List ℕ)) → length (concat (sealed_from key i cs)) ≡ length (concat cs) + 16 * length cs
+sealed_size key i [] = refl
+sealed_size key i (c ∷ more) =
+    let one = length-sealed key (place i (is_end more)) [] c in
+    let rest = sealed_size key (i + 1) more in
+    omega (arith, length-append (sealed key (place i (is_end more)) [] c) (concat (sealed_from key (i + 1) more)), length-append c (concat more))
+
+pub payload_size : (k : FileKey) (nonce plain : List ℕ) → length (payload k nonce plain) ≡ length nonce + (length plain + 16 * chunk_count (length plain))
+payload_size k nonce plain =
+    let sealed = sealed_size (payload_key k nonce) 0 (chunks plain) in
+    let join : length (concat (chunks plain)) ≡ length plain = ap length (is_cut 65536 plain (omega arith)).joined in
+    let count = chunks_size plain in
+    omega (arith, length-append nonce (concat (sealed_from (payload_key k nonce) 0 (chunks plain))))
+
+-- ---- files
+
+-- the salt, the file key and the nonce of a seed have 16 bytes
+pub salt_size : (seed : List ℕ) → length seed ≡ 48 → length (salt_of seed) ≡ 16
+salt_size seed size = omega (arith, length-take 16 (drop 32 seed), length-drop 32 seed)
+
+pub key_size : (seed : List ℕ) → length seed ≡ 48 → length (fresh_of seed).file_key.0 ≡ 16
+key_size seed size = omega (arith, length-take 16 seed)
+
+nonce_size : (seed : List ℕ) → length seed ≡ 48 → length (fresh_of seed).nonce ≡ 16
+nonce_size seed size = omega (arith, length-take 16 (drop 16 seed), length-drop 16 seed)
+
+file_size : (seed : List ℕ) (stanza : StanzaParts) (plain file : List ℕ) (is : NewFile limits (fresh_of seed) (only stanza) plain file) → length seed ≡ 48
+    → length file ≡ length is.text + (16 + (length plain + 16 * chunk_count (length plain)))
+file_size seed stanza plain file is size =
+    let sealed = payload_size (fresh_of seed).file_key (fresh_of seed).nonce plain in
+    let nonce = nonce_size seed size in
+    ap length is.spelled ∙ omega (arith, length-append is.text (payload (fresh_of seed).file_key (fresh_of seed).nonce plain))
+
+-- a header of the stanza alone
+only_head : (seed : List ℕ) (stanza : StanzaParts) (plain file : List ℕ) (is : NewFile limits (fresh_of seed) (only stanza) plain file)
+    → Head (stanza ∷ []) (header_mac (fresh_of seed).file_key.0 is.stanzas) is.text
+only_head seed stanza plain file is =
+    let same : is.stanzas ≡ stanza ∷ [] = cc (is.heading.gives) in
+    subst (λ ss. Head ss (header_mac (fresh_of seed).file_key.0 is.stanzas) is.text) same is.heading.head
+
+pub key_file : (key seed plain file : List ℕ) → length seed ≡ 48
+    → NewFile limits (fresh_of seed) (only (keyed_stanza key (salt_of seed) (fresh_of seed).file_key)) plain file → length file ≡ sealed_len (length plain)
+key_file key seed plain file size is =
+    let all = file_size seed _ plain file is size in
+    let head = key_header key (salt_of seed) (fresh_of seed).file_key _ is.text (salt_size seed size) (key_size seed size) (only_head seed _ plain file is) in
+    omega arith
+
+pub pass_file : (pass seed plain file : List ℕ) (work : ℕ) → length seed ≡ 48 → work ≤ 30
+    → NewFile limits (fresh_of seed) (only (pass_stanza pass work (salt_of seed) (fresh_of seed).file_key)) plain file → length file < sealed_len (length plain)
+pass_file pass seed plain file work size high is =
+    let all = file_size seed _ plain file is size in
+    let head = pass_header pass (salt_of seed) work (fresh_of seed).file_key _ is.text (salt_size seed size) (key_size seed size) high (only_head seed _ plain file is) in
+    omega arith

@@ -1,9 +1,11 @@
 pub mod Answer
 pub mod Codes
+pub mod Inspect
 pub mod Limits
 pub mod Reader
 pub mod Report
 pub mod Runs
+pub mod Sizes
 pub mod Start
 pub mod Steps
 pub mod Writer

@@ -7,9 +7,13 @@ mod code;
 mod decrypting;
 mod encrypting;
 mod giving;
+mod inspecting;
 pub mod laws;
 mod reader;
 mod report;
+mod sizes;
 mod start;
 mod state;
+#[cfg(test)]
+mod tests;
 mod writer;

@@ -1,0 +1,113 @@
+-- The header in front of bytes that lie in memory.
+use Rattle.std.proofs.Common.{◌≡◌, ℕ, ◌<◌, ◌≤◌, ◌-◌, ◌^◌, List, [], ◌∷◌, ◌++◌, length, map, flat_map, min, ◌∙◌, sym, ap, refl, subst, inl, inr, arith, Option, Some, None, Result, Ok, Err}
+use Rattle.std.specs.Prelude.{String, IfOk, ◌⊎◌}
+use Rattle.std.specs.Global.{Global}
+use Rattle.std.specs.String.{string_bytes}
+use Rattle.std.specs.List.{join_by, slice_get}
+use Rattle.std.proofs.lemmas.Option.{slice_get_past}
+use Rattle.age_header.specs.declared.fault.HeaderFault.{HeaderFault}
+use Rattle.age_header.specs.declared.fault.HeaderFault.TheVariants as header
+use Rattle.age_header.specs.Header.{Head, HeaderParts, StanzaParts}
+use Rattle.age_header.specs.Verdict.{HeaderVerdict}
+use Rattle.age_header.specs.Reader.{AnswersOf}
+use Rattle.age_header.proofs.OneText.{one_text}
+use Rattle.age_header.proofs.OneVerdict.{begins_found}
+use Rattle.age_file.specs.declared.fault.Fault.{Fault}
+use Rattle.age_file.specs.AgeFile.{Bounds}
+use Rattle.age_file.specs.Device.{CountsRead}
+use Rattle.age_file.specs.Inspect.{Inspects, file_answer}
+use Rattle.agefile.specs.declared.inspecting.StanzaSummary.{StanzaSummary}
+use Rattle.agefile.specs.declared.inspecting.Summary.{Summary}
+use Rattle.agefile.specs.declared.report.Report.{Report}
+use Rattle.agefile.specs.Answer.{Fits, Gives, GivesUp}
+use Rattle.agefile.specs.Codes.{fault_code}
+use Rattle.agefile.specs.Report.{report_of}
+use Rattle.agefile.specs.Inspect.{AnswersStanza, GivesStanza, HeaderOf, Inspected, joined}
+use Rattle.agefile.specs.Limits.{limits}
+
+-- what a reader answered
+of_answer : (b : List ℕ) (after : Option (List ℕ)) (r : Result HeaderParts Fault) (answer : Result HeaderParts HeaderFault) → r ≡ file_answer answer
+    → CountsRead 0 0 r → AnswersOf b (Some b) after limits.max_header answer → HeaderOf b r
+of_answer b after r (Ok h) same count (text, verdict, taken) = subst (HeaderOf b) (sym same) (text, verdict)
+of_answer b after r (Err header.Memory) same count h = subst (HeaderOf b) (sym same) (inl refl)
+of_answer b after r (Err header.Read) same count h = let rises = subst (CountsRead 0 0) same count in absurd (omega arith)
+of_answer b after r (Err reason) same count h = subst (HeaderOf b) (sym same) (inr (reason, h, refl))
+
+pub header_found : (l : Bounds) (b : List ℕ) (come after : Option (List ℕ)) (r : Result HeaderParts Fault) → l ≡ limits → come ≡ Some b
+    → CountsRead 0 0 r → Inspects l come after r → HeaderOf b r
+header_found l b come after r at source count h =
+    let inspects = subst (λ (s : Option (List ℕ)). Inspects limits s after r) source (subst (λ bounds. Inspects bounds come after r) at h) in
+    of_answer b after r inspects.0 inspects.1 count inspects.2
+
+-- the length of a header that was found is that of its text
+pub found_len : (b text h : List ℕ) (ss : List StanzaParts) (mac : List ℕ) (len : ℕ)
+    → HeaderVerdict b limits.max_header (Ok (record { stanzas = ss; mac = mac; text = text })) → Head ss mac h → len ≡ min (length h) (2 ^ 64 - 1) → len ≡ length text
+found_len b text h ss mac len found head is =
+    let front = begins_found b limits.max_header (record { stanzas = ss; mac = mac; text = text }) found in
+    let fits : length text ≤ 65536 = front.fits in
+    let same : length h ≡ length text = ap length (one_text ss mac h text head front.head) in
+    omega arith
+
+-- what a caller is given of a header
+pub inspected : (b h : List ℕ) (header : HeaderParts) (old : Summary) (told : Report) (len stanzas : ℕ) (mac : List ℕ) → HeaderOf b (Ok header) → told ≡ report_of 0 None
+    → Head header.stanzas header.mac h → len ≡ min (length h) (2 ^ 64 - 1) → stanzas ≡ length header.stanzas → mac ≡ header.mac
+    → Inspected b old (record { header_len = len; stanzas = stanzas; mac = mac }) told 0
+inspected b h header old told len stanzas mac (text, found) none head is count same =
+    inr (
+      Ok (record { stanzas = header.stanzas; mac = header.mac; text = text }),
+      found,
+      (refl, none, rw (found_len b text h header.stanzas header.mac len found head is, count, same) refl),
+    )
+
+pub inspected_fault : (b : List ℕ) (old : Summary) (told : Report) (result : ℕ) (fault : Fault) → HeaderOf b (Err fault) → told ≡ report_of 0 (Some fault) → result ≡ fault_code fault
+    → Inspected b old old told result
+inspected_fault b old told result fault (inl memory) place code =
+    inl (code ∙ ap fault_code memory, place ∙ ap (λ f. report_of 0 (Some f)) memory, refl)
+inspected_fault b old told result fault (inr (reason, found, same)) place code =
+    inr (Err reason, found, ((code ∙ ap fault_code same, place ∙ ap (λ f. report_of 0 (Some f)) same), refl))
+
+-- what a caller is given of a stanza
+pub stanza_none : (b : List ℕ) (header : HeaderParts) (index : ℕ) (old new : List ℕ) (before : StanzaSummary) (told : Report) (result : ℕ) → HeaderOf b (Ok header)
+    → length header.stanzas ≤ index → GivesUp 23 old new told result → AnswersStanza b index old new before before told result
+stanza_none b header index old new before told result (text, found) past up =
+    inr (
+      Ok (record { stanzas = header.stanzas; mac = header.mac; text = text }),
+      found,
+      subst (λ s. GivesStanza s old new before before told result) (sym (slice_get_past header.stanzas index past)) (up, refl),
+    )
+
+pub stanza_some : (b : List ℕ) (header : HeaderParts) (index : ℕ) (s : StanzaParts) (old new : List ℕ) (before after : StanzaSummary) (told : Report) (result : ℕ) → HeaderOf b (Ok header)
+    → slice_get header.stanzas index ≡ Some s
+    → ((GivesUp 17 old new told result × (after ≡ before)) ⊎ GivesStanza (Some s) old new before after told result) → AnswersStanza b index old new before after told result
+stanza_some b header index s old new before after told result of at (inl up) = inl up
+stanza_some b header index s old new before after told result (text, found) at (inr gives) =
+    inr (
+      Ok (record { stanzas = header.stanzas; mac = header.mac; text = text }),
+      found,
+      subst (λ z. GivesStanza z old new before after told result) (sym at) gives,
+    )
+
+fault_of : (b : List ℕ) (index : ℕ) (old new : List ℕ) (before : StanzaSummary) (told : Report) (result : ℕ) (fault : Fault) → HeaderOf b (Err fault)
+    → Fits [] (Some fault) old new told result → AnswersStanza b index old new before before told result
+fault_of b index old new before told result fault (inl memory) fits =
+    inl (record { code = fits.code ∙ ap fault_code memory; report = fits.report ∙ ap (λ f. report_of 0 (Some f)) memory; buffer = fits.buffer }, refl)
+fault_of b index old new before told result fault (inr (reason, found, same)) fits =
+    inr (Err reason, found, ((fits.code ∙ ap fault_code same, fits.report ∙ ap (λ f. report_of 0 (Some f)) same), fits.buffer, refl))
+
+pub stanza_fault : (b : List ℕ) (index : ℕ) (old new : List ℕ) (before : StanzaSummary) (told : Report) (result : ℕ) (fault : Fault) → HeaderOf b (Err fault)
+    → Gives [] (Some fault) old new told result → AnswersStanza b index old new before before told result
+stanza_fault b index old new before told result fault of (inl fits) = fault_of b index old new before told result fault of fits
+stanza_fault b index old new before told result fault of (inr exceeds) = let less : length old < 0 = exceeds.exceeds in absurd (omega arith)
+
+join_map : {X : Type 0} (f : X → List ℕ) (xs : List X) → flat_map (λ x. 32 ∷ [] ++ f x) xs ≡ flat_map (λ a. 32 ∷ [] ++ a) (map f xs)
+join_map f [] = refl
+join_map f (x ∷ xs) = ap (λ t. (32 ∷ [] ++ f x) ++ t) (join_map f xs)
+
+joined_map : {X : Type 0} (f : X → List ℕ) (xs : List X) → join_by f (32 ∷ []) xs ≡ joined (map f xs)
+joined_map f [] = refl
+joined_map f (x ∷ xs) = ap (λ t. f x ++ t) (join_map f xs)
+
+pub joined_text : {X E : Type 0} (f : X → List ℕ) (xs : List X) (args : List (List ℕ)) (r : Result (String Global) E) → map f xs ≡ args
+    → IfOk r (λ t. string_bytes t ≡ join_by f (32 ∷ []) xs) → IfOk r (λ t. string_bytes t ≡ joined args)
+joined_text f xs args (Ok t) same h = h ∙ joined_map f xs ∙ ap joined same
+joined_text f xs args (Err e) same h = tt

@@ -1,0 +1,145 @@
+//! What the header of a file says.
+
+ghost use Rattle.std.specs.Prelude.{◌≡◌, ◌⊎◌, Some, IfOk};
+ghost use Rattle.std.specs.String.{string_bytes};
+ghost use Rattle.agefile.specs.Answer.{GivesUp};
+ghost use Rattle.agefile.specs.Inspect.{AnswersStanza, GivesStanza, HeaderOf, Inspected, joined, stanza_summary};
+
+use crate::bounds::limits;
+use crate::code::{OK, OUT_OF_MEMORY, OUT_OF_ORDER, code_of};
+use crate::giving::{give_part, give_up, give_whole};
+use crate::report::Report;
+use age_file::{Fault, Header, MemSource, Stanza, inspect};
+use std::alloc::{AllocError, Global};
+
+/// What a header says of itself.
+#[repr(C)]
+#[derive(Clone, Copy)]
+pub struct Summary {
+    /// How many bytes the header has.
+    pub header_len: u64,
+    /// How many stanzas it has.
+    pub stanzas: u64,
+    /// Its MAC.
+    pub mac: [u8; 32],
+}
+
+/// What a stanza says of itself.
+#[repr(C)]
+#[derive(Clone, Copy)]
+pub struct StanzaSummary {
+    /// How many arguments it has, the type being the first.
+    pub args: u64,
+    /// How many bytes its arguments have, joined by single spaces.
+    pub args_len: u64,
+    /// How many bytes its body has.
+    pub body_len: u64,
+}
+
+/// Sums up the header at the front of a file. Its MAC is not verified, since that needs the file key. Of a file of more than 65,536 bytes
+/// the first 65,536 suffice.
+///
+/// # Errors
+/// Those of `age_file::inspect`, or 17 where an allocation was refused; in these `summary` is as it was.
+#[unsafe(no_mangle)]
+pub extern "C" fn agefile_inspect(
+    alloc: Global,
+    front: &[u8],
+    summary: &mut Summary,
+    report: &mut Report,
+) -> u32
+    ensures { Inspected front.now summary.old summary.new report.new result }
+{
+    match header_of(alloc, front) {
+        Ok(header) => {
+            *report = Report::of_len(0);
+            *summary = Summary {
+                header_len: header.text_len(),
+                stanzas: header.stanzas().len() as u64,
+                mac: *header.mac(),
+            };
+            OK
+        }
+        Err(fault) => {
+            *report = Report::of_fault(0, fault);
+            code_of(fault)
+        }
+    }
+}
+
+/// Sums up the stanza at a place of the header, the first being 0, and writes its arguments to the front of `args`, joined by single spaces.
+/// Where `args` is too small for them, the stanza is still summed up.
+///
+/// # Errors
+/// 23 where there is no such stanza, 21 where `args` is too small, 17 where an allocation was refused, else those of `age_file::inspect`; in
+/// these `args` is as it was, and in all but 21 `stanza` too.
+#[unsafe(no_mangle)]
+pub extern "C" fn agefile_stanza(
+    alloc: Global,
+    front: &[u8],
+    index: u64,
+    args: &mut [u8],
+    stanza: &mut StanzaSummary,
+    report: &mut Report,
+) -> u32
+    ensures { AnswersStanza front.now index args.old args.new stanza.old stanza.new report.new result }
+{
+    let header = match header_of(alloc, front) {
+        Ok(header) => header,
+        Err(fault) => return give_part(&[], fault, args, report),
+    };
+    if index >= header.stanzas().len() as u64 {
+        return give_up(OUT_OF_ORDER, args, report);
+    }
+    give_stanza(
+        alloc,
+        &header.stanzas()[index as usize],
+        args,
+        stanza,
+        report,
+    )
+}
+
+/// Sums up a stanza and gives its arguments.
+fn give_stanza(
+    alloc: Global,
+    found: &Stanza,
+    args: &mut [u8],
+    stanza: &mut StanzaSummary,
+    report: &mut Report,
+) -> u32
+    ensures { ((GivesUp 17 args.old args.new report.new result) × (stanza.new ≡ stanza.old))
+        ⊎ GivesStanza (Some found.now) args.old args.new stanza.old stanza.new report.new result }
+{
+    let Ok(text) = joined(alloc, found) else {
+        return give_up(OUT_OF_MEMORY, args, report);
+    };
+    *stanza = summary_of(found, text.as_bytes());
+    give_whole(text.as_bytes(), args, report)
+}
+
+/// What a stanza says of itself, whose arguments are joined to this text.
+fn summary_of(stanza: &Stanza, text: &[u8]) -> StanzaSummary
+    requires { text.now ≡ joined stanza.now.args }
+    ensures { result ≡ stanza_summary stanza.now }
+{
+    StanzaSummary {
+        args: stanza.args().len() as u64,
+        args_len: text.len() as u64,
+        body_len: stanza.body().len() as u64,
+    }
+}
+
+/// The arguments of a stanza, joined by single spaces.
+fn joined(alloc: Global, stanza: &Stanza) -> Result<String, AllocError>
+    ensures { IfOk result (λ text. string_bytes text ≡ joined stanza.now.args) }
+{
+    stanza.args().join(alloc, " ")
+}
+
+/// The header at the front of a file.
+fn header_of(alloc: Global, front: &[u8]) -> Result<Header, Fault>
+    ensures { HeaderOf front.now result }
+{
+    inspect(alloc, &mut MemSource::new(front), &limits())
+}
