@@ -129,8 +129,8 @@ WritesFile seed stanza plain file code =
 
 pub steps_write : (seed : List ℕ) (stanza : FileKey → StanzaParts) (plain old new : List ℕ) (writer : Writer) (told : Report) (out : List ℕ) (code : ℕ) → length seed ≡ 48
     → OpensWriter seed stanza old new writer told 0 → WritesRun writer (chunks plain) out code → WritesFile seed stanza plain (take told.len new ++ out) code
-steps_write seed stanza plain old new writer told out code size (inl up) run = let none : 0 ≡ 17 = up.0.code in absurd (omega arith)
-steps_write seed stanza plain old new writer told out code size (inr (text, short, heading, inr (exceeds, _))) run = let none : 0 ≡ 21 = exceeds.code in absurd (omega arith)
+steps_write seed stanza plain old new writer told out code size (inl up) run = let none : ◌≡◌ {A = ℕ} 0 17 = up.0.code in absurd (omega arith)
+steps_write seed stanza plain old new writer told out code size (inr (text, short, heading, inr (exceeds, _))) run = let none : ◌≡◌ {A = ℕ} 0 21 = exceeds.code in absurd (omega arith)
 steps_write seed stanza plain old new writer told out code size (inr (text, short, heading, inl (fits, state))) run =
     let k : FileKey = (fresh_of seed).file_key in
     let nonce : List ℕ = (fresh_of seed).nonce in

@@ -24,4 +24,6 @@ mod report;
 mod sizes;
 mod start;
 mod state;
+#[cfg(test)]
+mod tests;
 mod writer;
