@@ -1,3 +1,4 @@
+mod BackLemmas
 mod HeaderLemmas
 mod PlainLemmas
 mod PlainSizes

@@ -12,3 +12,4 @@ mod report;
 mod sizes;
 #[cfg(test)]
 mod tests;
+pub mod there_and_back;
