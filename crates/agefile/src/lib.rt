@@ -27,3 +27,4 @@ mod state;
 #[cfg(test)]
 mod tests;
 mod writer;
+pub mod there_and_back;
