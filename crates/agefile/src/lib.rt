@@ -26,5 +26,5 @@ mod start;
 mod state;
 #[cfg(test)]
 mod tests;
-mod writer;
 pub mod there_and_back;
+mod writer;
