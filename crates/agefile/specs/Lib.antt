@@ -1,3 +1,4 @@
+pub mod Answer
 pub mod Codes
 pub mod Limits
 pub mod Report

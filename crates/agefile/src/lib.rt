@@ -4,4 +4,7 @@
 
 mod bounds;
 mod code;
+mod decrypting;
+mod encrypting;
+mod giving;
 mod report;

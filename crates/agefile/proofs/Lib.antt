@@ -1,0 +1,3 @@
+mod PlainLemmas
+mod SealLemmas
+pub mod SizeLemmas

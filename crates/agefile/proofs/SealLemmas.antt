@@ -1,0 +1,132 @@
+-- What a caller is given of a plaintext that was encrypted through memory.
+use Rattle.std.proofs.Common.{◌≡◌, ℕ, ◌≤◌, ◌<◌, ◌+◌, ◌-◌, ◌/◌, ◌^◌, List, [], ◌∷◌, length, length-take, length-drop, drop, take, map, false, ◌∙◌, ap, subst, inl, inr, arith, Option, Some, None, Result, Ok, Err}
+use Rattle.std.specs.Prelude.{◌⊎◌}
+use Rattle.age_header.specs.Header.{Head, StanzaParts}
+use Rattle.age_recipient.specs.declared.key.FileKey.{FileKey}
+use Rattle.age_recipient.specs.declared.labels.Labels.{Labels}
+use Rattle.age_recipient.specs.Keyed.{keyed_stanza}
+use Rattle.age_recipient.specs.Passphrase.{pass_stanza}
+use Rattle.age_stream.specs.declared.done.Done.{Done}
+use Rattle.age_stream.specs.Payload.{chunks}
+use Rattle.age_file.specs.declared.fault.Fault.{Fault}
+use Rattle.age_file.specs.declared.fault.Fault.TheVariants.{HeaderTooLarge, MixedPassphrase, TooManyChunks, Read, Write, OutOfMemory, NoRecipients, Refused, IncompatibleRecipients}
+use Rattle.age_file.specs.declared.limits.Fresh.{Fresh}
+use Rattle.age_file.specs.AgeFile.{Bounds}
+use Rattle.age_file.specs.Device.{CountsRead}
+use Rattle.age_file.specs.NewFile.{CutFile, EncryptsGiven, EncryptsText, Gathered, IsApart, IsRefusal, NewFile, RefusesFirst, together}
+use Rattle.agefile.specs.declared.report.Report.{Report}
+use Rattle.agefile.specs.Answer.{Gives, GivesFile, Seals, fresh_of, only, salt_of}
+use Rattle.agefile.specs.Codes.{is_memory}
+use Rattle.agefile.specs.Limits.{limits}
+use Rattle.agefile.proofs.SizeLemmas.{chunk_count, key_header, pass_header}
+
+-- what recipients give
+abbrev pub Given : Type 1
+Given = Result (List StanzaParts) Fault → Type 0
+
+pub seals_whole : (seed : List ℕ) (given : Given) (plain text old new : List ℕ) (told : Report) (result : ℕ) (done : Done)
+    → EncryptsText limits (fresh_of seed) given plain (Some []) (Some text) (Ok done) → Gives text None old new told result → Seals seed given plain old new told result
+seals_whole seed given plain text old new told result done h gives =
+    inr (inr (inr (h.0, h.1, subst (λ t. Gives t None old new told result) h.2 gives)))
+
+-- a fault that no device and no allocation caused is a refusal, or there are too many chunks
+part_of : (seed : List ℕ) (given : Given) (plain old new : List ℕ) (told : Report) (result : ℕ) (before after : Option (List ℕ)) (fault : Fault)
+    → is_memory fault ≡ false → CountsRead {A = Done} 0 0 (Err fault) → RefusesFirst limits (fresh_of seed).file_key given fault
+    → EncryptsText limits (fresh_of seed) given plain before after (Err fault) → Seals seed given plain old new told result
+part_of seed given plain old new told result before after OutOfMemory inside count first h = cc
+part_of seed given plain old new told result before after Write inside count first h = cc
+part_of seed given plain old new told result before after Read inside count first h = absurd (omega arith)
+part_of seed given plain old new told result before after TooManyChunks inside count first h = inr (inr (inl (h.0, h.1)))
+part_of seed given plain old new told result before after fault inside count first h = inr (inl (fault, first))
+
+-- the same of devices in memory
+pub seals_part : (l : Bounds) (fresh : Fresh) (seed : List ℕ) (given : FileKey → Given) (plain old new : List ℕ) (come before after : Option (List ℕ)) (told : Report) (result : ℕ) (fault : Fault)
+    → l ≡ limits → fresh ≡ fresh_of seed → come ≡ Some plain → is_memory fault ≡ false → CountsRead {A = Done} 0 0 (Err fault)
+    → RefusesFirst l fresh.file_key (given fresh.file_key) fault → EncryptsGiven l fresh (given fresh.file_key) come before after (Err fault)
+    → Seals seed (given (fresh_of seed).file_key) plain old new told result
+seals_part l fresh seed given plain old new come before after told result fault at seeds source inside count first h =
+    part_of seed (given (fresh_of seed).file_key) plain old new told result before after fault inside count
+    (subst (λ f. RefusesFirst limits f.file_key (given f.file_key) fault) seeds (subst (λ b. RefusesFirst b fresh.file_key (given fresh.file_key) fault) at first))
+    (subst (λ f. EncryptsText limits f (given f.file_key) plain before after (Err fault)) seeds
+    (subst (λ b. EncryptsText b fresh (given fresh.file_key) plain before after (Err fault)) at
+    (subst (λ (s : Option (List ℕ)). EncryptsGiven l fresh (given fresh.file_key) s before after (Err fault)) source h)))
+
+-- one recipient is apart from nobody
+one_place : (meant : Labels) (place : Option ℕ) → IsApart (meant ∷ []) place → place ≡ None
+one_place meant place ([], may, is) = absurd may
+one_place meant place (l ∷ [], may, is) = is
+one_place meant place (l ∷ m ∷ rest, may, is) = absurd may.1
+
+-- what one recipient gives that wraps a key in one stanza
+gathered_one : (stanza : StanzaParts) (meant : Labels) (given : Result (List StanzaParts) Fault) → Gathered (Ok (stanza ∷ []) ∷ []) (meant ∷ []) given → given ≡ Ok (stanza ∷ [])
+gathered_one stanza meant given (place, apart, is) = is ∙ ap (together (Ok (stanza ∷ []))) (one_place meant place apart)
+
+-- each header of this stanza alone is short
+abbrev pub IsShort : StanzaParts → Type 0
+IsShort stanza = (mac text : List ℕ) → Head (stanza ∷ []) mac text → length text ≤ 156
+
+-- no header of one short stanza is refused
+no_refusal : (k : FileKey) (stanza : StanzaParts) (meant : Labels) (fault : Fault) → IsShort stanza
+    → IsRefusal limits k (Gathered (Ok (stanza ∷ []) ∷ []) (meant ∷ [])) fault → ⊥
+no_refusal k stanza meant (Refused i code) short h = let same = gathered_one stanza meant _ h in cc
+no_refusal k stanza meant (IncompatibleRecipients i) short h = let same = gathered_one stanza meant _ h in cc
+no_refusal k stanza meant NoRecipients short h = let same = gathered_one stanza meant _ h in cc
+no_refusal k stanza meant MixedPassphrase short (stanzas, given, mixed) = let same : stanzas ≡ stanza ∷ [] = cc (gathered_one stanza meant _ given) in cc (rw same at mixed)
+no_refusal k stanza meant HeaderTooLarge short h =
+    let same : h.stanzas ≡ stanza ∷ [] = cc (gathered_one stanza meant _ h.gives) in
+    let small : length h.text ≤ 156 = short _ h.text (rw same at h.head) in
+    let large : 65536 < length h.text = h.exceeds in
+    omega arith
+no_refusal k stanza meant fault short h = absurd h
+
+-- what encrypting for one recipient gives that wraps a key in one stanza
+seals_stanza : (seed : List ℕ) (stanza : FileKey → StanzaParts) (meant : Labels) (plain old new : List ℕ) (told : Report) (result : ℕ)
+    → IsShort (stanza (fresh_of seed).file_key) → length plain < 2 ^ 64
+    → Seals seed (Gathered (Ok (stanza (fresh_of seed).file_key ∷ []) ∷ []) (meant ∷ [])) plain old new told result → GivesFile seed stanza plain old new told result
+seals_stanza seed stanza meant plain old new told result short bound (inl up) = inl up
+seals_stanza seed stanza meant plain old new told result short bound (inr (inl (fault, refused))) = absurd (no_refusal _ _ meant fault short refused)
+seals_stanza seed stanza meant plain old new told result short bound (inr (inr (inl (begun, cut)))) =
+    let many : 2 ^ 64 - 1 < length (chunks plain) = cut.too_many in
+    let few : length (chunks plain) ≤ length plain / 65536 + 1 = chunk_count plain in
+    absurd (omega arith)
+seals_stanza seed stanza meant plain old new told result short bound (inr (inr (inr (file, is, gives)))) =
+    inr (
+      file,
+      record {
+        stanzas = is.stanzas;
+        text = is.text;
+        heading = record { gives = gathered_one _ meant _ is.heading.gives; unmixed = is.heading.unmixed; head = is.heading.head; fits = is.heading.fits };
+        spelled = is.spelled;
+        file = is.file;
+      },
+      gives,
+    )
+
+-- the same of a recipient known by what it wraps
+pub seals_one : (seed : List ℕ) (wrapped : Result (List StanzaParts) ℕ) (stanza : FileKey → StanzaParts) (meant : Labels) (plain old new : List ℕ) (told : Report) (result : ℕ)
+    → wrapped ≡ Ok (stanza (fresh_of seed).file_key ∷ []) → IsShort (stanza (fresh_of seed).file_key) → length plain < 2 ^ 64
+    → Seals seed (Gathered (wrapped ∷ []) (meant ∷ [])) plain old new told result → GivesFile seed stanza plain old new told result
+seals_one seed wrapped stanza meant plain old new told result wraps short bound h =
+    seals_stanza seed stanza meant plain old new told result short bound
+    (subst (λ w. Seals seed (Gathered (w ∷ []) (meant ∷ [])) plain old new told result) wraps h)
+
+-- the same of recipients in a list of one
+pub seals_alone : {X : Type 0} (w : X → Result (List StanzaParts) ℕ) (l : X → Labels) (items : List X) (x : X) (seed plain old new : List ℕ) (told : Report) (result : ℕ)
+    → items ≡ x ∷ [] → Seals seed (Gathered (map w items) (map l items)) plain old new told result
+    → Seals seed (Gathered (w x ∷ []) (l x ∷ [])) plain old new told result
+seals_alone w l items x seed plain old new told result one h = subst (λ xs. Seals seed (Gathered (map w xs) (map l xs)) plain old new told result) one h
+
+-- the salt and the file key of a seed have 16 bytes
+salt_size : (seed : List ℕ) → length seed ≡ 48 → length (salt_of seed) ≡ 16
+salt_size seed size = omega (arith, length-take 16 (drop 32 seed), length-drop 32 seed)
+
+key_size : (seed : List ℕ) → length seed ≡ 48 → length (take 16 seed) ≡ 16
+key_size seed size = omega (arith, length-take 16 seed)
+
+pub pass_short : (pass seed : List ℕ) (work : ℕ) → length seed ≡ 48 → work ≤ 30 → IsShort (pass_stanza pass work (salt_of seed) (fresh_of seed).file_key)
+pass_short pass seed work size high mac text h =
+    let small = pass_header pass (salt_of seed) work (fresh_of seed).file_key mac text (salt_size seed size) (key_size seed size) high h in omega arith
+
+pub key_short : (key seed : List ℕ) → length seed ≡ 48 → IsShort (keyed_stanza key (salt_of seed) (fresh_of seed).file_key)
+key_short key seed size mac text h =
+    let small = key_header key (salt_of seed) (fresh_of seed).file_key mac text (salt_size seed size) (key_size seed size) h in omega arith

@@ -1,0 +1,116 @@
+-- How long the parts of a file are.
+use Rattle.std.proofs.Common.{◌≡◌, ℕ, zero, suc, ◌+◌, ◌-◌, ◌*◌, ◌/◌, ◌<◌, ◌≤◌, ◌^◌, List, [], ◌∷◌, ◌++◌, length, length-append, codes, flat_map, refl, sym, ap, subst, inl, inr, arith, ◌∙◌}
+use Rattle.std.specs.List.{AllByRecursion, concat}
+use Rattle.std.specs.Fmt.{decimal}
+use Rattle.std.proofs.lemmas.Fmt.{length-decimal-le}
+use Rattle.base64.proofs.RoundTrip.{length-encode_symbols}
+use Rattle.age_cipher.proofs.OpeningLemmas.{length-sealed}
+use Rattle.age_header.specs.Base64.{B64, alphabet, signs_of}
+use Rattle.age_header.specs.Header.{Head, IsFullLine, IsStanza, StanzaParts, argument_line, line, version_line}
+use Rattle.age_recipient.specs.declared.key.FileKey.{FileKey}
+use Rattle.age_recipient.specs.Keyed.{keyed_stanza, wrap_key}
+use Rattle.age_recipient.specs.Passphrase.{pass_key, pass_stanza}
+use Rattle.age_recipient.specs.Sealing.{zero_nonce}
+use Rattle.age_stream.proofs.CutLemmas.{is_cut}
+use Rattle.age_stream.specs.Cutting.{IsCut, IsFilled, cut}
+use Rattle.age_stream.specs.Payload.{chunks, is_end, payload, payload_key, place, sealed_from}
+
+-- ---- headers
+
+b64_size : (bytes signs : List ℕ) → B64 bytes signs → length signs ≡ (4 * length bytes + 2) / 3
+unfolding B64
+b64_size [] [] h = refl
+b64_size (a ∷ []) (p ∷ q ∷ []) h = refl
+b64_size (a ∷ b ∷ []) (p ∷ q ∷ r ∷ []) h = refl
+b64_size (a ∷ b ∷ c ∷ bytes) (p ∷ q ∷ r ∷ s ∷ signs) h = let rest = b64_size bytes signs h.1 in omega arith
+b64_size _ _ h = absurd h
+
+signs_size : (b : List ℕ) → length (signs_of b) ≡ (4 * length b + 2) / 3
+unfolding signs_of
+signs_size b = length-encode_symbols alphabet b
+
+line_size : (t : List ℕ) → length (line t) ≡ length t + 1
+line_size t = length-append t (10 ∷ [])
+
+version_size : length version_line ≡ 22
+unfolding version_line
+version_size = refl
+
+full_size : (full : List (List ℕ)) → AllByRecursion IsFullLine full → length (concat full) ≡ 64 * length full
+full_size [] all = refl
+full_size (f ∷ full) all = let one : length f ≡ 64 = all.0 in let rest = full_size full all.1 in omega (arith, length-append f (concat full))
+
+-- the body's lines of a stanza with a body of 32 bytes
+body_lines_size : (full : List (List ℕ)) (last : List ℕ) → AllByRecursion IsFullLine full → length (concat full ++ last) ≡ 43 → length (flat_map line full ++ line last) ≡ 44
+body_lines_size [] last all size = omega (arith, line_size last)
+body_lines_size (f ∷ full) last all size =
+    let lines = full_size (f ∷ full) all in
+    absurd (omega (arith, length-append (concat (f ∷ full)) last))
+
+stanza_size : (s : StanzaParts) (text : List ℕ) → length s.body ≡ 32 → IsStanza s text → length text ≡ length (argument_line s.args) + 44
+stanza_size s text size is =
+    let signs : length (concat is.full ++ is.last) ≡ 43 = omega (arith, b64_size s.body (concat is.full ++ is.last) is.body) in
+    let lines = body_lines_size is.full is.last is.cut.0 signs in
+    ap length is.spelled ∙ omega (arith, length-append (argument_line s.args ++ flat_map line is.full) (line is.last), length-append (argument_line s.args) (flat_map line is.full), length-append (flat_map line is.full) (line is.last))
+
+-- a header of one stanza with a body of 32 bytes
+pub header_size : (s : StanzaParts) (mac text : List ℕ) → length s.body ≡ 32 → Head (s ∷ []) mac text → length text ≡ length (argument_line s.args) + 114
+header_size s mac text size h =
+    let stanza : length h.stanza_text.0 ≡ length (argument_line s.args) + 44 = stanza_size s h.stanza_text.0 size h.stanza_text.2 in
+    let none : length h.stanza_text.1 ≡ 0 = ap length h.stanza_text.3 in
+    let body : length h.body ≡ length (h.stanza_text.0 ++ h.stanza_text.1) = ap length h.stanza_text.4 in
+    let signs : length h.signs ≡ 43 = omega (arith, b64_size mac h.signs h.mac_text, h.mac_len) in
+    let end = line_size (codes "--- " ++ h.signs) in
+    ap length h.spelled ∙ omega (
+      arith,
+      version_size,
+      length-append h.stanza_text.0 h.stanza_text.1,
+      length-append (codes "--- ") h.signs,
+      length-append (version_line ++ h.body) (line (codes "--- " ++ h.signs)),
+      length-append version_line h.body,
+    )
+
+two_args : (a b : List ℕ) → length (argument_line (a ∷ b ∷ [])) ≡ 5 + (length a + length b)
+two_args a b = omega (arith, length-append (a ++ 32 ∷ (b ++ [])) (10 ∷ []), length-append a (32 ∷ (b ++ [])), length-append b [])
+
+three_args : (a b c : List ℕ) → length (argument_line (a ∷ b ∷ c ∷ [])) ≡ 6 + (length a + length b + length c)
+three_args a b c = omega (arith, length-append (a ++ 32 ∷ (b ++ 32 ∷ (c ++ []))) (10 ∷ []), length-append a (32 ∷ (b ++ 32 ∷ (c ++ []))), length-append b (32 ∷ (c ++ [])), length-append c [])
+
+pub pass_header : (pass salt : List ℕ) (work : ℕ) (k : FileKey) (mac text : List ℕ) → length salt ≡ 16 → length k.0 ≡ 16 → work ≤ 30
+    → Head (pass_stanza pass work salt k ∷ []) mac text → length text ≤ 150
+unfolding pass_stanza
+pass_header pass salt work k mac text salted keyed high h =
+    let body : length (pass_stanza pass work salt k).body ≡ 32 = length-sealed (pass_key pass salt work) zero_nonce [] k.0 ∙ omega arith in
+    let all = header_size (pass_stanza pass work salt k) mac text body h in
+    let digits : length (decimal work) ≤ 2 = length-decimal-le 2 work (omega arith) (omega arith) (omega arith) in
+    let signs : length (signs_of salt) ≡ 22 = omega (arith, signs_size salt) in
+    let args : length (argument_line (pass_stanza pass work salt k).args) ≡ 6 + (6 + length (signs_of salt) + length (decimal work)) = three_args (codes "scrypt") (signs_of salt) (decimal work) in
+    omega arith
+
+pub key_header : (key salt : List ℕ) (k : FileKey) (mac text : List ℕ) → length salt ≡ 16 → length k.0 ≡ 16
+    → Head (keyed_stanza key salt k ∷ []) mac text → length text ≡ 156
+unfolding keyed_stanza
+key_header key salt k mac text salted keyed h =
+    let body : length (keyed_stanza key salt k).body ≡ 32 = length-sealed (wrap_key key salt) zero_nonce [] k.0 ∙ omega arith in
+    let all = header_size (keyed_stanza key salt k) mac text body h in
+    let signs : length (signs_of salt) ≡ 22 = omega (arith, signs_size salt) in
+    let args : length (argument_line (keyed_stanza key salt k).args) ≡ 5 + (15 + length (signs_of salt)) = two_args (codes "example.org/key") (signs_of salt) in
+    omega arith
+
+-- ---- payloads
+
+filled_count : (size : ℕ) (cs : List (List ℕ)) → 0 < size → IsFilled size cs → (size * length cs < length (concat cs) + size) × (length (concat cs) ≤ size * length cs)
+filled_count size [] pos h = absurd h
+filled_count size (c ∷ []) pos h = let low : 0 < length c = h.0 in let high : length c ≤ size = h.1 in (omega (arith, length-append c []), omega (arith, length-append c []))
+filled_count size (c ∷ d ∷ more) pos h =
+    let one : length c ≡ size = h.0 in
+    let rest = filled_count size (d ∷ more) pos h.1 in
+    let all = length-append c (concat (d ∷ more)) in
+    (omega (arith, rest.0, all), omega (arith, rest.1, all))
+
+-- the number of chunks
+pub chunk_count : (plain : List ℕ) → length (chunks plain) ≤ length plain / 65536 + 1
+chunk_count plain = let is = is_cut 65536 plain (omega arith) in elim is.sizes [
+  | inl one ↦ let n : length (chunks plain) ≡ 1 = ap length one in omega arith
+  | inr filled ↦ let n = filled_count 65536 (chunks plain) (omega arith) filled in let join : length (concat (chunks plain)) ≡ length plain = ap length is.joined in omega (arith, n.0)
+]

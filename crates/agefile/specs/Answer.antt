@@ -1,0 +1,75 @@
+-- What a call over whole buffers gives.
+use Rattle.std.specs.Prelude.{◌≡◌, ◌⊎◌, ◌<◌, ◌≤◌, ◌++◌, ℕ, List, [], ◌∷◌, length, drop, take, Option, None, Result, Ok}
+use Rattle.age_header.specs.Header.{StanzaParts}
+use Rattle.age_recipient.specs.declared.key.FileKey.{FileKey}
+use Rattle.age_recipient.specs.declared.unwrapped.Unwrapped.{Unwrapped}
+use Rattle.age_stream.specs.Reading.{Reading}
+use Rattle.age_file.specs.declared.fault.Fault.{Fault}
+use Rattle.age_file.specs.declared.limits.Fresh.{Fresh}
+use Rattle.age_file.specs.NewFile.{CutFile, IsRefusal, NewFile}
+use Rattle.age_file.specs.Verdict.{Answering, IsVerdict}
+use Rattle.agefile.specs.declared.report.Report.{Report}
+use Rattle.agefile.specs.Codes.{code_of}
+use Rattle.agefile.specs.Limits.{limits}
+use Rattle.agefile.specs.Report.{report_of}
+
+-- the call returns this code alone, and the buffer is as it was
+pub record GivesUp (number : ℕ) (old new : List ℕ) (told : Report) (result : ℕ) : Type 0 where
+  pub code : result ≡ number
+  pub report : told ≡ report_of 0 None
+  pub buffer : new ≡ old
+
+-- the text stands in front of the buffer, the rest of which is as it was, and its fault is reported
+pub record Fits (text : List ℕ) (fault : Option Fault) (old new : List ℕ) (told : Report) (result : ℕ) : Type 0 where
+  pub fits : length text ≤ length old
+  pub code : result ≡ code_of fault
+  pub report : told ≡ report_of (length text) fault
+  pub buffer : new ≡ text ++ drop (length text) old
+
+-- the text is longer than the buffer, which is as it was; its length alone is reported
+pub record Exceeds (text old new : List ℕ) (told : Report) (result : ℕ) : Type 0 where
+  pub exceeds : length old < length text
+  pub code : result ≡ 21
+  pub report : told ≡ report_of (length text) None
+  pub buffer : new ≡ old
+
+-- a text is given, and a fault after it, where the buffer has room for the text
+abbrev pub Gives : List ℕ → Option Fault → List ℕ → List ℕ → Report → ℕ → Type 0
+Gives text fault old new told result = Fits text fault old new told result ⊎ Exceeds text old new told result
+
+-- the answers of one identity of this meaning
+abbrev pub alone : (List StanzaParts → Unwrapped) → Answering
+alone meaning = λ stanzas. meaning stanzas ∷ []
+
+-- what decrypting b gives: the plaintext of its verdict and the fault after it; or out of memory
+abbrev pub GivesPlain : Answering → List ℕ → List ℕ → List ℕ → Report → ℕ → Type 0
+GivesPlain answers b old new told result =
+    GivesUp 17 old new told result
+    ⊎ ((verdict : Reading Fault) × IsVerdict limits answers b verdict × Gives verdict.front verdict.fault old new told result)
+
+-- a seed of 48 bytes is a file key, a payload's nonce, and a stanza's salt
+abbrev pub fresh_of : List ℕ → Fresh
+fresh_of seed = record { file_key = record { 0 = take 16 seed }; nonce = take 16 (drop 16 seed) }
+
+-- the salt of a seed
+abbrev pub salt_of : List ℕ → List ℕ
+salt_of seed = take 16 (drop 32 seed)
+
+-- the recipients gave this stanza alone
+abbrev pub only : StanzaParts → Result (List StanzaParts) Fault → Type 0
+only stanza given = given ≡ Ok (stanza ∷ [])
+
+-- what encrypting gives: the file of this plaintext and stanza under this seed; or out of memory
+abbrev pub GivesFile : List ℕ → (FileKey → StanzaParts) → List ℕ → List ℕ → List ℕ → Report → ℕ → Type 0
+GivesFile seed stanza plain old new told result =
+    GivesUp 17 old new told result
+    ⊎ ((file : List ℕ) × NewFile limits (fresh_of seed) (only (stanza (fresh_of seed).file_key)) plain file
+    × Gives file None old new told result)
+
+-- the same for whatever recipients give, where there may be a refusal or too many chunks too
+abbrev pub Seals : List ℕ → (Result (List StanzaParts) Fault → Type 0) → List ℕ → List ℕ → List ℕ → Report → ℕ → Type 0
+Seals seed given plain old new told result =
+    GivesUp 17 old new told result
+    ⊎ (((fault : Fault) × IsRefusal limits (fresh_of seed).file_key given fault)
+    ⊎ (((begun : List ℕ) × CutFile limits (fresh_of seed) given plain begun)
+    ⊎ ((file : List ℕ) × NewFile limits (fresh_of seed) given plain file × Gives file None old new told result)))

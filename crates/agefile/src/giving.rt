@@ -1,0 +1,59 @@
+//! How a call gives its caller what was read or written.
+
+ghost use Rattle.std.specs.Prelude.{◌≡◌, ◌≤◌, ◌++◌, drop, length, Some, None};
+ghost use Rattle.agefile.specs.Answer.{Gives, GivesUp};
+ghost use Rattle.agefile.specs.Codes.{is_memory};
+
+use crate::code::{OK, OUT_OF_MEMORY, TOO_SMALL, code_of};
+use crate::report::Report;
+use age_file::Fault;
+
+/// Gives up with a code, which is all that the caller learns.
+pub(crate) fn give_up(code: u32, out: &mut [u8], report: &mut Report) -> u32
+    ensures { GivesUp code out.old out.new report.new result }
+{
+    let _ = out;
+    *report = Report::default();
+    code
+}
+
+/// Gives a text whole, where the buffer has room for it.
+pub(crate) fn give_whole(text: &[u8], out: &mut [u8], report: &mut Report) -> u32
+    ensures { Gives text.now None out.old out.new report.new result }
+{
+    *report = Report::of_len(text.len() as u64);
+    if text.len() > out.len() {
+        return TOO_SMALL;
+    }
+    copy_to_front(text, out);
+    OK
+}
+
+/// Gives a text up to a fault, where the buffer has room for it.
+pub(crate) fn give_part(text: &[u8], fault: Fault, out: &mut [u8], report: &mut Report) -> u32
+    ensures { Gives text.now (Some fault) out.old out.new report.new result }
+{
+    if text.len() > out.len() {
+        *report = Report::of_len(text.len() as u64);
+        return TOO_SMALL;
+    }
+    *report = Report::of_fault(text.len() as u64, fault);
+    copy_to_front(text, out);
+    code_of(fault)
+}
+
+/// Whether an allocation was refused; a sink in memory fails for no other reason.
+pub(crate) fn is_memory(fault: Fault) -> bool
+    ensures { result ≡ is_memory fault }
+{
+    matches!(fault, Fault::OutOfMemory | Fault::Write)
+}
+
+/// Copies a text to the front of a buffer.
+fn copy_to_front(text: &[u8], out: &mut [u8])
+    requires { length text.now ≤ length out.old }
+    ensures { out.new ≡ text.now ++ drop (length text.now) out.old }
+{
+    let (front, _) = out.split_at_mut(text.len());
+    front.copy_from_slice(text);
+}
