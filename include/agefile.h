@@ -133,8 +133,9 @@ uint32_t agefile_inspect(const uint8_t *front, size_t front_len, agefile_summary
 uint32_t agefile_stanza(const uint8_t *front, size_t front_len, uint64_t index, uint8_t *args, size_t args_len,
                         agefile_stanza_summary *stanza, agefile_report *report);
 
-/* ---- Reading in steps: open, then one call for each sealed chunk. The struct is the caller's to keep and not to change.
- * On 0 of an opening report.len is where the first sealed chunk begins. */
+/* ---- Reading in steps: open, then one call for each sealed chunk. The struct is the caller's to keep, and the calls' to change.
+ * On 0 of an opening report.len is where the first sealed chunk begins; else the reader is not open. A call that does not fit the
+ * state, or a chunk of another length, is AGEFILE_OUT_OF_ORDER, and all but the report is as it was. */
 typedef struct agefile_reader {
     uint8_t key[32];
     uint64_t number; /* of the next chunk */
@@ -146,15 +147,17 @@ uint32_t agefile_reader_open_passphrase(const uint8_t *front, size_t front_len, 
 uint32_t agefile_reader_open_key(const uint8_t *front, size_t front_len, const uint8_t key[32],
                                  agefile_reader *reader, agefile_report *report);
 /* Opens the next sealed chunk where it stands: AGEFILE_SEALED_CHUNK bytes, or what is left where it is the last. On 0 its text is in
- * front, report.len bytes; else the chunk is as it was. A stream is whole only after a 0 for its last chunk. */
+ * front, report.len bytes; else the chunk is as it was. After a fault the reader takes no other chunk. A plaintext is whole only after
+ * a 0 for its last chunk. */
 uint32_t agefile_reader_chunk(agefile_reader *reader, uint8_t *chunk, size_t chunk_len, bool last, agefile_report *report);
 
-/* ---- Writing in steps: open, then one call for each chunk; an empty plaintext has one chunk, which is empty.
- * On 0 of an opening `out` has the header and the nonce in front, report.len bytes. */
+/* ---- Writing in steps: open, then one call for each chunk. An empty plaintext has one chunk, which is empty; no other is empty.
+ * On 0 of an opening `out` has the header and the nonce in front, report.len bytes; else the writer is not open. A call that does not
+ * fit the state, or a chunk of another length, is AGEFILE_OUT_OF_ORDER, as with a reader. */
 typedef struct agefile_writer {
     uint8_t key[32];
     uint64_t number; /* of the next chunk */
-    uint64_t state;  /* 0 not open, 1 open, 2 ended, 3 failed */
+    uint64_t state;  /* 0 not open, 1 open, 2 ended, 3 after a chunk too many */
 } agefile_writer;
 
 uint32_t agefile_writer_open_passphrase(const uint8_t *pass, size_t pass_len, uint8_t work, const uint8_t seed[48],
@@ -165,8 +168,10 @@ uint32_t agefile_writer_open_key(const uint8_t key[32], const uint8_t seed[48],
  * for the tag. On 0 all chunk_len bytes are the sealed chunk; else they are as they were. */
 uint32_t agefile_writer_chunk(agefile_writer *writer, uint8_t *chunk, size_t chunk_len, bool last, agefile_report *report);
 
-/* ---- Ranges in steps: open, verify the last sealed chunk, then locate and open the chunks that are wanted.
- * On 0 of an opening report.place and report.len are the last sealed chunk's place in the file and length. */
+/* ---- Ranges in steps: open, verify the last sealed chunk, then locate and open the chunks that are wanted. Other chunks may be
+ * damaged, and it is not noticed.
+ * On 0 of an opening report.place and report.len are the last sealed chunk's place in the file and its length; else nothing is open.
+ * A call that does not fit the state, or a chunk of another length, is AGEFILE_OUT_OF_ORDER, as with a reader. */
 typedef struct agefile_ranges {
     uint8_t key[32];
     uint64_t first;      /* where the first sealed chunk begins */
