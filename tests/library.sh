@@ -114,7 +114,7 @@ constants() {
     messages_of_faults | sort -n >faults
     [[ $(wc -l <faults) == 20 ]]
     check "each fault of the library has a code and a message"
-    ./convert messages >messages && sed -n 2,21p messages | cmp -s - <(sed -E 's/ ?\{0\} ?/ /; s/:? ?\{[01]\}//; s/:? $//' faults)
+    ./convert messages >all && sed -n 2,21p all | cmp -s - <(sed -E 's/ ?\{0\} ?/ /; s/:? ?\{[01]\}//; s/:? $//' faults)
     check "the header's messages are the program's"
 }
 
@@ -163,29 +163,33 @@ threads() {
     check "four threads at once, $kib KiB of 128 KiB of stack taken, no signal's handler changed"
 }
 
-# Whether files go from the C calls to the program and back, and are the same files where the seed is the same.
+# Whether a plaintext goes from the C calls to the program and back under this secret, in the same files where the seed is the same.
+goes_both_ways() {
+    local kind
+    # shellcheck disable=SC2086
+    "$agep" encrypt $1 -s seed -o made plain || return 1
+    for kind in whole steps ranges; do
+        # shellcheck disable=SC2086
+        ./convert $kind decrypt ${1/ -w 3/} <made | cmp -s - plain || return 1
+    done
+    for kind in whole steps; do
+        # shellcheck disable=SC2086
+        ./convert $kind encrypt ${1/ -w 3/} 3 seed <plain | cmp -s - made || return 1
+        # shellcheck disable=SC2086
+        ./convert $kind encrypt ${1/ -w 3/} 3 <plain >other.made && "$agep" decrypt ${1/ -w 3/} other.made | cmp -s - plain || return 1
+    done
+}
+
 programs() {
-    local size secret kind good
+    local size secret
     head -c 32 /dev/urandom >key
     head -c 48 /dev/urandom >seed
     printf 'correct horse' >pass
     for size in $sizes; do
         seq 100000 | head -c "$size" >plain
-        for secret in "-k key" "-p pass"; do
-            good=yes
-            # shellcheck disable=SC2086
-            if [[ $secret == "-k key" ]]; then "$agep" encrypt -k key -s seed -o made plain; else "$agep" encrypt -p pass -w 3 -s seed -o made plain; fi
-            for kind in whole steps ranges; do
-                # shellcheck disable=SC2086
-                ./convert $kind decrypt $secret <made | cmp -s - plain || good=no
-                [[ $kind == ranges ]] && continue
-                # shellcheck disable=SC2086
-                ./convert $kind encrypt $secret 3 seed <plain | cmp -s - made || good=no
-                # shellcheck disable=SC2086
-                ./convert $kind encrypt $secret 3 <plain | "$agep" decrypt $secret | cmp -s - plain || good=no
-            done
-            [[ $good == yes ]]
-            check "$size bytes with ${secret#* }: agep's file by whole buffers and by steps, and both ways"
+        for secret in "-k key" "-p pass -w 3"; do
+            goes_both_ways "$secret"
+            check "$size bytes with $secret: agep's file by whole buffers and by steps, and both ways"
         done
         ./safe_stream -e key <plain >made && "$agep" decrypt -k key made | cmp -s - plain &&
             "$agep" encrypt -k key plain | ./safe_stream key | cmp -s - plain
@@ -270,6 +274,27 @@ memory() {
     check "decrypting 1 GiB: $opening KiB resident, $((opening - empty)) more than an empty program"
 }
 
+# The lines of docs/C.md's block of code in this language.
+block() {
+    awk -v begin="\`\`\`$1" '$0 == begin { shown = 1; next } /^```$/ { shown = 0 } shown' "$root/docs/C.md"
+}
+
+# The programs of docs/C.md do what they are there for.
+document() {
+    block c >document.c
+    cc -Wall -Wextra -Werror "-I$prefix/include" -o document document.c "$archive"
+    check "docs/C.md: the program in C builds without a warning"
+    echo 'some text' >plain
+    ./convert whole encrypt -p pass 3 <plain >made && ./document 'correct horse' <made | cmp -s - plain
+    check "docs/C.md: the program in C decrypts"
+    command -v python3 >/dev/null || return
+    block python >document.py
+    AGEFILE_LIBRARY=$shared PYTHONPATH=$root/python PYTHONDONTWRITEBYTECODE=1 python3 document.py >out 2>err
+    [[ $? -eq 0 && $(cat out) == "b'two\n'
+wrong passphrase or key 7" ]]
+    check_shown "docs/C.md: the program in Python prints a line and an error"
+}
+
 python() {
     if ! command -v python3 >/dev/null; then
         echo "skipped: Python, since python3 is missing"
@@ -284,7 +309,7 @@ for code in range(24): print(code, agefile.AgeError(code, 7, 2))' | sed -n '2,21
             s/^19 .*/19 recipient refused/; s/^20 .*/20 recipient does not go with recipient 0/' faults)
     check "Python's messages are the program's"
     python3 -c 'import agefile
-for code in (0, 21, 22, 23): print(code, agefile.AgeError(code))' | cmp -s - <(sed -n '1p;22,24p' messages)
+for code in (0, 21, 22, 23): print(code, agefile.AgeError(code))' | cmp -s - <(sed -n '1p;22,24p' all)
     check "Python's other messages are the header's"
 }
 
@@ -310,6 +335,7 @@ programs
 faults
 with_age
 memory
+document
 python
 rust
 finish
