@@ -32,6 +32,7 @@ extern "C" {
 #define AGEFILE_FRONT 65552        /* so many bytes of a file's front always hold its header and its payload's nonce */
 #define AGEFILE_HEADER_ROOM 256    /* room for a header that is written, and its payload's nonce */
 
+/* A number is never reused. 15, 16 and 18 to 20 are faults of files and of other recipients, and no call here returns them. */
 enum agefile_code {
     AGEFILE_OK = 0,
     AGEFILE_NOT_AGE = 1,

@@ -20,6 +20,7 @@ impl fmt::Display for Error {
     fn fmt(&self, f: &mut fmt::Formatter<'_>) -> fmt::Result {
         let place = self.place;
         match self.code {
+            0 => write!(f, "no fault"),
             1 => write!(f, "not an age file"),
             2 => write!(f, "bad header line {place}"),
             3 => write!(f, "header is cut short"),
@@ -34,11 +35,16 @@ impl fmt::Display for Error {
             12 => write!(f, "chunk {place} is empty"),
             13 => write!(f, "chunk {place} is damaged"),
             14 => write!(f, "too many chunks"),
+            15 => write!(f, "read failed"),
+            16 => write!(f, "write failed"),
             17 => write!(f, "out of memory"),
+            18 => write!(f, "no recipients"),
+            19 => write!(f, "recipient refused"),
+            20 => write!(f, "recipient does not go with recipient 0"),
             21 => write!(f, "buffer is too small"),
             22 => write!(f, "work factor is not 1 to 30"),
             23 => write!(f, "no such stanza or place, or a call out of order"),
-            code => write!(f, "code {code}"),
+            _ => write!(f, "unknown code"),
         }
     }
 }

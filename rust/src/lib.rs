@@ -1,8 +1,19 @@
 //! Encrypts and decrypts age v1 files (`age-encryption.org/v1`) by the proved library `libagefile`.
 //!
 //! [`encrypt`], [`decrypt`] and [`inspect`] work on bytes; a [`Reader`] and a [`Writer`] on streams of any size, in constant memory. There
-//! are no X25519 recipients and no ASCII armor. What is proved stands in the repository's `docs/C.md`; this crate is ordinary Rust, and
-//! its tests are all that speaks for it.
+//! are no X25519 recipients and no ASCII armor.
+//!
+//! ```no_run
+//! # fn main() -> std::io::Result<()> {
+//! let key = agefile::Secret::Key(&[7; 32]);
+//! let mut writer = agefile::Writer::new(std::fs::File::create("notes.age")?, key)?;
+//! std::io::copy(&mut std::io::stdin(), &mut writer)?;
+//! writer.finish()?;
+//! # Ok(())
+//! # }
+//! ```
+//!
+//! What is proved of the library stands in the repository's `docs/C.md`. This crate is ordinary Rust: it is tested, not proved.
 
 mod error;
 mod ffi;

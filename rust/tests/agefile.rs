@@ -114,6 +114,20 @@ fn headers_are_inspected() {
     assert_eq!(inspect(b"age-encryption.org/v1\nbad\n").unwrap_err().to_string(), "bad header line 2");
 }
 
+/// The texts of `agefile_message` in the header, which have no numbers.
+#[test]
+fn messages_are_those_of_the_header() {
+    let header = include_str!("../../include/agefile.h");
+    let texts: Vec<&str> =
+        header.lines().filter_map(|line| line.split_once(": return \"")?.1.strip_suffix("\";")).collect();
+    assert_eq!(texts.len(), 25);
+    for (code, text) in texts.iter().enumerate() {
+        let message = Error { code: code as u32, place: 7, detail: 2 }.to_string();
+        let message = message.strip_suffix(": salt").unwrap_or(&message).replace("chunk 7 ", "chunk ");
+        assert_eq!(message.strip_suffix(" 7").unwrap_or(&message), *text);
+    }
+}
+
 #[test]
 fn threads_share_nothing() {
     std::thread::scope(|scope| {
