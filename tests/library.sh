@@ -41,6 +41,8 @@ installs() {
     check "./install-library puts the library, its header and its pkg-config file under PREFIX"
     cmp -s prefix/include/agefile.h "$header"
     check "the header that is installed is include/agefile.h"
+    grep -qx "Version: $version" prefix/lib/pkgconfig/agefile.pc && grep -qx "version = \"$version\"" "$root/rust/Cargo.toml"
+    check "agefile.pc and the crate for Rust name the newest version of the change log"
     cp -a prefix other
     "$root/install-library" --uninstall other >out 2>err
     echo $? >status
@@ -154,6 +156,20 @@ c_programs() {
         cc -O2 "-I$prefix/include" -o stream "$root/c/stream.c" "-L$prefix/lib" -lagefile "-Wl,-rpath,$prefix/lib"
     fi
     check "the example builds over libagefile.so"
+}
+
+# The archive as Rattle's own compiler makes it: a fault of one of the two compilers shows. The other archive then stands there again.
+second_compiler() {
+    local archives=$root/crates/agefile/out name
+    cp -p "$archives/libagefile.a" kept.a
+    (cd "$root/crates/agefile" && rt lib --backend rattle) >out 2>err
+    check_shown "Rattle's own compiler builds the library"
+    mv "$archives/libagefile.a" second.a
+    cp -p kept.a "$archives/libagefile.a"
+    for name in buffers steps; do
+        cc -g "${warnings[@]}" -o "second_$name" "$root/tests/library/$name.c" second.a "$(dirname "$(rt doc)")/c/liblibc_c.a"
+        tests_of "second_$name"
+    done
 }
 
 threads() {
@@ -330,6 +346,7 @@ constants
 tests_of buffers
 tests_of steps
 tests_of refuse
+second_compiler
 threads
 programs
 faults
