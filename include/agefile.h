@@ -1,0 +1,245 @@
+/* agefile.h: the age v1 encrypted file format (C2SP age.md), proved. Whole buffers, streams in steps, ranges in steps.
+ *
+ * Every length and every number is tested inside. What C alone can keep is up to the caller; nothing tests it, and a call that
+ * breaks one of these duties has undefined behaviour:
+ *
+ *  1. No pointer is null. The macros at the end of this file make a null pointer with the length 0 safe.
+ *  2. A pointer is good for the length that follows it, which is below 2^63. A key has 32 bytes, a seed 48.
+ *  3. Structs are aligned as the compiler aligns them.
+ *  4. What a call writes (`out`, `args`, `chunk`, the structs) overlaps nothing else that is passed. So a whole buffer cannot be
+ *     encrypted or decrypted in place; a chunk of the steps is.
+ *  5. During a call no other thread reads or writes what the call writes, or writes what it reads. Nothing else is shared: any
+ *     number of calls may run at once.
+ *  6. 128 KiB of stack are free.
+ *  7. No call is made in a signal handler, or in a forked child of a process that had threads.
+ *  8. malloc, realloc and free belong to one allocator.
+ *
+ * Each call returns an agefile_code. It sets all of its report first, and where it fails it writes nothing but what its comment says.
+ * A passphrase has any bytes. A work factor is 1 to 30; `max_work` is the greatest that is accepted, 22 is usual, and 18 is usual for
+ * a new file. A seed is 48 fresh random bytes (getrandom) for each file: the same seed for two files repeats their keys.
+ * Keys and passphrases stay in freed memory. docs/C.md has what is proved and what is trusted. */
+#ifndef AGEFILE_H
+#define AGEFILE_H
+#include <stdbool.h>
+#include <stddef.h>
+#include <stdint.h>
+#ifdef __cplusplus
+extern "C" {
+#endif
+
+#define AGEFILE_TEXT_CHUNK 65536   /* bytes of a full chunk of the plaintext */
+#define AGEFILE_SEALED_CHUNK 65552 /* the same with its tag */
+#define AGEFILE_FRONT 65552        /* so many bytes of a file's front always hold its header and its payload's nonce */
+#define AGEFILE_HEADER_ROOM 256    /* room for a header that is written, and its payload's nonce */
+
+/* A number is never reused. 15, 16 and 18 to 20 are faults of files and of other recipients, and no call here returns them. */
+enum agefile_code {
+    AGEFILE_OK = 0,
+    AGEFILE_NOT_AGE = 1,
+    AGEFILE_BAD_LINE = 2,
+    AGEFILE_HEADER_TRUNCATED = 3,
+    AGEFILE_HEADER_TOO_LARGE = 4,
+    AGEFILE_MIXED_PASSPHRASE = 5,
+    AGEFILE_NO_MATCH = 6,
+    AGEFILE_WRONG_KEY = 7,
+    AGEFILE_MALFORMED = 8,
+    AGEFILE_BAD_MAC = 9,
+    AGEFILE_NONCE_TRUNCATED = 10,
+    AGEFILE_CHUNK_SHORT = 11,
+    AGEFILE_EMPTY_FINAL = 12,
+    AGEFILE_BAD_CHUNK = 13,
+    AGEFILE_TOO_MANY_CHUNKS = 14,
+    AGEFILE_READ = 15,
+    AGEFILE_WRITE = 16,
+    AGEFILE_OUT_OF_MEMORY = 17,
+    AGEFILE_NO_RECIPIENTS = 18,
+    AGEFILE_REFUSED = 19,
+    AGEFILE_INCOMPATIBLE_RECIPIENTS = 20,
+    AGEFILE_TOO_SMALL = 21,
+    AGEFILE_WORK_FACTOR = 22,
+    AGEFILE_OUT_OF_ORDER = 23
+};
+
+/* What a code means, in the words of the program `agep`, without its numbers. The report's `place` has the line or the chunk. */
+static inline const char *agefile_message(uint32_t code)
+{
+    switch (code) {
+    case AGEFILE_OK: return "no fault";
+    case AGEFILE_NOT_AGE: return "not an age file";
+    case AGEFILE_BAD_LINE: return "bad header line";
+    case AGEFILE_HEADER_TRUNCATED: return "header is cut short";
+    case AGEFILE_HEADER_TOO_LARGE: return "header is too large";
+    case AGEFILE_MIXED_PASSPHRASE: return "a passphrase stanza must stand alone";
+    case AGEFILE_NO_MATCH: return "no key fits this file";
+    case AGEFILE_WRONG_KEY: return "wrong passphrase or key";
+    case AGEFILE_MALFORMED: return "malformed stanza";
+    case AGEFILE_BAD_MAC: return "header check failed";
+    case AGEFILE_NONCE_TRUNCATED: return "payload nonce is cut short";
+    case AGEFILE_CHUNK_SHORT: return "chunk is cut short";
+    case AGEFILE_EMPTY_FINAL: return "chunk is empty";
+    case AGEFILE_BAD_CHUNK: return "chunk is damaged";
+    case AGEFILE_TOO_MANY_CHUNKS: return "too many chunks";
+    case AGEFILE_READ: return "read failed";
+    case AGEFILE_WRITE: return "write failed";
+    case AGEFILE_OUT_OF_MEMORY: return "out of memory";
+    case AGEFILE_NO_RECIPIENTS: return "no recipients";
+    case AGEFILE_REFUSED: return "recipient refused";
+    case AGEFILE_INCOMPATIBLE_RECIPIENTS: return "recipient does not go with recipient 0";
+    case AGEFILE_TOO_SMALL: return "buffer is too small";
+    case AGEFILE_WORK_FACTOR: return "work factor is not 1 to 30";
+    case AGEFILE_OUT_OF_ORDER: return "no such stanza or place, or a call out of order";
+    default: return "unknown code";
+    }
+}
+
+/* What a call returns beside its code. */
+typedef struct agefile_report {
+    uint64_t len;
+    uint64_t place;  /* the line or the chunk of a fault, else 0 */
+    uint64_t detail; /* of AGEFILE_MALFORMED: 1 arguments, 2 salt, 3 work factor's text, 4 work factor too high, 5 body's length */
+} agefile_report;
+
+/* ---- Whole buffers.
+ * report.len: the bytes that `out` got in front, or on AGEFILE_TOO_SMALL would have got. After a fault of the payload these are the
+ * plaintext of the verified chunks before the fault: use it after AGEFILE_OK alone. */
+uint32_t agefile_decrypt_passphrase(const uint8_t *file, size_t file_len, const uint8_t *pass, size_t pass_len, uint8_t max_work,
+                                    uint8_t *out, size_t out_len, agefile_report *report);
+uint32_t agefile_decrypt_key(const uint8_t *file, size_t file_len, const uint8_t key[32],
+                             uint8_t *out, size_t out_len, agefile_report *report);
+uint32_t agefile_encrypt_passphrase(const uint8_t *plain, size_t plain_len, const uint8_t *pass, size_t pass_len, uint8_t work,
+                                    const uint8_t seed[48], uint8_t *out, size_t out_len, agefile_report *report);
+uint32_t agefile_encrypt_key(const uint8_t *plain, size_t plain_len, const uint8_t key[32], const uint8_t seed[48],
+                             uint8_t *out, size_t out_len, agefile_report *report);
+
+/* How much room suffices; UINT64_MAX where no 64 bits do. */
+uint64_t agefile_sealed_len(uint64_t plain_len);
+uint64_t agefile_plain_len_at_most(uint64_t file_len);
+
+/* ---- Headers. No passphrase or key is needed.
+ * `front` is the file's first AGEFILE_FRONT bytes, or all of a shorter file. */
+typedef struct agefile_summary {
+    uint64_t header_len;
+    uint64_t stanzas;
+    uint8_t mac[32];
+} agefile_summary;
+
+typedef struct agefile_stanza_summary {
+    uint64_t args;     /* how many arguments, the type being the first */
+    uint64_t args_len; /* how many bytes they have, joined by single spaces */
+    uint64_t body_len;
+} agefile_stanza_summary;
+
+uint32_t agefile_inspect(const uint8_t *front, size_t front_len, agefile_summary *summary, agefile_report *report);
+/* Writes the arguments, joined by single spaces. AGEFILE_OUT_OF_ORDER where there is no such stanza. */
+uint32_t agefile_stanza(const uint8_t *front, size_t front_len, uint64_t index, uint8_t *args, size_t args_len,
+                        agefile_stanza_summary *stanza, agefile_report *report);
+
+/* ---- Reading in steps: open, then one call for each sealed chunk. The struct is the caller's to keep, and the calls' to change.
+ * On 0 of an opening report.len is where the first sealed chunk begins; else the reader is not open. A call that does not fit the
+ * state, or a chunk of another length, is AGEFILE_OUT_OF_ORDER, and all but the report is as it was. */
+typedef struct agefile_reader {
+    uint8_t key[32];
+    uint64_t number; /* of the next chunk */
+    uint64_t state;  /* 0 not open, 1 open, 2 ended, 3 failed */
+} agefile_reader;
+
+uint32_t agefile_reader_open_passphrase(const uint8_t *front, size_t front_len, const uint8_t *pass, size_t pass_len,
+                                        uint8_t max_work, agefile_reader *reader, agefile_report *report);
+uint32_t agefile_reader_open_key(const uint8_t *front, size_t front_len, const uint8_t key[32],
+                                 agefile_reader *reader, agefile_report *report);
+/* Opens the next sealed chunk where it stands: AGEFILE_SEALED_CHUNK bytes, or what is left where it is the last. On 0 its text is in
+ * front, report.len bytes; else the chunk is as it was. After a fault the reader takes no other chunk. A plaintext is whole only after
+ * a 0 for its last chunk. */
+uint32_t agefile_reader_chunk(agefile_reader *reader, uint8_t *chunk, size_t chunk_len, bool last, agefile_report *report);
+
+/* ---- Writing in steps: open, then one call for each chunk. An empty plaintext has one chunk, which is empty; no other is empty.
+ * On 0 of an opening `out` has the header and the nonce in front, report.len bytes; else the writer is not open. A call that does not
+ * fit the state, or a chunk of another length, is AGEFILE_OUT_OF_ORDER, as with a reader. */
+typedef struct agefile_writer {
+    uint8_t key[32];
+    uint64_t number; /* of the next chunk */
+    uint64_t state;  /* 0 not open, 1 open, 2 ended, 3 after a chunk too many */
+} agefile_writer;
+
+uint32_t agefile_writer_open_passphrase(const uint8_t *pass, size_t pass_len, uint8_t work, const uint8_t seed[48],
+                                        uint8_t *out, size_t out_len, agefile_writer *writer, agefile_report *report);
+uint32_t agefile_writer_open_key(const uint8_t key[32], const uint8_t seed[48],
+                                 uint8_t *out, size_t out_len, agefile_writer *writer, agefile_report *report);
+/* Seals the next chunk where it stands: its text, AGEFILE_TEXT_CHUNK bytes or what is left where it is the last, and then 16 bytes
+ * for the tag. On 0 all chunk_len bytes are the sealed chunk; else they are as they were. */
+uint32_t agefile_writer_chunk(agefile_writer *writer, uint8_t *chunk, size_t chunk_len, bool last, agefile_report *report);
+
+/* ---- Ranges in steps: open, verify the last sealed chunk, then locate and open the chunks that are wanted. Other chunks may be
+ * damaged, and it is not noticed.
+ * On 0 of an opening report.place and report.len are the last sealed chunk's place in the file and its length; else nothing is open.
+ * A call that does not fit the state, or a chunk of another length, is AGEFILE_OUT_OF_ORDER, as with a reader. */
+typedef struct agefile_ranges {
+    uint8_t key[32];
+    uint64_t first;      /* where the first sealed chunk begins */
+    uint64_t sealed_len; /* how many bytes all have */
+    uint64_t state;      /* 0 not open, 1 open, 2 the last chunk was verified */
+} agefile_ranges;
+
+uint32_t agefile_ranges_open_passphrase(const uint8_t *front, size_t front_len, uint64_t file_len, const uint8_t *pass,
+                                        size_t pass_len, uint8_t max_work, agefile_ranges *ranges, agefile_report *report);
+uint32_t agefile_ranges_open_key(const uint8_t *front, size_t front_len, uint64_t file_len, const uint8_t key[32],
+                                 agefile_ranges *ranges, agefile_report *report);
+/* Verifies the last sealed chunk, which proves where the file ends, and must come first. On 0 report.len is the plaintext's length. */
+uint32_t agefile_ranges_last(agefile_ranges *ranges, uint8_t *chunk, size_t chunk_len, agefile_report *report);
+/* Which sealed chunk holds the plaintext's byte `at`: report.place and report.len. AGEFILE_OUT_OF_ORDER past the plaintext's end. */
+uint32_t agefile_ranges_locate(const agefile_ranges *ranges, uint64_t at, agefile_report *report);
+/* Opens the sealed chunk that holds byte `at` where it stands. On 0 the plaintext from `at` on stands at chunk + report.place,
+ * report.len bytes of it; else the chunk is as it was. */
+uint32_t agefile_ranges_chunk(const agefile_ranges *ranges, uint64_t at, uint8_t *chunk, size_t chunk_len, agefile_report *report);
+
+/* ---- Null pointers. A null pointer with the length 0 is made one of a byte that is neither read nor written. A name in
+ * parentheses, as (agefile_inspect)(..), is the function itself. */
+static inline const uint8_t *agefile_input(const uint8_t *bytes)
+{
+    static const uint8_t none = 0;
+    return bytes ? bytes : &none;
+}
+
+static inline uint8_t *agefile_output(uint8_t *bytes)
+{
+    static uint8_t none;
+    return bytes ? bytes : &none;
+}
+
+#define agefile_decrypt_passphrase(file, file_len, pass, pass_len, max_work, out, out_len, report) \
+    (agefile_decrypt_passphrase)(agefile_input(file), file_len, agefile_input(pass), pass_len, max_work, agefile_output(out), out_len, report)
+#define agefile_decrypt_key(file, file_len, key, out, out_len, report) \
+    (agefile_decrypt_key)(agefile_input(file), file_len, key, agefile_output(out), out_len, report)
+#define agefile_encrypt_passphrase(plain, plain_len, pass, pass_len, work, seed, out, out_len, report) \
+    (agefile_encrypt_passphrase)(agefile_input(plain), plain_len, agefile_input(pass), pass_len, work, seed, agefile_output(out), out_len, report)
+#define agefile_encrypt_key(plain, plain_len, key, seed, out, out_len, report) \
+    (agefile_encrypt_key)(agefile_input(plain), plain_len, key, seed, agefile_output(out), out_len, report)
+#define agefile_inspect(front, front_len, summary, report) \
+    (agefile_inspect)(agefile_input(front), front_len, summary, report)
+#define agefile_stanza(front, front_len, index, args, args_len, stanza, report) \
+    (agefile_stanza)(agefile_input(front), front_len, index, agefile_output(args), args_len, stanza, report)
+#define agefile_reader_open_passphrase(front, front_len, pass, pass_len, max_work, reader, report) \
+    (agefile_reader_open_passphrase)(agefile_input(front), front_len, agefile_input(pass), pass_len, max_work, reader, report)
+#define agefile_reader_open_key(front, front_len, key, reader, report) \
+    (agefile_reader_open_key)(agefile_input(front), front_len, key, reader, report)
+#define agefile_reader_chunk(reader, chunk, chunk_len, last, report) \
+    (agefile_reader_chunk)(reader, agefile_output(chunk), chunk_len, last, report)
+#define agefile_writer_open_passphrase(pass, pass_len, work, seed, out, out_len, writer, report) \
+    (agefile_writer_open_passphrase)(agefile_input(pass), pass_len, work, seed, agefile_output(out), out_len, writer, report)
+#define agefile_writer_open_key(key, seed, out, out_len, writer, report) \
+    (agefile_writer_open_key)(key, seed, agefile_output(out), out_len, writer, report)
+#define agefile_writer_chunk(writer, chunk, chunk_len, last, report) \
+    (agefile_writer_chunk)(writer, agefile_output(chunk), chunk_len, last, report)
+#define agefile_ranges_open_passphrase(front, front_len, file_len, pass, pass_len, max_work, ranges, report) \
+    (agefile_ranges_open_passphrase)(agefile_input(front), front_len, file_len, agefile_input(pass), pass_len, max_work, ranges, report)
+#define agefile_ranges_open_key(front, front_len, file_len, key, ranges, report) \
+    (agefile_ranges_open_key)(agefile_input(front), front_len, file_len, key, ranges, report)
+#define agefile_ranges_last(ranges, chunk, chunk_len, report) \
+    (agefile_ranges_last)(ranges, agefile_output(chunk), chunk_len, report)
+#define agefile_ranges_chunk(ranges, at, chunk, chunk_len, report) \
+    (agefile_ranges_chunk)(ranges, at, agefile_output(chunk), chunk_len, report)
+
+#ifdef __cplusplus
+}
+#endif
+#endif

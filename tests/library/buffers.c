@@ -1,0 +1,267 @@
+// Tests of the calls on whole buffers and headers. Without an argument it lists its tests, with one it runs the test of that name.
+#include "check.h"
+
+static void whole_files(void)
+{
+    for (int i = 0; i < size_count; i++) {
+        size_t len = sizes[i], most = agefile_sealed_len(len);
+        uint8_t *text = text_of(len), *out = room(most), *back = room(len);
+        agefile_report report = unset_report();
+        CHECK(agefile_encrypt_key(text, len, key, seed, out, most, &report) == AGEFILE_OK);
+        CHECK(has_fields(&report, report.len, 0, 0) && report.len <= most && report.len > len + tag);
+        uint8_t *file = copy_of(out, report.len);
+        size_t file_len = report.len;
+        CHECK(agefile_plain_len_at_most(file_len) >= len);
+        report = unset_report();
+        CHECK(agefile_decrypt_key(file, file_len, key, back, len, &report) == AGEFILE_OK);
+        CHECK(has_fields(&report, len, 0, 0) && are_equal(text, back, len));
+        report = unset_report();
+        CHECK(agefile_decrypt_key(file, file_len, other_key, back, len, &report) == AGEFILE_WRONG_KEY);
+        CHECK(has_fields(&report, 0, 0, 0));
+        free(file);
+        CHECK(agefile_encrypt_passphrase(text, len, pass, pass_len, work, seed, out, most, &report) == AGEFILE_OK);
+        file = copy_of(out, report.len);
+        file_len = report.len;
+        CHECK(agefile_decrypt_passphrase(file, file_len, pass, pass_len, work, back, len, &report) == AGEFILE_OK);
+        CHECK(has_fields(&report, len, 0, 0) && are_equal(text, back, len));
+        CHECK(agefile_decrypt_passphrase(file, file_len, pass, pass_len - 1, work, back, len, &report) == AGEFILE_WRONG_KEY);
+        CHECK(agefile_decrypt_key(file, file_len, key, back, len, &report) == AGEFILE_NO_MATCH);
+        free(file);
+        free(text);
+        free(out);
+        free(back);
+    }
+}
+
+static void small_buffers(void)
+{
+    for (int i = 0; i < size_count; i++) {
+        size_t len = sizes[i];
+        made_file file = made(len);
+        uint8_t *text = text_of(len), *out = room(file.len), *back = room(len);
+        agefile_report report = unset_report();
+        memset(out, 0xEE, file.len);
+        for (size_t less = 1; less <= file.len; less = less * 16 + 1) {
+            CHECK(agefile_encrypt_key(text, len, key, seed, out, file.len - less, &report) == AGEFILE_TOO_SMALL);
+            CHECK(has_fields(&report, file.len, 0, 0) && are_all(out, file.len, 0xEE));
+        }
+        CHECK(agefile_encrypt_key(text, len, key, seed, out, file.len, &report) == AGEFILE_OK && report.len == file.len);
+        CHECK(are_equal(out, file.bytes, file.len));
+        if (len > 0) {
+            memset(back, 0xEE, len);
+            for (size_t less = 1; less <= len; less = less * 16 + 1) {
+                report = unset_report();
+                CHECK(agefile_decrypt_key(file.bytes, file.len, key, back, len - less, &report) == AGEFILE_TOO_SMALL);
+                CHECK(has_fields(&report, len, 0, 0) && are_all(back, len, 0xEE));
+            }
+        }
+        free(file.bytes);
+        free(text);
+        free(out);
+        free(back);
+    }
+}
+
+// Whatever is longer than the plaintext is left as it was behind it.
+static void great_buffers(void)
+{
+    made_file file = made(70000);
+    uint8_t *out = room(80000), *text = text_of(70000);
+    agefile_report report;
+    memset(out, 0xEE, 80000);
+    CHECK(agefile_decrypt_key(file.bytes, file.len, key, out, 80000, &report) == AGEFILE_OK && report.len == 70000);
+    CHECK(are_equal(out, text, 70000) && are_all(out + 70000, 10000, 0xEE));
+    memset(out, 0xEE, 80000);
+    CHECK(agefile_encrypt_key(text, 70000, key, seed, out, 80000, &report) == AGEFILE_OK && report.len == file.len);
+    CHECK(are_equal(out, file.bytes, file.len) && are_all(out + file.len, 80000 - file.len, 0xEE));
+    free(file.bytes);
+    free(out);
+    free(text);
+}
+
+static void damage(void)
+{
+    size_t len = 140000;
+    made_file file = made(len);
+    uint8_t *text = text_of(len), *back = room(len);
+    agefile_report report;
+    for (size_t at = 0; at < file.len; at += at < file.front + 20 ? 1 : 1021) {
+        bool is_payload = at >= file.front - 16;
+        uint64_t chunk = at < file.front ? 0 : (at - file.front) / AGEFILE_SEALED_CHUNK;
+        file.bytes[at] ^= 1;
+        memset(back, 0xEE, len);
+        report = unset_report();
+        uint32_t code = agefile_decrypt_key(file.bytes, file.len, key, back, len, &report);
+        if (is_payload)
+            CHECK(code == AGEFILE_BAD_CHUNK && has_fields(&report, chunk * AGEFILE_TEXT_CHUNK, chunk, 0));
+        else
+            CHECK(code >= AGEFILE_NOT_AGE && code <= AGEFILE_BAD_MAC && report.len == 0);
+        CHECK(are_equal(back, text, report.len) && are_all(back + report.len, len - report.len, 0xEE));
+        file.bytes[at] ^= 1;
+    }
+    free(file.bytes);
+    free(text);
+    free(back);
+}
+
+static void truncation(void)
+{
+    size_t len = 131072;
+    made_file file = made(len);
+    uint8_t *text = text_of(len), *back = room(len);
+    agefile_report report;
+    for (size_t cut = 0; cut < file.len; cut += cut < file.front + 40 ? 1 : 509) {
+        uint8_t *part = copy_of(file.bytes, cut);
+        uint32_t code = agefile_decrypt_key(part, cut, key, back, len, &report);
+        uint64_t chunk = cut < file.front ? 0 : (cut - file.front) / AGEFILE_SEALED_CHUNK;
+        if (cut < file.front - 16)
+            CHECK(code == AGEFILE_HEADER_TRUNCATED && has_fields(&report, 0, 0, 0));
+        else if (cut < file.front)
+            CHECK(code == AGEFILE_NONCE_TRUNCATED && has_fields(&report, 0, 0, 0));
+        else
+            CHECK((code == AGEFILE_CHUNK_SHORT || code == AGEFILE_BAD_CHUNK || code == AGEFILE_EMPTY_FINAL) &&
+                  report.len == report.place * AGEFILE_TEXT_CHUNK && report.place <= chunk && are_equal(back, text, report.len));
+        free(part);
+    }
+    free(file.bytes);
+    free(text);
+    free(back);
+}
+
+static void work_factors(void)
+{
+    uint8_t out[1000];
+    agefile_report report;
+    agefile_reader reader;
+    agefile_writer writer;
+    agefile_ranges ranges;
+    static const uint8_t bad[] = {0, 31, 64, 255};
+    CHECK(agefile_encrypt_passphrase(pass, 4, pass, pass_len, 3, seed, out, sizeof out, &report) == AGEFILE_OK);
+    size_t len = report.len;
+    for (size_t i = 0; i < sizeof bad; i++) {
+        uint8_t file[1000], back[1000];
+        memcpy(file, out, len);
+        memset(back, 0xEE, sizeof back);
+        report = unset_report();
+        CHECK(agefile_encrypt_passphrase(pass, 4, pass, pass_len, bad[i], seed, back, sizeof back, &report) == AGEFILE_WORK_FACTOR);
+        CHECK(has_fields(&report, 0, 0, 0));
+        report = unset_report();
+        CHECK(agefile_decrypt_passphrase(file, len, pass, pass_len, bad[i], back, sizeof back, &report) == AGEFILE_WORK_FACTOR);
+        CHECK(has_fields(&report, 0, 0, 0) && are_all(back, sizeof back, 0xEE));
+        CHECK(agefile_reader_open_passphrase(file, len, pass, pass_len, bad[i], &reader, &report) == AGEFILE_WORK_FACTOR);
+        CHECK(agefile_writer_open_passphrase(pass, pass_len, bad[i], seed, back, sizeof back, &writer, &report) == AGEFILE_WORK_FACTOR);
+        CHECK(agefile_ranges_open_passphrase(file, len, len, pass, pass_len, bad[i], &ranges, &report) == AGEFILE_WORK_FACTOR);
+        CHECK(are_all(back, sizeof back, 0xEE));
+    }
+    report = unset_report();
+    CHECK(agefile_decrypt_passphrase(out, len, pass, pass_len, 2, out + len, 4, &report) == AGEFILE_MALFORMED);
+    CHECK(has_fields(&report, 0, 0, 4));
+    CHECK(agefile_decrypt_passphrase(out, len, pass, pass_len, 3, out + len, 4, &report) == AGEFILE_OK && report.len == 4);
+}
+
+static void null_pointers(void)
+{
+    uint8_t out[1000];
+    agefile_report report = unset_report();
+    agefile_summary summary;
+    agefile_reader reader;
+    agefile_writer writer;
+    CHECK(agefile_encrypt_key(NULL, 0, key, seed, out, sizeof out, &report) == AGEFILE_OK);
+    size_t len = report.len;
+    CHECK(agefile_decrypt_key(out, len, key, NULL, 0, &report) == AGEFILE_OK && has_fields(&report, 0, 0, 0));
+    CHECK(agefile_decrypt_key(NULL, 0, key, NULL, 0, &report) == AGEFILE_HEADER_TRUNCATED);
+    CHECK(agefile_encrypt_key(NULL, 0, key, seed, NULL, 0, &report) == AGEFILE_TOO_SMALL && report.len == len);
+    CHECK(agefile_inspect(NULL, 0, &summary, &report) == AGEFILE_HEADER_TRUNCATED);
+    CHECK(agefile_reader_open_key(out, len, key, &reader, &report) == AGEFILE_OK);
+    CHECK(agefile_reader_chunk(&reader, NULL, 0, true, &report) == AGEFILE_CHUNK_SHORT);
+    CHECK(agefile_writer_open_passphrase(NULL, 0, work, seed, out, sizeof out, &writer, &report) == AGEFILE_OK);
+    CHECK(agefile_encrypt_passphrase(NULL, 0, NULL, 0, work, seed, out, sizeof out, &report) == AGEFILE_OK);
+    CHECK(agefile_decrypt_passphrase(out, report.len, NULL, 0, work, NULL, 0, &report) == AGEFILE_OK);
+    CHECK(agefile_decrypt_passphrase(NULL, 0, NULL, 0, work, NULL, 0, &report) == AGEFILE_HEADER_TRUNCATED);
+}
+
+static void sizes_suffice(void)
+{
+    CHECK(agefile_sealed_len(UINT64_MAX) == UINT64_MAX && agefile_sealed_len(UINT64_MAX - 200) == UINT64_MAX);
+    CHECK(agefile_plain_len_at_most(0) <= AGEFILE_FRONT && agefile_plain_len_at_most(UINT64_MAX) <= UINT64_MAX);
+    uint64_t before = agefile_sealed_len(0);
+    for (uint64_t len = 1; len < (uint64_t)1 << 63; len += len / 2 + 1) {
+        uint64_t now = agefile_sealed_len(len);
+        CHECK(now > before && now > len && now - len <= len / AGEFILE_TEXT_CHUNK * tag + tag + AGEFILE_HEADER_ROOM);
+        CHECK(agefile_plain_len_at_most(now) >= len && agefile_plain_len_at_most(len) <= len);
+        before = now;
+    }
+}
+
+static void headers(void)
+{
+    uint8_t out[1000], args[100];
+    agefile_report report = unset_report();
+    agefile_summary summary;
+    agefile_stanza_summary stanza;
+    CHECK(agefile_encrypt_passphrase(pass, 4, pass, pass_len, 10, seed, out, sizeof out, &report) == AGEFILE_OK);
+    size_t len = report.len;
+    report = unset_report();
+    CHECK(agefile_inspect(out, len, &summary, &report) == AGEFILE_OK && has_fields(&report, 0, 0, 0));
+    CHECK(summary.header_len == 150 && summary.stanzas == 1);
+    CHECK(agefile_stanza(out, len, 0, args, sizeof args, &stanza, &report) == AGEFILE_OK);
+    CHECK(stanza.args == 3 && stanza.body_len == 32 && stanza.args_len == 32 && report.len == 32);
+    CHECK(are_equal(args, (const uint8_t *)"scrypt ", 7) && are_equal(args + 29, (const uint8_t *)" 10", 3));
+    memset(args, 0xEE, sizeof args);
+    CHECK(agefile_stanza(out, len, 0, args, 31, &stanza, &report) == AGEFILE_TOO_SMALL);
+    CHECK(report.len == 32 && are_all(args, sizeof args, 0xEE));
+    CHECK(agefile_stanza(out, len, 1, args, sizeof args, &stanza, &report) == AGEFILE_OUT_OF_ORDER);
+    CHECK(agefile_stanza(out, len, UINT64_MAX, args, sizeof args, &stanza, &report) == AGEFILE_OUT_OF_ORDER);
+    CHECK(are_all(args, sizeof args, 0xEE));
+    static const char *const bad = "age-encryption.org/v1\nbad\n";
+    report = unset_report();
+    CHECK(agefile_inspect((const uint8_t *)bad, strlen(bad), &summary, &report) == AGEFILE_BAD_LINE && has_fields(&report, 0, 2, 0));
+    report = unset_report();
+    CHECK(agefile_stanza((const uint8_t *)bad, strlen(bad), 0, args, sizeof args, &stanza, &report) == AGEFILE_BAD_LINE);
+    CHECK(agefile_inspect((const uint8_t *)"hello", 5, &summary, &report) == AGEFILE_NOT_AGE && has_fields(&report, 0, 0, 0));
+    for (size_t cut = 0; cut < 150; cut++)
+        CHECK(agefile_inspect(out, cut, &summary, &report) == AGEFILE_HEADER_TRUNCATED && has_fields(&report, 0, 0, 0));
+}
+
+static void long_headers(void)
+{
+    static const char *const front = "age-encryption.org/v1\n-> X ";
+    size_t len = 70000;
+    uint8_t *file = room(len);
+    agefile_report report = unset_report();
+    agefile_summary summary;
+    agefile_reader reader;
+    memset(file, 'a', len);
+    memcpy(file, front, strlen(front));
+    CHECK(agefile_inspect(file, len, &summary, &report) == AGEFILE_HEADER_TOO_LARGE && has_fields(&report, 0, 0, 0));
+    CHECK(agefile_inspect(file, AGEFILE_FRONT, &summary, &report) == AGEFILE_HEADER_TOO_LARGE);
+    CHECK(agefile_decrypt_key(file, len, key, NULL, 0, &report) == AGEFILE_HEADER_TOO_LARGE);
+    CHECK(agefile_reader_open_key(file, AGEFILE_FRONT, key, &reader, &report) == AGEFILE_HEADER_TOO_LARGE);
+    free(file);
+}
+
+static const struct {
+    const char *name;
+    void (*run)(void);
+} tests[] = {
+    {"whole files come back, under a key and a passphrase", whole_files},
+    {"a buffer that is too small stays as it was", small_buffers},
+    {"what lies behind the output stays as it was", great_buffers},
+    {"damage in the header, the nonce and each chunk", damage},
+    {"files that were cut", truncation},
+    {"work factors out of range", work_factors},
+    {"null pointers with the length 0", null_pointers},
+    {"the sizes suffice, at their limits too", sizes_suffice},
+    {"headers and their stanzas", headers},
+    {"headers beyond the limit", long_headers},
+};
+
+int main(int argc, char **argv)
+{
+    for (size_t i = 0; i < sizeof tests / sizeof *tests; i++)
+        if (argc < 2)
+            puts(tests[i].name);
+        else if (strcmp(argv[1], tests[i].name) == 0)
+            tests[i].run();
+    return failed != 0;
+}

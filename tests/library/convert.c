@@ -1,0 +1,129 @@
+// Encrypts or decrypts standard input to standard output by one kind of call, for comparisons with other programs:
+//   convert (whole | steps | ranges) (encrypt | decrypt) (-k | -p) SECRET_FILE [WORK [SEED_FILE]]
+//   convert messages
+// The status is the call's code, whose message is shown on standard error. messages prints the code and the message of each code.
+#include "check.h"
+#include <sys/random.h>
+
+enum { most = 1 << 24 };
+
+static uint8_t input[most], output[most];
+static size_t input_len, output_len;
+static uint8_t secret[1024], fresh[48];
+static size_t secret_len;
+static uint8_t factor = 18;
+static bool is_keyed;
+static agefile_report report;
+
+static size_t read_file(const char *name, uint8_t *bytes, size_t room)
+{
+    FILE *source = fopen(name, "rb");
+    if (source == NULL)
+        exit(99);
+    size_t len = fread(bytes, 1, room, source);
+    fclose(source);
+    return len;
+}
+
+static uint32_t encrypt_whole(void)
+{
+    uint32_t code = is_keyed ? agefile_encrypt_key(input, input_len, secret, fresh, output, most, &report)
+                             : agefile_encrypt_passphrase(input, input_len, secret, secret_len, factor, fresh, output, most, &report);
+    output_len = code == AGEFILE_OK ? report.len : 0;
+    return code;
+}
+
+static uint32_t decrypt_whole(void)
+{
+    uint32_t code = is_keyed ? agefile_decrypt_key(input, input_len, secret, output, most, &report)
+                             : agefile_decrypt_passphrase(input, input_len, secret, secret_len, 22, output, most, &report);
+    output_len = report.len;
+    return code;
+}
+
+static uint32_t encrypt_steps(void)
+{
+    agefile_writer writer;
+    uint32_t code = is_keyed ? agefile_writer_open_key(secret, fresh, output, most, &writer, &report)
+                             : agefile_writer_open_passphrase(secret, secret_len, factor, fresh, output, most, &writer, &report);
+    output_len = report.len;
+    size_t at = 0;
+    for (bool last = false; code == AGEFILE_OK && !last;) {
+        last = input_len - at <= AGEFILE_TEXT_CHUNK;
+        size_t len = last ? input_len - at : AGEFILE_TEXT_CHUNK;
+        memcpy(output + output_len, input + at, len);
+        code = agefile_writer_chunk(&writer, output + output_len, len + tag, last, &report);
+        output_len += len + tag;
+        at += len;
+    }
+    return code;
+}
+
+static uint32_t decrypt_steps(void)
+{
+    agefile_reader reader;
+    size_t front = front_of(input_len);
+    uint32_t code = is_keyed ? agefile_reader_open_key(input, front, secret, &reader, &report)
+                             : agefile_reader_open_passphrase(input, front, secret, secret_len, 22, &reader, &report);
+    size_t at = report.len;
+    for (bool last = false; code == AGEFILE_OK && !last;) {
+        last = input_len - at <= AGEFILE_SEALED_CHUNK;
+        size_t len = last ? input_len - at : AGEFILE_SEALED_CHUNK;
+        code = agefile_reader_chunk(&reader, input + at, len, last, &report);
+        if (code == AGEFILE_OK)
+            memcpy(output + output_len, input + at, report.len);
+        output_len += report.len;
+        at += len;
+    }
+    return code;
+}
+
+static uint32_t decrypt_ranges(void)
+{
+    static uint8_t chunk[AGEFILE_SEALED_CHUNK];
+    agefile_ranges ranges;
+    size_t front = front_of(input_len);
+    uint32_t code = is_keyed ? agefile_ranges_open_key(input, front, input_len, secret, &ranges, &report)
+                             : agefile_ranges_open_passphrase(input, front, input_len, secret, secret_len, 22, &ranges, &report);
+    if (code != AGEFILE_OK)
+        return code;
+    memcpy(chunk, input + report.place, report.len);
+    code = agefile_ranges_last(&ranges, chunk, report.len, &report);
+    uint64_t len = report.len;
+    while (code == AGEFILE_OK && output_len < len) {
+        code = agefile_ranges_locate(&ranges, output_len, &report);
+        memcpy(chunk, input + report.place, report.len);
+        if (code == AGEFILE_OK)
+            code = agefile_ranges_chunk(&ranges, output_len, chunk, report.len, &report);
+        memcpy(output + output_len, chunk + report.place, report.len);
+        output_len += report.len;
+    }
+    return code;
+}
+
+int main(int argc, char **argv)
+{
+    if (argc == 2 && strcmp(argv[1], "messages") == 0) {
+        for (uint32_t code = 0; code <= AGEFILE_OUT_OF_ORDER; code++)
+            printf("%u %s\n", (unsigned)code, agefile_message(code));
+        return strcmp(agefile_message(AGEFILE_OUT_OF_ORDER + 1), "unknown code") != 0;
+    }
+    if (argc < 5)
+        return 98;
+    is_keyed = strcmp(argv[3], "-k") == 0;
+    secret_len = read_file(argv[4], secret, sizeof secret);
+    if (argc > 5)
+        factor = (uint8_t)atoi(argv[5]);
+    if (argc > 6 ? read_file(argv[6], fresh, sizeof fresh) != sizeof fresh : getrandom(fresh, sizeof fresh, 0) != sizeof fresh)
+        return 97;
+    input_len = fread(input, 1, most, stdin);
+    bool is_encrypting = strcmp(argv[2], "encrypt") == 0;
+    uint32_t code = strcmp(argv[1], "whole") == 0   ? is_encrypting ? encrypt_whole() : decrypt_whole()
+                    : strcmp(argv[1], "steps") == 0 ? is_encrypting ? encrypt_steps() : decrypt_steps()
+                                                    : decrypt_ranges();
+    if (fwrite(output, 1, output_len, stdout) != output_len || fflush(stdout) != 0)
+        return 96;
+    if (code != AGEFILE_OK)
+        fprintf(stderr, "%s %llu\n", agefile_message(code), (unsigned long long)report.place);
+    return (int)code;
+}
