@@ -15,5 +15,7 @@ mod sizes;
 mod start;
 mod state;
 #[cfg(test)]
+mod step_tests;
+#[cfg(test)]
 mod tests;
 mod writer;
