@@ -1,3 +1,4 @@
+mod BackLemmas
 mod FrontLemmas
 mod HeaderLemmas
 mod PlainLemmas

@@ -1,5 +1,5 @@
 -- What a call over whole buffers gives.
-use Rattle.std.specs.Prelude.{◌≡◌, ◌⊎◌, ◌<◌, ◌≤◌, ◌++◌, ℕ, List, [], ◌∷◌, length, drop, take, Option, None, Result, Ok}
+use Rattle.std.specs.Prelude.{◌≡◌, ◌⊎◌, ◌<◌, ◌≤◌, ◌++◌, ℕ, List, [], ◌∷◌, length, slice_index, drop, take, Option, None, Result, Ok}
 use Rattle.age_header.specs.Header.{StanzaParts}
 use Rattle.age_recipient.specs.declared.key.FileKey.{FileKey}
 use Rattle.age_recipient.specs.declared.unwrapped.Unwrapped.{Unwrapped}
@@ -47,7 +47,12 @@ GivesPlain answers b old new told result =
     GivesUp 17 old new told result
     ⊎ ((verdict : Reading Fault) × IsVerdict limits answers b verdict × Gives verdict.front verdict.fault old new told result)
 
--- a seed of 48 bytes is a file key, a payload's nonce, and a stanza's salt
+-- a seed: 48 bytes
+pub record IsSeed (seed : List ℕ) : Type 0 where
+  pub len : length seed ≡ 48
+  pub bytes : (i : ℕ) → slice_index seed i < 256
+
+-- a seed is a file key, a payload's nonce, and a stanza's salt
 abbrev pub fresh_of : List ℕ → Fresh
 fresh_of seed = record { file_key = record { 0 = take 16 seed }; nonce = take 16 (drop 16 seed) }
 

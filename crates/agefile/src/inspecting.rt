@@ -1,6 +1,6 @@
 //! What the header of a file says.
 
-ghost use Rattle.std.specs.Prelude.{◌≡◌, ◌⊎◌, Some, IfOk};
+ghost use Rattle.std.specs.Prelude.{◌≡◌, ◌⊎◌, ℕ, List, take, Some, IfOk};
 ghost use Rattle.std.specs.String.{string_bytes};
 ghost use Rattle.agefile.specs.Answer.{GivesUp};
 ghost use Rattle.agefile.specs.Inspect.{AnswersStanza, GivesStanza, HeaderOf, Inspected, joined, stanza_summary};
@@ -36,8 +36,8 @@ pub struct StanzaSummary {
     pub body_len: u64,
 }
 
-/// Sums up the header at the front of a file. Its MAC is not verified, since that needs the file key. Of a file of more than 65,536 bytes
-/// the first 65,536 suffice.
+/// Sums up the header at the front of a file. Its MAC is not verified, since that needs the file key. Of a file of more than 65,552 bytes
+/// the first 65,552 suffice: they have its header, if there is one.
 ///
 /// # Errors
 /// Those of `age_file::inspect`, or 17 where an allocation was refused; in these `summary` is as it was.
@@ -48,7 +48,8 @@ pub extern "C" fn agefile_inspect(
     summary: &mut Summary,
     report: &mut Report,
 ) -> u32
-    ensures { Inspected front.now summary.old summary.new report.new result }
+    ensures front { Inspected front.now summary.old summary.new report.new result }
+    ensures file { (b : List ℕ) → front.now ≡ take 65552 b → Inspected b summary.old summary.new report.new result }
 {
     match header_of(alloc, front) {
         Ok(header) => {
@@ -68,7 +69,7 @@ pub extern "C" fn agefile_inspect(
 }
 
 /// Sums up the stanza at a place of the header, the first being 0, and writes its arguments to the front of `args`, joined by single spaces.
-/// Where `args` is too small for them, the stanza is still summed up.
+/// Where `args` is too small for them, the stanza is still summed up. Of a file of more than 65,552 bytes the first 65,552 suffice.
 ///
 /// # Errors
 /// 23 where there is no such stanza, 21 where `args` is too small, 17 where an allocation was refused, else those of `age_file::inspect`; in
@@ -82,7 +83,9 @@ pub extern "C" fn agefile_stanza(
     stanza: &mut StanzaSummary,
     report: &mut Report,
 ) -> u32
-    ensures { AnswersStanza front.now index args.old args.new stanza.old stanza.new report.new result }
+    ensures front { AnswersStanza front.now index args.old args.new stanza.old stanza.new report.new result }
+    ensures file { (b : List ℕ) → front.now ≡ take 65552 b
+        → AnswersStanza b index args.old args.new stanza.old stanza.new report.new result }
 {
     let header = match header_of(alloc, front) {
         Ok(header) => header,
@@ -91,13 +94,8 @@ pub extern "C" fn agefile_stanza(
     if index >= header.stanzas().len() as u64 {
         return give_up(OUT_OF_ORDER, args, report);
     }
-    give_stanza(
-        alloc,
-        &header.stanzas()[index as usize],
-        args,
-        stanza,
-        report,
-    )
+    let place = index as usize;
+    give_stanza(alloc, &header.stanzas()[place], args, stanza, report)
 }
 
 /// Sums up a stanza and gives its arguments.
@@ -139,7 +137,8 @@ fn joined(alloc: Global, stanza: &Stanza) -> Result<String, AllocError>
 
 /// The header at the front of a file.
 fn header_of(alloc: Global, front: &[u8]) -> Result<Header, Fault>
-    ensures { HeaderOf front.now result }
+    ensures front { HeaderOf front.now result }
+    ensures file { (b : List ℕ) → front.now ≡ take 65552 b → HeaderOf b result }
 {
     inspect(alloc, &mut MemSource::new(front), &limits())
 }

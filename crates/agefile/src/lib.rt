@@ -18,4 +18,5 @@ mod state;
 mod step_tests;
 #[cfg(test)]
 mod tests;
+pub mod there_and_back;
 mod writer;
