@@ -25,6 +25,8 @@ mod sizes;
 mod start;
 mod state;
 #[cfg(test)]
+mod step_tests;
+#[cfg(test)]
 mod tests;
 pub mod there_and_back;
 mod writer;
