@@ -120,12 +120,15 @@ constants() {
     check "the header's messages are the program's"
 }
 
-# Runs each test of a C program that was built under sanitizers.
+# Runs each test of a C program, and shows the line that it writes where it passes.
 tests_of() {
-    local name
+    local name status line
     while IFS= read -r name; do
         "./$1" "$name" >out 2>err
-        check_shown "$1: $name"
+        status=$? line=
+        [[ $status -ne 0 ]] || line=$(cat out)
+        (exit "$status")
+        check_shown "$1: $name${line:+: $line}"
     done < <("./$1")
 }
 
