@@ -35,13 +35,12 @@ static bool decrypt(const uint8_t key[32])
         return false;
     have -= report.len;
     memmove(buf, buf + report.len, have);
-    for (bool last = false; !last;) {
+    for (bool last = false; !last; have = 1) {
         have = fill(have, sizeof buf);
         last = have < sizeof buf;
         if (!is_ok(agefile_reader_chunk(&reader, buf, last ? have : AGEFILE_SEALED_CHUNK, last, &report), &report) || !put(buf, report.len))
             return false;
         buf[0] = buf[AGEFILE_SEALED_CHUNK];
-        have = 1;
     }
     return true;
 }
@@ -55,7 +54,7 @@ static bool encrypt(const uint8_t key[32])
         !is_ok(agefile_writer_open_key(key, seed, buf, sizeof buf, &writer, &report), &report) || !put(buf, report.len))
         return false;
     size_t have = 0;
-    for (bool last = false; !last;) {
+    for (bool last = false; !last; have = 1) {
         have = fill(have, AGEFILE_TEXT_CHUNK + 1);
         last = have <= AGEFILE_TEXT_CHUNK;
         size_t len = last ? have : AGEFILE_TEXT_CHUNK;
@@ -63,7 +62,6 @@ static bool encrypt(const uint8_t key[32])
         if (!is_ok(agefile_writer_chunk(&writer, buf, len + 16, last, &report), &report) || !put(buf, len + 16))
             return false;
         buf[0] = ahead;
-        have = 1;
     }
     return true;
 }

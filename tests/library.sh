@@ -120,12 +120,15 @@ constants() {
     check "the header's messages are the program's"
 }
 
-# Runs each test of a C program that was built under sanitizers.
+# Runs each test of a C program, and shows the line that it writes where it passes.
 tests_of() {
-    local name
+    local name status line
     while IFS= read -r name; do
         "./$1" "$name" >out 2>err
-        check_shown "$1: $name"
+        status=$? line=
+        [[ $status -ne 0 ]] || line=$(cat out)
+        (exit "$status")
+        check_shown "$1: $name${line:+: $line}"
     done < <("./$1")
 }
 
@@ -290,21 +293,30 @@ memory() {
     check "decrypting 1 GiB: $opening KiB resident, $((opening - empty)) more than an empty program"
 }
 
-# The lines of docs/C.md's block of code in this language.
+# The lines of a document's block of code in this language.
 block() {
-    awk -v begin="\`\`\`$1" '$0 == begin { shown = 1; next } /^```$/ { shown = 0 } shown' "$root/docs/C.md"
+    awk -v begin="\`\`\`$1" '$0 == begin { shown = 1; next } /^```$/ { shown = 0 } shown' "$root/$2"
 }
 
 # The programs of docs/C.md do what they are there for.
 document() {
-    block c >document.c
+    local language
+    for language in c python; do
+        block $language docs/C.md >"document.$language"
+        block $language README.md >readme
+        [[ -s document.$language && (! -s readme || $(cat readme) == "$(cat "document.$language")") ]]
+        check "docs/C.md has a program in $language, and README.md no other"
+    done
+    cp document.python document.py
     cc -Wall -Wextra -Werror "-I$prefix/include" -o document document.c "$archive"
     check "docs/C.md: the program in C builds without a warning"
     echo 'some text' >plain
-    ./convert whole encrypt -p pass 3 <plain >made && ./document 'correct horse' <made | cmp -s - plain
+    ./convert whole encrypt -p pass 3 <plain >made && ./document <made | cmp -s - plain
     check "docs/C.md: the program in C decrypts"
+    head -c 150 made | ./document >out 2>err
+    [[ $? -eq 1 && $(cat err) == "payload nonce is cut short" && ! -s out ]]
+    check "docs/C.md: the program in C says what is wrong"
     command -v python3 >/dev/null || return
-    block python >document.py
     AGEFILE_LIBRARY=$shared PYTHONPATH=$root/python PYTHONDONTWRITEBYTECODE=1 python3 document.py >out 2>err
     [[ $? -eq 0 && $(cat out) == "b'two\n'
 wrong passphrase or key 7" ]]

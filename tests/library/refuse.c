@@ -133,7 +133,7 @@ static void each_allocation(uint32_t (*call)(void), long least)
         CHECK(reader.state != 1 && writer.state != 1 && ranges.state != 1);
     }
     CHECK(refused > least && (least > 0 || refused == 1));
-    fprintf(stderr, "%ld", refused - 1);
+    printf("%ld allocations\n", refused - 1);
 }
 
 int main(int argc, char **argv)
