@@ -456,8 +456,8 @@ streaming() {
     seq 100000 | head -c 450000 >many
     "$agep" encrypt -k key -s seed -o many.age many
     "$agep" rewrap -k key -K new.key -s seed -o made many.age
-    feed lockstep "$key_header" "$chunk" "$key_header" "$chunk" many.age made "$agep" rewrap -k key -K new.key -s seed 2>err
-    check "64 KiB are out before those after the next are fed"
+    feed lockstep "$((key_header + chunk))" "$chunk" "$key_header" "$chunk" many.age made "$agep" rewrap -k key -K new.key -s seed 2>err
+    check "all but the newest 128 KiB are out before more are fed"
     "$root/tests/reference.py" -k key -s seed --hole 16384 <hello >great.age
     if [[ $(wc -c <great.age) -lt $((16384 * sealed_chunk)) || $(du -k great.age | cut -f 1) -gt 1024 ]]; then
         echo "skipped: 1 GiB, since it would take all of its size"
