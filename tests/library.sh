@@ -311,9 +311,9 @@ document() {
     cc -Wall -Wextra -Werror "-I$prefix/include" -o document document.c "$archive"
     check "docs/C.md: the program in C builds without a warning"
     echo 'some text' >plain
-    ./convert whole encrypt -p pass 3 <plain >made && ./document <made | cmp -s - plain
+    ./convert whole encrypt -p pass 3 <plain >made && ./document 'correct horse' <made | cmp -s - plain
     check "docs/C.md: the program in C decrypts"
-    head -c 150 made | ./document >out 2>err
+    head -c 150 made | ./document 'correct horse' >out 2>err
     [[ $? -eq 1 && $(cat err) == "payload nonce is cut short" && ! -s out ]]
     check "docs/C.md: the program in C says what is wrong"
     command -v python3 >/dev/null || return
