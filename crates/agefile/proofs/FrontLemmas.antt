@@ -73,7 +73,7 @@ start-under-front b n (Ok k) le =
     ap (λ t. cond t (Err NonceTruncated) (Ok (record { first = n + 16; key = payload_key k (take 16 (drop n (take 65552 b))) }))) (nonce-there b n le)
     ∙ ap (λ x. cond (nat_lt (length (drop n b)) 16) (Err NonceTruncated) (Ok (record { first = n + 16; key = payload_key k x }))) (nonce-front b n le)
 
-whole-start : (answers : Answering) (b : List ℕ) (start : Result Start Fault) → IsStart answers (take 65552 b) start → IsStart answers b start
+pub whole-start : (answers : Answering) (b : List ℕ) (start : Result Start Fault) → IsStart answers (take 65552 b) start → IsStart answers b start
 whole-start answers b start (Err e, verdict, is) = (Err e, whole-verdict b (Err e) verdict, is)
 whole-start answers b start (Ok found, verdict, is) =
     let there = whole-verdict b (Ok found) verdict in
@@ -91,7 +91,7 @@ IsVerdictFrom b v (Ok start) = v ≡ record {
 }
 
 -- a reading with its faults named as a file's
-renamed : Reading StreamFault → Reading Fault
+unfoldable pub renamed : Reading StreamFault → Reading Fault
 renamed r = record { front = r.front; fault = option_map of_stream r.fault }
 
 payload-from : (b : List ℕ) (n : ℕ) (k : FileKey) (v : Reading Fault) (t : Bool)
@@ -106,7 +106,7 @@ unfolding renamed
 under-from b n v (Err fault) is = is
 under-from b n v (Ok k) is = payload-from b n k v (nat_lt (length (drop n b)) 16) is
 
-verdict-from : (answers : Answering) (b : List ℕ) (start : Result Start Fault) (v : Reading Fault) → IsStart answers b start → IsVerdict limits answers b v → IsVerdictFrom b v start
+pub verdict-from : (answers : Answering) (b : List ℕ) (start : Result Start Fault) (v : Reading Fault) → IsStart answers b start → IsVerdict limits answers b v → IsVerdictFrom b v start
 verdict-from answers b start v (Err e, verdict, is) h =
     subst (IsVerdictFrom b v) (sym is) (one_verdict limits answers b v (stops (of_header e)) h (record { header = Err e; header_verdict = verdict; is = refl }))
 verdict-from answers b start v (Ok found, verdict, is) h =
@@ -117,12 +117,13 @@ verdict-from answers b start v (Ok found, verdict, is) h =
 -- ---- the laws
 
 refused-by : (b : List ℕ) (reader : Reader) (told : Report) (result : ℕ) (v : Reading Fault) (start : Result Start Fault) → OpensAt start reader told result → IsVerdictFrom b v start → result ≢ 0
-    → (v.front ≡ []) × (code_of v.fault ≡ result)
+    → (v.front ≡ []) × (code_of v.fault ≡ result) × (told ≡ report_of 0 v.fault)
 refused-by b reader told result v (Ok start) opens from some = absurd (some opens.0)
-refused-by b reader told result v (Err fault) opens from some = (ap (λ (r : Reading Fault). r.front) from, ap (λ (r : Reading Fault). code_of r.fault) from ∙ sym opens.0)
+refused-by b reader told result v (Err fault) opens from some =
+    (ap (λ (r : Reading Fault). r.front) from, ap (λ (r : Reading Fault). code_of r.fault) from ∙ sym opens.0, opens.1 ∙ sym (ap (λ (r : Reading Fault). report_of 0 r.fault) from))
 
 pub opening_refused : (answers : Answering) (b : List ℕ) (reader : Reader) (told : Report) (result : ℕ) (v : Reading Fault) → OpensReader answers (take 65552 b) reader told result
-    → IsVerdict limits answers b v → result ≢ 0 → result ≢ 17 → (v.front ≡ []) × (code_of v.fault ≡ result)
+    → IsVerdict limits answers b v → result ≢ 0 → result ≢ 17 → (v.front ≡ []) × (code_of v.fault ≡ result) × (told ≡ report_of 0 v.fault)
 opening_refused answers b reader told result v (start, inl memory, opens) h some other =
     let code : OpensAt (Err OutOfMemory) reader told result = subst (λ s. OpensAt s reader told result) memory opens in
     absurd (other code.0)

@@ -3,6 +3,7 @@ mod FrontLemmas
 mod HeaderLemmas
 mod PlainLemmas
 mod PlainSizes
+mod RangeFront
 pub mod RangeLemmas
 mod RunLemmas
 mod SealLemmas

@@ -49,7 +49,7 @@ len-there r b text size h =
     omega arith
 
 pub slice-there : (r : Ranges) (b text : List ℕ) (at : ℕ) → length b ≡ r.first + r.sealed_len → at < plain_of r.sealed_len
-    → gives r (at / 65536) (piece_at r b (at / 65536)) ≡ Ok text → IsSlice r.key (drop r.first b) at (drop (at % 65536) text)
+    → gives r (at / 65536) (piece_at r b (at / 65536)) ≡ Ok text → (at % 65536 < length text) × IsSlice r.key (drop r.first b) at (drop (at % 65536) text)
 slice-there r b text at size within h =
     let rest : List ℕ = drop r.first b in
     let i : ℕ = at / 65536 in
@@ -70,4 +70,4 @@ slice-there r b text at size within h =
     let t : length (drop skip text) ≡ length text - skip = length-drop skip text in
     let part : IsSlice r.key rest at ([] ++ take (length text - skip) (drop skip text)) =
     slice-on r.key rest [] text at i skip (length text - skip) (omega arith) opens (omega arith) (omega arith) (λ k lt. absurd (omega arith)) in
-    subst (IsSlice r.key rest at) (take_all (length text - skip) (drop skip text) (omega arith)) part
+    (omega arith, subst (IsSlice r.key rest at) (take_all (length text - skip) (drop skip text) (omega arith)) part)

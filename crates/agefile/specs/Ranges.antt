@@ -1,5 +1,5 @@
 -- Ranges of a plaintext in steps: the caller reads one sealed chunk of the file at a time (C2SP age.md, "Payload").
-use Rattle.std.specs.Prelude.{ℕ, List, ◌≡◌, ◌⊎◌, ◌<◌, ◌≤◌, ◌+◌, ◌-◌, ◌*◌, ◌/◌, ◌%◌, ◌^◌, ◌&&◌, Bool, length, take, drop, min, nat_eq, nat_le, nat_lt, replicate, None, Some, Result, Ok, Err}
+use Rattle.std.specs.Prelude.{ℕ, List, ◌≡◌, ◌⊎◌, ◌<◌, ◌≤◌, ◌+◌, ◌-◌, ◌*◌, ◌/◌, ◌%◌, ◌^◌, ◌++◌, ◌&&◌, Bool, length, take, drop, min, nat_eq, nat_le, nat_lt, replicate, None, Some, Result, Ok, Err}
 use Rattle.age_stream.specs.declared.fault.StreamFault.{StreamFault}
 use Rattle.age_stream.specs.Reading.{outcome}
 use Rattle.age_file.specs.declared.fault.Fault.{Fault}
@@ -66,7 +66,7 @@ gives r i piece = outcome r.key limits.max_chunks i (nat_le r.sealed_len (65552 
 -- what the last piece gives, verified: on its text the plaintext's length is known
 abbrev pub Verified : Ranges → Ranges → List ℕ → List ℕ → Report → ℕ → Result (List ℕ) StreamFault → Type 0
 Verified old new chunk chunk2 report result (Ok text) = (result ≡ 0) × (new ≡ record { key = old.key; first = old.first; sealed_len = old.sealed_len; state = 2 })
-    × (take (length text) chunk2 ≡ text) × (report ≡ report_of (plain_of old.sealed_len) None)
+    × (chunk2 ≡ text ++ drop (length text) chunk) × (report ≡ report_of (plain_of old.sealed_len) None)
 Verified old new chunk chunk2 report result (Err fault) = (result ≡ fault_code (of_stream fault))
     × (new ≡ record { key = old.key; first = old.first; sealed_len = old.sealed_len; state = 1 }) × (chunk2 ≡ chunk) × (report ≡ report_of 0 (Some (of_stream fault)))
 
@@ -84,7 +84,7 @@ may_open r at chunk = has_byte r at && nat_eq (length chunk) (piece_len r.sealed
 
 -- what the piece that holds byte `at` gives: its text in front, from which the plaintext goes on at `at`
 abbrev pub GivesFrom : ℕ → List ℕ → List ℕ → Report → ℕ → Result (List ℕ) StreamFault → Type 0
-GivesFrom at chunk chunk2 report result (Ok text) = (result ≡ 0) × (take (length text) chunk2 ≡ text)
+GivesFrom at chunk chunk2 report result (Ok text) = (result ≡ 0) × (chunk2 ≡ text ++ drop (length text) chunk)
     × (report ≡ record { len = length text - at % 65536; place = at % 65536; detail = 0 })
 GivesFrom at chunk chunk2 report result (Err fault) =
     (result ≡ fault_code (of_stream fault)) × (chunk2 ≡ chunk) × (report ≡ report_of 0 (Some (of_stream fault)))
