@@ -1,6 +1,6 @@
 #!/bin/bash
 # Compares what tells users of the program with the built program: the texts of help, the manual page, the completions, the change log and
-# ./install. The last line is 'N passed, M failed'.
+# ./install; and the planted bugs that docs/PROMISES.md names with those that are there. The last line is 'N passed, M failed'.
 source "$(dirname "$0")/checks.bash"
 
 # The commands that help shows, but for help itself.
@@ -205,6 +205,19 @@ installs() {
     check "./install refuses another option"
 }
 
+# The planted bugs that docs/PROMISES.md names, in its tables and below them.
+planted_bugs() {
+    find "$root/crates" -path '*/must-fail/*.edit' -printf '%f\n' | sed 's/\.edit$//' | sort >edits
+    awk -F ' [|] ' '/^\| / { print $3 } /^More planted bugs/, /^$/' "$root/docs/PROMISES.md" | tr '\140' '\n' | grep -xE '[a-z0-9_]+' |
+        sort -u >named
+    comm -13 edits named | tee out
+    [[ -s named && ! -s out ]]
+    check "each planted bug that docs/PROMISES.md names is there"
+    comm -23 edits named | tee out
+    [[ -s edits && ! -s out ]]
+    check "docs/PROMISES.md names each planted bug"
+}
+
 mapfile -t all < <(commands)
 [[ ${#all[@]} -ge 4 ]]
 check "help shows the commands"
@@ -214,4 +227,5 @@ manual "${all[@]}"
 completions "${all[@]}"
 versions
 installs
+planted_bugs
 finish
