@@ -5,16 +5,17 @@
  *
  *  1. No pointer is null. The macros at the end of this file make a null pointer with the length 0 safe.
  *  2. A pointer is good for the length that follows it, which is below 2^63. A key has 32 bytes, a seed 48.
- *  3. Structs are aligned as the compiler aligns them.
+ *  3. Structs are aligned as the compiler aligns them, and a bool is 0 or 1.
  *  4. What a call writes (`out`, `args`, `chunk`, the structs) overlaps nothing else that is passed. So a whole buffer cannot be
  *     encrypted or decrypted in place; a chunk of the steps is.
  *  5. During a call no other thread reads or writes what the call writes, or writes what it reads. Nothing else is shared: any
  *     number of calls may run at once.
  *  6. 128 KiB of stack are free.
  *  7. No call is made in a signal handler, or in a forked child of a process that had threads.
- *  8. malloc, realloc and free belong to one allocator.
+ *  8. malloc, realloc and free belong to one allocator, and align blocks as C demands.
  *
- * Each call returns an agefile_code. It sets all of its report first, and where it fails it writes nothing but what its comment says.
+ * Each call but the two of sizes returns an agefile_code and sets all of its report. Where it fails it writes nothing but what its
+ * comment says. Lines count from 1, chunks, stanzas and bytes from 0.
  * A passphrase has any bytes. A work factor is 1 to 30; `max_work` is the greatest that is accepted, 22 is usual, and 18 is usual for
  * a new file. A seed is 48 fresh random bytes (getrandom) for each file: the same seed for two files repeats their keys.
  * Keys and passphrases stay in freed memory. docs/C.md has what is proved and what is trusted. */
@@ -95,7 +96,7 @@ static inline const char *agefile_message(uint32_t code)
 /* What a call returns beside its code. */
 typedef struct agefile_report {
     uint64_t len;
-    uint64_t place;  /* the line or the chunk of a fault, else 0 */
+    uint64_t place;  /* the line or the chunk of a fault, else 0; of the calls of ranges a place, as they say */
     uint64_t detail; /* of AGEFILE_MALFORMED: 1 arguments, 2 salt, 3 work factor's text, 4 work factor too high, 5 body's length */
 } agefile_report;
 
@@ -115,7 +116,7 @@ uint32_t agefile_encrypt_key(const uint8_t *plain, size_t plain_len, const uint8
 uint64_t agefile_sealed_len(uint64_t plain_len);
 uint64_t agefile_plain_len_at_most(uint64_t file_len);
 
-/* ---- Headers. No passphrase or key is needed.
+/* ---- Headers. No passphrase or key is needed, and so the MAC is not verified.
  * `front` is the file's first AGEFILE_FRONT bytes, or all of a shorter file. */
 typedef struct agefile_summary {
     uint64_t header_len;
@@ -130,12 +131,14 @@ typedef struct agefile_stanza_summary {
 } agefile_stanza_summary;
 
 uint32_t agefile_inspect(const uint8_t *front, size_t front_len, agefile_summary *summary, agefile_report *report);
-/* Writes the arguments, joined by single spaces. AGEFILE_OUT_OF_ORDER where there is no such stanza. */
+/* Writes the arguments, joined by single spaces; report.len is how many bytes they have. On AGEFILE_TOO_SMALL `args` is as it was, and
+ * `stanza` is set all the same. AGEFILE_OUT_OF_ORDER where there is no such stanza. */
 uint32_t agefile_stanza(const uint8_t *front, size_t front_len, uint64_t index, uint8_t *args, size_t args_len,
                         agefile_stanza_summary *stanza, agefile_report *report);
 
 /* ---- Reading in steps: open, then one call for each sealed chunk. The struct is the caller's to keep, and the calls' to change.
- * On 0 of an opening report.len is where the first sealed chunk begins; else the reader is not open. A call that does not fit the
+ * On 0 of an opening report.len is where the first sealed chunk begins; else the reader is not open. Even where no byte follows, one
+ * call for the last chunk is needed: it finds that the file was cut short. A call that does not fit the
  * state, or a chunk of another length, is AGEFILE_OUT_OF_ORDER, and all but the report is as it was. */
 typedef struct agefile_reader {
     uint8_t key[32];
@@ -153,7 +156,8 @@ uint32_t agefile_reader_open_key(const uint8_t *front, size_t front_len, const u
 uint32_t agefile_reader_chunk(agefile_reader *reader, uint8_t *chunk, size_t chunk_len, bool last, agefile_report *report);
 
 /* ---- Writing in steps: open, then one call for each chunk. An empty plaintext has one chunk, which is empty; no other is empty.
- * On 0 of an opening `out` has the header and the nonce in front, report.len bytes; else the writer is not open. A call that does not
+ * On 0 of an opening `out` has the header and the nonce in front, report.len bytes; else the writer is not open, and on
+ * AGEFILE_TOO_SMALL report.len is the room that is needed. A call that does not
  * fit the state, or a chunk of another length, is AGEFILE_OUT_OF_ORDER, as with a reader. */
 typedef struct agefile_writer {
     uint8_t key[32];
@@ -172,6 +176,7 @@ uint32_t agefile_writer_chunk(agefile_writer *writer, uint8_t *chunk, size_t chu
 /* ---- Ranges in steps: open, verify the last sealed chunk, then locate and open the chunks that are wanted. Other chunks may be
  * damaged, and it is not noticed.
  * On 0 of an opening report.place and report.len are the last sealed chunk's place in the file and its length; else nothing is open.
+ * `file_len` is the file's true length; AGEFILE_OUT_OF_ORDER where it ends before the first sealed chunk.
  * A call that does not fit the state, or a chunk of another length, is AGEFILE_OUT_OF_ORDER, as with a reader. */
 typedef struct agefile_ranges {
     uint8_t key[32];
@@ -184,7 +189,8 @@ uint32_t agefile_ranges_open_passphrase(const uint8_t *front, size_t front_len, 
                                         size_t pass_len, uint8_t max_work, agefile_ranges *ranges, agefile_report *report);
 uint32_t agefile_ranges_open_key(const uint8_t *front, size_t front_len, uint64_t file_len, const uint8_t key[32],
                                  agefile_ranges *ranges, agefile_report *report);
-/* Verifies the last sealed chunk, which proves where the file ends, and must come first. On 0 report.len is the plaintext's length. */
+/* Verifies the last sealed chunk, which proves where the file ends, and must come first. On 0 its text is in front, and report.len is the
+ * plaintext's length. On a fault the chunk is as it was, and the payload counts as not verified. */
 uint32_t agefile_ranges_last(agefile_ranges *ranges, uint8_t *chunk, size_t chunk_len, agefile_report *report);
 /* Which sealed chunk holds the plaintext's byte `at`: report.place and report.len. AGEFILE_OUT_OF_ORDER past the plaintext's end. */
 uint32_t agefile_ranges_locate(const agefile_ranges *ranges, uint64_t at, agefile_report *report);

@@ -1,4 +1,4 @@
-//! Whole age v1 files (C2SP `age.md`). Start here: this crate gives on what a caller needs of those below it.
+//! Whole age v1 files (C2SP `age.md`). Start here: this crate re-exports what a caller needs of those below it.
 //!
 //! ```
 //! let limits = &Limits::default();

@@ -4,7 +4,7 @@
 //! let recipient = PassRecipient::new(alloc, b"correct horse", salt, 18)?; // a fresh salt; 2^18 KiB of memory
 //! let stanzas = recipient.wrap(alloc, &file_key)?;
 //! let identity = PassIdentity::new(alloc, b"correct horse", 22)?; // takes work factors up to 22
-//! let key = unlock(alloc, &identities, stanzas.as_slice())?; // of several identities, boxed
+//! let key = unlock(alloc, identities.as_slice(), stanzas.as_slice())?; // of several identities, boxed
 //! ```
 //!
 //! Here are those of a passphrase and, with a stanza of this project's own, of a secret of 32 bytes. A caller's own

@@ -14,7 +14,7 @@ use Rattle.age_file.specs.AgeFile.{Bounds}
 use Rattle.age_file.specs.Device.{CountsRead}
 use Rattle.age_file.specs.NewFile.{EncryptsGiven, EncryptsText, Gathered, IsApart, IsRefusal, RefusesFirst, together}
 use Rattle.agefile.specs.declared.report.Report.{Report}
-use Rattle.agefile.specs.Answer.{Gives, GivesFile, Seals, fresh_of, salt_of}
+use Rattle.agefile.specs.Answer.{Gives, GivesFile, GivesGathered, fresh_of, salt_of}
 use Rattle.agefile.specs.Codes.{is_memory}
 use Rattle.agefile.specs.Limits.{limits}
 use Rattle.agefile.proofs.SizeLemmas.{chunks_size, key_header, key_size, pass_header, salt_size}
@@ -24,14 +24,14 @@ abbrev pub Given : Type 1
 Given = Result (List StanzaParts) Fault → Type 0
 
 pub seals_whole : (seed : List ℕ) (given : Given) (plain text old new : List ℕ) (told : Report) (result : ℕ) (done : Done)
-    → EncryptsText limits (fresh_of seed) given plain (Some []) (Some text) (Ok done) → Gives text None old new told result → Seals seed given plain old new told result
+    → EncryptsText limits (fresh_of seed) given plain (Some []) (Some text) (Ok done) → Gives text None old new told result → GivesGathered seed given plain old new told result
 seals_whole seed given plain text old new told result done h gives =
     inr (inr (inr (h.0, h.1, subst (λ t. Gives t None old new told result) h.2 gives)))
 
 -- a fault that no device and no allocation caused is a refusal, or there are too many chunks
 part_of : (seed : List ℕ) (given : Given) (plain old new : List ℕ) (told : Report) (result : ℕ) (before after : Option (List ℕ)) (fault : Fault)
     → is_memory fault ≡ false → CountsRead {A = Done} 0 0 (Err fault) → RefusesFirst limits (fresh_of seed).file_key given fault
-    → EncryptsText limits (fresh_of seed) given plain before after (Err fault) → Seals seed given plain old new told result
+    → EncryptsText limits (fresh_of seed) given plain before after (Err fault) → GivesGathered seed given plain old new told result
 part_of seed given plain old new told result before after OutOfMemory inside count first h = cc
 part_of seed given plain old new told result before after Write inside count first h = cc
 part_of seed given plain old new told result before after Read inside count first h = absurd (omega arith)
@@ -42,7 +42,7 @@ part_of seed given plain old new told result before after fault inside count fir
 pub seals_part : (l : Bounds) (fresh : Fresh) (seed : List ℕ) (given : FileKey → Given) (plain old new : List ℕ) (come before after : Option (List ℕ)) (told : Report) (result : ℕ) (fault : Fault)
     → l ≡ limits → fresh ≡ fresh_of seed → come ≡ Some plain → is_memory fault ≡ false → CountsRead {A = Done} 0 0 (Err fault)
     → RefusesFirst l fresh.file_key (given fresh.file_key) fault → EncryptsGiven l fresh (given fresh.file_key) come before after (Err fault)
-    → Seals seed (given (fresh_of seed).file_key) plain old new told result
+    → GivesGathered seed (given (fresh_of seed).file_key) plain old new told result
 seals_part l fresh seed given plain old new come before after told result fault at seeds source inside count first h =
     part_of seed (given (fresh_of seed).file_key) plain old new told result before after fault inside count
     (subst (λ f. RefusesFirst limits f.file_key (given f.file_key) fault) seeds (subst (λ b. RefusesFirst b fresh.file_key (given fresh.file_key) fault) at first))
@@ -81,7 +81,7 @@ no_refusal k stanza meant fault short h = absurd h
 -- what encrypting for one recipient gives that wraps a key in one stanza
 seals_stanza : (seed : List ℕ) (stanza : FileKey → StanzaParts) (meant : Labels) (plain old new : List ℕ) (told : Report) (result : ℕ)
     → IsShort (stanza (fresh_of seed).file_key) → length plain < 2 ^ 64
-    → Seals seed (Gathered (Ok (stanza (fresh_of seed).file_key ∷ []) ∷ []) (meant ∷ [])) plain old new told result → GivesFile seed stanza plain old new told result
+    → GivesGathered seed (Gathered (Ok (stanza (fresh_of seed).file_key ∷ []) ∷ []) (meant ∷ [])) plain old new told result → GivesFile seed stanza plain old new told result
 seals_stanza seed stanza meant plain old new told result short bound (inl up) = inl up
 seals_stanza seed stanza meant plain old new told result short bound (inr (inl (fault, refused))) = absurd (no_refusal _ _ meant fault short refused)
 seals_stanza seed stanza meant plain old new told result short bound (inr (inr (inl (begun, cut)))) =
@@ -104,16 +104,16 @@ seals_stanza seed stanza meant plain old new told result short bound (inr (inr (
 -- the same of a recipient known by what it wraps
 pub seals_one : (seed : List ℕ) (wrapped : Result (List StanzaParts) ℕ) (stanza : FileKey → StanzaParts) (meant : Labels) (plain old new : List ℕ) (told : Report) (result : ℕ)
     → wrapped ≡ Ok (stanza (fresh_of seed).file_key ∷ []) → IsShort (stanza (fresh_of seed).file_key) → length plain < 2 ^ 64
-    → Seals seed (Gathered (wrapped ∷ []) (meant ∷ [])) plain old new told result → GivesFile seed stanza plain old new told result
+    → GivesGathered seed (Gathered (wrapped ∷ []) (meant ∷ [])) plain old new told result → GivesFile seed stanza plain old new told result
 seals_one seed wrapped stanza meant plain old new told result wraps short bound h =
     seals_stanza seed stanza meant plain old new told result short bound
-    (subst (λ w. Seals seed (Gathered (w ∷ []) (meant ∷ [])) plain old new told result) wraps h)
+    (subst (λ w. GivesGathered seed (Gathered (w ∷ []) (meant ∷ [])) plain old new told result) wraps h)
 
 -- the same of recipients in a list of one
 pub seals_alone : {X : Type 0} (w : X → Result (List StanzaParts) ℕ) (l : X → Labels) (items : List X) (x : X) (seed plain old new : List ℕ) (told : Report) (result : ℕ)
-    → items ≡ x ∷ [] → Seals seed (Gathered (map w items) (map l items)) plain old new told result
-    → Seals seed (Gathered (w x ∷ []) (l x ∷ [])) plain old new told result
-seals_alone w l items x seed plain old new told result one h = subst (λ xs. Seals seed (Gathered (map w xs) (map l xs)) plain old new told result) one h
+    → items ≡ x ∷ [] → GivesGathered seed (Gathered (map w items) (map l items)) plain old new told result
+    → GivesGathered seed (Gathered (w x ∷ []) (l x ∷ [])) plain old new told result
+seals_alone w l items x seed plain old new told result one h = subst (λ xs. GivesGathered seed (Gathered (map w xs) (map l xs)) plain old new told result) one h
 
 pub pass_short : (pass seed : List ℕ) (work : ℕ) → length seed ≡ 48 → work ≤ 30 → IsShort (pass_stanza pass work (salt_of seed) (fresh_of seed).file_key)
 pass_short pass seed work size high mac text h =

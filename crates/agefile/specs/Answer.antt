@@ -71,9 +71,10 @@ GivesFile seed stanza plain old new told result =
     ⊎ ((file : List ℕ) × NewFile limits (fresh_of seed) (only (stanza (fresh_of seed).file_key)) plain file
     × Gives file None old new told result)
 
--- the same for whatever recipients give, where there may be a refusal or too many chunks too
-abbrev pub Seals : List ℕ → (Result (List StanzaParts) Fault → Type 0) → List ℕ → List ℕ → List ℕ → Report → ℕ → Type 0
-Seals seed given plain old new told result =
+-- the same for whatever recipients give. In a refusal, and where there are too many chunks, nothing is said of what the call returns: the
+-- exports have one recipient, which leaves neither case.
+abbrev pub GivesGathered : List ℕ → (Result (List StanzaParts) Fault → Type 0) → List ℕ → List ℕ → List ℕ → Report → ℕ → Type 0
+GivesGathered seed given plain old new told result =
     GivesUp 17 old new told result
     ⊎ (((fault : Fault) × IsRefusal limits (fresh_of seed).file_key given fault)
     ⊎ (((begun : List ℕ) × CutFile limits (fresh_of seed) given plain begun)

@@ -74,7 +74,7 @@ Verified old new chunk chunk2 report result (Err fault) = (result ≡ fault_code
 abbrev pub may_verify : Ranges → List ℕ → Bool
 may_verify r chunk = nat_lt 0 r.state && nat_eq (length chunk) (piece_len r.sealed_len (last_index r.sealed_len))
 
--- the last piece was verified, and the plaintext has a byte at this place
+-- the last piece was verified, places in the file fit 64 bits, and the plaintext has a byte at this place
 abbrev pub has_byte : Ranges → ℕ → Bool
 has_byte r at = nat_eq r.state 2 && nat_lt (r.first + r.sealed_len) (2 ^ 64) && nat_lt at (plain_of r.sealed_len)
 

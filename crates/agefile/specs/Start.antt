@@ -11,7 +11,7 @@ use Rattle.age_file.specs.Verdict.{Answering, of_header, unlocked}
 use Rattle.agefile.specs.declared.start.Start.{Start}
 use Rattle.agefile.specs.Limits.{limits}
 
--- the same, where a header of `len` bytes is followed by `rest`, under the file key
+-- where the chunks begin and their key, where a header of `len` bytes is followed by `rest`, under the file key
 abbrev pub start_under : ℕ → List ℕ → Result FileKey Fault → Result Start Fault
 start_under len rest (Err fault) = Err fault
 start_under len rest (Ok k) =

@@ -1,4 +1,4 @@
--- What the steps of readers, writers and ranges share.
+-- What the steps of readers and writers share.
 use Rattle.std.specs.Prelude.{◌≡◌, ℕ, List, None}
 use Rattle.agefile.specs.declared.report.Report.{Report}
 use Rattle.agefile.specs.Report.{report_of}

@@ -49,7 +49,8 @@ OpensWriter seed stanza old new writer told result =
     × IsHeading limits (fresh_of seed).file_key (only (stanza (fresh_of seed).file_key)) (stanza (fresh_of seed).file_key ∷ []) text
     × GivesFront (text ++ (fresh_of seed).nonce) (fresh_of seed) old new writer told result)
 
--- the same for whatever recipients give, where there may be a refusal too
+-- the same for whatever recipients give. In a refusal nothing is said of what the call returns: the exports have one recipient, which
+-- never refuses.
 abbrev pub OpensFor : Fresh → (Result (List StanzaParts) Fault → Type 0) → List ℕ → List ℕ → Writer → Report → ℕ → Type 0
 OpensFor fresh given old new writer told result =
     StaysClosed 17 old new writer told result

@@ -5,7 +5,7 @@ ghost use Rattle.age_recipient.specs.KeyedStanza.{keyed_stanza};
 ghost use Rattle.age_recipient.specs.PassphraseHolders.{WorkFits};
 ghost use Rattle.age_recipient.specs.PassphraseStanza.{pass_stanza};
 ghost use Rattle.age_file.specs.NewFile.{Gathered};
-ghost use Rattle.agefile.specs.Answer.{GivesFile, GivesUp, Seals, fresh_of, salt_of};
+ghost use Rattle.agefile.specs.Answer.{GivesFile, GivesUp, GivesGathered, fresh_of, salt_of};
 
 use crate::bounds::limits;
 use crate::code::{OUT_OF_MEMORY, WORK_FACTOR};
@@ -98,7 +98,7 @@ fn seal_with(
     out: &mut [u8],
     report: &mut Report,
 ) -> u32
-    ensures { Seals seed.now (Gathered (wraps recipient (fresh_of seed.now).file_key ∷ []) (the_labels recipient ∷ []))
+    ensures { GivesGathered seed.now (Gathered (wraps recipient (fresh_of seed.now).file_key ∷ []) (the_labels recipient ∷ []))
         plain.now out.old out.new report.new result }
 {
     match vec![in alloc; recipient] {
@@ -116,7 +116,7 @@ fn seal_for(
     out: &mut [u8],
     report: &mut Report,
 ) -> u32
-    ensures { Seals seed.now
+    ensures { GivesGathered seed.now
         (Gathered (map (λ r. wraps r (fresh_of seed.now).file_key) recipients.now) (map (λ r. the_labels r) recipients.now))
         plain.now out.old out.new report.new result }
 {

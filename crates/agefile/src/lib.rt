@@ -8,6 +8,9 @@
 //!     fwrite(out, 1, report.len, stdout);
 //! ```
 //!
+//! The exports are in `decrypting` and `encrypting` (whole buffers), `inspecting` (headers), `sizes`, and `reader`, `writer` and `ranges` (steps). The
+//! other modules have none.
+//!
 //! Limits: a header of 65,536 bytes, 2^64 - 1 chunks, one recipient. The duties of a caller, and what is proved, are in docs/C.md.
 #![tactic(auto)]
 

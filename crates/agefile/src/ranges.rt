@@ -50,7 +50,7 @@ impl Ranges {
     }
 }
 
-/// Opens a file of `file_len` bytes with this front, its first 65,552 bytes or all of it, for a passphrase, any bytes, that takes work
+/// Opens a file of `file_len` bytes with this front, its first 65,552 bytes or all of a shorter one, for a passphrase, any bytes, that takes work
 /// factors of at most `max_work`, 1 to 30. On 0 the report has the last sealed chunk's place in the file and its length.
 ///
 /// # Errors
@@ -77,7 +77,7 @@ pub extern "C" fn agefile_ranges_open_passphrase(
     }
 }
 
-/// Opens a file of `file_len` bytes with this front, its first 65,552 bytes or all of it, for a key of 32 bytes, this project's own kind.
+/// Opens a file of `file_len` bytes with this front, its first 65,552 bytes or all of a shorter one, for a key of 32 bytes, this project's own kind.
 /// On 0 the report has the last sealed chunk's place in the file and its length.
 ///
 /// # Errors

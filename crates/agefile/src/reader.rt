@@ -52,7 +52,7 @@ impl Reader {
     }
 }
 
-/// Opens a file with this front, its first 65,552 bytes or all of it, for a passphrase, any bytes, that takes work factors of at most
+/// Opens a file with this front, its first 65,552 bytes or all of a shorter one, for a passphrase, any bytes, that takes work factors of at most
 /// `max_work`, 1 to 30. On 0 the report's length says where the first sealed chunk begins.
 ///
 /// # Errors
@@ -77,7 +77,7 @@ pub extern "C" fn agefile_reader_open_passphrase(
     }
 }
 
-/// Opens a file with this front, its first 65,552 bytes or all of it, for a key of 32 bytes, this project's own kind. On 0 the report's
+/// Opens a file with this front, its first 65,552 bytes or all of a shorter one, for a key of 32 bytes, this project's own kind. On 0 the report's
 /// length says where the first sealed chunk begins.
 ///
 /// # Errors

@@ -6,13 +6,14 @@ ghost use Rattle.agefile.specs.Report.{report_of};
 use crate::code::{detail_of, place_of};
 use age_file::Fault;
 
-/// What a call returns beside its code. Each call begins by setting all of it to 0.
+/// What a call returns beside its code. Each call sets all of it.
 #[repr(C)]
 #[derive(Clone, Copy, Default)]
 pub struct Report {
-    /// How many bytes the buffer got in front; where it is too small for them, how many it would have got.
+    /// How many bytes the buffer got in front; where it is too small for them, how many it would have got. The calls of readers and ranges say
+    /// what it is there.
     pub len: u64,
-    /// The line or the chunk of a fault, else 0.
+    /// The line, from 1, or the chunk, from 0, of a fault, else 0. The calls of ranges return a place here.
     pub place: u64,
     /// Of a malformed stanza which part of it is malformed, else 0.
     pub detail: u64,
