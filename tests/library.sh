@@ -106,6 +106,11 @@ messages_of_faults() {
         text != "" && /^    [A-Z]/ { sub(/[,(].*/, "", $1); print $1 "\t" text; text = "" }' "$root/crates/age_file/src/fault.rt")
 }
 
+# The number that a file gives a constant of this name, in C, Rust or Python.
+number_of() {
+    sed -nE "s/^(#define |(pub(\(crate\))? )?const )?$2(: [a-z0-9]+)?( =)? ([0-9_]+)\b.*/\6/p" "$1" | tr -d _
+}
+
 constants() {
     codes_of_crate >codes
     sed -nE 's/^    AGEFILE_([A-Z_]+) = ([0-9]+),?$/\1 \2/p' "$header" | sort | cmp -s - codes && [[ $(wc -l <codes) == 24 ]]
@@ -113,6 +118,17 @@ constants() {
     [[ $(sed -nE 's/^const MAX_HEADER: usize = ([0-9_]+);/\1/p' "$root/crates/agefile/src/bounds.rt") == 65_536 ]] &&
         grep -q '^#define AGEFILE_FRONT 65552 ' "$header"
     check "AGEFILE_FRONT is the crate's greatest header, and a nonce"
+    local sealed tag
+    sealed=$(number_of "$root/crates/agefile/src/state.rt" SEALED_CHUNK)
+    tag=$(number_of "$root/crates/agefile/src/state.rt" TAG)
+    [[ $sealed -gt 0 && $(number_of "$header" AGEFILE_SEALED_CHUNK) -eq $sealed && $(number_of "$header" AGEFILE_TEXT_CHUNK) -eq $((sealed - tag)) ]]
+    check "the header's lengths of chunks are the crate's"
+    [[ $(number_of "$root/python/agefile.py" _SEALED_CHUNK) -eq $sealed && $(number_of "$root/rust/src/stream.rs" SEALED_CHUNK) -eq $sealed &&
+        $(number_of "$root/rust/src/stream.rs" TEXT_CHUNK) -eq $((sealed - tag)) && $(number_of "$root/rust/src/stream.rs" TAG) -eq $tag &&
+        $(number_of "$root/python/agefile.py" _FRONT) -eq 65552 && $(number_of "$root/rust/src/whole.rs" FRONT) -eq 65552 ]]
+    check "the lengths in Python and Rust are the crate's"
+    [[ $(number_of "$header" AGEFILE_HEADER_ROOM) -ge $(number_of "$root/crates/agefile/src/sizes.rt" FRONT) ]]
+    check "AGEFILE_HEADER_ROOM holds a header that is written, and a nonce"
     messages_of_faults | sort -n >faults
     [[ $(wc -l <faults) == 20 ]]
     check "each fault of the library has a code and a message"
