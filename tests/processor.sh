@@ -1,6 +1,6 @@
 #!/bin/bash
-# Builds the program and the cipher's tests for the level x86-64-v3 in a copy of the sources, where the processor at hand has that level:
-# runs the RFCs' vectors, and compares what the program writes with what Python makes by the RFCs. The last line is 'N passed, M failed'.
+# Builds the program and the cipher's tests for the level x86-64-v3 in a copy of the sources, where the processor at hand has that level. The copy
+# has what was proved before too, so that it isn't proved once more. Runs the RFCs' vectors, and compares what the program writes with what Python makes by the RFCs. The last line is 'N passed, M failed'.
 source "$(dirname "$0")/checks.bash"
 
 if ! grep -qw avx2 /proc/cpuinfo 2>/dev/null || ! python3 -c 'import hashlib; hashlib.scrypt' 2>/dev/null; then
@@ -14,8 +14,8 @@ cp "$root/agep" "$root/crates.txt" copy/
 for folder in "$root"/crates/*/; do
     name=$(basename "$folder")
     mkdir "copy/crates/$name"
-    for part in src specs proofs; do
-        [[ -d $folder/$part ]] && cp -R "$folder/$part" "copy/crates/$name/$part"
+    for part in src specs proofs out; do
+        [[ -d $folder/$part ]] && cp -a "$folder/$part" "copy/crates/$name/$part"
     done
 done
 AGEP_CPU=x86-64-v3 ./copy/agep --version >out 2>err
