@@ -1,6 +1,7 @@
 #!/bin/bash
 # Builds the program and the cipher's tests for the level x86-64-v3 in a copy of the sources, where the processor at hand has that level. The copy
-# has what was proved before too, so that it isn't proved once more. Runs the RFCs' vectors, and compares what the program writes with what Python makes by the RFCs. The last line is 'N passed, M failed'.
+# has what an earlier build left, so that what was proved there isn't proved once more. Runs the RFCs' vectors, and compares what the program
+# writes with what Python makes by the RFCs. The last line is 'N passed, M failed'.
 source "$(dirname "$0")/checks.bash"
 
 if ! grep -qw avx2 /proc/cpuinfo 2>/dev/null || ! python3 -c 'import hashlib; hashlib.scrypt' 2>/dev/null; then
