@@ -124,7 +124,8 @@ fn xor_at(buf: &mut [u8], at: usize, end: usize, stream: &[u8])
     requires long { end - at ≤ length stream.now }
     ensures before { (j : ℕ) → j < at → slice_index buf.new j ≡ slice_index buf.old j }
     ensures inside { (j : ℕ) → at ≤ j → j < end
-        → slice_index buf.new j ≡ bit_xor (slice_index buf.old j) (slice_index stream.now (j - at)) }
+        → slice_index buf.new j
+        ≡ bit_xor (slice_index buf.old j) (slice_index stream.now (j - at)) }
     ensures after { (j : ℕ) → end ≤ j → slice_index buf.new j ≡ slice_index buf.old j }
 {
     xor_front(&mut buf[at..end], stream);
@@ -134,7 +135,8 @@ fn xor_at(buf: &mut [u8], at: usize, end: usize, stream: &[u8])
 #[inline(always)]
 fn xor_front(piece: &mut [u8], stream: &[u8])
     requires { length piece.old ≤ length stream.now }
-    ensures { (j : ℕ) → j < length piece.old → slice_index piece.new j ≡ bit_xor (slice_index piece.old j) (slice_index stream.now j) }
+    ensures { (j : ℕ) → j < length piece.old
+        → slice_index piece.new j ≡ bit_xor (slice_index piece.old j) (slice_index stream.now j) }
 {
     for (k, byte) in piece.iter_mut().enumerate() {
         *byte ^= stream[k];

@@ -1,4 +1,5 @@
-// ChaCha20's blocks, made four or eight at once and xored into a text where it stands (RFC 8439, 2.3 and 2.4).
+// ChaCha20's blocks, made four or eight at once and xored into a text where it stands (RFC 8439,
+// 2.3 and 2.4).
 ghost use Rattle.std.specs.Prelude.{◌≡◌, ℕ, ◌+◌, ◌-◌, ◌≤◌, ◌<◌, ◌^◌, [], ◌∷◌, ◌++◌, length, slice_index, slice_index_or, bit_xor};
 ghost use Rattle.std.specs.List.{flat_map};
 ghost use Rattle.age_cipher.specs.Numbers.{le_bytes};
@@ -17,10 +18,14 @@ pub(crate) const EIGHT_BLOCKS: usize = 512;
 // Four vectors as rows, turned into columns.
 #[inline(always)]
 fn transposed(a: u32x4, b: u32x4, c: u32x4, d: u32x4) -> (u32x4, u32x4, u32x4, u32x4)
-    ensures first { result.0 ≡ slice_index a 0 ∷ slice_index b 0 ∷ slice_index c 0 ∷ slice_index d 0 ∷ [] }
-    ensures second { result.1 ≡ slice_index a 1 ∷ slice_index b 1 ∷ slice_index c 1 ∷ slice_index d 1 ∷ [] }
-    ensures third { result.2 ≡ slice_index a 2 ∷ slice_index b 2 ∷ slice_index c 2 ∷ slice_index d 2 ∷ [] }
-    ensures fourth { result.3 ≡ slice_index a 3 ∷ slice_index b 3 ∷ slice_index c 3 ∷ slice_index d 3 ∷ [] }
+    ensures first { result.0
+        ≡ slice_index a 0 ∷ slice_index b 0 ∷ slice_index c 0 ∷ slice_index d 0 ∷ [] }
+    ensures second { result.1
+        ≡ slice_index a 1 ∷ slice_index b 1 ∷ slice_index c 1 ∷ slice_index d 1 ∷ [] }
+    ensures third { result.2
+        ≡ slice_index a 2 ∷ slice_index b 2 ∷ slice_index c 2 ∷ slice_index d 2 ∷ [] }
+    ensures fourth { result.3
+        ≡ slice_index a 3 ∷ slice_index b 3 ∷ slice_index c 3 ∷ slice_index d 3 ∷ [] }
 {
     let ab_low = a.shuffle(b, [0, 4, 1, 5]);
     let ab_high = a.shuffle(b, [2, 6, 3, 7]);
@@ -60,8 +65,8 @@ fn xor_block(buf: &mut [u8], at: usize, a: u32x4, b: u32x4, c: u32x4, d: u32x4)
 #[inline(always)]
 fn xor_lanes(buf: &mut [u8], at: usize, words: &[u32x4; 16])
     requires { at + 256 ≤ length buf.old }
-    ensures { IsXoredAt at
-        (bytes (lane 0 words.now) ++ (bytes (lane 1 words.now) ++ (bytes (lane 2 words.now) ++ bytes (lane 3 words.now))))
+    ensures { IsXoredAt at (bytes (lane 0 words.now)
+        ++ (bytes (lane 1 words.now) ++ (bytes (lane 2 words.now) ++ bytes (lane 3 words.now))))
         buf.old buf.new }
 {
     let (a0, b0, c0, d0) = transposed(words[0], words[1], words[2], words[3]);
@@ -87,7 +92,8 @@ pub(crate) fn xor_four_blocks(
     requires room { at + 256 ≤ length buf.old }
     ensures before { (j : ℕ) → j < at → slice_index buf.new j ≡ slice_index buf.old j }
     ensures inside { (j : ℕ) → at ≤ j → j < at + 256
-        → slice_index buf.new j ≡ bit_xor (slice_index buf.old j) (stream_byte key.now nonce.now counter (j - at)) }
+        → slice_index buf.new j
+        ≡ bit_xor (slice_index buf.old j) (stream_byte key.now nonce.now counter (j - at)) }
     ensures after { (j : ℕ) → at + 256 ≤ j → slice_index buf.new j ≡ slice_index buf.old j }
 {
     let counters = u32x4::from_array([counter, counter + 1, counter + 2, counter + 3]);
@@ -148,7 +154,8 @@ pub(crate) fn xor_eight_blocks(
     requires room { at + 512 ≤ length buf.old }
     ensures before { (j : ℕ) → j < at → slice_index buf.new j ≡ slice_index buf.old j }
     ensures inside { (j : ℕ) → at ≤ j → j < at + 512
-        → slice_index buf.new j ≡ bit_xor (slice_index buf.old j) (stream_byte key.now nonce.now counter (j - at)) }
+        → slice_index buf.new j
+        ≡ bit_xor (slice_index buf.old j) (stream_byte key.now nonce.now counter (j - at)) }
     ensures after { (j : ℕ) → at + 512 ≤ j → slice_index buf.new j ≡ slice_index buf.old j }
 {
     let counters = u32x8::from_array([

@@ -29,7 +29,8 @@ impl Model for Poly1305 {
     ghost use Rattle.age_cipher.specs.Limbs.{value, AtMost};
     ghost use Rattle.age_cipher.specs.Numbers.{le};
 
-    ghost view = { λ p. record { r = value p.r; s = le p.s; sum = value p.sum; pending = take p.filled p.block } };
+    ghost view = { λ p.
+        record { r = value p.r; s = le p.s; sum = value p.sum; pending = take p.filled p.block } };
 
     ghost invariant = { λ p. AtMost (2 ^ 26) p.r × AtMost (2 ^ 27) p.sum × (p.filled < 16) };
 }
@@ -45,7 +46,8 @@ fn joined(block: &[u8; 16], filled: usize, piece: &[u8]) -> [u8; 16]
 }
 
 impl Poly1305 {
-    /// An authenticator of nothing yet. `key` is r and s, 16 bytes each; r's forbidden bits are cleared.
+    /// An authenticator of nothing yet. `key` is r and s, 16 bytes each; r's forbidden bits are
+    /// cleared.
     pub fn new(key: &[u8; 32]) -> Poly1305
         ensures { (text : List ℕ) → tag_after result text ≡ poly1305 key.now text }
     {
@@ -65,7 +67,8 @@ impl Poly1305 {
 
     /// Feeds the next piece of the message.
     pub fn update(&mut self, piece: &[u8])
-        ensures { (text : List ℕ) → tag_after self.new text ≡ tag_after self.old (piece.now ++ text) }
+        ensures { (text : List ℕ)
+            → tag_after self.new text ≡ tag_after self.old (piece.now ++ text) }
     {
         let room = 16 - self.filled;
         if piece.len() < room {

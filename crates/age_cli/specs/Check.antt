@@ -8,7 +8,9 @@ use Rattle.age_header.specs.Mac.{header_mac}
 use Rattle.age_cli.specs.declared.inspect.Check.{Check}
 use Rattle.age_cli.specs.declared.inspect.Check.TheVariants as check
 
--- nothing where no file key was given, else good exactly where the MAC is the one of the stanzas under that key
+-- nothing where no file key was given, else good exactly where the MAC is the one of the stanzas
+-- under that key
 abbrev pub check_of : Option (List ℕ) → HeaderParts → Check
 check_of None header = check.None
-check_of (Some key) header = if bytes_eq header.mac (header_mac key header.stanzas) then check.Good else check.Bad
+check_of (Some key) header =
+    if bytes_eq header.mac (header_mac key header.stanzas) then check.Good else check.Bad

@@ -11,7 +11,8 @@ use std::io::{BufReader, BufWriter, Read, Seek, Write};
 /// So many bytes are read ahead for a header that is read byte by byte, and written at once.
 const BUFFER_LEN: usize = 65_536;
 
-/// So many bytes are read ahead of a payload: what is left of them is copied, and all that follows is read where it is opened.
+/// So many bytes are read ahead of a payload: what is left of them is copied, and all that follows
+/// is read where it is opened.
 const HEADER_LEN: usize = 8_192;
 
 /// The most chunks that the engine takes, which is its default.
@@ -77,7 +78,8 @@ pub(crate) fn buffer_of<'a, W: Write + Drop>(
     }
 }
 
-/// Writes out what the buffer holds, after work that ended well or with this fault. A write that failed is not tried again.
+/// Writes out what the buffer holds, after work that ended well or with this fault. A write that
+/// failed is not tried again.
 pub(crate) fn end<'a, W: Write + Drop>(
     mut buffered: BufWriter<W>,
     fault: Option<age_file::Fault>,

@@ -29,7 +29,8 @@ impl fmt::Display for Role {
     }
 }
 
-/// A file's name. Its control characters are printed as escapes: a line with a name stays one line, and a terminal obeys none of them.
+/// A file's name. Its control characters are printed as escapes: a line with a name stays one line,
+/// and a terminal obeys none of them.
 #[derive(Clone, Copy, Debug, PartialEq, Eq)]
 pub(crate) struct Name<'a>(pub(crate) &'a str);
 
@@ -66,7 +67,8 @@ fn write_escape<W: fmt::Write>(control: char, f: &mut fmt::Formatter<W>) -> fmt:
     }
 }
 
-/// A text of several lines with words of the command line in it. Its control characters but LF are printed as escapes.
+/// A text of several lines with words of the command line in it. Its control characters but LF are
+/// printed as escapes.
 #[derive(Drop)]
 pub(crate) struct Lines<'a, D>(pub(crate) &'a D);
 

@@ -26,8 +26,8 @@ pub(crate) fn open_by_places<'a, F: Files>(rt: &F, name: &'a str) -> Result<F::F
     }
 }
 
-/// The small file that an option names, open to be read. Standard input is refused where it is IN: what a small file takes of it,
-/// IN would lack.
+/// The small file that an option names, open to be read. Standard input is refused where it is IN:
+/// what a small file takes of it, IN would lack.
 pub(crate) fn open_small<'a, F: Files>(
     rt: &F,
     job: &Job,
@@ -102,8 +102,9 @@ fn is_at<F: Files>(rt: &F, file: &Metadata, name: &str) -> bool {
     }
 }
 
-/// Whether a read of the file of this name takes from standard input. What one reads of a character device, such as `/dev/null`,
-/// another doesn't lack: so such a device is standard input by its names alone.
+/// Whether a read of the file of this name takes from standard input. What one reads of a character
+/// device, such as `/dev/null`, another doesn't lack: so such a device is standard input by its
+/// names alone.
 pub(crate) fn is_standard_input<F: Files>(rt: &F, name: &str) -> bool {
     if name == STANDARD_INPUT || name == "/dev/fd/0" || name == "/proc/self/fd/0" {
         return true;

@@ -30,8 +30,8 @@ impl fmt::Display for Check {
     }
 }
 
-/// Shows the header at the front of the input. Where there is none, nothing is written. A header that
-/// fails its check is shown before that is returned.
+/// Shows the header at the front of the input. Where there is none, nothing is written. A header
+/// that fails its check is shown before that is returned.
 pub(crate) fn inspect<'a, R: Read, W: Write>(
     alloc: Global,
     job: &Job,

@@ -12,7 +12,8 @@ use std::io::Write;
 use std::os::unix::fs::OpenOptionsExt;
 use std::rt::Files;
 
-/// A file to write. What a regular file held before stays until the first byte goes to it, or the work has ended well.
+/// A file to write. What a regular file held before stays until the first byte goes to it, or the
+/// work has ended well.
 #[derive(Drop)]
 pub(crate) struct Output<F> {
     file: F,
@@ -45,7 +46,8 @@ fn open_output<F: Files>(rt: &F, mode: u32, name: &str) -> io::Result<Output<F::
     })
 }
 
-/// The mode of a file that this command makes anew, from which the system takes the umask. A plaintext is its owner's alone.
+/// The mode of a file that this command makes anew, from which the system takes the umask. A
+/// plaintext is its owner's alone.
 fn new_mode(command: Command) -> u32
     ensures { result ≡ new_mode command }
 {

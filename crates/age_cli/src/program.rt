@@ -31,8 +31,9 @@ const REFUSED: u8 = 2;
 /// Runs `agep` on these words, the program's name first, and returns its exit status: 0 where the
 /// work was done, 1 after a fault, 2 where the words were refused.
 ///
-/// `input` is read where the words name no file; which file that is, the system's `/dev/stdin` says. `out` gets what the command gives, and the texts of
-/// help and version; `err` gets one line for a fault, and the text for words that were refused.
+/// `input` is read where the words name no file; which file that is, the system's `/dev/stdin`
+/// says. `out` gets what the command gives, and the texts of help and version; `err` gets one line
+/// for a fault, and the text for words that were refused.
 pub fn run<F: Files + AllocGlobal, R: Read, W: Write, E: Write>(
     rt: &F,
     words: &[&str],
@@ -53,7 +54,8 @@ pub fn run<F: Files + AllocGlobal, R: Read, W: Write, E: Write>(
     }
 }
 
-/// A command with all that it needs besides its input, from which it reads from the front to the end.
+/// A command with all that it needs besides its input, from which it reads from the front to the
+/// end.
 #[derive(Drop)]
 enum Task {
     Encrypt(Secret, Seed),

@@ -1,4 +1,5 @@
-//! What must be kept from others: passphrases, keys and seeds, each read from a file that the words name.
+//! What must be kept from others: passphrases, keys and seeds, each read from a file that the words
+//! name.
 
 use crate::fault::Fault;
 use crate::file_names::Role;

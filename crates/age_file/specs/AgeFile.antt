@@ -28,8 +28,10 @@ is_scrypt (kind ∷ _) = bytes_eq kind (codes "scrypt")
 abbrev pub is_mixed : List StanzaParts → Bool
 is_mixed stanzas = nat_lt 1 (length stanzas) && list_any (λ s. is_scrypt s.args) stanzas
 
--- b is a file of these stanzas and this plaintext under this file key: a header with the right MAC, then a payload
-pub record AgeFile (limits : Bounds) (k : FileKey) (stanzas : List StanzaParts) (plain b : List ℕ) : Type 0 where
+-- b is a file of these stanzas and this plaintext under this file key: a header with the right MAC,
+-- then a payload
+pub record AgeFile (limits : Bounds) (k : FileKey) (stanzas : List StanzaParts) (plain b : List ℕ)
+    : Type 0 where
   pub header : List ℕ
   pub nonce : List ℕ
   pub head : Head stanzas (header_mac k.0 stanzas) header

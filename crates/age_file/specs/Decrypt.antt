@@ -17,33 +17,43 @@ abbrev pub payload_pieces : List ℕ → Result Found HeaderFault → List (List
 payload_pieces b (Ok found) = pieces (drop 16 (drop (length found.text) b))
 payload_pieces b (Err fault) = []
 
--- a verdict's fault is returned, or where it has none the length of its plaintext and the number of pieces
+-- a verdict's fault is returned, or where it has none the length of its plaintext and the number of
+-- pieces
 abbrev pub Tells : Reading Fault → ℕ → Result Done Fault → Type 0
-Tells verdict n (Ok done) = (verdict.fault ≡ None) × (done.bytes ≡ length verdict.front) × (done.chunks ≡ n)
+Tells verdict n (Ok done) =
+    (verdict.fault ≡ None) × (done.bytes ≡ length verdict.front) × (done.chunks ≡ n)
 Tells verdict n (Err fault) = verdict.fault ≡ Some fault
 
 -- the verdict on b is returned, and its plaintext was written
-abbrev pub GivesVerdict : Bounds → Answering → List ℕ → Option (List ℕ) → Option (List ℕ) → Result Done Fault → Type 0
+abbrev pub GivesVerdict : Bounds → Answering → List ℕ → Option (List ℕ) → Option (List ℕ)
+    → Result Done Fault → Type 0
 GivesVerdict limits answers b old new r =
-    (verdict : Reading Fault) × (is : IsVerdict limits answers b verdict) × Tells verdict (length (payload_pieces b is.header)) r × Appends old new verdict.front
+    (verdict : Reading Fault) × (is : IsVerdict limits answers b verdict)
+    × Tells verdict (length (payload_pieces b is.header)) r × Appends old new verdict.front
 
 -- the verdict's plaintext was begun
 abbrev pub BeginsVerdict : Bounds → Answering → List ℕ → Option (List ℕ) → Option (List ℕ) → Type 0
-BeginsVerdict limits answers b old new = (verdict : Reading Fault) × IsVerdict limits answers b verdict × WritesPart old new verdict.front
+BeginsVerdict limits answers b old new =
+    (verdict : Reading Fault) × IsVerdict limits answers b verdict
+    × WritesPart old new verdict.front
 
--- What is returned where b was to come, and what is written: the verdict, unless a device failed or memory was refused.
-abbrev pub DecryptsText : Bounds → Answering → List ℕ → Option (List ℕ) → Option (List ℕ) → Result Done Fault → Type 0
+-- What is returned where b was to come, and what is written: the verdict, unless a device failed or
+-- memory was refused.
+abbrev pub DecryptsText : Bounds → Answering → List ℕ → Option (List ℕ) → Option (List ℕ)
+    → Result Done Fault → Type 0
 DecryptsText limits answers b old new (Err Read) = BeginsVerdict limits answers b old new
 DecryptsText limits answers b old new (Err Write) = BeginsVerdict limits answers b old new
 DecryptsText limits answers b old new (Err OutOfMemory) = ⊤
 DecryptsText limits answers b old new r = GivesVerdict limits answers b old new r
 
 -- The same of a source that may leave its bytes untold: then of some bytes.
-abbrev pub Decrypts : Bounds → Answering → Option (List ℕ) → Option (List ℕ) → Option (List ℕ) → Result Done Fault → Type 0
+abbrev pub Decrypts : Bounds → Answering → Option (List ℕ) → Option (List ℕ) → Option (List ℕ)
+    → Result Done Fault → Type 0
 Decrypts limits answers None old new r = (b : List ℕ) × DecryptsText limits answers b old new r
 Decrypts limits answers (Some b) old new r = DecryptsText limits answers b old new r
 
--- of a source that may have given b at most the header, the nonce, the pieces through number i and one byte were taken
+-- of a source that may have given b at most the header, the nonce, the pieces through number i and
+-- one byte were taken
 pub record TookThrough (limits : Bounds) (i : ℕ) (come rest : Option (List ℕ)) : Type 0 where
   pub b : List ℕ
   pub may : MayGive come b
@@ -51,11 +61,15 @@ pub record TookThrough (limits : Bounds) (i : ℕ) (come rest : Option (List ℕ
   pub header : HeaderVerdict b limits.max_header (Ok found)
   pub gave : GaveAtMost (length found.text + (16 + (65552 * (i + 1) + 1))) come rest
 
--- How much of the source was taken where decrypting ended at a piece, or at a write behind so many written bytes.
-abbrev pub Takes : Bounds → Option (List ℕ) → Option (List ℕ) → Option (List ℕ) → Option (List ℕ) → Fault → Type 0
+-- How much of the source was taken where decrypting ended at a piece, or at a write behind so many
+-- written bytes.
+abbrev pub Takes : Bounds → Option (List ℕ) → Option (List ℕ) → Option (List ℕ) → Option (List ℕ)
+    → Fault → Type 0
 Takes limits come rest old new (ChunkShort i) = TookThrough limits i come rest
 Takes limits come rest old new (EmptyFinal i) = TookThrough limits i come rest
 Takes limits come rest old new (BadChunk i) = TookThrough limits i come rest
 Takes limits come rest old new TooManyChunks = TookThrough limits limits.max_chunks come rest
-Takes limits come rest old new Write = (written : List ℕ) × Appends old new written × TookThrough limits (length written / 65536) come rest
+Takes limits come rest old new Write =
+    (written : List ℕ) × Appends old new written
+    × TookThrough limits (length written / 65536) come rest
 Takes limits come rest old new _ = ⊤

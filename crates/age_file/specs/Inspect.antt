@@ -14,4 +14,6 @@ file_answer (Err fault) = Err (of_header fault)
 
 -- what a reader of headers answers under these limits
 abbrev pub Inspects : Bounds → Option (List ℕ) → Option (List ℕ) → Result HeaderParts Fault → Type 0
-Inspects limits old new r = (answer : Result HeaderParts HeaderFault) × (r ≡ file_answer answer) × Answers old new limits.max_header answer
+Inspects limits old new r =
+    (answer : Result HeaderParts HeaderFault) × (r ≡ file_answer answer)
+    × Answers old new limits.max_header answer

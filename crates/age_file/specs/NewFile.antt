@@ -17,7 +17,8 @@ use Rattle.age_file.specs.declared.limits.Fresh.{Fresh}
 use Rattle.age_file.specs.AgeFile.{AgeFile, Bounds, is_mixed}
 
 -- these stanzas, then those that come behind them
-abbrev pub before : List StanzaParts → Result (List StanzaParts) Fault → Result (List StanzaParts) Fault
+abbrev pub before : List StanzaParts → Result (List StanzaParts) Fault
+    → Result (List StanzaParts) Fault
 before stanzas (Ok more) = Ok (stanzas ++ more)
 before stanzas (Err fault) = Err fault
 
@@ -33,27 +34,37 @@ together (Err fault) place = Err fault
 together (Ok stanzas) (Some i) = Err (IncompatibleRecipients i)
 together (Ok stanzas) None = Ok stanzas
 
--- of labels that recipients with these meanings may return, the least place that does not go together with place 0
+-- of labels that recipients with these meanings may return, the least place that does not go
+-- together with place 0
 abbrev pub IsApart : List Labels → Option ℕ → Type 0
-IsApart meant place = (labels : List Labels) × AllZip MayLabel meant labels × (place ≡ incompatible labels)
+IsApart meant place =
+    (labels : List Labels) × AllZip MayLabel meant labels × (place ≡ incompatible labels)
 
 -- the same, of which the labels of place 0 are known
 abbrev pub IsApartFrom : Labels → List Labels → Option ℕ → Type 0
-IsApartFrom first meant place = (labels : List Labels) × AllZip MayLabel meant labels × (place ≡ incompatible (first ∷ labels))
+IsApartFrom first meant place =
+    (labels : List Labels) × AllZip MayLabel meant labels × (place ≡ incompatible (first ∷ labels))
 
--- what recipients with these meanings may give: all their stanzas, the first refusal, or the first place that is apart
-abbrev pub Gathered : List (Result (List StanzaParts) ℕ) → List Labels → Result (List StanzaParts) Fault → Type 0
-Gathered wrapped meant given = (place : Option ℕ) × IsApart meant place × (given ≡ together (gathered_from 0 wrapped) place)
+-- what recipients with these meanings may give: all their stanzas, the first refusal, or the first
+-- place that is apart
+abbrev pub Gathered : List (Result (List StanzaParts) ℕ) → List Labels
+    → Result (List StanzaParts) Fault → Type 0
+Gathered wrapped meant given =
+    (place : Option ℕ) × IsApart meant place × (given ≡ together (gathered_from 0 wrapped) place)
 
--- the header of a new file: its stanzas, of which none is a `scrypt` stanza beside another, and its text, within the limit
-pub record IsHeading (limits : Bounds) (k : FileKey) (given : Result (List StanzaParts) Fault → Type 0) (stanzas : List StanzaParts) (text : List ℕ) : Type 0 where
+-- the header of a new file: its stanzas, of which none is a `scrypt` stanza beside another, and its
+-- text, within the limit
+pub record IsHeading (limits : Bounds) (k : FileKey)
+    (given : Result (List StanzaParts) Fault → Type 0) (stanzas : List StanzaParts) (text : List ℕ)
+    : Type 0 where
   pub gives : given (Ok stanzas)
   pub unmixed : is_mixed stanzas ≡ false
   pub head : Head stanzas (header_mac k.0 stanzas) text
   pub fits : length text ≤ limits.max_header
 
 -- a header that would be longer than the limit
-pub record IsTooLarge (limits : Bounds) (k : FileKey) (given : Result (List StanzaParts) Fault → Type 0) : Type 0 where
+pub record IsTooLarge (limits : Bounds) (k : FileKey)
+    (given : Result (List StanzaParts) Fault → Type 0) : Type 0 where
   pub stanzas : List StanzaParts
   pub text : List ℕ
   pub gives : given (Ok stanzas)
@@ -61,55 +72,80 @@ pub record IsTooLarge (limits : Bounds) (k : FileKey) (given : Result (List Stan
   pub head : Head stanzas (header_mac k.0 stanzas) text
   pub exceeds : limits.max_header < length text
 
--- the first fault for which there is no header: a refusal, recipients that do not go together, no stanza at all, a `scrypt` stanza beside another, too great a length
-abbrev pub IsRefusal : Bounds → FileKey → (Result (List StanzaParts) Fault → Type 0) → Fault → Type 0
+-- the first fault for which there is no header: a refusal, recipients that do not go together, no
+-- stanza at all, a `scrypt` stanza beside another, too great a length
+abbrev pub IsRefusal : Bounds → FileKey → (Result (List StanzaParts) Fault → Type 0) → Fault
+    → Type 0
 IsRefusal limits k given (Refused i code) = given (Err (Refused i code))
 IsRefusal limits k given (IncompatibleRecipients i) = given (Err (IncompatibleRecipients i))
 IsRefusal limits k given NoRecipients = given (Ok [])
-IsRefusal limits k given MixedPassphrase = (stanzas : List StanzaParts) × given (Ok stanzas) × (is_mixed stanzas ≡ true)
+IsRefusal limits k given MixedPassphrase =
+    (stanzas : List StanzaParts) × given (Ok stanzas) × (is_mixed stanzas ≡ true)
 IsRefusal limits k given HeaderTooLarge = IsTooLarge limits k given
 IsRefusal limits k given _ = ⊥
 
--- the file that was written: that of these stanzas, this plaintext, and the file key and nonce that were handed in
-pub record NewFile (limits : Bounds) (fresh : Fresh) (given : Result (List StanzaParts) Fault → Type 0) (plain : List ℕ) (gained : List ℕ) : Type 0 where
+-- the file that was written: that of these stanzas, this plaintext, and the file key and nonce that
+-- were handed in
+pub record NewFile (limits : Bounds) (fresh : Fresh)
+    (given : Result (List StanzaParts) Fault → Type 0) (plain : List ℕ) (gained : List ℕ)
+    : Type 0 where
   pub stanzas : List StanzaParts
   pub text : List ℕ
   pub heading : IsHeading limits fresh.file_key given stanzas text
   pub spelled : gained ≡ text ++ payload fresh.file_key fresh.nonce plain
   pub file : AgeFile limits fresh.file_key stanzas plain gained
 
--- what was written of a plaintext of too many chunks: the header, the nonce, and the sealed chunks with an index below max_chunks - 1
-pub record CutFile (limits : Bounds) (fresh : Fresh) (given : Result (List StanzaParts) Fault → Type 0) (plain : List ℕ) (gained : List ℕ) : Type 0 where
+-- what was written of a plaintext of too many chunks: the header, the nonce, and the sealed chunks
+-- with an index below max_chunks - 1
+pub record CutFile (limits : Bounds) (fresh : Fresh)
+    (given : Result (List StanzaParts) Fault → Type 0) (plain : List ℕ) (gained : List ℕ)
+    : Type 0 where
   pub stanzas : List StanzaParts
   pub text : List ℕ
   pub heading : IsHeading limits fresh.file_key given stanzas text
   pub too_many : limits.max_chunks < length (chunks plain)
-  pub spelled : gained ≡ text ++ (fresh.nonce ++ concat (take (limits.max_chunks - 1) (sealed_chunks fresh.file_key fresh.nonce plain)))
+  pub spelled : gained
+      ≡ text
+      ++ (fresh.nonce
+      ++ concat (take (limits.max_chunks - 1)
+      (sealed_chunks fresh.file_key fresh.nonce plain)))
 
 -- a beginning of the header and payload was written
-pub record BegunFile (limits : Bounds) (fresh : Fresh) (given : Result (List StanzaParts) Fault → Type 0) (plain : List ℕ) (old new : Option (List ℕ)) : Type 0 where
+pub record BegunFile (limits : Bounds) (fresh : Fresh)
+    (given : Result (List StanzaParts) Fault → Type 0) (plain : List ℕ) (old new : Option (List ℕ))
+    : Type 0 where
   pub stanzas : List StanzaParts
   pub text : List ℕ
   pub heading : IsHeading limits fresh.file_key given stanzas text
   pub part : WritesPart old new (text ++ payload fresh.file_key fresh.nonce plain)
 
--- What `encrypt` answers and writes, `given` being what the recipients give, and the source giving `plain`.
-abbrev pub EncryptsText : Bounds → Fresh → (Result (List StanzaParts) Fault → Type 0) → List ℕ → Option (List ℕ) → Option (List ℕ) → Result Done Fault → Type 0
+-- What `encrypt` answers and writes, `given` being what the recipients give, and the source giving
+-- `plain`.
+abbrev pub EncryptsText : Bounds → Fresh → (Result (List StanzaParts) Fault → Type 0) → List ℕ
+    → Option (List ℕ) → Option (List ℕ) → Result Done Fault → Type 0
 EncryptsText limits fresh given plain old new (Ok done) =
     (gained : List ℕ) × NewFile limits fresh given plain gained × Appends old new gained
     × (done.bytes ≡ length plain) × (done.chunks ≡ length (chunks plain))
-EncryptsText limits fresh given plain old new (Err TooManyChunks) = (gained : List ℕ) × CutFile limits fresh given plain gained × Appends old new gained
-EncryptsText limits fresh given plain old new (Err Read) = BegunFile limits fresh given plain old new
-EncryptsText limits fresh given plain old new (Err Write) = BegunFile limits fresh given plain old new
+EncryptsText limits fresh given plain old new (Err TooManyChunks) =
+    (gained : List ℕ) × CutFile limits fresh given plain gained × Appends old new gained
+EncryptsText limits fresh given plain old new (Err Read) =
+    BegunFile limits fresh given plain old new
+EncryptsText limits fresh given plain old new (Err Write) =
+    BegunFile limits fresh given plain old new
 EncryptsText limits fresh given plain old new (Err fault) = ⊤
 
 -- The same of a source that may leave its bytes untold: then of some bytes.
-abbrev pub EncryptsGiven : Bounds → Fresh → (Result (List StanzaParts) Fault → Type 0) → Option (List ℕ) → Option (List ℕ) → Option (List ℕ) → Result Done Fault → Type 0
-EncryptsGiven limits fresh given None old new r = (plain : List ℕ) × EncryptsText limits fresh given plain old new r
-EncryptsGiven limits fresh given (Some plain) old new r = EncryptsText limits fresh given plain old new r
+abbrev pub EncryptsGiven : Bounds → Fresh → (Result (List StanzaParts) Fault → Type 0)
+    → Option (List ℕ) → Option (List ℕ) → Option (List ℕ) → Result Done Fault → Type 0
+EncryptsGiven limits fresh given None old new r =
+    (plain : List ℕ) × EncryptsText limits fresh given plain old new r
+EncryptsGiven limits fresh given (Some plain) old new r =
+    EncryptsText limits fresh given plain old new r
 
--- a fault with which no header was made names the first reason; what else is answered says nothing of it
-abbrev pub RefusesFirst : Bounds → FileKey → (Result (List StanzaParts) Fault → Type 0) → Fault → Type 0
+-- a fault with which no header was made names the first reason; what else is answered says nothing
+-- of it
+abbrev pub RefusesFirst : Bounds → FileKey → (Result (List StanzaParts) Fault → Type 0) → Fault
+    → Type 0
 RefusesFirst limits k given TooManyChunks = ⊤
 RefusesFirst limits k given Read = ⊤
 RefusesFirst limits k given Write = ⊤
@@ -117,29 +153,40 @@ RefusesFirst limits k given OutOfMemory = ⊤
 RefusesFirst limits k given fault = IsRefusal limits k given fault
 
 -- what is returned of the stanzas of all recipients
-abbrev pub WrapsAll : Result (List StanzaParts) Fault → Result (Vec StanzaParts Global) Fault → Type 0
+abbrev pub WrapsAll : Result (List StanzaParts) Fault → Result (Vec StanzaParts Global) Fault
+    → Type 0
 WrapsAll wrapped (Ok stanzas) = wrapped ≡ Ok stanzas.items
-WrapsAll wrapped (Err fault) = (fault ≡ OutOfMemory) ⊎ ((i : ℕ) × (code : ℕ) × (fault ≡ Refused i code) × (wrapped ≡ Err (Refused i code)))
+WrapsAll wrapped (Err fault) =
+    (fault ≡ OutOfMemory)
+    ⊎ ((i : ℕ) × (code : ℕ) × (fault ≡ Refused i code) × (wrapped ≡ Err (Refused i code)))
 
 -- what gathering the stanzas of recipients returns
-abbrev pub Gathers : (Result (List StanzaParts) Fault → Type 0) → Result (Vec StanzaParts Global) Fault → Type 0
+abbrev pub Gathers : (Result (List StanzaParts) Fault → Type 0)
+    → Result (Vec StanzaParts Global) Fault → Type 0
 Gathers given (Ok stanzas) = given (Ok stanzas.items)
 Gathers given (Err fault) = (fault ≡ OutOfMemory)
     ⊎ (((i : ℕ) × (code : ℕ) × (fault ≡ Refused i code) × given (Err (Refused i code)))
     ⊎ ((i : ℕ) × (fault ≡ IncompatibleRecipients i) × given (Err (IncompatibleRecipients i))))
 
 -- with which faults no header is made, and why
-abbrev pub FailsHeading : Bounds → FileKey → (Result (List StanzaParts) Fault → Type 0) → Fault → Type 0
+abbrev pub FailsHeading : Bounds → FileKey → (Result (List StanzaParts) Fault → Type 0) → Fault
+    → Type 0
 FailsHeading limits k given fault =
     (fault ≡ OutOfMemory)
     ⊎ (((i : ℕ) × (code : ℕ) × (fault ≡ Refused i code) × IsRefusal limits k given (Refused i code))
-    ⊎ (((i : ℕ) × (fault ≡ IncompatibleRecipients i) × IsRefusal limits k given (IncompatibleRecipients i))
+    ⊎ (((i : ℕ) × (fault ≡ IncompatibleRecipients i)
+    × IsRefusal limits k given (IncompatibleRecipients i))
     ⊎ (((fault ≡ NoRecipients) × IsRefusal limits k given NoRecipients)
-    ⊎ (((fault ≡ MixedPassphrase) × IsRefusal limits k given MixedPassphrase)
-    ⊎ ((fault ≡ HeaderTooLarge) × IsRefusal limits k given HeaderTooLarge)))))
+    ⊎ (((fault ≡ MixedPassphrase)
+    × IsRefusal limits k given MixedPassphrase)
+    ⊎ ((fault ≡ HeaderTooLarge)
+    × IsRefusal limits k given HeaderTooLarge)))))
 
--- Of the source at most so much was taken: with n full sealed chunks written behind the header and the nonce, n + 2 chunks of text.
-pub record TookChunks (limits : Bounds) (fresh : Fresh) (given : Result (List StanzaParts) Fault → Type 0) (from to old new : Option (List ℕ)) : Type 0 where
+-- Of the source at most so much was taken: with n full sealed chunks written behind the header and
+-- the nonce, n + 2 chunks of text.
+pub record TookChunks (limits : Bounds) (fresh : Fresh)
+    (given : Result (List StanzaParts) Fault → Type 0) (from to old new : Option (List ℕ))
+    : Type 0 where
   pub stanzas : List StanzaParts
   pub text : List ℕ
   pub heading : IsHeading limits fresh.file_key given stanzas text
@@ -150,7 +197,9 @@ pub record TookChunks (limits : Bounds) (fresh : Fresh) (given : Result (List St
   pub gave : GaveAtMost (65536 * (n + 2)) from to
 
 -- how much of the source was taken where encrypting ended at a write, or with too many chunks
-abbrev pub TakesOf : Bounds → Fresh → (Result (List StanzaParts) Fault → Type 0) → Option (List ℕ) → Option (List ℕ) → Option (List ℕ) → Option (List ℕ) → Fault → Type 0
-TakesOf limits fresh given from to old new TooManyChunks = TookChunks limits fresh given from to old new
+abbrev pub TakesOf : Bounds → Fresh → (Result (List StanzaParts) Fault → Type 0) → Option (List ℕ)
+    → Option (List ℕ) → Option (List ℕ) → Option (List ℕ) → Fault → Type 0
+TakesOf limits fresh given from to old new TooManyChunks =
+    TookChunks limits fresh given from to old new
 TakesOf limits fresh given from to old new Write = TookChunks limits fresh given from to old new
 TakesOf limits fresh given from to old new _ = ⊤

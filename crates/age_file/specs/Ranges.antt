@@ -12,7 +12,8 @@ use Rattle.age_file.specs.declared.fault.Fault.TheVariants.{NoRecipients, OutOfM
 use Rattle.age_file.specs.AgeFile.{Bounds}
 use Rattle.age_file.specs.Verdict.{Answering, of_header, of_stream, unlocked}
 
--- a source with places that is read from its first byte on: its contents, the next place, and how many reads have failed
+-- a source with places that is read from its first byte on: its contents, the next place, and how
+-- many reads have failed
 pub record AtState : Type 0 where
   pub told : Option (List ℕ)
   pub at : ℕ
@@ -31,10 +32,13 @@ IsOpenFault _ = ⊤
 
 -- the known bytes begin with this header, which is `at` bytes long
 abbrev pub HasFront : Bounds → Option (List ℕ) → ℕ → HeaderParts → Type 0
-HasFront limits told at h = IfSome told (λ b. (text : List ℕ) × (length text ≡ at)
-    × HeaderVerdict b limits.max_header (Ok (record { stanzas = h.stanzas; mac = h.mac; text = text })))
+HasFront limits told at h =
+    IfSome told (λ b. (text : List ℕ) × (length text ≡ at)
+    × HeaderVerdict b limits.max_header
+    (Ok (record { stanzas = h.stanzas; mac = h.mac; text = text })))
 
--- the known bytes begin with no header, and this is its fault; or a read failed, or memory was refused
+-- the known bytes begin with no header, and this is its fault; or a read failed, or memory was
+-- refused
 abbrev pub MissesFront : Bounds → Option (List ℕ) → Fault → Type 0
 MissesFront limits told fault = (fault ≡ Read) ⊎ ((fault ≡ OutOfMemory) ⊎ IfSome told (λ b.
     (e : HeaderFault) × HeaderVerdict b limits.max_header (Err e) × (fault ≡ of_header e)))
@@ -42,25 +46,34 @@ MissesFront limits told fault = (fault ≡ Read) ⊎ ((fault ≡ OutOfMemory) �
 -- what follows a header, opened for ranges under the file key
 abbrev pub ranges_under : Bounds → List ℕ → Result FileKey Fault → Result (List ℕ) Fault
 ranges_under limits rest (Err fault) = Err fault
-ranges_under limits rest (Ok k) = result_map_both (λ text. text) of_stream (range_outcome k limits.max_chunks rest)
+ranges_under limits rest (Ok k) =
+    result_map_both (λ text. text) of_stream (range_outcome k limits.max_chunks rest)
 
 -- the fault of b, given its header verdict
 abbrev pub IsRangeFault : Bounds → Answering → List ℕ → Result Found HeaderFault → Fault → Type 0
 IsRangeFault limits answers b (Err e) fault = fault ≡ of_header e
 IsRangeFault limits answers b (Ok found) fault =
-    ranges_under limits (drop (length found.text) b) (unlocked answers (record { stanzas = found.stanzas; mac = found.mac })) ≡ Err fault
+    ranges_under limits (drop (length found.text) b)
+    (unlocked answers (record { stanzas = found.stanzas; mac = found.mac }))
+    ≡ Err fault
 
 -- the fault is the first of the known bytes; or a read failed, or memory was refused
 abbrev pub MissesRanges : Bounds → Answering → Option (List ℕ) → Fault → Type 0
-MissesRanges limits answers told fault = (fault ≡ Read) ⊎ ((fault ≡ OutOfMemory) ⊎ IfSome told (λ b.
-    (header : Result Found HeaderFault) × HeaderVerdict b limits.max_header header × IsRangeFault limits answers b header fault))
+MissesRanges limits answers told fault =
+    (fault ≡ Read)
+    ⊎ ((fault ≡ OutOfMemory)
+    ⊎ IfSome told (λ b. (header : Result Found HeaderFault)
+    × HeaderVerdict b limits.max_header header
+    × IsRangeFault limits answers b header fault))
 
--- A reader of the ranges of b: behind b's header, under the key that was chosen. At most the header, the nonce and the last piece
--- were given.
-pub record IsRangesOf (limits : Bounds) (answers : Answering) (b : List ℕ) (chunks : RangeState) (given given2 : ℕ) : Type 0 where
+-- A reader of the ranges of b: behind b's header, under the key that was chosen. At most the
+-- header, the nonce and the last piece were given.
+pub record IsRangesOf (limits : Bounds) (answers : Answering) (b : List ℕ) (chunks : RangeState)
+    (given given2 : ℕ) : Type 0 where
   pub found : Found
   pub header : HeaderVerdict b limits.max_header (Ok found)
   pub key : FileKey
   pub chosen : unlocked answers (record { stanzas = found.stanzas; mac = found.mac }) ≡ Ok key
   pub opened : IsOpened key limits.max_chunks (Some b) (length found.text) chunks
-  pub gave : given2 ≤ given + length found.text + (16 + length (last_piece (drop (length found.text + 16) b)))
+  pub gave : given2
+      ≤ given + length found.text + (16 + length (last_piece (drop (length found.text + 16) b)))

@@ -1,4 +1,5 @@
--- A file that is written, or read, in steps: what is kept between the steps, and what each does to its device.
+-- A file that is written, or read, in steps: what is kept between the steps, and what each does to
+-- its device.
 use Rattle.std.specs.Prelude.{◌≡◌, ◌⊎◌, ℕ, true, List, ◌++◌, Option, Result, Ok, Err}
 use Rattle.std.specs.Io.KnownBytes.{Appends}
 use denote.Ref.{MutBor}
@@ -25,12 +26,16 @@ pub record EncryptorState : Type 0 where
 
 -- its header and then its nonce were written
 abbrev pub PutsFront : EncryptorState → Option (List ℕ) → Option (List ℕ) → Type 0
-PutsFront s old new = (text : List ℕ) × Head s.header.stanzas s.header.mac text × Appends old new (text ++ s.fresh.nonce)
+PutsFront s old new =
+    (text : List ℕ) × Head s.header.stanzas s.header.mac text
+    × Appends old new (text ++ s.fresh.nonce)
 
 -- a write of them failed: a beginning of both was written, and one failure more was counted
 abbrev pub LosesFront : EncryptorState → Option (List ℕ) → Option (List ℕ) → ℕ → ℕ → Fault → Type 0
-LosesFront s old new before after fault = (fault ≡ Write)
-    × ((text : List ℕ) × Head s.header.stanzas s.header.mac text × WritesPart old new (text ++ s.fresh.nonce))
+LosesFront s old new before after fault =
+    (fault ≡ Write)
+    × ((text : List ℕ) × Head s.header.stanzas s.header.mac text
+    × WritesPart old new (text ++ s.fresh.nonce))
     × CountsWrite {A = ℕ} before after (Err fault)
 
 -- a file whose header was read: the source that gives the rest, the header, and the limits
@@ -45,15 +50,22 @@ limits_of d = d.limits
 
 -- no header was read, or one with a `scrypt` stanza beside another; a failed read was counted
 abbrev pub RefusesHeader : Bounds → Option (List ℕ) → Option (List ℕ) → ℕ → ℕ → Fault → Type 0
-RefusesHeader limits from to before after fault = CountsRead {A = HeaderParts} before after (Err fault)
+RefusesHeader limits from to before after fault =
+    CountsRead {A = HeaderParts} before after (Err fault)
     × (Inspects limits from to (Err fault)
-    ⊎ ((fault ≡ MixedPassphrase) × ((header : HeaderParts) × Inspects limits from to (Ok header) × (is_mixed header.stanzas ≡ true))))
+    ⊎ ((fault ≡ MixedPassphrase)
+    × ((header : HeaderParts) × Inspects limits from to (Ok header)
+    × (is_mixed header.stanzas ≡ true))))
 
 -- the nonce was read, and the opener stands before piece 0 under the key that was found
-abbrev pub StartsUnder : Bounds → Result FileKey Fault → Option (List ℕ) → Option (List ℕ) → OpenerState → Type 0
-StartsUnder limits found from to opener = (k : FileKey) × (found ≡ Ok k) × Starts k limits.max_chunks from to (Ok opener)
+abbrev pub StartsUnder : Bounds → Result FileKey Fault → Option (List ℕ) → Option (List ℕ)
+    → OpenerState → Type 0
+StartsUnder limits found from to opener =
+    (k : FileKey) × (found ≡ Ok k) × Starts k limits.max_chunks from to (Ok opener)
 
 -- a key was found, and the nonce was not read
-abbrev pub MissesUnder : Bounds → Result FileKey Fault → Option (List ℕ) → Option (List ℕ) → ℕ → ℕ → Fault → Type 0
-MissesUnder limits found from to before after fault = (k : FileKey) × (met : StreamFault) × (found ≡ Ok k) × (fault ≡ of_stream met)
+abbrev pub MissesUnder : Bounds → Result FileKey Fault → Option (List ℕ) → Option (List ℕ) → ℕ → ℕ
+    → Fault → Type 0
+MissesUnder limits found from to before after fault =
+    (k : FileKey) × (met : StreamFault) × (found ≡ Ok k) × (fault ≡ of_stream met)
     × MissesNonce k limits.max_chunks from to before after met

@@ -1,4 +1,5 @@
--- What bytes are to given identities and limits: a plaintext, or the first fault and the plaintext before it.
+-- What bytes are to given identities and limits: a plaintext, or the first fault and the plaintext
+-- before it.
 use Rattle.std.specs.Prelude.{◌≡◌, ℕ, List, length, drop, option_map, Result, Ok, Err, if◌then◌else◌}
 use Rattle.std.specs.Str.{bytes_eq}
 use Rattle.age_header.specs.declared.fault.HeaderFault.{HeaderFault}
@@ -72,10 +73,12 @@ read_under limits rest (Ok k) = record {
 abbrev pub judged : Bounds → Answering → List ℕ → Result Found HeaderFault → Reading Fault
 judged limits answers b (Err fault) = stops (of_header fault)
 judged limits answers b (Ok found) =
-    read_under limits (drop (length found.text) b) (unlocked answers (record { stanzas = found.stanzas; mac = found.mac }))
+    read_under limits (drop (length found.text) b)
+    (unlocked answers (record { stanzas = found.stanzas; mac = found.mac }))
 
 -- The verdict on b: the first fault, if there is one, and the plaintext of the chunks before it.
-pub record IsVerdict (limits : Bounds) (answers : Answering) (b : List ℕ) (verdict : Reading Fault) : Type 0 where
+pub record IsVerdict (limits : Bounds) (answers : Answering) (b : List ℕ) (verdict : Reading Fault)
+    : Type 0 where
   pub header : Result Found HeaderFault
   pub header_verdict : HeaderVerdict b limits.max_header header
   pub is : verdict ≡ judged limits answers b header

@@ -37,9 +37,11 @@ impl<'a, D: ReadAt, K: Origin> Model for AtSource<'a, D, K> {
 
     ghost Value = { AtState };
 
-    ghost view = { λ s. record { told = D.bytes s.dev.now; at = s.at; failed = D.failed s.dev.now } };
+    ghost view = { λ s.
+        record { told = D.bytes s.dev.now; at = s.at; failed = D.failed s.dev.now } };
 
-    ghost invariant = { λ s. (D.bytes s.dev.now ≡ K.bytes) × (D.given s.dev.now ≤ K.given + s.at) × IsWithin (D.bytes s.dev.now) s.at };
+    ghost invariant = { λ s. (D.bytes s.dev.now ≡ K.bytes) × (D.given s.dev.now ≤ K.given + s.at)
+        × IsWithin (D.bytes s.dev.now) s.at };
 }
 
 impl<'a, D: ReadAt, K: Origin> AtSource<'a, D, K> {

@@ -7,10 +7,12 @@ ghost use Rattle.age_file.specs.Device.{CountsRead, CountsWrite};
 use crate::fault::Fault;
 use age_header::{Sink, Source, fill_from, write_all};
 
-/// How many full pieces are copied at most, 2^105 bytes in all: more than any payload has, so that the loop ends.
+/// How many full pieces are copied at most, 2^105 bytes in all: more than any payload has, so that
+/// the loop ends.
 const MAX_PIECES: u128 = 1 << 89;
 
-/// Copies all that the source still gives: a piece of `first` bytes, and then pieces of the buffer's length.
+/// Copies all that the source still gives: a piece of `first` bytes, and then pieces of the
+/// buffer's length.
 pub(crate) fn copy_all<S: Source, W: Sink>(
     input: &mut S,
     out: &mut W,
@@ -49,10 +51,12 @@ fn copy_pieces<S: Source, W: Sink>(input: &mut S, out: &mut W, buf: &mut [u8]) -
     Err(Fault::TooManyChunks)
 }
 
-/// Copies one piece of the buffer's length, or what is left of the source. Returns whether it was a full one.
+/// Copies one piece of the buffer's length, or what is left of the source. Returns whether it was a
+/// full one.
 fn copy_piece<S: Source, W: Sink>(input: &mut S, out: &mut W, buf: &mut [u8]) -> Result<bool, Fault>
     ensures len { length buf.new ≡ length buf.old }
-    ensures copies { CopiesPiece (length buf.old) (S.to_come input.old) (S.to_come input.new) (W.taken out.old) (W.taken out.new) result }
+    ensures copies { CopiesPiece (length buf.old) (S.to_come input.old) (S.to_come input.new)
+        (W.taken out.old) (W.taken out.new) result }
     ensures reads { CountsRead (S.failed input.old) (S.failed input.new) result }
     ensures writes { CountsWrite (W.failed out.old) (W.failed out.new) result }
 {

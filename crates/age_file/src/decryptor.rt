@@ -17,7 +17,8 @@ use age_recipient::Identity;
 use age_stream::{ChunkBuf, ChunkOpener, Refused, StreamReader};
 use std::alloc::Global;
 
-/// A file of which the header was read, and the rest is still to come from the caller's source. It is spent by `unlock`.
+/// A file of which the header was read, and the rest is still to come from the caller's source. It
+/// is spent by `unlock`.
 #[derive(Drop)]
 pub struct Decryptor<'a, S, H = Header> {
     input: &'a mut S,
@@ -51,14 +52,18 @@ impl<'a, S: Source> Decryptor<'a, S> {
         input: &'a mut S,
         limits: &Limits,
     ) -> Result<Decryptor<'a, S>, Refused<'a, S, Fault>>
-        ensures same_reference { IfOk result (λ d. (input_of d).ghost_name ≡ input.entry.ghost_name) }
-        ensures header { IfOk result (λ d. Inspects limits.now (S.to_come input.old) (S.to_come (input_of d).now) (Ok (header_of d))) }
+        ensures same_reference { IfOk result
+            (λ d. (input_of d).ghost_name ≡ input.entry.ghost_name) }
+        ensures header { IfOk result (λ d. Inspects limits.now (S.to_come input.old)
+            (S.to_come (input_of d).now) (Ok (header_of d))) }
         ensures unmixed { IfOk result (λ d. is_mixed (header_of d).stanzas ≡ false) }
         ensures limits { IfOk result (λ d. limits_of d ≡ limits.now) }
         ensures uncounted { IfOk result (λ d. S.failed (input_of d).now ≡ S.failed input.old) }
-        ensures handed_back { IfErr result (λ refused. (device_of refused).ghost_name ≡ input.entry.ghost_name) }
-        ensures refuses { IfErr result (λ refused. RefusesHeader limits.now (S.to_come input.old) (S.to_come (device_of refused).now)
-            (S.failed input.old) (S.failed (device_of refused).now) (fault_of refused)) }
+        ensures handed_back { IfErr result
+            (λ refused. (device_of refused).ghost_name ≡ input.entry.ghost_name) }
+        ensures refuses { IfErr result (λ refused. RefusesHeader limits.now (S.to_come input.old)
+            (S.to_come (device_of refused).now) (S.failed input.old)
+            (S.failed (device_of refused).now) (fault_of refused)) }
     {
         let header = match inspect(alloc, input, limits) {
             Ok(header) => header,
@@ -70,19 +75,22 @@ impl<'a, S: Source> Decryptor<'a, S> {
         Ok(Decryptor::over(input, header, limits))
     }
 
-    /// Reads the header of a file, and takes just the header's bytes. Its MAC is not looked at. Of the source after an error `started`
-    /// says more.
+    /// Reads the header of a file, and takes just the header's bytes. Its MAC is not looked at. Of
+    /// the source after an error `started` says more.
     ///
     /// # Errors
     /// Those of `inspect`, then `MixedPassphrase` where a `scrypt` stanza stands beside another.
     pub fn new(alloc: Global, input: &'a mut S, limits: &Limits) -> Result<Decryptor<'a, S>, Fault>
-        ensures same_reference { IfOk result (λ d. (input_of d).ghost_name ≡ input.entry.ghost_name) }
-        ensures header { IfOk result (λ d. Inspects limits.now (S.to_come input.old) (S.to_come (input_of d).now) (Ok (header_of d))) }
+        ensures same_reference { IfOk result
+            (λ d. (input_of d).ghost_name ≡ input.entry.ghost_name) }
+        ensures header { IfOk result (λ d. Inspects limits.now (S.to_come input.old)
+            (S.to_come (input_of d).now) (Ok (header_of d))) }
         ensures unmixed { IfOk result (λ d. is_mixed (header_of d).stanzas ≡ false) }
         ensures limits { IfOk result (λ d. limits_of d ≡ limits.now) }
         ensures uncounted { IfOk result (λ d. S.failed (input_of d).now ≡ S.failed input.old) }
-        ensures refuses { IfErr result (λ fault. (last : S) × RefusesHeader limits.now (S.to_come input.old) (S.to_come last)
-            (S.failed input.old) (S.failed last) fault) }
+        ensures refuses { IfErr result (λ fault. (last : S)
+            × RefusesHeader limits.now (S.to_come input.old) (S.to_come last) (S.failed input.old)
+            (S.failed last) fault) }
     {
         match Decryptor::started(alloc, input, limits) {
             Ok(decryptor) => Ok(decryptor),
@@ -100,27 +108,37 @@ impl<'a, S: Source> Decryptor<'a, S> {
     /// As `unlock`, but hands the source back with the fault.
     ///
     /// # Errors
-    /// `NoMatch`, `WrongKey`, `Malformed` as `age_recipient::unlock` says; `BadMac`; `OutOfMemory` where an allocation was refused or an
-    /// identity returned so: nothing was read. Then `NonceTruncated` where the source gives fewer than 16 bytes, `Read` where it failed.
+    /// `NoMatch`, `WrongKey`, `Malformed` as `age_recipient::unlock` says; `BadMac`; `OutOfMemory`
+    /// where an allocation was refused or an identity returned so: nothing was read. Then
+    /// `NonceTruncated` where the source gives fewer than 16 bytes, `Read` where it failed.
     pub fn unlocked(
         self,
         alloc: Global,
         identities: &[Box<dyn Identity>],
     ) -> Result<StreamReader<'a, S>, Refused<'a, S, Fault>>
-        ensures same_reference { IfOk result (λ reader. (source_of reader).ghost_name ≡ (input_of self.entry).ghost_name) }
+        ensures same_reference { IfOk result
+            (λ reader. (source_of reader).ghost_name ≡ (input_of self.entry).ghost_name) }
         ensures starts { IfOk result (λ reader. StartsUnder (limits_of self.entry)
-            (unlocked (λ stanzas. map (λ i. meaning i stanzas) identities.now) (header_of self.entry))
-            (S.to_come (input_of self.entry).now) (S.to_come (source_of reader).now) (opener_of reader)) }
-        ensures gave { IfOk result (λ reader. GaveAtMost 16 (S.to_come (input_of self.entry).now) (S.to_come (source_of reader).now)) }
-        ensures uncounted { IfOk result (λ reader. S.failed (source_of reader).now ≡ S.failed (input_of self.entry).now) }
-        ensures handed_back { IfErr result (λ refused. (device_of refused).ghost_name ≡ (input_of self.entry).ghost_name) }
+            (unlocked (λ stanzas. map (λ i. meaning i stanzas) identities.now)
+            (header_of self.entry))
+            (S.to_come (input_of self.entry).now) (S.to_come (source_of reader).now)
+            (opener_of reader)) }
+        ensures gave { IfOk result (λ reader. GaveAtMost 16 (S.to_come (input_of self.entry).now)
+            (S.to_come (source_of reader).now)) }
+        ensures uncounted { IfOk result
+            (λ reader. S.failed (source_of reader).now ≡ S.failed (input_of self.entry).now) }
+        ensures handed_back { IfErr result
+            (λ refused. (device_of refused).ghost_name ≡ (input_of self.entry).ghost_name) }
         ensures misses { IfErr result (λ refused. (((fault_of refused ≡ Fault.OutOfMemory)
-            ⊎ (unlocked (λ stanzas. map (λ i. meaning i stanzas) identities.now) (header_of self.entry) ≡ Err (fault_of refused)))
+            ⊎ (unlocked (λ stanzas. map (λ i. meaning i stanzas) identities.now)
+            (header_of self.entry)
+            ≡ Err (fault_of refused)))
             × ((device_of refused).now ≡ (input_of self.entry).now))
-            ⊎ MissesUnder (limits_of self.entry)
-            (unlocked (λ stanzas. map (λ i. meaning i stanzas) identities.now) (header_of self.entry))
+            ⊎ MissesUnder (limits_of self.entry) (unlocked
+            (λ stanzas. map (λ i. meaning i stanzas) identities.now) (header_of self.entry))
             (S.to_come (input_of self.entry).now) (S.to_come (device_of refused).now)
-            (S.failed (input_of self.entry).now) (S.failed (device_of refused).now) (fault_of refused)) }
+            (S.failed (input_of self.entry).now) (S.failed (device_of refused).now)
+            (fault_of refused)) }
     {
         let Decryptor {
             input,
@@ -140,27 +158,37 @@ impl<'a, S: Source> Decryptor<'a, S> {
         }
     }
 
-    /// Finds the file key, verifies the header's MAC under it, reads the nonce, and gives a reader of the payload. Of the source after
-    /// an error `unlocked` says more.
+    /// Finds the file key, verifies the header's MAC under it, reads the nonce, and gives a reader
+    /// of the payload. Of the source after an error `unlocked` says more.
     ///
     /// # Errors
-    /// `NoMatch`, `WrongKey`, `Malformed` as `age_recipient::unlock` says; `BadMac`; `OutOfMemory` where an allocation was refused or an
-    /// identity returned so: nothing was read. Then `NonceTruncated` where the source gives fewer than 16 bytes, `Read` where it failed.
+    /// `NoMatch`, `WrongKey`, `Malformed` as `age_recipient::unlock` says; `BadMac`; `OutOfMemory`
+    /// where an allocation was refused or an identity returned so: nothing was read. Then
+    /// `NonceTruncated` where the source gives fewer than 16 bytes, `Read` where it failed.
     pub fn unlock(
         self,
         alloc: Global,
         identities: &[Box<dyn Identity>],
     ) -> Result<StreamReader<'a, S>, Fault>
-        ensures same_reference { IfOk result (λ reader. (source_of reader).ghost_name ≡ (input_of self.entry).ghost_name) }
+        ensures same_reference { IfOk result
+            (λ reader. (source_of reader).ghost_name ≡ (input_of self.entry).ghost_name) }
         ensures starts { IfOk result (λ reader. StartsUnder (limits_of self.entry)
-            (unlocked (λ stanzas. map (λ i. meaning i stanzas) identities.now) (header_of self.entry))
-            (S.to_come (input_of self.entry).now) (S.to_come (source_of reader).now) (opener_of reader)) }
-        ensures gave { IfOk result (λ reader. GaveAtMost 16 (S.to_come (input_of self.entry).now) (S.to_come (source_of reader).now)) }
-        ensures uncounted { IfOk result (λ reader. S.failed (source_of reader).now ≡ S.failed (input_of self.entry).now) }
+            (unlocked (λ stanzas. map (λ i. meaning i stanzas) identities.now)
+            (header_of self.entry))
+            (S.to_come (input_of self.entry).now) (S.to_come (source_of reader).now)
+            (opener_of reader)) }
+        ensures gave { IfOk result (λ reader. GaveAtMost 16 (S.to_come (input_of self.entry).now)
+            (S.to_come (source_of reader).now)) }
+        ensures uncounted { IfOk result
+            (λ reader. S.failed (source_of reader).now ≡ S.failed (input_of self.entry).now) }
         ensures misses { IfErr result (λ fault. ((fault ≡ Fault.OutOfMemory)
-            ⊎ (unlocked (λ stanzas. map (λ i. meaning i stanzas) identities.now) (header_of self.entry) ≡ Err fault))
-            ⊎ ((last : S) × MissesUnder (limits_of self.entry)
-            (unlocked (λ stanzas. map (λ i. meaning i stanzas) identities.now) (header_of self.entry))
+            ⊎ (unlocked (λ stanzas. map (λ i. meaning i stanzas) identities.now)
+            (header_of self.entry)
+            ≡ Err fault))
+            ⊎ ((last : S)
+            × MissesUnder (limits_of self.entry) (unlocked
+            (λ stanzas. map (λ i. meaning i stanzas) identities.now)
+            (header_of self.entry))
             (S.to_come (input_of self.entry).now) (S.to_come last)
             (S.failed (input_of self.entry).now) (S.failed last) fault)) }
     {

@@ -17,7 +17,8 @@ use age_stream::{ChunkBuf, ChunkSealer, Refused, StreamWriter};
 use std::alloc::Global;
 use std::marker::Model;
 
-/// A file that is ready to be written: its header is made, and nothing is written yet. It is spent by `start`.
+/// A file that is ready to be written: its header is made, and nothing is written yet. It is spent
+/// by `start`.
 #[derive(Drop)]
 pub struct Encryptor {
     header: Header,
@@ -39,9 +40,10 @@ impl Encryptor {
     /// Makes the header of a new file for these recipients.
     ///
     /// # Errors
-    /// In this order: `Refused` at the first recipient that refuses, `IncompatibleRecipients` at the first whose labels do not go
-    /// together with those of recipient 0, `NoRecipients` where there is no stanza at all, `MixedPassphrase` where a `scrypt` stanza
-    /// stands beside another, `HeaderTooLarge`. `OutOfMemory` where an allocation was refused.
+    /// In this order: `Refused` at the first recipient that refuses, `IncompatibleRecipients` at
+    /// the first whose labels do not go together with those of recipient 0, `NoRecipients` where
+    /// there is no stanza at all, `MixedPassphrase` where a `scrypt` stanza stands beside another,
+    /// `HeaderTooLarge`. `OutOfMemory` where an allocation was refused.
     pub fn new(
         alloc: Global,
         recipients: &[Box<dyn Recipient>],
@@ -50,10 +52,14 @@ impl Encryptor {
     ) -> Result<Encryptor, Fault>
         ensures ok { IfOk result (λ e. (e.fresh ≡ fresh.now) × (e.limits ≡ limits.now)
             × (e.header.mac ≡ header_mac fresh.now.file_key.0 e.header.stanzas)
-            × ((text : List ℕ) × IsHeading limits.now fresh.now.file_key
-            (Gathered (map (λ r. wraps r fresh.now.file_key) recipients.now) (map (λ r. the_labels r) recipients.now)) e.header.stanzas text)) }
+            × ((text : List ℕ)
+            × IsHeading limits.now fresh.now.file_key
+            (Gathered (map (λ r. wraps r fresh.now.file_key) recipients.now)
+            (map (λ r. the_labels r) recipients.now))
+            e.header.stanzas text)) }
         ensures err { IfErr result (FailsHeading limits.now fresh.now.file_key
-            (Gathered (map (λ r. wraps r fresh.now.file_key) recipients.now) (map (λ r. the_labels r) recipients.now))) }
+            (Gathered (map (λ r. wraps r fresh.now.file_key) recipients.now)
+            (map (λ r. the_labels r) recipients.now))) }
     {
         match header_for(alloc, recipients, &fresh.file_key, limits) {
             Ok(header) => Ok(Encryptor {
@@ -68,22 +74,27 @@ impl Encryptor {
     /// As `start`, but hands the sink back with the fault.
     ///
     /// # Errors
-    /// `OutOfMemory` where the allocation was refused: nothing was written. `Write` where the sink failed: a beginning of the header
-    /// and the nonce was written.
+    /// `OutOfMemory` where the allocation was refused: nothing was written. `Write` where the sink
+    /// failed: a beginning of the header and the nonce was written.
     pub fn started<'a, W: Sink>(
         self,
         alloc: Global,
         out: &'a mut W,
     ) -> Result<StreamWriter<'a, W>, Refused<'a, W, Fault>>
-        ensures same_reference { IfOk result (λ writer. (sink_of writer).ghost_name ≡ out.entry.ghost_name) }
-        ensures written { IfOk result (λ writer. PutsFront self (W.taken out.old) (W.taken (sink_of writer).now)) }
-        ensures uncounted { IfOk result (λ writer. W.failed (sink_of writer).now ≡ W.failed out.old) }
+        ensures same_reference { IfOk result
+            (λ writer. (sink_of writer).ghost_name ≡ out.entry.ghost_name) }
+        ensures written { IfOk result
+            (λ writer. PutsFront self (W.taken out.old) (W.taken (sink_of writer).now)) }
+        ensures uncounted { IfOk result
+            (λ writer. W.failed (sink_of writer).now ≡ W.failed out.old) }
         ensures sealer { IfOk result (λ writer. sealer_of writer
             ≡ at_start (payload_key self.fresh.file_key self.fresh.nonce) self.limits.max_chunks) }
-        ensures handed_back { IfErr result (λ refused. (device_of refused).ghost_name ≡ out.entry.ghost_name) }
-        ensures front { IfErr result (λ refused. ((fault_of refused ≡ Fault.OutOfMemory) × ((device_of refused).now ≡ out.old))
-            ⊎ LosesFront self (W.taken out.old) (W.taken (device_of refused).now)
-            (W.failed out.old) (W.failed (device_of refused).now) (fault_of refused)) }
+        ensures handed_back { IfErr result
+            (λ refused. (device_of refused).ghost_name ≡ out.entry.ghost_name) }
+        ensures front { IfErr result (λ refused. ((fault_of refused ≡ Fault.OutOfMemory)
+            × ((device_of refused).now ≡ out.old))
+            ⊎ LosesFront self (W.taken out.old) (W.taken (device_of refused).now) (W.failed out.old)
+            (W.failed (device_of refused).now) (fault_of refused)) }
     {
         let Ok(buf) = ChunkBuf::new(alloc) else {
             return Err(Refused::of(out, Fault::OutOfMemory));
@@ -97,24 +108,29 @@ impl Encryptor {
         Ok(StreamWriter::over(out, sealer))
     }
 
-    /// Writes the header and the nonce, and gives a writer of the payload. It takes its memory before it writes. Of the sink after an
-    /// error `started` says more.
+    /// Writes the header and the nonce, and gives a writer of the payload. It takes its memory
+    /// before it writes. Of the sink after an error `started` says more.
     ///
     /// # Errors
-    /// `OutOfMemory` where the allocation was refused: nothing was written. `Write` where the sink failed: a beginning of the header
-    /// and the nonce was written.
+    /// `OutOfMemory` where the allocation was refused: nothing was written. `Write` where the sink
+    /// failed: a beginning of the header and the nonce was written.
     pub fn start<'a, W: Sink>(
         self,
         alloc: Global,
         out: &'a mut W,
     ) -> Result<StreamWriter<'a, W>, Fault>
-        ensures same_reference { IfOk result (λ writer. (sink_of writer).ghost_name ≡ out.entry.ghost_name) }
-        ensures written { IfOk result (λ writer. PutsFront self (W.taken out.old) (W.taken (sink_of writer).now)) }
-        ensures uncounted { IfOk result (λ writer. W.failed (sink_of writer).now ≡ W.failed out.old) }
+        ensures same_reference { IfOk result
+            (λ writer. (sink_of writer).ghost_name ≡ out.entry.ghost_name) }
+        ensures written { IfOk result
+            (λ writer. PutsFront self (W.taken out.old) (W.taken (sink_of writer).now)) }
+        ensures uncounted { IfOk result
+            (λ writer. W.failed (sink_of writer).now ≡ W.failed out.old) }
         ensures sealer { IfOk result (λ writer. sealer_of writer
             ≡ at_start (payload_key self.fresh.file_key self.fresh.nonce) self.limits.max_chunks) }
-        ensures front { IfErr result (λ fault. (last : W) × (((fault ≡ Fault.OutOfMemory) × (last ≡ out.old))
-            ⊎ LosesFront self (W.taken out.old) (W.taken last) (W.failed out.old) (W.failed last) fault)) }
+        ensures front { IfErr result (λ fault. (last : W)
+            × (((fault ≡ Fault.OutOfMemory) × (last ≡ out.old))
+            ⊎ LosesFront self (W.taken out.old) (W.taken last) (W.failed out.old)
+            (W.failed last) fault)) }
     {
         match self.started(alloc, out) {
             Ok(writer) => Ok(writer),

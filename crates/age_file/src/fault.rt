@@ -6,8 +6,8 @@ mod tests;
 use age_recipient::StanzaFault;
 use thiserror::Error;
 
-/// Why no file was made of a plaintext, or no plaintext of a file. Chunks and recipients are counted from 0. The text is what the
-/// program says of it.
+/// Why no file was made of a plaintext, or no plaintext of a file. Chunks and recipients are
+/// counted from 0. The text is what the program says of it.
 #[derive(Clone, Copy, Debug, Drop, PartialEq, Eq, Error)]
 pub enum Fault {
     /// The first bytes are no front of the version line.
@@ -22,7 +22,8 @@ pub enum Fault {
     /// The header, read or to be written, goes on beyond the limit.
     #[error("header is too large")]
     HeaderTooLarge,
-    /// A stanza of type `scrypt` has another stanza beside it (C2SP `age.md`, "The scrypt recipient type").
+    /// A stanza of type `scrypt` has another stanza beside it (C2SP `age.md`, "The scrypt recipient
+    /// type").
     #[error("a passphrase stanza must stand alone")]
     MixedPassphrase,
     /// No stanza is of the type of any identity.

@@ -14,11 +14,13 @@ use age_header::{Header, HeaderReader, Source, Stanza, mac_of};
 use age_recipient::{FileKey, Identity, UnlockFault, unlock};
 use std::alloc::Global;
 
-/// The header at the front of a file, of which just the header's bytes are taken. Its MAC is not looked at.
+/// The header at the front of a file, of which just the header's bytes are taken. Its MAC is not
+/// looked at.
 ///
 /// # Errors
-/// The first of `NotAge`, `BadLine`, `HeaderTruncated` and `HeaderTooLarge` that applies, as `HeaderReader` says; `Read` where the
-/// source failed, `OutOfMemory` where an allocation was refused.
+/// The first of `NotAge`, `BadLine`, `HeaderTruncated` and `HeaderTooLarge` that applies, as
+/// `HeaderReader` says; `Read` where the source failed, `OutOfMemory` where an allocation was
+/// refused.
 pub fn inspect<S: Source>(alloc: Global, input: &mut S, limits: &Limits) -> Result<Header, Fault>
     ensures verdict { Inspects limits.now (S.to_come input.old) (S.to_come input.new) result }
     ensures reads { CountsRead (S.failed input.old) (S.failed input.new) result }
@@ -32,8 +34,9 @@ pub fn inspect<S: Source>(alloc: Global, input: &mut S, limits: &Limits) -> Resu
 /// Finds the file key of a header among these identities, and verifies the header's MAC under it.
 ///
 /// # Errors
-/// The first that applies of `MixedPassphrase`; `NoMatch`, `WrongKey` and `Malformed` as `age_recipient::unlock` says; `BadMac`.
-/// `OutOfMemory` where an allocation was refused or an identity returned so.
+/// The first that applies of `MixedPassphrase`; `NoMatch`, `WrongKey` and `Malformed` as
+/// `age_recipient::unlock` says; `BadMac`. `OutOfMemory` where an allocation was refused or an
+/// identity returned so.
 pub fn unlock_header(
     alloc: Global,
     identities: &[Box<dyn Identity>],

@@ -15,36 +15,45 @@ ghost use Rattle.age_file.specs.Verdict.{Answering, IsVerdict};
 
 use age_recipient::{Labels, Matched};
 
-/// The verdict is a plaintext exactly on the age files of this plaintext for the file key that the identities choose. All bytes
-/// have one verdict, and only one.
+/// The verdict is a plaintext exactly on the age files of this plaintext for the file key that the
+/// identities choose. All bytes have one verdict, and only one.
 pub fn ok_is_age_file()
-    ensures ok { (limits : Bounds) (answers : Answering) (b plain : List ℕ) → IsVerdict limits answers b (whole plain)
-        ↔ ((stanzas : List StanzaParts) × (k : FileKey) × AgeFile limits k stanzas plain b × (choice (answers stanzas) ≡ Ok k)) }
+    ensures ok { (limits : Bounds) (answers : Answering) (b plain : List ℕ)
+        → IsVerdict limits answers b (whole plain) ↔ ((stanzas : List StanzaParts) × (k : FileKey)
+        × AgeFile limits k stanzas plain b × (choice (answers stanzas) ≡ Ok k)) }
     ensures one { (limits : Bounds) (answers : Answering) (b : List ℕ) (v w : Reading Fault)
         → IsVerdict limits answers b v → IsVerdict limits answers b w → v ≡ w }
-    ensures some { (limits : Bounds) (answers : Answering) (b : List ℕ) → (v : Reading Fault) × IsVerdict limits answers b v }
+    ensures some { (limits : Bounds) (answers : Answering) (b : List ℕ)
+        → (v : Reading Fault) × IsVerdict limits answers b v }
 {}
 
-/// An age file of the stanzas in which a pair's recipient wraps its file key is its plaintext to the pair's identity.
+/// An age file of the stanzas in which a pair's recipient wraps its file key is its plaintext to
+/// the pair's identity.
 pub fn pair_opens<M: Matched>(pair: &M)
-    ensures { (limits : Bounds) (k : FileKey) (stanzas : List StanzaParts) (plain b : List ℕ) → IsFileKey k
-        → M.R.wraps (M.the_recipient pair.now) k ≡ Ok stanzas → AgeFile limits k stanzas plain b
+    ensures { (limits : Bounds) (k : FileKey) (stanzas : List StanzaParts) (plain b : List ℕ)
+        → IsFileKey k → M.R.wraps (M.the_recipient pair.now) k ≡ Ok stanzas
+        → AgeFile limits k stanzas plain b
         → IsVerdict limits (λ s. M.I.meaning (M.the_identity pair.now) s ∷ []) b (whole plain) }
 {}
 
-/// Which recipients of this crate's own kinds go together. Of one recipient, and of keyed ones, this holds of whatever their boxes
-/// return; the last two clauses are about the labels that the recipients mean.
+/// Which recipients of this crate's own kinds go together. Of one recipient, and of keyed ones,
+/// this holds of whatever their boxes return; the last two clauses are about the labels that the
+/// recipients mean.
 pub fn own_recipients()
     ensures one { (meant : Labels) (place : Option ℕ) → IsApart (meant ∷ []) place → place ≡ None }
-    ensures keyed { (n : ℕ) (place : Option ℕ) → IsApart (replicate n (Labels.Names [])) place → place ≡ None }
-    ensures passphrase_first { (other : Labels) (others : List Labels) → incompatible (Labels.Alone ∷ other ∷ others) ≡ Some 1 }
+    ensures keyed { (n : ℕ) (place : Option ℕ) → IsApart (replicate n (Labels.Names [])) place
+        → place ≡ None }
+    ensures passphrase_first { (other : Labels) (others : List Labels)
+        → incompatible (Labels.Alone ∷ other ∷ others) ≡ Some 1 }
     ensures passphrase_after { (n : ℕ) (others : List Labels)
-        → incompatible (replicate (n + 1) (Labels.Names []) ++ Labels.Alone ∷ others) ≡ Some (n + 1) }
+        → incompatible (replicate (n + 1) (Labels.Names []) ++ Labels.Alone ∷ others)
+        ≡ Some (n + 1) }
 {}
 
-/// A rewrapped file is to identities that find its file key what the file was to those that found it before: the same plaintext, or the
-/// same fault after the same plaintext.
+/// A rewrapped file is to identities that find its file key what the file was to those that found
+/// it before: the same plaintext, or the same fault after the same plaintext.
 pub fn rewrap_keeps()
     ensures { (limits : Bounds) (old new : Answering) (b c : List ℕ) (is : Rewrapped limits old b c)
-        → choice (new is.stanzas) ≡ Ok is.key → (v : Reading Fault) → IsVerdict limits old b v ↔ IsVerdict limits new c v }
+        → choice (new is.stanzas) ≡ Ok is.key → (v : Reading Fault)
+        → IsVerdict limits old b v ↔ IsVerdict limits new c v }
 {}

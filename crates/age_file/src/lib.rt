@@ -1,4 +1,5 @@
-//! Whole age v1 files (C2SP `age.md`). Start here: this crate re-exports what a caller needs of those below it.
+//! Whole age v1 files (C2SP `age.md`). Start here: this crate re-exports what a caller needs of
+//! those below it.
 //!
 //! ```
 //! let limits = &Limits::default();
@@ -10,12 +11,14 @@
 //! decrypt(alloc, &mut MemSource::new(file.as_slice()), &mut back, identities, limits)?;
 //! ```
 //!
-//! `encrypt` needs recipients and `decrypt` identities, in boxes; `Fresh` is what no file before may have had. `rewrap` gives a
-//! file another passphrase or key, `open_ranges` reads any part of a plaintext, `inspect` reads a header, and `Encryptor` and
-//! `Decryptor` take the plaintext piece by piece. What bytes are to given identities is one definition, the verdict
-//! (`specs/Verdict.antt`); the contracts and the laws in `laws` speak of it.
+//! `encrypt` needs recipients and `decrypt` identities, in boxes; `Fresh` is what no file before
+//! may have had. `rewrap` gives a file another passphrase or key, `open_ranges` reads any part of a
+//! plaintext, `inspect` reads a header, and `Encryptor` and `Decryptor` take the plaintext piece by
+//! piece. What bytes are to given identities is one definition, the verdict (`specs/Verdict.antt`);
+//! the contracts and the laws in `laws` speak of it.
 //!
-//! Limits: those of `Limits`. A source is read to its end. What was written before an error is genuine, but incomplete.
+//! Limits: those of `Limits`. A source is read to its end. What was written before an error is
+//! genuine, but incomplete.
 #![tactic(auto)]
 
 mod at_source;

@@ -20,7 +20,8 @@ impl Model for Limits {
 
     ghost view = { λ l. record { max_header = l.max_header; max_chunks = l.max_chunks } };
 
-    ghost invariant = { λ l. IsBounds (record { max_header = l.max_header; max_chunks = l.max_chunks }) };
+    ghost invariant = { λ l.
+        IsBounds (record { max_header = l.max_header; max_chunks = l.max_chunks }) };
 
     ghost inverse = { λ b. record { max_header = b.max_header; max_chunks = b.max_chunks } };
 }
@@ -28,11 +29,13 @@ impl Model for Limits {
 impl Limits {
     ghost use Rattle.age_file.specs.AgeFile.{IsBounds};
 
-    /// Limits of 1,024 to 16,777,216 bytes of a header and 1 to 2^88 = 309,485,009,821,345,068,724,781,056 chunks of a payload; None
-    /// exactly outside.
+    /// Limits of 1,024 to 16,777,216 bytes of a header and 1 to 2^88 =
+    /// 309,485,009,821,345,068,724,781,056 chunks of a payload; None exactly outside.
     pub fn new(max_header: usize, max_chunks: u128) -> Option<Limits>
-        ensures some { IfSome result (λ limits. IsBounds limits × (limits ≡ record { max_header = max_header; max_chunks = max_chunks })) }
-        ensures none { IfNone result (IsBounds (record { max_header = max_header; max_chunks = max_chunks }) → ⊥) }
+        ensures some { IfSome result (λ limits. IsBounds limits
+            × (limits ≡ record { max_header = max_header; max_chunks = max_chunks })) }
+        ensures none { IfNone result
+            (IsBounds (record { max_header = max_header; max_chunks = max_chunks }) → ⊥) }
     {
         if max_header < 1_024
             || max_header > 16_777_216
@@ -76,8 +79,9 @@ impl Default for Limits {
     }
 }
 
-/// What a file needs that no file before it may have had: 32 random bytes. With the salts of its recipients, of 16 bytes each, they are
-/// what makes two files of one plaintext differ. The same values for two files repeat the keys of their payloads.
+/// What a file needs that no file before it may have had: 32 random bytes. With the salts of its
+/// recipients, of 16 bytes each, they are what makes two files of one plaintext differ. The same
+/// values for two files repeat the keys of their payloads.
 #[derive(Clone, Copy, PartialEq, Eq)]
 pub struct Fresh {
     /// The file key.

@@ -16,9 +16,10 @@ use std::alloc::{AllocError, Global};
 /// Makes the header of a new file for these recipients, with its MAC under the file key.
 ///
 /// # Errors
-/// In this order: `Refused` at the first recipient that refuses, `IncompatibleRecipients` at the first whose labels do not go together
-/// with those of recipient 0, `NoRecipients` where there is no stanza at all, `MixedPassphrase` where a `scrypt` stanza stands beside
-/// another, `HeaderTooLarge`. `OutOfMemory` where an allocation was refused.
+/// In this order: `Refused` at the first recipient that refuses, `IncompatibleRecipients` at the
+/// first whose labels do not go together with those of recipient 0, `NoRecipients` where there is
+/// no stanza at all, `MixedPassphrase` where a `scrypt` stanza stands beside another,
+/// `HeaderTooLarge`. `OutOfMemory` where an allocation was refused.
 pub fn header_for(
     alloc: Global,
     recipients: &[Box<dyn Recipient>],
@@ -26,8 +27,13 @@ pub fn header_for(
     limits: &Limits,
 ) -> Result<Header, Fault>
     ensures ok { IfOk result (λ h. (h.mac ≡ header_mac key.now.0 h.stanzas)
-        × ((text : List ℕ) × IsHeading limits.now key.now (Gathered (map (λ r. wraps r key.now) recipients.now) (map (λ r. the_labels r) recipients.now)) h.stanzas text)) }
-    ensures err { IfErr result (FailsHeading limits.now key.now (Gathered (map (λ r. wraps r key.now) recipients.now) (map (λ r. the_labels r) recipients.now))) }
+        × ((text : List ℕ)
+        × IsHeading limits.now key.now (Gathered (map (λ r. wraps r key.now) recipients.now)
+        (map (λ r. the_labels r) recipients.now))
+        h.stanzas text)) }
+    ensures err { IfErr result (FailsHeading limits.now key.now
+        (Gathered (map (λ r. wraps r key.now) recipients.now)
+        (map (λ r. the_labels r) recipients.now))) }
 {
     let stanzas = match gather(alloc, recipients, key) {
         Ok(stanzas) => stanzas,
@@ -57,7 +63,9 @@ fn gather(
     recipients: &[Box<dyn Recipient>],
     key: &FileKey,
 ) -> Result<Vec<Stanza>, Fault>
-    ensures { Gathers (Gathered (map (λ r. wraps r key.now) recipients.now) (map (λ r. the_labels r) recipients.now)) result }
+    ensures { Gathers (Gathered (map (λ r. wraps r key.now) recipients.now)
+        (map (λ r. the_labels r) recipients.now))
+        result }
 {
     let stanzas = match wrap_all(alloc, recipients, key) {
         Ok(stanzas) => stanzas,
@@ -107,7 +115,8 @@ fn first_apart(
     }
 }
 
-/// The place of the first of the others, counted from 1, whose labels do not go together with these.
+/// The place of the first of the others, counted from 1, whose labels do not go together with
+/// these.
 fn apart_from(
     alloc: Global,
     first: &Labels,

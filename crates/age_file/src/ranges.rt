@@ -37,7 +37,8 @@ fn front_of<'a, D: ReadAt, K: Origin>(
     ensures header { IfOk result (λ front. HasFront limits.now K.bytes front.at front.header) }
     ensures misses { IfErr result (MissesFront limits.now K.bytes) }
     ensures named { IfErr result IsOpenFault }
-    ensures counted { IfErr result (λ fault. (last : D) × (D.bytes last ≡ K.bytes) × CountsRead {A = ℕ} (D.failed dev.old) (D.failed last) (Err fault)) }
+    ensures counted { IfErr result (λ fault. (last : D) × (D.bytes last ≡ K.bytes)
+        × CountsRead {A = ℕ} (D.failed dev.old) (D.failed last) (Err fault)) }
 {
     let mut source: AtSource<'a, D, K> = AtSource::new(dev);
     match inspect(alloc, &mut source, limits) {
@@ -61,23 +62,27 @@ fn read_front<'a, D: ReadAt>(
     ensures stay { IfOk result (λ front. D.bytes front.dev.now ≡ D.bytes dev.old) }
     ensures given { IfOk result (λ front. D.given front.dev.now ≤ D.given dev.old + front.at) }
     ensures uncounted { IfOk result (λ front. D.failed front.dev.now ≡ D.failed dev.old) }
-    ensures header { IfOk result (λ front. HasFront limits.now (D.bytes dev.old) front.at front.header) }
+    ensures header { IfOk result
+        (λ front. HasFront limits.now (D.bytes dev.old) front.at front.header) }
     ensures misses { IfErr result (MissesFront limits.now (D.bytes dev.old)) }
     ensures named { IfErr result IsOpenFault }
-    ensures counted { IfErr result (λ fault. (last : D) × (D.bytes last ≡ D.bytes dev.old) × CountsRead {A = ℕ} (D.failed dev.old) (D.failed last) (Err fault)) }
+    ensures counted { IfErr result (λ fault. (last : D) × (D.bytes last ≡ D.bytes dev.old)
+        × CountsRead {A = ℕ} (D.failed dev.old) (D.failed last) (Err fault)) }
 {
     front_of::<D, Brand>(alloc, dev, limits)
 }
 
-/// Opens a file for reading any part of its plaintext (C2SP `age.md`): reads its header from the source's first byte on, finds the file
-/// key, verifies the header's MAC under it, and opens the payload as `RangeReader::open` does. What it reads is the header, byte by byte,
-/// the nonce and the last piece.
+/// Opens a file for reading any part of its plaintext (C2SP `age.md`): reads its header from the
+/// source's first byte on, finds the file key, verifies the header's MAC under it, and opens the
+/// payload as `RangeReader::open` does. What it reads is the header, byte by byte, the nonce and
+/// the last piece.
 ///
 /// # Errors
-/// The first that applies of `NotAge`, `BadLine`, `HeaderTruncated`, `HeaderTooLarge` as `inspect` says; `MixedPassphrase`; `NoMatch`,
-/// `WrongKey`, `Malformed` as `age_recipient::unlock` says; `BadMac`; `NonceTruncated`; `TooManyChunks`; then `ChunkShort`, `EmptyFinal`
-/// or `BadChunk` of the last piece. `Read` where the source failed, `OutOfMemory` where an allocation was refused or an identity returned
-/// so.
+/// The first that applies of `NotAge`, `BadLine`, `HeaderTruncated`, `HeaderTooLarge` as `inspect`
+/// says; `MixedPassphrase`; `NoMatch`, `WrongKey`, `Malformed` as `age_recipient::unlock` says;
+/// `BadMac`; `NonceTruncated`; `TooManyChunks`; then `ChunkShort`, `EmptyFinal` or `BadChunk` of
+/// the last piece. `Read` where the source failed, `OutOfMemory` where an allocation was refused or
+/// an identity returned so.
 pub fn open_ranges<'a, D: ReadAt>(
     alloc: Global,
     dev: &'a mut D,
@@ -86,12 +91,18 @@ pub fn open_ranges<'a, D: ReadAt>(
 ) -> Result<RangeReader<'a, D>, Fault>
     ensures stay { IfOk result (λ reader. D.bytes (source_at_of reader).now ≡ D.bytes dev.old) }
     ensures ranges { IfOk result (λ reader. IfSome (D.bytes dev.old) (λ b. IsRangesOf limits.now
-        (λ stanzas. map (λ i. meaning i stanzas) identities.now) b (chunks_of reader) (D.given dev.old) (D.given (source_at_of reader).now))) }
-    ensures kept { IfOk result (λ reader. ((chunks_of reader).index ≡ Some ((chunks_of reader).layout.count - 1)) × ((chunks_of reader).opened ≡ 1)) }
-    ensures uncounted { IfOk result (λ reader. D.failed (source_at_of reader).now ≡ D.failed dev.old) }
-    ensures misses { IfErr result (MissesRanges limits.now (λ stanzas. map (λ i. meaning i stanzas) identities.now) (D.bytes dev.old)) }
+        (λ stanzas. map (λ i. meaning i stanzas) identities.now) b (chunks_of reader)
+        (D.given dev.old) (D.given (source_at_of reader).now))) }
+    ensures kept { IfOk result (λ reader. ((chunks_of reader).index
+        ≡ Some ((chunks_of reader).layout.count - 1))
+        × ((chunks_of reader).opened ≡ 1)) }
+    ensures uncounted { IfOk result
+        (λ reader. D.failed (source_at_of reader).now ≡ D.failed dev.old) }
+    ensures misses { IfErr result (MissesRanges limits.now
+        (λ stanzas. map (λ i. meaning i stanzas) identities.now) (D.bytes dev.old)) }
     ensures named { IfErr result IsOpenFault }
-    ensures counted { IfErr result (λ fault. (last : D) × (D.bytes last ≡ D.bytes dev.old) × CountsRead {A = ℕ} (D.failed dev.old) (D.failed last) (Err fault)) }
+    ensures counted { IfErr result (λ fault. (last : D) × (D.bytes last ≡ D.bytes dev.old)
+        × CountsRead {A = ℕ} (D.failed dev.old) (D.failed last) (Err fault)) }
 {
     let Front { header, dev, at } = match read_front(alloc, dev, limits) {
         Ok(front) => front,

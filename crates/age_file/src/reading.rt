@@ -14,17 +14,21 @@ use age_recipient::Identity;
 use age_stream::{Done, StreamReader};
 use std::alloc::Global;
 
-/// Decrypts a file (C2SP `age.md`), all that the source still gives: writes the plaintext of each chunk as soon as it is verified.
+/// Decrypts a file (C2SP `age.md`), all that the source still gives: writes the plaintext of each
+/// chunk as soon as it is verified.
 ///
-/// What was written before an error is genuine, and incomplete: only after Ok is it the whole plaintext. A passphrase identity takes
-/// 2^work KiB of memory for the stanza's work factor, up to its maximum.
+/// What was written before an error is genuine, and incomplete: only after Ok is it the whole
+/// plaintext. A passphrase identity takes 2^work KiB of memory for the stanza's work factor, up to
+/// its maximum.
 ///
 /// # Errors
-/// The first that applies of `NotAge`, `BadLine`, `HeaderTruncated`, `HeaderTooLarge` as `inspect` says; `MixedPassphrase`; `NoMatch`,
-/// `WrongKey`, `Malformed` as `age_recipient::unlock` says; `BadMac`; `NonceTruncated`; then, chunk by chunk, `TooManyChunks`,
-/// `ChunkShort`, `EmptyFinal`, `BadChunk` as `age_stream::StreamReader::next_chunk` says. Before a chunk's fault the plaintext of the
-/// chunks before it was written, and nothing before the others. `Read` and `Write` where a device failed: a beginning of that plaintext
-/// was written. `OutOfMemory` where an allocation was refused or an identity returned so: nothing was written.
+/// The first that applies of `NotAge`, `BadLine`, `HeaderTruncated`, `HeaderTooLarge` as `inspect`
+/// says; `MixedPassphrase`; `NoMatch`, `WrongKey`, `Malformed` as `age_recipient::unlock` says;
+/// `BadMac`; `NonceTruncated`; then, chunk by chunk, `TooManyChunks`, `ChunkShort`, `EmptyFinal`,
+/// `BadChunk` as `age_stream::StreamReader::next_chunk` says. Before a chunk's fault the plaintext
+/// of the chunks before it was written, and nothing before the others. `Read` and `Write` where a
+/// device failed: a beginning of that plaintext was written. `OutOfMemory` where an allocation was
+/// refused or an identity returned so: nothing was written.
 pub fn decrypt<S: Source, W: Sink>(
     alloc: Global,
     input: &mut S,
@@ -34,11 +38,12 @@ pub fn decrypt<S: Source, W: Sink>(
 ) -> Result<Done, Fault>
     ensures answer { Decrypts limits.now (λ stanzas. map (λ i. meaning i stanzas) identities.now)
         (S.to_come input.old) (W.taken out.old) (W.taken out.new) result }
-    ensures quiet { IfErr result (λ fault. IsLate fault ⊎ Keeps (W.taken out.old) (W.taken out.new)) }
+    ensures quiet { IfErr result
+        (λ fault. IsLate fault ⊎ Keeps (W.taken out.old) (W.taken out.new)) }
     ensures reads { CountsRead (S.failed input.old) (S.failed input.new) result }
     ensures writes { CountsWrite (W.failed out.old) (W.failed out.new) result }
-    ensures took { IfErr result
-        (Takes limits.now (S.to_come input.old) (S.to_come input.new) (W.taken out.old) (W.taken out.new)) }
+    ensures took { IfErr result (Takes limits.now (S.to_come input.old) (S.to_come input.new)
+        (W.taken out.old) (W.taken out.new)) }
 {
     let header = match inspect(alloc, input, limits) {
         Ok(header) => header,

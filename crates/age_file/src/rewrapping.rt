@@ -15,15 +15,17 @@ use age_header::{Sink, Source, write_header};
 use age_recipient::{Identity, Recipient};
 use std::alloc::Global;
 
-/// Writes a file with a new header for the same file key, and after it every byte that follows the old header, unchanged. The payload is
-/// neither opened nor verified. Whoever kept the old header and its secret can still open the file.
+/// Writes a file with a new header for the same file key, and after it every byte that follows the
+/// old header, unchanged. The payload is neither opened nor verified. Whoever kept the old header
+/// and its secret can still open the file.
 ///
 /// # Errors
-/// The first that applies of `NotAge`, `BadLine`, `HeaderTruncated`, `HeaderTooLarge` as `inspect` says; `MixedPassphrase`; `NoMatch`,
-/// `WrongKey`, `Malformed` as `age_recipient::unlock` says; `BadMac`; then of the new header, as `encrypt` says: `Refused`,
-/// `IncompatibleRecipients`, `NoRecipients`, `MixedPassphrase`, `HeaderTooLarge`. On these, and on `OutOfMemory`, nothing was written.
-/// `Read` and `Write` where a device failed: a beginning of the new file was written. `TooManyChunks` where the source gives more than
-/// 2^105 bytes, which no payload has.
+/// The first that applies of `NotAge`, `BadLine`, `HeaderTruncated`, `HeaderTooLarge` as `inspect`
+/// says; `MixedPassphrase`; `NoMatch`, `WrongKey`, `Malformed` as `age_recipient::unlock` says;
+/// `BadMac`; then of the new header, as `encrypt` says: `Refused`, `IncompatibleRecipients`,
+/// `NoRecipients`, `MixedPassphrase`, `HeaderTooLarge`. On these, and on `OutOfMemory`, nothing was
+/// written. `Read` and `Write` where a device failed: a beginning of the new file was written.
+/// `TooManyChunks` where the source gives more than 2^105 bytes, which no payload has.
 pub fn rewrap<S: Source, W: Sink>(
     alloc: Global,
     input: &mut S,
@@ -33,9 +35,11 @@ pub fn rewrap<S: Source, W: Sink>(
     limits: &Limits,
 ) -> Result<(), Fault>
     ensures answer { Rewraps limits.now (λ stanzas. map (λ i. meaning i stanzas) identities.now)
-        (λ key. Gathered (map (λ r. wraps r key) recipients.now) (map (λ r. the_labels r) recipients.now))
+        (λ key. Gathered (map (λ r. wraps r key) recipients.now)
+        (map (λ r. the_labels r) recipients.now))
         (S.to_come input.old) (W.taken out.old) (W.taken out.new) result }
-    ensures quiet { IfErr result (λ fault. IsLate fault ⊎ Keeps (W.taken out.old) (W.taken out.new)) }
+    ensures quiet { IfErr result
+        (λ fault. IsLate fault ⊎ Keeps (W.taken out.old) (W.taken out.new)) }
     ensures reads { CountsRead (S.failed input.old) (S.failed input.new) result }
     ensures writes { CountsWrite (W.failed out.old) (W.failed out.new) result }
 {
@@ -59,7 +63,8 @@ pub fn rewrap<S: Source, W: Sink>(
         Err(_) => return Err(Fault::Write),
     }
     let mut buf = buf;
-    // So that with a buffered sink of this size each write but the last begins and ends at a multiple of it.
+    // So that with a buffered sink of this size each write but the last begins and ends at a
+    // multiple of it.
     let first = 65_536 - (new.text_len() % 65_536) as usize;
     copy_all(input, out, buf.as_mut_slice(), first)
 }

@@ -184,7 +184,8 @@ fn too_many_chunks(rt: HostRuntime) -> Result<(), Fail> {
     Ok(())
 }
 
-/// A damaged first chunk: nothing is written, and the source is read no further than one byte into the second.
+/// A damaged first chunk: nothing is written, and the source is read no further than one byte into
+/// the second.
 #[test]
 fn damaged_first_chunk(rt: HostRuntime) -> Result<(), Fail> {
     let alloc = rt.alloc();

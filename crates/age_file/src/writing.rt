@@ -16,18 +16,22 @@ use age_recipient::Recipient;
 use age_stream::{ChunkBuf, ChunkSealer, Done, StreamWriter};
 use std::alloc::Global;
 
-/// Writes the age file of a plaintext, all that the source still gives, for these recipients (C2SP `age.md`). Every allocation is
-/// made before the first byte goes out, and each chunk goes out as soon as more text comes.
+/// Writes the age file of a plaintext, all that the source still gives, for these recipients (C2SP
+/// `age.md`). Every allocation is made before the first byte goes out, and each chunk goes out as
+/// soon as more text comes.
 ///
-/// `fresh`, and the salts of the recipients, must be random and used for this file alone: the same again repeats the keys of a file.
-/// A passphrase recipient takes 2^work KiB of memory while it wraps. What was written before an error is no whole file.
+/// `fresh`, and the salts of the recipients, must be random and used for this file alone: the same
+/// again repeats the keys of a file. A passphrase recipient takes 2^work KiB of memory while it
+/// wraps. What was written before an error is no whole file.
 ///
 /// # Errors
-/// In this order: `Refused` at the first recipient that refuses, `IncompatibleRecipients` at the first whose labels do not go together
-/// with those of recipient 0, `NoRecipients` where there is no stanza at all, `MixedPassphrase` where a `scrypt` stanza stands beside
-/// another, `HeaderTooLarge`. On these, and on `OutOfMemory`, nothing was written.
-/// `TooManyChunks` where the plaintext has more chunks than are allowed: the header, the nonce and the sealed chunks with an index
-/// below the limit less one were written. `Read` and `Write` where a device failed: a beginning of the file was written.
+/// In this order: `Refused` at the first recipient that refuses, `IncompatibleRecipients` at the
+/// first whose labels do not go together with those of recipient 0, `NoRecipients` where there is
+/// no stanza at all, `MixedPassphrase` where a `scrypt` stanza stands beside another,
+/// `HeaderTooLarge`. On these, and on `OutOfMemory`, nothing was written. `TooManyChunks` where the
+/// plaintext has more chunks than are allowed: the header, the nonce and the sealed chunks with an
+/// index below the limit less one were written. `Read` and `Write` where a device failed: a
+/// beginning of the file was written.
 pub fn encrypt<S: Source, W: Sink>(
     alloc: Global,
     plain: &mut S,
@@ -36,13 +40,20 @@ pub fn encrypt<S: Source, W: Sink>(
     fresh: &Fresh,
     limits: &Limits,
 ) -> Result<Done, Fault>
-    ensures answer { EncryptsGiven limits.now fresh.now (Gathered (map (λ r. wraps r fresh.now.file_key) recipients.now) (map (λ r. the_labels r) recipients.now))
+    ensures answer { EncryptsGiven limits.now fresh.now (Gathered
+        (map (λ r. wraps r fresh.now.file_key) recipients.now)
+        (map (λ r. the_labels r) recipients.now))
         (S.to_come plain.old) (W.taken out.old) (W.taken out.new) result }
-    ensures refused { IfErr result (RefusesFirst limits.now fresh.now.file_key (Gathered (map (λ r. wraps r fresh.now.file_key) recipients.now) (map (λ r. the_labels r) recipients.now))) }
-    ensures quiet { IfErr result (λ fault. IsLate fault ⊎ Keeps (W.taken out.old) (W.taken out.new)) }
+    ensures refused { IfErr result (RefusesFirst limits.now fresh.now.file_key
+        (Gathered (map (λ r. wraps r fresh.now.file_key) recipients.now)
+        (map (λ r. the_labels r) recipients.now))) }
+    ensures quiet { IfErr result
+        (λ fault. IsLate fault ⊎ Keeps (W.taken out.old) (W.taken out.new)) }
     ensures reads { CountsRead (S.failed plain.old) (S.failed plain.new) result }
     ensures writes { CountsWrite (W.failed out.old) (W.failed out.new) result }
-    ensures took { IfErr result (TakesOf limits.now fresh.now (Gathered (map (λ r. wraps r fresh.now.file_key) recipients.now) (map (λ r. the_labels r) recipients.now))
+    ensures took { IfErr result (TakesOf limits.now fresh.now
+        (Gathered (map (λ r. wraps r fresh.now.file_key) recipients.now)
+        (map (λ r. the_labels r) recipients.now))
         (S.to_come plain.old) (S.to_come plain.new) (W.taken out.old) (W.taken out.new)) }
 {
     let header = header_for(alloc, recipients, &fresh.file_key, limits)?;

@@ -1,5 +1,5 @@
--- Base64 without padding (RFC 4648, sections 3.2, 3.5 and 4), as a relation between bytes and characters. It is canonical:
--- bits that no byte fills are zero.
+-- Base64 without padding (RFC 4648, sections 3.2, 3.5 and 4), as a relation between bytes and
+-- characters. It is canonical: bits that no byte fills are zero.
 use Rattle.std.specs.Prelude.{◌≡◌, ℕ, ◌+◌, ◌*◌, ◌/◌, ◌%◌, ◌<◌, ◌==◌, List, [], ◌∷◌, slice_index, codes, if◌then◌else◌}
 use Rattle.std.specs.List.{position_or_len}
 use Rattle.std.specs.Str.{bytes_eq}
@@ -29,8 +29,8 @@ IsTwo a b p q r =
 -- three bytes as four characters, the same twenty-four bits
 abbrev pub IsThree : ℕ → ℕ → ℕ → ℕ → ℕ → ℕ → ℕ → Type 0
 IsThree a b c p q r s =
-    (u : ℕ) × (v : ℕ) × (w : ℕ) × (x : ℕ) × StandsFor p u × StandsFor q v × StandsFor r w × StandsFor s x
-    × (a < 256) × (b < 256) × (c < 256)
+    (u : ℕ) × (v : ℕ) × (w : ℕ) × (x : ℕ) × StandsFor p u × StandsFor q v × StandsFor r w
+    × StandsFor s x × (a < 256) × (b < 256) × (c < 256)
     × ((a * 256 + b) * 256 + c ≡ ((u * 64 + v) * 64 + w) * 64 + x)
 
 -- the characters are the base64 of the bytes
@@ -52,11 +52,15 @@ value_of c = position_or_len (λ b. b == c) alphabet
 -- the only bytes whose base64 these characters may be
 unfoldable pub candidate : List ℕ → List ℕ
 candidate (p ∷ q ∷ []) = (value_of p * 4 + value_of q / 16) % 256 ∷ []
-candidate (p ∷ q ∷ r ∷ []) = (value_of p * 4 + value_of q / 16) % 256 ∷ (value_of q * 16 + value_of r / 4) % 256 ∷ []
+candidate (p ∷ q ∷ r ∷ []) =
+    (value_of p * 4 + value_of q / 16) % 256 ∷ (value_of q * 16 + value_of r / 4) % 256 ∷ []
 candidate (p ∷ q ∷ r ∷ s ∷ signs) =
-    (value_of p * 4 + value_of q / 16) % 256 ∷ (value_of q * 16 + value_of r / 4) % 256 ∷ (value_of r * 64 + value_of s) % 256 ∷ candidate signs
+    (value_of p * 4 + value_of q / 16) % 256 ∷ (value_of q * 16 + value_of r / 4) % 256
+    ∷ (value_of r * 64 + value_of s) % 256 ∷ candidate signs
 candidate _ = []
 
--- the bytes whose base64 these characters are, where there are such bytes: the only candidate is tried
+-- the bytes whose base64 these characters are, where there are such bytes: the only candidate is
+-- tried
 unfoldable pub decoded : List ℕ → Option (List ℕ)
-decoded signs = if bytes_eq (base64_of (candidate signs)) signs then Some (candidate signs) else None
+decoded signs =
+    if bytes_eq (base64_of (candidate signs)) signs then Some (candidate signs) else None

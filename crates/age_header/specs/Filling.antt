@@ -3,7 +3,8 @@ use Rattle.std.specs.Prelude.{ℕ, List, ◌++◌, ◌≡◌, ◌≤◌, ◌<◌
 use Rattle.std.specs.declared.option.Option.{Option}
 use Rattle.std.specs.Io.KnownBytes.{Consumes, IsAtEnd}
 
--- the source gave n bytes, which follow the first `at` in the buffer; none only at its end or where there was no room
+-- the source gave n bytes, which follow the first `at` in the buffer; none only at its end or where
+-- there was no room
 pub record Got (at n : ℕ) (buf after : List ℕ) (old new : Option (List ℕ)) : Type 0 where
   pub piece : List ℕ
   pub len : length piece ≡ n

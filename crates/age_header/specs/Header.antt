@@ -1,4 +1,5 @@
--- The header of an age v1 file (C2SP age.md, "Header"), as a relation between its parts and its bytes.
+-- The header of an age v1 file (C2SP age.md, "Header"), as a relation between its parts and its
+-- bytes.
 use Rattle.std.specs.Prelude.{◌≡◌, ◌≢◌, ℕ, ◌<◌, ◌≤◌, List, [], ◌∷◌, ◌++◌, length, codes, flat_map}
 use Rattle.std.specs.List.{concat, AllByRecursion}
 use Rattle.age_header.specs.Base64.{B64}
@@ -36,8 +37,8 @@ argument_line args = line (codes "->" ++ flat_map (λ a. 32 ∷ a) args)
 abbrev pub IsFullLine : List ℕ → Type 0
 IsFullLine signs = length signs ≡ 64
 
--- The text of a stanza: its argument line, full lines, and a last line of fewer than 64 characters. The characters of
--- these lines, joined, are the base64 of the body.
+-- The text of a stanza: its argument line, full lines, and a last line of fewer than 64 characters.
+-- The characters of these lines, joined, are the base64 of the body.
 pub record IsStanza (s : StanzaParts) (text : List ℕ) : Type 0 where
   pub full : List (List ℕ)
   pub last : List ℕ
@@ -52,7 +53,8 @@ AreStanzas [] text = text ≡ []
 AreStanzas (s ∷ ss) text =
     (x : List ℕ) × (y : List ℕ) × IsStanza s x × AreStanzas ss y × (text ≡ x ++ y)
 
--- The header of these stanzas, at least one, and this MAC of 32 bytes: the version line, the stanzas, and the end line.
+-- The header of these stanzas, at least one, and this MAC of 32 bytes: the version line, the
+-- stanzas, and the end line.
 pub record Head (stanzas : List StanzaParts) (mac : List ℕ) (h : List ℕ) : Type 0 where
   pub body : List ℕ
   pub signs : List ℕ

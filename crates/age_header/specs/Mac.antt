@@ -5,6 +5,7 @@ use Rattle.age_kdf.specs.Hkdf.{hkdf}
 use Rattle.age_header.specs.Header.{StanzaParts}
 use Rattle.age_header.specs.Text.{signed}
 
--- HMAC-SHA-256 of the header through `---`, under a key of 32 bytes that HKDF-SHA-256 makes of the file key
+-- HMAC-SHA-256 of the header through `---`, under a key of 32 bytes that HKDF-SHA-256 makes of the
+-- file key
 unfoldable pub header_mac : List ℕ → List StanzaParts → List ℕ
 header_mac key stanzas = hmac (hkdf key [] (codes "header") 32) (signed stanzas)

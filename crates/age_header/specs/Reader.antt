@@ -16,13 +16,18 @@ Refuses b max Read = ⊤
 Refuses b max Memory = ⊤
 Refuses b max fault = IsFault b max fault
 
--- What a reader under a limit of max bytes answers of b: its verdict. On a header just the header's bytes are taken.
-abbrev pub AnswersOf : List ℕ → Option (List ℕ) → Option (List ℕ) → ℕ → Result HeaderParts HeaderFault → Type 0
+-- What a reader under a limit of max bytes answers of b: its verdict. On a header just the header's
+-- bytes are taken.
+abbrev pub AnswersOf : List ℕ → Option (List ℕ) → Option (List ℕ) → ℕ
+    → Result HeaderParts HeaderFault → Type 0
 AnswersOf b old new max (Ok h) =
-    (text : List ℕ) × HeaderVerdict b max (Ok (record { stanzas = h.stanzas; mac = h.mac; text = text })) × Consumes old new text
+    (text : List ℕ)
+    × HeaderVerdict b max (Ok (record { stanzas = h.stanzas; mac = h.mac; text = text }))
+    × Consumes old new text
 AnswersOf b old new max (Err fault) = Refuses b max fault
 
--- What it answers of a source: of the bytes that were to come, or of some bytes where the source doesn't tell them.
+-- What it answers of a source: of the bytes that were to come, or of some bytes where the source
+-- doesn't tell them.
 abbrev pub Answers : Option (List ℕ) → Option (List ℕ) → ℕ → Result HeaderParts HeaderFault → Type 0
 Answers None new max r = (b : List ℕ) × AnswersOf b None new max r
 Answers (Some b) new max r = AnswersOf b (Some b) new max r

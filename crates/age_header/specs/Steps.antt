@@ -3,7 +3,8 @@ use Rattle.std.specs.Prelude.{◌≡◌, ℕ, ◌<◌, List, [], ◌∷◌, ◌+
 use Rattle.age_header.specs.Base64.{B64}
 use Rattle.age_header.specs.Header.{StanzaParts, AreArguments, IsFullLine, argument_line, line}
 
--- between two stanzas, or within one: the whole stanzas, and of the open one its arguments and bytes so far
+-- between two stanzas, or within one: the whole stanzas, and of the open one its arguments and
+-- bytes so far
 pub data State : Type 0 where
   between : List StanzaParts → State
   within : List StanzaParts → List (List ℕ) → List ℕ → State
@@ -14,7 +15,8 @@ Step (between ss) l (between ts) = ⊥
 Step (between ss) l (within ts args body) =
     (ts ≡ ss) × (body ≡ []) × AreArguments args × (line l ≡ argument_line args)
 Step (within ss args body) l (within ts args' body') =
-    (more : List ℕ) × (ts ≡ ss) × (args' ≡ args) × IsFullLine l × B64 more l × (body' ≡ body ++ more)
+    (more : List ℕ) × (ts ≡ ss) × (args' ≡ args) × IsFullLine l × B64 more l
+    × (body' ≡ body ++ more)
 Step (within ss args body) l (between ts) =
     (more : List ℕ) × (length l < 64) × B64 more l
     × (ts ≡ ss ++ record { args = args; body = body ++ more } ∷ [])

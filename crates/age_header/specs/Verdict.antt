@@ -50,7 +50,8 @@ pub record AreLines (ls : List (List ℕ)) (b : List ℕ) : Type 0 where
   pub each : AllByRecursion IsLineText ls
   pub front : b ≡ lines_text ls ++ rest
 
--- The least number of first lines of b that are a header or not viable: fewer lines are viable and no header.
+-- The least number of first lines of b that are a header or not viable: fewer lines are viable and
+-- no header.
 pub record Decides (ls : List (List ℕ)) (b : List ℕ) : Type 0 where
   pub lines : AreLines ls b
   pub decided : IsHeader (lines_text ls) ⊎ (IsViable (lines_text ls) → ⊥)
@@ -83,7 +84,9 @@ pub record Finds (b : List ℕ) (max : ℕ) (found : Found) : Type 0 where
 abbrev pub IsFault : List ℕ → ℕ → HeaderFault → Type 0
 IsFault b max NotAge = BeginsAsAge (take max b) → ⊥
 IsFault b max (BadLine n) =
-    BeginsAsAge (take max b) × ((ls : List (List ℕ)) × (length ls ≡ n) × Decides ls (take max b) × (IsHeader (lines_text ls) → ⊥))
+    BeginsAsAge (take max b)
+    × ((ls : List (List ℕ)) × (length ls ≡ n) × Decides ls (take max b)
+    × (IsHeader (lines_text ls) → ⊥))
 IsFault b max Truncated = BeginsAsAge (take max b) × IsUndecided (take max b) × (length b < max)
 IsFault b max TooLarge = BeginsAsAge (take max b) × IsUndecided (take max b) × (max ≤ length b)
 IsFault b max Read = ⊥

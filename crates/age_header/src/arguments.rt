@@ -42,8 +42,10 @@ impl Arguments {
 
     /// The arguments that an argument line, less its LF, spells.
     pub(crate) fn parse(alloc: Global, text: &[u8]) -> Result<Option<Arguments>, AllocError>
-        ensures some { IfOk result (λ o. IfSome o (λ args. AreArguments args × (line text.now ≡ argument_line args))) }
-        ensures none { IfOk result (λ o. IfNone o ((args : List (List ℕ)) → AreArguments args → line text.now ≡ argument_line args → ⊥)) }
+        ensures some { IfOk result
+            (λ o. IfSome o (λ args. AreArguments args × (line text.now ≡ argument_line args))) }
+        ensures none { IfOk result (λ o. IfNone o
+            ((args : List (List ℕ)) → AreArguments args → line text.now ≡ argument_line args → ⊥)) }
     {
         let Some(mut rest) = behind(text, b"->") else {
             return Ok(None);

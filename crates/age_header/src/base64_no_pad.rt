@@ -1,4 +1,5 @@
-//! Base64 without padding (RFC 4648, section 4), canonical, by the crate `base64` with an alphabet of this project's own.
+//! Base64 without padding (RFC 4648, section 4), canonical, by the crate `base64` with an alphabet
+//! of this project's own.
 
 ghost use Rattle.std.specs.Prelude.{◌≡◌, ℕ, List, IfOk, IfSome, IfNone, option_map};
 ghost use Rattle.std.specs.String.{string_bytes};

@@ -1,5 +1,5 @@
-//! Where bytes come from and where they go to. A device counts its failures, so that a caller can tell a fault of
-//! the outside from one of the bytes, and may tell its bytes to proofs.
+//! Where bytes come from and where they go to. A device counts its failures, so that a caller can
+//! tell a fault of the outside from one of the bytes, and may tell its bytes to proofs.
 
 ghost use Rattle.std.specs.Prelude.{◌≡◌, ◌<◌, ◌≤◌, ◌+◌, ◌-◌, ◌^◌, ℕ, List, Some, length, min, vec_capacity, vec_len, IfOk, OnErr};
 ghost use Rattle.std.specs.declared.option.Option.{Option};
@@ -21,8 +21,9 @@ pub trait Source {
     // The bytes that are still to come, where the source tells them.
     ghost to_come: { Self → Option (List ℕ) };
 
-    /// Reads the next bytes into the front of `buf`, and gives their number; 0 in a nonempty `buf` only at the end of
-    /// the input. A short read is not the end. An error says nothing of the bytes.
+    /// Reads the next bytes into the front of `buf`, and gives their number; 0 in a nonempty `buf`
+    /// only at the end of the input. A short read is not the end. An error says nothing of the
+    /// bytes.
     fn read(&mut self, buf: &mut [u8]) -> Result<usize, DeviceFault>
         ensures bound { ReadsAtMost result buf.new }
         ensures count { Counts (failed self.old) (failed self.new) result }
@@ -41,8 +42,8 @@ pub trait Sink {
     // The bytes that were taken, where the sink tells them.
     ghost taken: { Self → Option (List ℕ) };
 
-    /// Takes the front of `piece`, and gives the number of bytes taken, at least 1 of a nonempty piece. An error takes
-    /// nothing.
+    /// Takes the front of `piece`, and gives the number of bytes taken, at least 1 of a nonempty
+    /// piece. An error takes nothing.
     fn write(&mut self, piece: &[u8]) -> Result<usize, DeviceFault>
         ensures bound { IfOk result (λ n. n ≤ length piece.now) }
         ensures count { Counts (failed self.old) (failed self.new) result }
@@ -53,8 +54,8 @@ pub trait Sink {
         ensures { result ≡ failed self.now };
 }
 
-/// Writes the whole piece, in as many writes as the sink needs. On an error a beginning of it was written; a call that
-/// was interrupted is not tried again.
+/// Writes the whole piece, in as many writes as the sink needs. On an error a beginning of it was
+/// written; a call that was interrupted is not tried again.
 pub fn write_all<W: Sink>(out: &mut W, piece: &[u8]) -> Result<(), DeviceFault>
     ensures text { Writes (W.taken out.old) (W.taken out.new) result piece.now }
     ensures count { Counts (W.failed out.old) (W.failed out.new) result }
@@ -114,8 +115,8 @@ impl<'a> Source for MemSource<'a> {
     }
 }
 
-/// A sink that appends to its vector. It takes a piece whole, and fails only where its vector has no room for the piece and
-/// the allocation is refused.
+/// A sink that appends to its vector. It takes a piece whole, and fails only where its vector has
+/// no room for the piece and the allocation is refused.
 #[derive(Drop)]
 pub struct MemSink {
     out: Vec<u8>,

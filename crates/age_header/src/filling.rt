@@ -7,8 +7,9 @@ ghost use Rattle.age_header.specs.Filling.{Filled, Got};
 
 use crate::device::{DeviceFault, Source};
 
-/// Reads into `buf` after its first `start` bytes, in as many reads as it takes, until it is full or the source is at its end.
-/// Returns how many bytes of `buf` are filled then, the first `start` counted.
+/// Reads into `buf` after its first `start` bytes, in as many reads as it takes, until it is full
+/// or the source is at its end. Returns how many bytes of `buf` are filled then, the first `start`
+/// counted.
 ///
 /// # Errors
 /// A read failed. It is not tried again, and the bytes that were read before it are lost.
@@ -19,7 +20,8 @@ pub fn fill_from<S: Source>(
 ) -> Result<usize, DeviceFault>
     requires { start ≤ length buf.old }
     ensures len { length buf.new ≡ length buf.old }
-    ensures bytes { IfOk result (λ n. Filled start n buf.old buf.new (S.to_come input.old) (S.to_come input.new)) }
+    ensures bytes { IfOk result
+        (λ n. Filled start n buf.old buf.new (S.to_come input.old) (S.to_come input.new)) }
     ensures end { IfOk result (λ n. n < length buf.old → IsAtEnd (S.to_come input.new)) }
     ensures count { Counts (S.failed input.old) (S.failed input.new) result }
 {
@@ -38,7 +40,8 @@ pub fn fill_from<S: Source>(
 fn read_after<S: Source>(input: &mut S, buf: &mut [u8], at: usize) -> Result<usize, DeviceFault>
     requires { at ≤ length buf.old }
     ensures len { length buf.new ≡ length buf.old }
-    ensures bytes { IfOk result (λ n. Got at n buf.old buf.new (S.to_come input.old) (S.to_come input.new)) }
+    ensures bytes { IfOk result
+        (λ n. Got at n buf.old buf.new (S.to_come input.old) (S.to_come input.new)) }
     ensures count { Counts (S.failed input.old) (S.failed input.new) result }
 {
     let (_, rest) = buf.split_at_mut(at);

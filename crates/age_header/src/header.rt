@@ -30,7 +30,8 @@ impl Header {
 
     /// A header of these stanzas and this MAC; None where there is no stanza.
     pub fn new(stanzas: Vec<Stanza>, mac: [u8; 32]) -> Option<Header>
-        ensures some { IfSome result (λ h. (stanzas.items ≢ []) × (h.stanzas ≡ stanzas.items) × (h.mac ≡ mac)) }
+        ensures some { IfSome result
+            (λ h. (stanzas.items ≢ []) × (h.stanzas ≡ stanzas.items) × (h.mac ≡ mac)) }
         ensures none { IfNone result (stanzas.items ≡ []) }
     {
         if stanzas.is_empty() {

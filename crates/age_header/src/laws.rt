@@ -1,4 +1,5 @@
-//! Laws of the format, over its definitions alone: each is the contract of a function that does nothing.
+//! Laws of the format, over its definitions alone: each is the contract of a function that does
+//! nothing.
 
 ghost use Rattle.std.specs.Prelude.{◌≡◌, ◌↔◌, ◌++◌, ◌-◌, [], ℕ, List, Ok, Some, length, take};
 ghost use Rattle.std.specs.declared.result.Result.{Result};
@@ -9,28 +10,36 @@ ghost use Rattle.age_header.specs.Header.{StanzaParts, Head};
 ghost use Rattle.age_header.specs.Text.{signed};
 ghost use Rattle.age_header.specs.Verdict.{Found, HeaderVerdict, BeginsWith};
 
-/// Characters are decoded to just the bytes whose base64 they are, and what bytes are encoded to is their base64.
+/// Characters are decoded to just the bytes whose base64 they are, and what bytes are encoded to is
+/// their base64.
 pub fn one_base64()
     ensures decoded { (signs bytes : List ℕ) → (decoded signs ≡ Some bytes) ↔ B64 bytes signs }
     ensures encoded { (bytes : List ℕ) → IsBytes bytes → B64 bytes (base64_of bytes) }
 {}
 
-/// A header's text has one reading, stanzas and a MAC have one text, and no header's text begins another one.
+/// A header's text has one reading, stanzas and a MAC have one text, and no header's text begins
+/// another one.
 pub fn one_reading()
-    ensures reading { (ss ts : List StanzaParts) (m n h : List ℕ) → Head ss m h → Head ts n h → (ss ≡ ts) × (m ≡ n) }
+    ensures reading { (ss ts : List StanzaParts) (m n h : List ℕ) → Head ss m h → Head ts n h
+        → (ss ≡ ts) × (m ≡ n) }
     ensures text { (ss : List StanzaParts) (m h k : List ℕ) → Head ss m h → Head ss m k → h ≡ k }
-    ensures front { (ss ts : List StanzaParts) (m n h x : List ℕ) → Head ss m h → Head ts n (h ++ x) → x ≡ [] }
+    ensures front { (ss ts : List StanzaParts) (m n h x : List ℕ) → Head ss m h → Head ts n (h ++ x)
+        → x ≡ [] }
 {}
 
-/// Bytes have one header verdict under a limit, and it is a header exactly where they begin with that header and the limit
-/// holds it.
+/// Bytes have one header verdict under a limit, and it is a header exactly where they begin with
+/// that header and the limit holds it.
 pub fn one_verdict()
     ensures some { (b : List ℕ) (max : ℕ) → (r : Result Found HeaderFault) × HeaderVerdict b max r }
-    ensures one { (b : List ℕ) (max : ℕ) (r q : Result Found HeaderFault) → HeaderVerdict b max r → HeaderVerdict b max q → r ≡ q }
-    ensures header { (b : List ℕ) (max : ℕ) (found : Found) → HeaderVerdict b max (Ok found) ↔ BeginsWith b max found }
+    ensures one { (b : List ℕ) (max : ℕ) (r q : Result Found HeaderFault) → HeaderVerdict b max r
+        → HeaderVerdict b max q → r ≡ q }
+    ensures header { (b : List ℕ) (max : ℕ) (found : Found)
+        → HeaderVerdict b max (Ok found) ↔ BeginsWith b max found }
 {}
 
-/// What a header's MAC is taken over is its text without the last 45 bytes: the space, the MAC's 43 characters and the LF.
+/// What a header's MAC is taken over is its text without the last 45 bytes: the space, the MAC's 43
+/// characters and the LF.
 pub fn signed_front()
-    ensures { (ss : List StanzaParts) (mac h : List ℕ) → Head ss mac h → signed ss ≡ take (length h - 45) h }
+    ensures { (ss : List StanzaParts) (mac h : List ℕ) → Head ss mac h
+        → signed ss ≡ take (length h - 45) h }
 {}

@@ -1,4 +1,5 @@
-//! The header of age v1 files (C2SP `age.md`), and the devices that bytes are read from and written to.
+//! The header of age v1 files (C2SP `age.md`), and the devices that bytes are read from and written
+//! to.
 //!
 //! ```
 //! let header = HeaderReader::new(65_536).read_from(alloc, &mut MemSource::new(file))?;
@@ -8,8 +9,9 @@
 //! write_header(&header, &mut sink)?; // the same bytes again: a header has one text
 //! ```
 //!
-//! Limits: a reader takes just the header's bytes, at most as many as it was made for, which the caller chooses. It does not
-//! verify the MAC, since that needs the file key: `mac_of` gives what it has to be.
+//! Limits: a reader takes just the header's bytes, at most as many as it was made for, which the
+//! caller chooses. It does not verify the MAC, since that needs the file key: `mac_of` gives what
+//! it has to be.
 #![tactic(auto)]
 
 mod arguments;

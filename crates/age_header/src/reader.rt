@@ -21,7 +21,8 @@ use std::marker::Model;
 
 const VERSION: &[u8; 21] = b"age-encryption.org/v1";
 
-/// Reads headers of at most `max` bytes. It keeps a fault, and answers it from then on without asking its source.
+/// Reads headers of at most `max` bytes. It keeps a fault, and answers it from then on without
+/// asking its source.
 #[derive(Drop)]
 pub struct HeaderReader {
     max: usize,
@@ -46,13 +47,14 @@ impl HeaderReader {
         HeaderReader { max, fault: None }
     }
 
-    /// The header at the front of the input (C2SP `age.md`, "Header"), of which just the header's bytes are taken.
+    /// The header at the front of the input (C2SP `age.md`, "Header"), of which just the header's
+    /// bytes are taken.
     ///
     /// # Errors
-    /// Over the input's first `max` bytes: `NotAge` where they don't begin as the version line does; else
-    /// `BadLine(n)` for the least n for which the first n lines are no header and no front of one; else `Truncated` where
-    /// the input is shorter than `max`, and `TooLarge` where it is not. `Read` where the source failed, `Memory` where an
-    /// allocation was refused.
+    /// Over the input's first `max` bytes: `NotAge` where they don't begin as the version line
+    /// does; else `BadLine(n)` for the least n for which the first n lines are no header and no
+    /// front of one; else `Truncated` where the input is shorter than `max`, and `TooLarge` where
+    /// it is not. `Read` where the source failed, `Memory` where an allocation was refused.
     pub fn read_from<S: Source>(
         &mut self,
         alloc: Global,
@@ -113,8 +115,10 @@ fn read_header<S: Source>(alloc: Global, input: &mut S, max: usize) -> Result<He
 /// Takes the version line.
 fn read_version<S: Source>(alloc: Global, input: &mut S, max: usize) -> Result<(), HeaderFault>
     ensures count { CountsRead (S.failed input.old) (S.failed input.new) result }
-    ensures ok { OnOk result ((22 ≤ max) × Consumes (S.to_come input.old) (S.to_come input.new) version_line) }
-    ensures err { IfErr result (λ e. Answers (S.to_come input.old) (S.to_come input.new) max (Err e)) }
+    ensures ok { OnOk result
+        ((22 ≤ max) × Consumes (S.to_come input.old) (S.to_come input.new) version_line) }
+    ensures err { IfErr result
+        (λ e. Answers (S.to_come input.old) (S.to_come input.new) max (Err e)) }
 {
     let (first, end) = read_line(alloc, input, max.min(22))?;
     let Some(rest) = behind(VERSION, first.as_slice()) else {

@@ -18,8 +18,8 @@ pub enum StanzaError {
     Memory,
 }
 
-/// A stanza of a header (C2SP `age.md`, "Recipient stanza"): its arguments, one or more, of visible characters, and its
-/// body, any bytes. The first argument is its type.
+/// A stanza of a header (C2SP `age.md`, "Recipient stanza"): its arguments, one or more, of visible
+/// characters, and its body, any bytes. The first argument is its type.
 #[derive(Drop)]
 pub struct Stanza {
     args: Arguments,
@@ -72,7 +72,8 @@ impl Stanza {
 
     /// Adds bytes at the end of the body.
     pub(crate) fn extend(&mut self, bytes: &[u8]) -> Result<(), AllocError>
-        ensures ok { OnOk result (self.new ≡ record { args = self.old.args; body = self.old.body ++ bytes.now }) }
+        ensures ok { OnOk result
+            (self.new ≡ record { args = self.old.args; body = self.old.body ++ bytes.now }) }
     {
         self.body.extend_from_slice(bytes)
     }

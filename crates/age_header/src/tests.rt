@@ -1,4 +1,5 @@
-//! Worked headers: what is read, what is written, and that calls which may answer want of memory succeed.
+//! Worked headers: what is read, what is written, and that calls which may answer want of memory
+//! succeed.
 
 use crate::{
     Header, HeaderFault, HeaderReader, MemSink, MemSource, ReadSource, Sink, Source, Stanza,
@@ -148,7 +149,8 @@ fn many_arguments(rt: HostRuntime) -> Result<(), Fail> {
     Ok(())
 }
 
-/// The header of these stanzas, each its arguments and a body of so many zero bytes, and a MAC of zero bytes.
+/// The header of these stanzas, each its arguments and a body of so many zero bytes, and a MAC of
+/// zero bytes.
 fn written(rt: &impl Abort, alloc: Global, stanzas: &[(&[&str], usize)]) -> Result<Vec<u8>, Fail> {
     let mut list = Vec::new(alloc);
     for (args, len) in stanzas {

@@ -59,7 +59,8 @@ fn write_mac<W: Sink>(
 
 /// Writes the line of these arguments.
 fn write_args<W: Sink>(args: &[String], out: &mut W) -> Result<(), DeviceFault>
-    ensures text { Writes (W.taken out.old) (W.taken out.new) result (argument_line (map string_bytes args.now)) }
+    ensures text { Writes (W.taken out.old) (W.taken out.new) result
+        (argument_line (map string_bytes args.now)) }
     ensures count { Counts (W.failed out.old) (W.failed out.new) result }
 {
     write_all(out, b"->")?;

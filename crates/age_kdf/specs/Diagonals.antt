@@ -29,4 +29,6 @@ spread s =
 
 -- four lanes, each moved down by n places
 abbrev pub turned : ℕ → List ℕ → List ℕ
-turned n v = slice_index v (n % 4) ∷ slice_index v ((n + 1) % 4) ∷ slice_index v ((n + 2) % 4) ∷ slice_index v ((n + 3) % 4) ∷ []
+turned n v =
+    slice_index v (n % 4) ∷ slice_index v ((n + 1) % 4) ∷ slice_index v ((n + 2) % 4)
+    ∷ slice_index v ((n + 3) % 4) ∷ []

@@ -13,10 +13,9 @@
 //! }
 //! ```
 //!
-//! Limits: only `scrypt` takes memory, and only it can fail, where that memory is refused; `scrypt_with`
-//! works in the caller's. Parameters go up to log_n 30, r 32 and p 32, and log_n is
-//! below 16 r, as RFC 7914 demands. Constant time and wiping of memory
-//! are not claimed.
+//! Limits: only `scrypt` takes memory, and only it can fail, where that memory is refused;
+//! `scrypt_with` works in the caller's. Parameters go up to log_n 30, r 32 and p 32, and log_n is
+//! below 16 r, as RFC 7914 demands. Constant time and wiping of memory are not claimed.
 #![tactic(auto)]
 
 ghost use Rattle.std.specs.Prelude.{◌≡◌};

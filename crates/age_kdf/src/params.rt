@@ -34,8 +34,8 @@ pub(crate) fn row_count(log_n: u32) -> usize
 }
 
 impl ScryptParams {
-    /// These parameters, or None where one is out of range: `log_n` is 1 to 30 and below 16 * r, and
-    /// `r` and `p` are 1 to 32.
+    /// These parameters, or None where one is out of range: `log_n` is 1 to 30 and below 16 * r,
+    /// and `r` and `p` are 1 to 32.
     pub fn new(log_n: u32, r: u32, p: u32) -> Option<ScryptParams>
         ensures in_range { IsSome result ↔ InRange log_n r p }
         ensures parts { IfSome result (λ s. s ≡ record { log_n = log_n; r = r; p = p }) }

@@ -39,8 +39,8 @@ fn xor_row(x: &mut [u32], table: &[u32], i: usize)
     xor_into(x, &table[at..end]);
 }
 
-/// ROMix of `x` with N = 2^log_n. The table has room for N rows of the size of `x`, and `y` for one;
-/// what they hold before does not matter.
+/// ROMix of `x` with N = 2^log_n. The table has room for N rows of the size of `x`, and `y` for
+/// one; what they hold before does not matter.
 pub(crate) fn romix(table: &mut [u32], x: &mut [u32], y: &mut [u32], r: usize, log_n: u32)
     requires r { (1 ≤ r) × (r ≤ 32) }
     requires log_n { log_n ≤ 30 }

@@ -1,5 +1,6 @@
-// The Salsa20/8 core (RFC 7914, section 3), four steps at a time: vector k holds four of the sixteen words, one of each
-// column and one of each row, so that the four columns, and after rotations the four rows, are lanes.
+// The Salsa20/8 core (RFC 7914, section 3), four steps at a time: vector k holds four of the
+// sixteen words, one of each column and one of each row, so that the four columns, and after
+// rotations the four rows, are lanes.
 
 ghost use Rattle.std.specs.Prelude.{◌≡◌, ℕ, ◌<◌, slice_index, bit_xor};
 ghost use Rattle.std.specs.Int.{w32, rotate_left};
@@ -35,7 +36,8 @@ fn xor(x: u32x4, y: u32x4) -> u32x4
 #[inline(always)]
 fn step(b: u32x4, a: u32x4, d: u32x4, k: u32) -> u32x4
     requires { (0 < k) × (k < 32) }
-    ensures { (j : ℕ) → j < 4 → slice_index result j ≡ stepped (slice_index b j) (slice_index a j) (slice_index d j) k }
+    ensures { (j : ℕ) → j < 4
+        → slice_index result j ≡ stepped (slice_index b j) (slice_index a j) (slice_index d j) k }
 {
     xor(b, rotated(sum(a, d), k))
 }
@@ -44,7 +46,13 @@ fn step(b: u32x4, a: u32x4, d: u32x4, k: u32) -> u32x4
 #[inline(always)]
 fn quarter(a: u32x4, b: u32x4, c: u32x4, d: u32x4) -> (u32x4, u32x4, u32x4, u32x4)
     ensures { (j : ℕ) → j < 4
-        → (slice_index result.0 j, slice_index result.1 j, slice_index result.2 j, slice_index result.3 j)
+        → (
+          slice_index result.0 j,
+          slice_index result.1 j,
+          slice_index result.2 j,
+          slice_index
+              result.3 j,
+        )
         ≡ quartered (slice_index a j) (slice_index b j) (slice_index c j) (slice_index d j) }
 {
     let b1 = step(b, a, d, 7);

@@ -68,9 +68,9 @@ fn mix_parts(table: &mut [u32], parts: &mut [u32], y: &mut [u32], r: usize, log_
 
 /// scrypt (RFC 7914, section 6): fills `out` with the derived key of its length.
 ///
-/// `work` is scratch space of `params.work_len()` words. What it holds before does not matter; after,
-/// it holds what came of the passphrase. The caller asks for at most 2^32 - 1 blocks of 32 bytes. No
-/// memory is taken.
+/// `work` is scratch space of `params.work_len()` words. What it holds before does not matter;
+/// after, it holds what came of the passphrase. The caller asks for at most 2^32 - 1 blocks of 32
+/// bytes. No memory is taken.
 pub fn scrypt_with(
     work: &mut [u32],
     pass: &[u8],

@@ -1,4 +1,5 @@
--- What identities answer: what a stanza of their own type gives, and of several answers the first that decides.
+-- What identities answer: what a stanza of their own type gives, and of several answers the first
+-- that decides.
 use Rattle.std.specs.Prelude.{ℕ, List, [], ◌∷◌, if◌then◌else◌}
 use Rattle.std.specs.Str.{bytes_eq}
 use Rattle.std.specs.declared.option.Option.{Option}
@@ -6,7 +7,8 @@ use Rattle.std.specs.declared.option.Option.TheVariants.{None, Some}
 use Rattle.age_recipient.specs.declared.unwrapped.Unwrapped.{Unwrapped}
 use Rattle.age_recipient.specs.declared.unwrapped.Unwrapped.TheVariants.{NotMine, Failed, Key, Malformed}
 
--- The first answer that is a key or a malformed stanza; where none is, `rest`, which is `Failed` once one of them was.
+-- The first answer that is a key or a malformed stanza; where none is, `rest`, which is `Failed`
+-- once one of them was.
 abbrev pub decided_from : Unwrapped → List Unwrapped → Unwrapped
 decided_from rest [] = rest
 decided_from rest (Key key ∷ more) = Key key

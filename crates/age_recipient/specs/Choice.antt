@@ -16,6 +16,7 @@ chosen Failed = Err WrongKey
 chosen (Key key) = Ok key
 chosen (Malformed fault) = Err (BadStanza fault)
 
--- of the identities' answers, in order: the first key or malformed stanza; else `WrongKey` where one failed; else `NoMatch`
+-- of the identities' answers, in order: the first key or malformed stanza; else `WrongKey` where
+-- one failed; else `NoMatch`
 abbrev pub choice : List Unwrapped → Result FileKey UnlockFault
 choice answers = chosen (decided answers)

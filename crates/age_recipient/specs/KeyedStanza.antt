@@ -27,7 +27,8 @@ keyed_stanza key salt file_key = record {
 -- the body's length is looked at, and only then is the key tried
 abbrev pub salted_answer : List ℕ → List ℕ → Option (List ℕ) → Unwrapped
 salted_answer key body None = Malformed Salt
-salted_answer key body (Some salt) = if nat_eq (length body) 32 then unsealed (wrap_key key salt) body else Malformed BodyLength
+salted_answer key body (Some salt) =
+    if nat_eq (length body) 32 then unsealed (wrap_key key salt) body else Malformed BodyLength
 
 -- what a stanza of this type gives, whose arguments behind the type are these
 abbrev pub arguments_answer : List ℕ → List (List ℕ) → List ℕ → Unwrapped
@@ -36,4 +37,6 @@ arguments_answer key _ body = Malformed ArgCount
 
 -- what one stanza gives
 unfoldable pub keyed_answer : List ℕ → StanzaParts → Unwrapped
-keyed_answer key stanza = typed_answer (λ args. arguments_answer key args stanza.body) (behind_type (codes "example.org/key") stanza.args)
+keyed_answer key stanza =
+    typed_answer (λ args. arguments_answer key args stanza.body)
+    (behind_type (codes "example.org/key") stanza.args)

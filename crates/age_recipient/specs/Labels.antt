@@ -25,6 +25,7 @@ abbrev pub incompatible : List Labels → Option ℕ
 incompatible [] = None
 incompatible (first ∷ others) = position_from (λ other. not (go_together first other)) 1 others
 
--- what a recipient with this meaning may return: a recipient may also leave the method's own body, which returns no names
+-- what a recipient with this meaning may return: a recipient may also leave the method's own body,
+-- which returns no names
 abbrev pub MayLabel : Labels → Labels → Type 0
 MayLabel meant labels = (labels ≡ Names []) ⊎ (labels ≡ meant)

@@ -1,4 +1,5 @@
--- The laws of the pairs: what the recipient wraps the identity unwraps. They stand here since an impl names the proof of its law.
+-- The laws of the pairs: what the recipient wraps the identity unwraps. They stand here since an
+-- impl names the proof of its law.
 use Rattle.std.proofs.Common.{inl, inr, ◌≡◌, ◌∙◌, ℕ, zero, suc, ◌+◌, ◌<◌, ◌≤◌, ◌&&◌, Bool, true, List, [], ◌∷◌, length, map, nat_eq, nat_le, refl, sym, ap, subst, Ok, Err, Some}
 use Rattle.std.proofs.lemmas.Bool.{and_parts, eqb-true, eq-eqb, le-leb, cases_lt}
 use Rattle.std.proofs.Math.Dec.{lit≤}
@@ -53,66 +54,83 @@ digits_text n = map (λ d. 48 + d) (digits_of 10 n)
 spelled : (work : ℕ) → 1 ≤ work → work ≤ 30 → is_spelled (decimal work) work ≡ true
 spelled zero low high = absurd (not-suc-le-zero low)
 spelled (suc n) low high =
-    let table : all_below (λ k. is_spelled (digits_text (suc k)) (suc k)) 30 ≡ true = refl in
-    let at = all_below_at (λ k. is_spelled (digits_text (suc k)) (suc k)) 30 n table high in
-    let text : decimal (suc n) ≡ digits_text (suc n) = decimal-digits_of (suc n) low (lt_of_le_of_lt high (lit≤ tt)) in
-    rw text at
+    let table : all_below (λ k. is_spelled (digits_text (suc k)) (suc k)) 30
+    ≡ true = refl in let at = all_below_at (λ k. is_spelled (digits_text (suc k)) (suc k)) 30 n
+    table high in let text : decimal (suc n)
+    ≡ digits_text (suc n) = decimal-digits_of (suc n) low (lt_of_le_of_lt high (lit≤ tt)) in rw text
+    at
 
 -- a sealed key is unsealed
-pub unsealed-sealed : (wrap_key : List ℕ) (key : FileKey) → unsealed wrap_key (sealed_key wrap_key key) ≡ Key key
+pub unsealed-sealed : (wrap_key : List ℕ) (key : FileKey)
+    → unsealed wrap_key (sealed_key wrap_key key) ≡ Key key
 unfolding unsealed
 unsealed-sealed wrap_key key = rw (opened-sealed wrap_key zero_nonce [] key.0) refl
 
 -- a sealed key has 32 bytes
-sealed_whole : (wrap_key : List ℕ) (key : FileKey) → IsFileKey key → nat_eq (length (sealed_key wrap_key key)) 32 ≡ true
+sealed_whole : (wrap_key : List ℕ) (key : FileKey) → IsFileKey key
+    → nat_eq (length (sealed_key wrap_key key)) 32 ≡ true
 sealed_whole wrap_key key is =
-    eq-eqb (length (sealed_key wrap_key key)) 32 (length-sealed wrap_key zero_nonce [] key.0 ∙ ap (λ n. n + 16) is.len)
+    eq-eqb (length (sealed_key wrap_key key)) 32
+    (length-sealed wrap_key zero_nonce [] key.0 ∙ ap (λ n. n + 16) is.len)
 
 -- a salt's characters spell it
 salt_spelled : (salt : List ℕ) → IsSalt salt → salt_of (decoded (base64_of salt)) ≡ Some salt
 salt_spelled salt is = rw (decoded-base64_of salt is.bytes, eq-eqb (length salt) 16 is.len) refl
 
 -- an identity's answer to the stanza that a recipient of the same passphrase makes
-pass_opens : (pass salt : List ℕ) (work max : ℕ) (key : FileKey) → IsSalt salt → PairFits work max → IsFileKey key
-    → pass_answer pass max (pass_stanza pass work salt key) ≡ Key key
+pass_opens : (pass salt : List ℕ) (work max : ℕ) (key : FileKey) → IsSalt salt → PairFits work max
+    → IsFileKey key → pass_answer pass max (pass_stanza pass work salt key) ≡ Key key
 unfolding pass_answer pass_stanza
 pass_opens pass salt work max key is_salt fits is_key =
-    let low : 1 ≤ work = fits.low in
-    let within : work ≤ max = fits.within in
-    let high : max ≤ 30 = fits.top in
-    let text = and_parts (is_work_factor (decimal work)) (nat_eq (number_from 0 (decimal work)) work) (spelled work low (le_trans within high)) in
-    let number : number_from 0 (decimal work) ≡ work = eqb-true (number_from 0 (decimal work)) work text.1 in
-    let top : nat_le work max ≡ true = le-leb work max within in
-    rw (salt_spelled salt is_salt, text.0, number, top, sealed_whole (pass_key pass salt work) key is_key)
+    let low : 1 ≤ work = fits.low in let within : work ≤ max = fits.within in let high : max
+    ≤ 30 = fits.top in let text = and_parts (is_work_factor (decimal work))
+    (nat_eq (number_from 0 (decimal work)) work) (spelled work low (le_trans within high)) in
+    let number : number_from 0 (decimal work)
+    ≡ work = eqb-true (number_from 0 (decimal work)) work text.1 in let top : nat_le work max
+    ≡ true = le-leb work max within in rw (
+      salt_spelled salt is_salt,
+      text.0,
+      number,
+      top,
+      sealed_whole (pass_key pass salt work) key is_key,
+    )
     (unsealed-sealed (pass_key pass salt work) key)
 
 -- an identity's answer to the stanza that a recipient of the same key makes
-keyed_opens : (key salt : List ℕ) (file_key : FileKey) → IsSalt salt → IsFileKey file_key → keyed_answer key (keyed_stanza key salt file_key) ≡ Key file_key
+keyed_opens : (key salt : List ℕ) (file_key : FileKey) → IsSalt salt → IsFileKey file_key
+    → keyed_answer key (keyed_stanza key salt file_key) ≡ Key file_key
 unfolding keyed_answer keyed_stanza
 keyed_opens key salt file_key is_salt is_key =
-    rw (salt_spelled salt is_salt, sealed_whole (wrap_key key salt) file_key is_key) (unsealed-sealed (wrap_key key salt) file_key)
+    rw (salt_spelled salt is_salt, sealed_whole (wrap_key key salt) file_key is_key)
+    (unsealed-sealed (wrap_key key salt) file_key)
 
 stanzas_of : Result (List StanzaParts) ℕ → List StanzaParts
 stanzas_of (Ok stanzas) = stanzas
 stanzas_of (Err code) = []
 
 -- the law of a passphrase's pair
-pub pair_law : (r : PassSecret) (i : PassGuess) (key : FileKey) (stanzas : List StanzaParts) → r.pass ≡ i.pass → IsSalt r.salt → PairFits r.work i.max
-    → IsFileKey key → pass_wraps r key ≡ Ok stanzas → pass_unwraps i stanzas ≡ Key key
+pub pair_law : (r : PassSecret) (i : PassGuess) (key : FileKey) (stanzas : List StanzaParts)
+    → r.pass ≡ i.pass → IsSalt r.salt → PairFits r.work i.max → IsFileKey key
+    → pass_wraps r key ≡ Ok stanzas → pass_unwraps i stanzas ≡ Key key
 unfolding stanzas_of
 pair_law r i key stanzas same salt fits is wraps =
-    let list : stanzas ≡ pass_stanza r.pass r.work r.salt key ∷ [] = sym (ap stanzas_of wraps) in
-    let opens : pass_answer i.pass i.max (pass_stanza r.pass r.work r.salt key) ≡ Key key =
-    subst (λ (p : List ℕ). pass_answer p i.max (pass_stanza r.pass r.work r.salt key) ≡ Key key) same
-    (pass_opens r.pass r.salt r.work i.max key salt fits is) in
-    rw (list, opens) refl
+    let list : stanzas
+    ≡ pass_stanza r.pass r.work r.salt key
+    ∷ [] = sym (ap stanzas_of wraps) in let opens : pass_answer i.pass i.max
+    (pass_stanza r.pass r.work r.salt key)
+    ≡ Key key = subst
+    (λ (p : List ℕ). pass_answer p i.max (pass_stanza r.pass r.work r.salt key) ≡ Key key) same
+    (pass_opens r.pass r.salt r.work i.max key salt fits is) in rw (list, opens) refl
 
 -- the law of a key's pair
-pub key_pair_law : (r : KeySecret) (i : List ℕ) (key : FileKey) (stanzas : List StanzaParts) → r.key ≡ i → IsSalt r.salt
-    → IsFileKey key → key_wraps r key ≡ Ok stanzas → key_unwraps i stanzas ≡ Key key
+pub key_pair_law : (r : KeySecret) (i : List ℕ) (key : FileKey) (stanzas : List StanzaParts)
+    → r.key ≡ i → IsSalt r.salt → IsFileKey key → key_wraps r key ≡ Ok stanzas
+    → key_unwraps i stanzas ≡ Key key
 unfolding stanzas_of
 key_pair_law r i key stanzas same salt is wraps =
-    let list : stanzas ≡ keyed_stanza r.key r.salt key ∷ [] = sym (ap stanzas_of wraps) in
-    let opens : keyed_answer i (keyed_stanza r.key r.salt key) ≡ Key key =
-    subst (λ (k : List ℕ). keyed_answer k (keyed_stanza r.key r.salt key) ≡ Key key) same (keyed_opens r.key r.salt key salt is) in
-    rw (list, opens) refl
+    let list : stanzas
+    ≡ keyed_stanza r.key r.salt key
+    ∷ [] = sym (ap stanzas_of wraps) in let opens : keyed_answer i
+    (keyed_stanza r.key r.salt key)
+    ≡ Key key = subst (λ (k : List ℕ). keyed_answer k (keyed_stanza r.key r.salt key) ≡ Key key)
+    same (keyed_opens r.key r.salt key salt is) in rw (list, opens) refl

@@ -17,7 +17,8 @@ use Rattle.age_recipient.specs.Sealing.{sealed_key, unsealed}
 
 -- the key that wraps the file key; the work factor is the base-2 logarithm of scrypt's N
 unfoldable pub pass_key : List ℕ → List ℕ → ℕ → List ℕ
-pass_key pass salt work = scrypt pass (codes "age-encryption.org/v1/scrypt" ++ salt) (2 ^ work) 8 1 32
+pass_key pass salt work =
+    scrypt pass (codes "age-encryption.org/v1/scrypt" ++ salt) (2 ^ work) 8 1 32
 
 -- the stanza that wraps a file key
 unfoldable pub pass_stanza : List ℕ → ℕ → List ℕ → FileKey → StanzaParts
@@ -40,7 +41,8 @@ abbrev pub number_from : ℕ → List ℕ → ℕ
 number_from n [] = n
 number_from n (c ∷ digits) = number_from (n * 10 + (c - 48)) digits
 
--- the work factor's text is looked at, then its number, then the body's length, and only then is the key tried
+-- the work factor's text is looked at, then its number, then the body's length, and only then is
+-- the key tried
 abbrev pub salted_answer : List ℕ → ℕ → List ℕ → List ℕ → Option (List ℕ) → Unwrapped
 salted_answer pass max work body None = Malformed Salt
 salted_answer pass max work body (Some salt) =
@@ -53,9 +55,12 @@ salted_answer pass max work body (Some salt) =
 
 -- what a stanza of this type gives, whose arguments behind the type are these
 abbrev pub arguments_answer : List ℕ → ℕ → List (List ℕ) → List ℕ → Unwrapped
-arguments_answer pass max (salt ∷ work ∷ []) body = salted_answer pass max work body (salt_of (decoded salt))
+arguments_answer pass max (salt ∷ work ∷ []) body =
+    salted_answer pass max work body (salt_of (decoded salt))
 arguments_answer pass max _ body = Malformed ArgCount
 
 -- what one stanza gives
 unfoldable pub pass_answer : List ℕ → ℕ → StanzaParts → Unwrapped
-pass_answer pass max stanza = typed_answer (λ args. arguments_answer pass max args stanza.body) (behind_type (codes "scrypt") stanza.args)
+pass_answer pass max stanza =
+    typed_answer (λ args. arguments_answer pass max args stanza.body)
+    (behind_type (codes "scrypt") stanza.args)

@@ -23,18 +23,19 @@ pub enum UnlockFault {
     Memory,
 }
 
-/// The file key that these identities find in a header's stanzas. They are asked in order: the first that finds a key or a malformed
-/// stanza decides, and no later one is asked.
+/// The file key that these identities find in a header's stanzas. They are asked in order: the
+/// first that finds a key or a malformed stanza decides, and no later one is asked.
 ///
 /// # Errors
-/// `Malformed` where a malformed stanza decided; where nothing decided `WrongKey` if an identity answered `Failed`, else `NoMatch`;
-/// `Memory` where an identity that was asked answered so.
+/// `Malformed` where a malformed stanza decided; where nothing decided `WrongKey` if an identity
+/// answered `Failed`, else `NoMatch`; `Memory` where an identity that was asked answered so.
 pub fn unlock(
     alloc: Global,
     identities: &[Box<dyn Identity>],
     stanzas: &[Stanza],
 ) -> Result<FileKey, UnlockFault>
-    ensures { (result ≡ Err UnlockFault.Memory) ⊎ (result ≡ choice (map (λ b. meaning b stanzas.now) identities.now)) }
+    ensures { (result ≡ Err UnlockFault.Memory)
+        ⊎ (result ≡ choice (map (λ b. meaning b stanzas.now) identities.now)) }
 {
     match first_decided(alloc, identities, stanzas) {
         Ok(Unwrapped::NotMine) => Err(UnlockFault::NoMatch),
@@ -51,7 +52,8 @@ fn first_decided(
     identities: &[Box<dyn Identity>],
     stanzas: &[Stanza],
 ) -> Result<Unwrapped, AllocError>
-    ensures { IfOk result (λ answer. answer ≡ decided (map (λ b. meaning b stanzas.now) identities.now)) }
+    ensures { IfOk result
+        (λ answer. answer ≡ decided (map (λ b. meaning b stanzas.now) identities.now)) }
 {
     let mut rest = Unwrapped::NotMine;
     for identity in identities {

@@ -1,4 +1,5 @@
-//! Secrets of 32 bytes, with a stanza that is this project's own: the stanza, its recipient and identity, and both as a pair.
+//! Secrets of 32 bytes, with a stanza that is this project's own: the stanza, its recipient and
+//! identity, and both as a pair.
 
 mod pair;
 mod recipient;

@@ -48,7 +48,8 @@ impl Clone for LabelSet {
     }
 }
 
-/// What a recipient asks of the others of the same file. Recipients go together where their labels are the same set of names.
+/// What a recipient asks of the others of the same file. Recipients go together where their labels
+/// are the same set of names.
 #[derive(Drop)]
 pub enum Labels {
     /// The recipient must be a file's only one.
@@ -58,7 +59,8 @@ pub enum Labels {
 }
 
 impl Labels {
-    /// Whether recipients with these labels may stand in one file: both have names, and the same set of them.
+    /// Whether recipients with these labels may stand in one file: both have names, and the same
+    /// set of them.
     pub fn go_together(&self, other: &Labels) -> bool
         ensures { result ≡ go_together self.now other.now }
     {

@@ -1,14 +1,18 @@
-//! Recipients and identities of age v1 files: who wraps a file key into stanzas, and who unwraps it again.
+//! Recipients and identities of age v1 files: who wraps a file key into stanzas, and who unwraps it
+//! again.
 //!
 //! ```
-//! let recipient = PassRecipient::new(alloc, b"correct horse", salt, 18)?; // a fresh salt; 2^18 KiB of memory
+//! // a fresh salt; 2^18 KiB of memory
+//! let recipient = PassRecipient::new(alloc, b"correct horse", salt, 18)?;
 //! let stanzas = recipient.wrap(alloc, &file_key)?;
 //! let identity = PassIdentity::new(alloc, b"correct horse", 22)?; // takes work factors up to 22
-//! let key = unlock(alloc, identities.as_slice(), stanzas.as_slice())?; // of several identities, boxed
+//! // of several identities, boxed
+//! let key = unlock(alloc, identities.as_slice(), stanzas.as_slice())?;
 //! ```
 //!
-//! Here are those of a passphrase and, with a stanza of this project's own, of a secret of 32 bytes. A caller's own
-//! kind implements `Recipient` or `Identity`, and states its meaning as a function.
+//! Here are those of a passphrase and, with a stanza of this project's own, of a secret of 32
+//! bytes. A caller's own kind implements `Recipient` or `Identity`, and states its meaning as a
+//! function.
 //!
 //! Limits: work factors are 1 to 30. There are no X25519, SSH or plugin recipients.
 #![tactic(auto)]

@@ -1,4 +1,5 @@
-//! Passphrases (C2SP `age.md`, "The scrypt recipient type"): the stanza, its recipient and identity, and both as a pair.
+//! Passphrases (C2SP `age.md`, "The scrypt recipient type"): the stanza, its recipient and
+//! identity, and both as a pair.
 
 mod pair;
 mod recipient;

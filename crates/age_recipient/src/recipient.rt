@@ -35,8 +35,8 @@ pub trait Recipient: Drop {
     fn wrap(&self, alloc: Global, key: &FileKey) -> Result<Vec<Stanza>, WrapFault>
         ensures { WrapsAs (wraps self.now key.now) result };
 
-    /// With whom this recipient may stand in one file. A recipient that leaves this body has no names, and goes together with all
-    /// others that have none.
+    /// With whom this recipient may stand in one file. A recipient that leaves this body has no
+    /// names, and goes together with all others that have none.
     ///
     /// # Errors
     /// Where an allocation was refused.

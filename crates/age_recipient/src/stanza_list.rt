@@ -24,7 +24,8 @@ pub(crate) trait Opener {
         ensures { IfOk result (λ answer. answer ≡ gives self.now stanza.now) };
 }
 
-/// The answer that decides, of what each of these stanzas gives. What comes behind it is not looked at.
+/// The answer that decides, of what each of these stanzas gives. What comes behind it is not looked
+/// at.
 pub(crate) fn first_opened<O: Opener>(
     alloc: Global,
     opener: &O,
@@ -49,7 +50,8 @@ pub(crate) fn first_opened<O: Opener>(
 
 /// The arguments behind the type, if the stanza is of this type.
 pub(crate) fn behind_type<'a>(stanza: &'a Stanza, kind: &str) -> Option<&'a [String]>
-    ensures { option_map (λ args. map string_bytes args.now) result ≡ behind_type kind.now stanza.now.args }
+    ensures { option_map (λ args. map string_bytes args.now) result
+        ≡ behind_type kind.now stanza.now.args }
 {
     let Some((first, rest)) = stanza.args().split_first() else {
         return None;

@@ -1,4 +1,5 @@
-//! Passphrase stanzas with known answers: what is wrapped, what is unwrapped, and what each check says.
+//! Passphrase stanzas with known answers: what is wrapped, what is unwrapped, and what each check
+//! says.
 
 mod keyed;
 mod labels;
@@ -20,7 +21,8 @@ const SALT: [u8; 16] = [
 const SALT_TEXT: &str = "ICEiIyQlJicoKSorLC0uLw";
 
 const KEY: FileKey = FileKey([0, 1, 2, 3, 4, 5, 6, 7, 8, 9, 10, 11, 12, 13, 14, 15]);
-/// That key under `correct horse`, that salt and work factor 10, made with Python's hashlib and cryptography.
+/// That key under `correct horse`, that salt and work factor 10, made with Python's hashlib and
+/// cryptography.
 const BODY: [u8; 32] = [
     0x66, 0x41, 0x46, 0x84, 0x5d, 0xc9, 0x4b, 0x63, 0x73, 0x8a, 0x2d, 0x14, 0xb5, 0xe9, 0xb9, 0x42,
     0x46, 0x5b, 0x55, 0x35, 0xb9, 0xce, 0x33, 0x09, 0xe4, 0xd7, 0x86, 0xc9, 0x24, 0xe3, 0x58, 0xdb,
@@ -43,7 +45,8 @@ fn answer(
     Ok(identity.unwrap(alloc, stanzas.as_slice())?)
 }
 
-/// The checks, in their order: each stanza is wrong in what is named, and often in what is looked at later too.
+/// The checks, in their order: each stanza is wrong in what is named, and often in what is looked
+/// at later too.
 #[test]
 fn malformed_stanzas(rt: HostRuntime) -> Result<(), Fail> {
     let short = &BODY[..31];

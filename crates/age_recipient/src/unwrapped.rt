@@ -1,7 +1,8 @@
 use crate::key::FileKey;
 use thiserror::Error;
 
-/// Why a stanza of an identity's own type is malformed. The product's identities look for these in this order.
+/// Why a stanza of an identity's own type is malformed. The product's identities look for these in
+/// this order.
 #[derive(Clone, Copy, Debug, Drop, PartialEq, Eq, Error)]
 pub enum StanzaFault {
     #[error("argument count")]

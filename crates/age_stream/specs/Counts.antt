@@ -3,12 +3,14 @@ use Rattle.std.specs.Prelude.{◌≡◌, ℕ, ◌+◌, ◌-◌, ◌^◌, min, Ma
 use Rattle.age_stream.specs.declared.fault.StreamFault.{StreamFault}
 use Rattle.age_stream.specs.declared.fault.StreamFault.TheVariants.{Read, Write}
 
--- where the fault is Read the count of failed reads rises by one, or stays at the largest u64; else it stays
+-- where the fault is Read the count of failed reads rises by one, or stays at the largest u64; else
+-- it stays
 abbrev pub CountsReadFault : ℕ → ℕ → StreamFault → Type 0
 CountsReadFault old new Read = new ≡ min (old + 1) (2 ^ 64 - 1)
 CountsReadFault old new _ = new ≡ old
 
--- where the fault is Write the count of failed writes rises by one, or stays at the largest u64; else it stays
+-- where the fault is Write the count of failed writes rises by one, or stays at the largest u64;
+-- else it stays
 abbrev pub CountsWriteFault : ℕ → ℕ → StreamFault → Type 0
 CountsWriteFault old new Write = new ≡ min (old + 1) (2 ^ 64 - 1)
 CountsWriteFault old new _ = new ≡ old

@@ -10,8 +10,8 @@ use Rattle.age_stream.specs.declared.opening.Piece.{Piece}
 use Rattle.age_stream.specs.Payload.{payload_key, pieces}
 use Rattle.age_stream.specs.Reading.{Reading, after_first, first_outcome, reading_from, whole}
 
--- An opener: its key and limit, the number of the next piece, the bytes of it that were read already (None after the last piece), the
--- text that was opened last, and the fault that it keeps.
+-- An opener: its key and limit, the number of the next piece, the bytes of it that were read
+-- already (None after the last piece), the text that was opened last, and the fault that it keeps.
 pub record OpenerState : Type 0 where
   pub key : List ℕ
   pub max_chunks : ℕ
@@ -22,7 +22,8 @@ pub record OpenerState : Type 0 where
 
 -- before piece 0
 abbrev pub at_start : List ℕ → ℕ → OpenerState
-at_start key max = record { key = key; max_chunks = max; index = 0; held = Some []; text = []; fault = None }
+at_start key max =
+    record { key = key; max_chunks = max; index = 0; held = Some []; text = []; fault = None }
 
 -- bytes that were read ahead, where another piece follows
 abbrev pub held_of : Bool → List ℕ → Option (List ℕ)
@@ -37,10 +38,13 @@ ahead_len (Some ahead) = length ahead
 abbrev pub left_of : Option (List ℕ) → List ℕ → Option (List ℕ)
 left_of held d = option_map (λ h. h ++ d) held
 
--- The first piece of what is left is opened as piece i, or its fault returned; after the last there is none.
-abbrev pub OpensNext : List ℕ → ℕ → ℕ → Option (List ℕ) → Option (List ℕ) → List ℕ → Result Bool StreamFault → Type 0
+-- The first piece of what is left is opened as piece i, or its fault returned; after the last there
+-- is none.
+abbrev pub OpensNext : List ℕ → ℕ → ℕ → Option (List ℕ) → Option (List ℕ) → List ℕ
+    → Result Bool StreamFault → Type 0
 OpensNext key max i None left text r = (r ≡ Ok false) × (left ≡ None)
-OpensNext key max i (Some c) left text (Ok some) = (some ≡ true) × (first_outcome key max i c ≡ Ok text) × (left ≡ after_first c)
+OpensNext key max i (Some c) left text (Ok some) =
+    (some ≡ true) × (first_outcome key max i c ≡ Ok text) × (left ≡ after_first c)
 OpensNext key max i (Some c) left text (Err fault) = first_outcome key max i c ≡ Err fault
 
 -- a fault at piece i
@@ -56,34 +60,46 @@ abbrev pub goes_on : Bool → ℕ → ℕ
 goes_on some i = if some then i + 1 else i
 
 abbrev pub Keeps : OpenerState → OpenerState → Result Bool StreamFault → Type 0
-Keeps old new (Ok some) = (new.fault ≡ None) × (new.index ≡ goes_on some old.index) × (some ≡ true → old.index < old.max_chunks)
+Keeps old new (Ok some) =
+    (new.fault ≡ None) × (new.index ≡ goes_on some old.index)
+    × (some ≡ true → old.index < old.max_chunks)
     × IfSome new.held (λ ahead. (length ahead ≡ 1) × (length new.text ≡ 65536))
-Keeps old new (Err fault) = (new.fault ≡ Some fault) × (new.text ≡ []) × IsAtPiece old.max_chunks old.index fault
+Keeps old new (Err fault) =
+    (new.fault ≡ Some fault) × (new.text ≡ []) × IsAtPiece old.max_chunks old.index fault
 
--- One call of an opener that keeps no fault, on a source that could give `from` before it and can give `to` after it. Whatever
--- comes after the call, something came before it that the call fits to.
-pub record Advances (old new : OpenerState) (from to : Option (List ℕ)) (r : Result Bool StreamFault) : Type 0 where
+-- One call of an opener that keeps no fault, on a source that could give `from` before it and can
+-- give `to` after it. Whatever comes after the call, something came before it that the call fits
+-- to.
+pub record Advances (old new : OpenerState) (from to : Option (List ℕ))
+    (r : Result Bool StreamFault) : Type 0 where
   pub key : new.key ≡ old.key
   pub max_chunks : new.max_chunks ≡ old.max_chunks
   pub small : old.max_chunks ≤ 2 ^ 88
   pub keeps : Keeps old new r
   pub ahead : ahead_len old.held ≤ 1
   pub gave : GaveAtMost (65553 - ahead_len old.held) from to
-  pub opens : (d : List ℕ) → MayGive to d → (c : List ℕ) × MayGive from c
-      × OpensNext old.key old.max_chunks old.index (left_of old.held c) (left_of new.held d) new.text r
+  pub opens : (d : List ℕ) → MayGive to d
+      → (c : List ℕ) × MayGive from c
+      × OpensNext old.key old.max_chunks old.index (left_of old.held c) (left_of new.held d)
+      new.text r
 
 -- the nonce that was read, where the source could give it
 abbrev pub GivesNonce : Option (List ℕ) → Option (List ℕ) → Result (List ℕ) StreamFault → Type 0
 GivesNonce from to (Ok nonce) = (d : List ℕ) → MayGive to d → MayGive from (nonce ++ d)
 GivesNonce from to (Err Read) = ⊤
-GivesNonce from to (Err fault) = (fault ≡ NonceTruncated) × ((c : List ℕ) × MayGive from c × (length c < 16))
+GivesNonce from to (Err fault) =
+    (fault ≡ NonceTruncated) × ((c : List ℕ) × MayGive from c × (length c < 16))
 
--- the start of a payload was read: its nonce, under which the opener stands before piece 0; or there is no whole nonce
-abbrev pub Starts : FileKey → ℕ → Option (List ℕ) → Option (List ℕ) → Result OpenerState StreamFault → Type 0
-Starts k max from to (Ok opener) = (nonce : List ℕ) × (length nonce ≡ 16) × (opener ≡ at_start (payload_key k nonce) max)
+-- the start of a payload was read: its nonce, under which the opener stands before piece 0; or
+-- there is no whole nonce
+abbrev pub Starts : FileKey → ℕ → Option (List ℕ) → Option (List ℕ) → Result OpenerState StreamFault
+    → Type 0
+Starts k max from to (Ok opener) =
+    (nonce : List ℕ) × (length nonce ≡ 16) × (opener ≡ at_start (payload_key k nonce) max)
     × ((d : List ℕ) → MayGive to d → MayGive from (nonce ++ d))
 Starts k max from to (Err Read) = ⊤
-Starts k max from to (Err fault) = (fault ≡ NonceTruncated) × ((c : List ℕ) × MayGive from c × (length c < 16))
+Starts k max from to (Err fault) =
+    (fault ≡ NonceTruncated) × ((c : List ℕ) × MayGive from c × (length c < 16))
 
 -- what is left, read from piece i on
 abbrev pub reading_left : List ℕ → ℕ → ℕ → Option (List ℕ) → Reading StreamFault
@@ -95,21 +111,30 @@ abbrev pub pieces_left : Option (List ℕ) → List (List ℕ)
 pieces_left None = []
 pieces_left (Some c) = pieces c
 
--- A reading's fault was returned, or the length of its front and the number of its pieces, and its front was written; a beginning of
--- its front where a device failed.
-abbrev pub WritesReading : Reading StreamFault → ℕ → Option (List ℕ) → Option (List ℕ) → Result Done StreamFault → Type 0
-WritesReading reading n old new (Ok done) = (reading.fault ≡ None) × Appends old new reading.front × (done.bytes ≡ length reading.front) × (done.chunks ≡ n)
+-- A reading's fault was returned, or the length of its front and the number of its pieces, and its
+-- front was written; a beginning of its front where a device failed.
+abbrev pub WritesReading : Reading StreamFault → ℕ → Option (List ℕ) → Option (List ℕ)
+    → Result Done StreamFault → Type 0
+WritesReading reading n old new (Ok done) =
+    (reading.fault ≡ None) × Appends old new reading.front × (done.bytes ≡ length reading.front)
+    × (done.chunks ≡ n)
 WritesReading reading n old new (Err Read) = WritesPart old new reading.front
 WritesReading reading n old new (Err Write) = WritesPart old new reading.front
-WritesReading reading n old new (Err fault) = (reading.fault ≡ Some fault) × Appends old new reading.front
+WritesReading reading n old new (Err fault) =
+    (reading.fault ≡ Some fault) × Appends old new reading.front
 
 -- the reading of what the source may have given was written
-abbrev pub WritesAll : OpenerState → Option (List ℕ) → Option (List ℕ) → Option (List ℕ) → Result Done StreamFault → Type 0
-WritesAll s from old new r = (c : List ℕ) × MayGive from c
-    × WritesReading (reading_left s.key s.max_chunks s.index (left_of s.held c)) (length (pieces_left (left_of s.held c))) old new r
+abbrev pub WritesAll : OpenerState → Option (List ℕ) → Option (List ℕ) → Option (List ℕ)
+    → Result Done StreamFault → Type 0
+WritesAll s from old new r =
+    (c : List ℕ) × MayGive from c
+    × WritesReading (reading_left s.key s.max_chunks s.index (left_of s.held c))
+    (length (pieces_left (left_of s.held c))) old new r
 
--- A fault of a piece or of a write: at which piece it was met, what had been written, and how much of the source had been taken.
-pub record EndsAt (max more : ℕ) (from to old new : Option (List ℕ)) (fault : StreamFault) : Type 0 where
+-- A fault of a piece or of a write: at which piece it was met, what had been written, and how much
+-- of the source had been taken.
+pub record EndsAt (max more : ℕ) (from to old new : Option (List ℕ)) (fault : StreamFault)
+    : Type 0 where
   pub piece : ℕ
   pub text : List ℕ
   pub written : Appends old new text
@@ -121,8 +146,10 @@ abbrev pub GivesText : Result (List ℕ) StreamFault → List ℕ → Result ℕ
 GivesText outcome after (Ok n) = (outcome ≡ Ok (take n after)) × (n ≤ length after)
 GivesText outcome after (Err fault) = outcome ≡ Err fault
 
--- the first piece of c, as piece i, opens to the text in front, and what follows it is left; or its fault is returned
+-- the first piece of c, as piece i, opens to the text in front, and what follows it is left; or its
+-- fault is returned
 abbrev pub Opens : List ℕ → ℕ → ℕ → List ℕ → List ℕ → List ℕ → Result Piece StreamFault → Type 0
-Opens key max i c after d (Ok p) = (first_outcome key max i c ≡ Ok (take p.len after)) × (p.len ≤ length after)
+Opens key max i c after d (Ok p) =
+    (first_outcome key max i c ≡ Ok (take p.len after)) × (p.len ≤ length after)
     × (left_of (held_of p.more (drop 65552 after)) d ≡ after_first c)
 Opens key max i c after d (Err fault) = first_outcome key max i c ≡ Err fault

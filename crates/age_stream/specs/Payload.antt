@@ -7,7 +7,8 @@ use Rattle.age_kdf.specs.Hkdf.{hkdf}
 use Rattle.age_recipient.specs.declared.key.FileKey.{FileKey}
 use Rattle.age_stream.specs.Cutting.{cut}
 
--- a plaintext's chunks: 65,536 bytes each, the last 1 to 65,536; an empty plaintext is one empty chunk
+-- a plaintext's chunks: 65,536 bytes each, the last 1 to 65,536; an empty plaintext is one empty
+-- chunk
 abbrev pub chunks : List ℕ → List (List ℕ)
 chunks plain = cut 65536 plain
 
@@ -15,7 +16,8 @@ chunks plain = cut 65536 plain
 abbrev pub pieces : List ℕ → List (List ℕ)
 pieces rest = cut 65552 rest
 
--- the nonce of chunk i: its number in eleven big-endian bytes, then 1 for the last chunk and 0 for the others
+-- the nonce of chunk i: its number in eleven big-endian bytes, then 1 for the last chunk and 0 for
+-- the others
 unfoldable pub chunk_nonce : ℕ → Bool → List ℕ
 chunk_nonce i last = bytes_high_first 11 i ++ (if last then 1 else 0) ∷ []
 
@@ -27,7 +29,8 @@ is_end (_ ∷ _) = false
 -- chunks, each sealed at its place, from number i on
 abbrev pub sealed_from : List ℕ → ℕ → List (List ℕ) → List (List ℕ)
 sealed_from key i [] = []
-sealed_from key i (chunk ∷ more) = sealed key (chunk_nonce i (is_end more)) [] chunk ∷ sealed_from key (i + 1) more
+sealed_from key i (chunk ∷ more) =
+    sealed key (chunk_nonce i (is_end more)) [] chunk ∷ sealed_from key (i + 1) more
 
 -- the key of the chunks
 unfoldable pub payload_key : FileKey → List ℕ → List ℕ

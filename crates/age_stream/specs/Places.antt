@@ -1,4 +1,5 @@
--- What a read at a place gives of the contents of a source, and what it does to the source's counts.
+-- What a read at a place gives of the contents of a source, and what it does to the source's
+-- counts.
 use Rattle.std.specs.Prelude.{◌≡◌, ℕ, ◌+◌, ◌-◌, ◌^◌, ◌<◌, ◌≤◌, min, List, length, take, drop, ⊤, IfSome, IfOk, MatchResult, Option, Some, None, Result}
 
 -- xs are the known bytes from place `at` on
@@ -14,10 +15,12 @@ IsPast told at = IfSome told (λ bytes. length bytes ≤ at)
 abbrev pub EndsBefore : Option (List ℕ) → ℕ → Type 0
 EndsBefore told end = IfSome told (λ bytes. length bytes < end)
 
--- Ok(n) gives the n bytes from place `at` on, and none of them with room only past the end of the known bytes, and of the known size
+-- Ok(n) gives the n bytes from place `at` on, and none of them with room only past the end of the
+-- known bytes, and of the known size
 abbrev pub GivesAt : {E : Type 0} → Option (List ℕ) → Option ℕ → ℕ → Result ℕ E → List ℕ → Type 0
 GivesAt told size at r buf =
-    IfOk r (λ n. HasAt told at (take n buf) × (n ≡ 0 → 0 < length buf → IsPast told at × IfSome size (λ s. s ≤ at)))
+    IfOk r (λ n. HasAt told at (take n buf)
+    × (n ≡ 0 → 0 < length buf → IsPast told at × IfSome size (λ s. s ≤ at)))
 
 -- the places of all known bytes are u64s
 abbrev pub HasPlaces : Option (List ℕ) → Type 0
@@ -30,4 +33,6 @@ CountsGiven old new r = MatchResult r (λ n. new ≡ min (old + n) (2 ^ 64 - 1))
 -- the size, which is that of the known bytes, is found on Ok; what was found stays
 abbrev pub FindsSize : {E : Type 0} → Option (List ℕ) → Option ℕ → Option ℕ → Result ℕ E → Type 0
 FindsSize told old new r =
-    MatchResult r (λ n. (new ≡ Some n) × IfSome old (λ s. n ≡ s) × IfSome told (λ bytes. n ≡ length bytes)) (λ _. new ≡ old)
+    MatchResult r
+    (λ n. (new ≡ Some n) × IfSome old (λ s. n ≡ s) × IfSome told (λ bytes. n ≡ length bytes))
+    (λ _. new ≡ old)

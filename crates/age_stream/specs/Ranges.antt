@@ -13,8 +13,8 @@ use Rattle.age_stream.specs.Slice.{opening, plain_len, text_len, IsSlice, last_p
 abbrev pub bytes_from : Option (List ℕ) → ℕ → List ℕ
 bytes_from told at = drop at (unwrap_or told [])
 
--- a reader between two calls: where the chunks lie, which one is kept, the buffer with its text in front, and how many chunks were
--- opened so far
+-- a reader between two calls: where the chunks lie, which one is kept, the buffer with its text in
+-- front, and how many chunks were opened so far
 pub record RangeState : Type 0 where
   pub layout : Layout
   pub index : Option ℕ
@@ -34,7 +34,8 @@ pub record IsThere (told : Option (List ℕ)) (layout : Layout) : Type 0 where
   pub known : IsSome told
   pub size : length (bytes_from told layout.first) ≡ layout.plain + 16 * layout.count
 
--- what holds between two calls over a source whose contents are known: the kept chunk is what its piece opens to
+-- what holds between two calls over a source whose contents are known: the kept chunk is what its
+-- piece opens to
 pub record IsSound (told : Option (List ℕ)) (s : RangeState) : Type 0 where
   pub there : IsThere told s.layout
   pub keeps : (i : ℕ) → s.index ≡ Some i → opens_to told s.layout i ≡ Some (kept_text s i)
@@ -49,11 +50,13 @@ HasPlain told layout at xs = IsSlice layout.key (bytes_from told layout.first) a
 
 -- the front of the buffer has n bytes of the plaintext from `at` on, and its rest is as it was
 abbrev pub Fills : Option (List ℕ) → RangeState → ℕ → ℕ → List ℕ → List ℕ → Type 0
-Fills told s at n old new = (drop n new ≡ drop n old) × (IsSound told s → HasPlain told s.layout at (take n new))
+Fills told s at n old new =
+    (drop n new ≡ drop n old) × (IsSound told s → HasPlain told s.layout at (take n new))
 
 -- chunk i does not open, or was not read
 abbrev pub IsLost : Option (List ℕ) → RangeState → ℕ → StreamFault → Type 0
-IsLost told s i fault = (fault ≡ Read) ⊎ ((fault ≡ BadChunk i) × (IsSound told s → opens_to told s.layout i ≡ None))
+IsLost told s i fault =
+    (fault ≡ Read) ⊎ ((fault ≡ BadChunk i) × (IsSound told s → opens_to told s.layout i ≡ None))
 
 -- chunk i is the kept one
 abbrev pub is_kept : Option ℕ → ℕ → Bool
@@ -68,9 +71,10 @@ fresh index at = at / 65536 + (if is_kept index (at / 65536) then 1 else 0)
 abbrev pub Counts : RangeState → ℕ → ℕ → Type 0
 Counts s opened n = min (s.opened + n) (2 ^ 64 - 1) ≤ opened
 
--- a range of n bytes from `at` on stops at chunk i, in which a place of it lies: the bytes before that chunk are filled in, and each chunk
--- up to this one is counted that was not kept
-pub record Stops (told : Option (List ℕ)) (s : RangeState) (at n : ℕ) (old new : List ℕ) (opened : ℕ) (fault : StreamFault) : Type 0 where
+-- a range of n bytes from `at` on stops at chunk i, in which a place of it lies: the bytes before
+-- that chunk are filled in, and each chunk up to this one is counted that was not kept
+pub record Stops (told : Option (List ℕ)) (s : RangeState) (at n : ℕ) (old new : List ℕ)
+    (opened : ℕ) (fault : StreamFault) : Type 0 where
   pub chunk : ℕ
   pub from : at < 65536 * (chunk + 1)
   pub to : 65536 * chunk < at + n
@@ -86,37 +90,53 @@ sealed_span layout from end = min (65552 * end) (layout.plain + 16 * layout.coun
 abbrev pub last_len : ℕ → ℕ
 last_len sealed = sealed - 65552 * ((sealed - 1) / 65552)
 
--- what the last piece gives was found, where so many known bytes stand from place `first` on: its text is in front, or its fault
-abbrev pub JudgesLast : List ℕ → ℕ → ℕ → ℕ → Option (List ℕ) → List ℕ → Result Layout StreamFault → Type 0
-JudgesLast key max first sealed told after r = MatchResult r
-    (λ layout. (layout.key ≡ key) × (layout.first ≡ first) × (layout.plain + 16 * layout.count ≡ sealed) × IfSome told (λ bytes.
-    length bytes ≡ first + sealed → last_outcome key max (drop first bytes) ≡ Ok (take (text_len layout.plain (layout.count - 1)) after)))
-    (λ fault. (fault ≡ Read) ⊎ IfSome told (λ bytes. length bytes ≡ first + sealed → last_outcome key max (drop first bytes) ≡ Err fault))
+-- what the last piece gives was found, where so many known bytes stand from place `first` on: its
+-- text is in front, or its fault
+abbrev pub JudgesLast : List ℕ → ℕ → ℕ → ℕ → Option (List ℕ) → List ℕ → Result Layout StreamFault
+    → Type 0
+JudgesLast key max first sealed told after r =
+    MatchResult r
+    (λ layout. (layout.key ≡ key) × (layout.first ≡ first)
+    × (layout.plain + 16 * layout.count ≡ sealed)
+    × IfSome told (λ bytes. length bytes ≡ first + sealed
+    → last_outcome key max (drop first bytes)
+    ≡ Ok (take (text_len layout.plain (layout.count - 1)) after)))
+    (λ fault. (fault ≡ Read)
+    ⊎ IfSome told (λ bytes.
+    length bytes ≡ first + sealed → last_outcome key max (drop first bytes) ≡ Err fault))
 
--- a reader that was just opened on the payload at this place, over a source whose contents are known
-pub record IsOpened (k : FileKey) (max : ℕ) (told : Option (List ℕ)) (at : ℕ) (s : RangeState) : Type 0 where
+-- a reader that was just opened on the payload at this place, over a source whose contents are
+-- known
+pub record IsOpened (k : FileKey) (max : ℕ) (told : Option (List ℕ)) (at : ℕ) (s : RangeState)
+    : Type 0 where
   pub opens : range_outcome k max (bytes_from told at) ≡ Ok (kept_text s (s.layout.count - 1))
   pub key : s.layout.key ≡ payload_key k (take 16 (bytes_from told at))
   pub first : s.layout.first ≡ at + 16
   pub plain : s.layout.plain ≡ plain_len (bytes_from told (at + 16))
   pub sound : IsSound told s
 
--- A reader was opened, which keeps the last chunk. Or the fault is a failed read, out of memory, or what opening the payload finds.
+-- A reader was opened, which keeps the last chunk. Or the fault is a failed read, out of memory, or
+-- what opening the payload finds.
 abbrev pub OpensRanges : FileKey → ℕ → ℕ → Option (List ℕ) → Result RangeState StreamFault → Type 0
-OpensRanges k max at told r = MatchResult r
-    (λ s. (s.index ≡ Some (s.layout.count - 1)) × (s.opened ≡ 1) × IfSome told (λ bytes. IsOpened k max (Some bytes) at s))
-    (λ fault. (fault ≡ Read) ⊎ ((fault ≡ Memory) ⊎ IfSome told (λ bytes. range_outcome k max (drop at bytes) ≡ Err fault)))
+OpensRanges k max at told r =
+    MatchResult r
+    (λ s. (s.index ≡ Some (s.layout.count - 1)) × (s.opened ≡ 1)
+    × IfSome told (λ bytes. IsOpened k max (Some bytes) at s))
+    (λ fault. (fault ≡ Read)
+    ⊎ ((fault ≡ Memory) ⊎ IfSome told (λ bytes. range_outcome k max (drop at bytes) ≡ Err fault)))
 
 -- a fault with which opening a payload may end
 abbrev pub IsOpenFault : StreamFault → Type 0
 IsOpenFault Write = ⊥
 IsOpenFault _ = ⊤
 
--- a payload was opened: the source's contents stayed, and it gave at most the nonce and the last piece
+-- a payload was opened: the source's contents stayed, and it gave at most the nonce and the last
+-- piece
 pub record Probes (told told2 : Option (List ℕ)) (at given given2 : ℕ) : Type 0 where
   pub stay : told2 ≡ told
   pub most : given2 ≤ given + 65568
-  pub last : IfSome told (λ bytes. given2 ≤ given + (16 + length (last_piece (drop (at + 16) bytes))))
+  pub last : IfSome told
+      (λ bytes. given2 ≤ given + (16 + length (last_piece (drop (at + 16) bytes))))
 
 -- the source of a reader, and its chunks
 abbrev pub source_at_of : {D B : Type 0} → RangeReader D B → MutBor D

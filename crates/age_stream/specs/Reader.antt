@@ -9,9 +9,12 @@ use Rattle.age_stream.specs.declared.reader.StreamReader.{StreamReader}
 use Rattle.age_stream.specs.Counts.{CountsRead, CountsReadFault}
 use Rattle.age_stream.specs.Opening.{Advances, OpenerState, Starts}
 
--- the nonce was not read: the source gave fewer than 16 bytes, or failed, and then one failure more was counted
-abbrev pub MissesNonce : FileKey → ℕ → Option (List ℕ) → Option (List ℕ) → ℕ → ℕ → StreamFault → Type 0
-MissesNonce key max from to before after fault = Starts key max from to (Err fault) × CountsReadFault before after fault
+-- the nonce was not read: the source gave fewer than 16 bytes, or failed, and then one failure more
+-- was counted
+abbrev pub MissesNonce : FileKey → ℕ → Option (List ℕ) → Option (List ℕ) → ℕ → ℕ → StreamFault
+    → Type 0
+MissesNonce key max from to before after fault =
+    Starts key max from to (Err fault) × CountsReadFault before after fault
     × ((fault ≡ Read) ⊎ GaveAtMost 16 from to)
 
 -- whether a piece was lent, or the fault
@@ -20,10 +23,12 @@ lent (Ok None) = Ok false
 lent (Ok (Some piece)) = Ok true
 lent (Err fault) = Err fault
 
--- One call of a reader that keeps no fault, which asks its source at most for the next piece: a failed read is counted, and a fault is
--- kept. Else the call is one of its opener.
-abbrev pub Lends : OpenerState → OpenerState → Option (List ℕ) → Option (List ℕ) → ℕ → ℕ → Result Bool StreamFault → Type 0
-Lends old new from to before after r = IfErr r (λ fault. new.fault ≡ Some fault) × CountsRead before after r
+-- One call of a reader that keeps no fault, which asks its source at most for the next piece: a
+-- failed read is counted, and a fault is kept. Else the call is one of its opener.
+abbrev pub Lends : OpenerState → OpenerState → Option (List ℕ) → Option (List ℕ) → ℕ → ℕ
+    → Result Bool StreamFault → Type 0
+Lends old new from to before after r =
+    IfErr r (λ fault. new.fault ≡ Some fault) × CountsRead before after r
     × (IsErrOf r Read ⊎ Advances old new from to r)
 
 -- the source of a reader, and its opener

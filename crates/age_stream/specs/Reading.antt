@@ -1,4 +1,5 @@
--- What reading a payload gives: the first fault, and the plaintext before it (C2SP age.md, "Payload").
+-- What reading a payload gives: the first fault, and the plaintext before it (C2SP age.md,
+-- "Payload").
 use Rattle.std.specs.Prelude.{ℕ, List, [], ◌∷◌, ◌++◌, ◌+◌, ◌&&◌, Bool, length, take, drop, nat_lt, nat_le, nat_eq, Option, Some, None, Result, Ok, Err, ok_or, if◌then◌else◌}
 use Rattle.age_cipher.specs.Sealing.{opened}
 use Rattle.age_recipient.specs.declared.key.FileKey.{FileKey}
@@ -21,7 +22,8 @@ outcome key max i last piece =
 -- what each piece gives, numbered from i on
 abbrev pub outcomes : List ℕ → ℕ → ℕ → List (List ℕ) → List (Result (List ℕ) StreamFault)
 outcomes key max i [] = []
-outcomes key max i (piece ∷ more) = outcome key max i (is_end more) piece ∷ outcomes key max (i + 1) more
+outcomes key max i (piece ∷ more) =
+    outcome key max i (is_end more) piece ∷ outcomes key max (i + 1) more
 
 -- the first fault, if there is one
 abbrev pub first_fault : {F : Type 0} → List (Result (List ℕ) F) → Option F

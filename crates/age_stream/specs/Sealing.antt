@@ -10,7 +10,8 @@ use Rattle.age_stream.specs.declared.fault.StreamFault.TheVariants.{Read, Write,
 use Rattle.age_stream.specs.Cutting.{cut_into}
 use Rattle.age_stream.specs.Payload.{chunk_nonce, sealed_from}
 
--- a sealer: its key and limit, the number of the next chunk, the text that it holds of it, and the fault that it keeps
+-- a sealer: its key and limit, the number of the next chunk, the text that it holds of it, and the
+-- fault that it keeps
 pub record SealerState : Type 0 where
   pub key : List ℕ
   pub max_chunks : ℕ
@@ -30,37 +31,46 @@ sealed_after key i held text = sealed_from key i (cut_into 65536 held text)
 abbrev pub answer : SealerState → List ℕ → List ℕ
 answer s text = concat (sealed_after s.key s.index s.held text)
 
--- `text` came, `now` is held: the chunks `gone` went out, and whatever still comes the chunks that follow are as before
-pub record Fed (key : List ℕ) (i j : ℕ) (held text now : List ℕ) (old new : Option (List ℕ)) : Type 0 where
+-- `text` came, `now` is held: the chunks `gone` went out, and whatever still comes the chunks that
+-- follow are as before
+pub record Fed (key : List ℕ) (i j : ℕ) (held text now : List ℕ) (old new : Option (List ℕ))
+    : Type 0 where
   pub gone : List (List ℕ)
   pub count : j ≡ i + length gone
   pub size : length (concat gone) ≡ 65552 * length gone
   pub bytes : length held + length text ≡ 65536 * length gone + length now
   pub written : Appends old new (concat gone)
-  pub chunks : (more : List ℕ) → sealed_after key i held (text ++ more) ≡ gone ++ sealed_after key j now more
+  pub chunks : (more : List ℕ)
+      → sealed_after key i held (text ++ more) ≡ gone ++ sealed_after key j now more
 
 -- at least n bytes were written
 abbrev pub WroteAtLeast : ℕ → Option (List ℕ) → Option (List ℕ) → Type 0
 WroteAtLeast n old new = (text : List ℕ) × Appends old new text × (n ≤ length text)
 
--- What was written where `text` was to come and a fault was met: of a device's fault a beginning of the sealed chunks; of too many
--- chunks those with an index below the limit less one.
-abbrev pub StopsIn : List ℕ → ℕ → ℕ → List ℕ → List ℕ → Option (List ℕ) → Option (List ℕ) → StreamFault → Type 0
-StopsIn key max i held text old new Read = WritesPart old new (concat (sealed_after key i held text))
-StopsIn key max i held text old new Write = WritesPart old new (concat (sealed_after key i held text))
+-- What was written where `text` was to come and a fault was met: of a device's fault a beginning of
+-- the sealed chunks; of too many chunks those with an index below the limit less one.
+abbrev pub StopsIn : List ℕ → ℕ → ℕ → List ℕ → List ℕ → Option (List ℕ) → Option (List ℕ)
+    → StreamFault → Type 0
+StopsIn key max i held text old new Read =
+    WritesPart old new (concat (sealed_after key i held text))
+StopsIn key max i held text old new Write =
+    WritesPart old new (concat (sealed_after key i held text))
 StopsIn key max i held text old new TooManyChunks = (max < i + length (cut_into 65536 held text))
     × Appends old new (concat (take (max - 1 - i) (sealed_after key i held text)))
 StopsIn key max i held text old new _ = ⊥
 
 -- a text that the source may have given was taken
-pub record IsFed (key : List ℕ) (i j : ℕ) (held now : List ℕ) (from to old new : Option (List ℕ)) : Type 0 where
+pub record IsFed (key : List ℕ) (i j : ℕ) (held now : List ℕ) (from to old new : Option (List ℕ))
+    : Type 0 where
   pub text : List ℕ
   pub took : Consumes from to text
   pub may : MayGive from text
   pub fed : Fed key i j held text now old new
 
--- a fault was met in a text that the source may have given, with chunk j the next to be written; so much of the source was taken
-pub record Stopped (key : List ℕ) (max i j : ℕ) (held : List ℕ) (from to old new : Option (List ℕ)) (fault : StreamFault) : Type 0 where
+-- a fault was met in a text that the source may have given, with chunk j the next to be written; so
+-- much of the source was taken
+pub record Stopped (key : List ℕ) (max i j : ℕ) (held : List ℕ) (from to old new : Option (List ℕ))
+    (fault : StreamFault) : Type 0 where
   pub text : List ℕ
   pub may : MayGive from text
   pub stops : StopsIn key max i held text old new fault
@@ -68,27 +78,45 @@ pub record Stopped (key : List ℕ) (max i j : ℕ) (held : List ℕ) (from to o
   pub gave : (fault ≡ Read) ⊎ GaveAtMost (65536 * (j + 1 - i) + 1) from to
 
 -- all that a source gives was taken by a sealer that keeps no fault
-abbrev pub TakesAll : {A : Type 0} → SealerState → SealerState → Option (List ℕ) → Option (List ℕ) → Option (List ℕ) → Option (List ℕ) → Result A StreamFault → Type 0
-TakesAll s t from to old new r = (t.key ≡ s.key) × (t.max_chunks ≡ s.max_chunks) × MatchResult r
+abbrev pub TakesAll : {A : Type 0} → SealerState → SealerState → Option (List ℕ) → Option (List ℕ)
+    → Option (List ℕ) → Option (List ℕ) → Result A StreamFault → Type 0
+TakesAll s t from to old new r =
+    (t.key ≡ s.key) × (t.max_chunks ≡ s.max_chunks)
+    × MatchResult r
     (λ _. (t.fault ≡ None) × (length t.held ≤ 65536) × (t.index < t.max_chunks)
     × IsFed s.key s.index t.index s.held t.held from to old new × IsAtEnd to)
-    (λ fault. (t.fault ≡ Some fault) × Stopped s.key s.max_chunks s.index t.index s.held from to old new fault)
+    (λ fault. (t.fault ≡ Some fault)
+    × Stopped s.key s.max_chunks s.index t.index s.held from to old new fault)
 
 -- the last chunk was written, or a beginning of it
-abbrev pub FinishesBy : SealerState → Option (List ℕ) → Option (List ℕ) → Result Done StreamFault → Type 0
-FinishesBy s old new (Ok done) = Appends old new (answer s []) × (done.bytes ≡ 65536 * s.index + length s.held) × (done.chunks ≡ s.index + 1)
+abbrev pub FinishesBy : SealerState → Option (List ℕ) → Option (List ℕ) → Result Done StreamFault
+    → Type 0
+FinishesBy s old new (Ok done) =
+    Appends old new (answer s []) × (done.bytes ≡ 65536 * s.index + length s.held)
+    × (done.chunks ≡ s.index + 1)
 FinishesBy s old new (Err fault) = (fault ≡ Write) × WritesPart old new (answer s [])
 
--- all that a source gives was sealed and written by a sealer that keeps no fault; or a fault was met
-abbrev pub SealsAll : SealerState → Option (List ℕ) → Option (List ℕ) → Option (List ℕ) → Option (List ℕ) → Result Done StreamFault → Type 0
-SealsAll s from to old new (Ok done) = (text : List ℕ) × MayGive from text × Appends old new (answer s text)
+-- all that a source gives was sealed and written by a sealer that keeps no fault; or a fault was
+-- met
+abbrev pub SealsAll : SealerState → Option (List ℕ) → Option (List ℕ) → Option (List ℕ)
+    → Option (List ℕ) → Result Done StreamFault → Type 0
+SealsAll s from to old new (Ok done) =
+    (text : List ℕ) × MayGive from text × Appends old new (answer s text)
     × (s.index + length (cut_into 65536 s.held text) ≤ s.max_chunks)
-    × (done.bytes ≡ 65536 * s.index + length s.held + length text) × (done.chunks ≡ s.index + length (cut_into 65536 s.held text))
-SealsAll s from to old new (Err fault) = (chunk : ℕ) × Stopped s.key s.max_chunks s.index chunk s.held from to old new fault
+    × (done.bytes ≡ 65536 * s.index + length s.held + length text)
+    × (done.chunks ≡ s.index + length (cut_into 65536 s.held text))
+SealsAll s from to old new (Err fault) =
+    (chunk : ℕ) × Stopped s.key s.max_chunks s.index chunk s.held from to old new fault
 
--- the full chunk in front was written as chunk i, and the byte that followed it is in front; or a write of it failed, or there is no room for one more
-abbrev pub PutsFull : {A : Type 0} → List ℕ → ℕ → ℕ → ℕ → List ℕ → List ℕ → Option (List ℕ) → Option (List ℕ) → Result A StreamFault → Type 0
-PutsFull key max i j bytes after old new r = MatchResult r
-    (λ _. (j ≡ i + 1) × Appends old new (sealed key (chunk_nonce i false) [] (take 65536 bytes)) × (take 1 after ≡ take 1 (drop 65536 bytes)))
-    (λ fault. (j ≡ i) × (((fault ≡ Write) × WritesPart old new (sealed key (chunk_nonce i false) [] (take 65536 bytes)))
+-- the full chunk in front was written as chunk i, and the byte that followed it is in front; or a
+-- write of it failed, or there is no room for one more
+abbrev pub PutsFull : {A : Type 0} → List ℕ → ℕ → ℕ → ℕ → List ℕ → List ℕ → Option (List ℕ)
+    → Option (List ℕ) → Result A StreamFault → Type 0
+PutsFull key max i j bytes after old new r =
+    MatchResult r
+    (λ _. (j ≡ i + 1) × Appends old new (sealed key (chunk_nonce i false) [] (take 65536 bytes))
+    × (take 1 after ≡ take 1 (drop 65536 bytes)))
+    (λ fault. (j ≡ i)
+    × (((fault ≡ Write)
+    × WritesPart old new (sealed key (chunk_nonce i false) [] (take 65536 bytes)))
     ⊎ ((fault ≡ TooManyChunks) × (max ≤ i + 1) × Appends old new [])))

@@ -1,4 +1,5 @@
--- Parts of a plaintext by their places. Chunks that a part doesn't touch need not open (C2SP age.md, "Payload").
+-- Parts of a plaintext by their places. Chunks that a part doesn't touch need not open (C2SP
+-- age.md, "Payload").
 use Rattle.std.specs.Prelude.{ℕ, List, [], ◌∷◌, ◌+◌, ◌-◌, ◌*◌, ◌/◌, ◌%◌, ◌<◌, ◌≡◌, length, get_or, take, drop, nat_lt, true, min, slice_get, slice_index, Option, Some, None, Result, Err, if◌then◌else◌}
 use Rattle.std.specs.List.{sum_by}
 use Rattle.age_recipient.specs.declared.key.FileKey.{FileKey}
@@ -24,11 +25,13 @@ plain_len rest = sum_by (λ piece. length piece - 16) (pieces rest)
 abbrev pub text_len : ℕ → ℕ → ℕ
 text_len plain i = min 65536 (plain - 65536 * i)
 
--- xs are the plaintext's bytes from place `at` on: at place x there is byte x - 65536 * i of what piece i opens to, i being the
--- chunk in which x lies
+-- xs are the plaintext's bytes from place `at` on: at place x there is byte x - 65536 * i of what
+-- piece i opens to, i being the chunk in which x lies
 abbrev pub IsSlice : List ℕ → List ℕ → ℕ → List ℕ → Type 0
-IsSlice key rest at xs = (k : ℕ) → k < length xs
-    → (text : List ℕ) × (opening key rest ((at + k) / 65536) ≡ Some text) × (slice_get text ((at + k) % 65536) ≡ Some (slice_index xs k))
+IsSlice key rest at xs =
+    (k : ℕ) → k < length xs
+    → (text : List ℕ) × (opening key rest ((at + k) / 65536) ≡ Some text)
+    × (slice_get text ((at + k) % 65536) ≡ Some (slice_index xs k))
 
 -- the last piece
 abbrev pub last_piece : List ℕ → List ℕ

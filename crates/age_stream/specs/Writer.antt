@@ -9,16 +9,22 @@ use Rattle.age_stream.specs.declared.writer.StreamWriter.{StreamWriter}
 use Rattle.age_stream.specs.declared.refused.Refused.{Refused}
 use Rattle.age_stream.specs.Sealing.{Fed, SealerState, StopsIn}
 
--- A piece was taken by a sealer that keeps no fault: whatever still comes, what is written is as before. Or a fault was met: of the
--- sink, or too many chunks.
-abbrev pub TakesPiece : {A : Type 0} → SealerState → SealerState → List ℕ → Option (List ℕ) → Option (List ℕ) → Result A StreamFault → Type 0
-TakesPiece s t piece old new r = (t.key ≡ s.key) × (t.max_chunks ≡ s.max_chunks) × MatchResult r
-    (λ _. (t.fault ≡ None) × (length t.held ≤ 65536) × (t.index < t.max_chunks) × Fed s.key s.index t.index s.held piece t.held old new)
-    (λ fault. (t.fault ≡ Some fault) × (fault ≢ Read) × StopsIn s.key s.max_chunks s.index s.held piece old new fault)
+-- A piece was taken by a sealer that keeps no fault: whatever still comes, what is written is as
+-- before. Or a fault was met: of the sink, or too many chunks.
+abbrev pub TakesPiece : {A : Type 0} → SealerState → SealerState → List ℕ → Option (List ℕ)
+    → Option (List ℕ) → Result A StreamFault → Type 0
+TakesPiece s t piece old new r =
+    (t.key ≡ s.key) × (t.max_chunks ≡ s.max_chunks)
+    × MatchResult r
+    (λ _. (t.fault ≡ None) × (length t.held ≤ 65536) × (t.index < t.max_chunks)
+    × Fed s.key s.index t.index s.held piece t.held old new)
+    (λ fault. (t.fault ≡ Some fault) × (fault ≢ Read)
+    × StopsIn s.key s.max_chunks s.index s.held piece old new fault)
 
 -- a write of the nonce failed, and one failure more was counted
 abbrev pub LosesNonce : List ℕ → Option (List ℕ) → Option (List ℕ) → ℕ → ℕ → StreamFault → Type 0
-LosesNonce nonce old new before after fault = (fault ≡ Write) × WritesPart old new nonce × CountsWriteFault before after fault
+LosesNonce nonce old new before after fault =
+    (fault ≡ Write) × WritesPart old new nonce × CountsWriteFault before after fault
 
 -- the sink of a writer, and its sealer
 abbrev pub sink_of : {W B : Type 0} → StreamWriter W B → MutBor W

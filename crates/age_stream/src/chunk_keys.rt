@@ -5,8 +5,8 @@ ghost use Rattle.age_stream.specs.Payload.{payload_key, chunk_nonce};
 use age_kdf::hkdf;
 use age_recipient::FileKey;
 
-/// The nonce of chunk i: its number in eleven big-endian bytes, then 1 for the last chunk and 0 for the others (C2SP `age.md`,
-/// "Payload"). Eleven bytes hold the numbers below 2^88.
+/// The nonce of chunk i: its number in eleven big-endian bytes, then 1 for the last chunk and 0 for
+/// the others (C2SP `age.md`, "Payload"). Eleven bytes hold the numbers below 2^88.
 pub fn chunk_nonce(i: u128, last: bool) -> [u8; 12]
     requires { i < 2 ^ 88 }
     ensures { result ≡ chunk_nonce i last }

@@ -29,7 +29,8 @@ impl Model for Chunks {
 
     ghost Value = { RangeState };
 
-    ghost view = { λ c. record { layout = c.layout; index = c.index; buf = c.buf.items; opened = c.opened } };
+    ghost view = { λ c.
+        record { layout = c.layout; index = c.index; buf = c.buf.items; opened = c.opened } };
 
     ghost invariant = { λ c. length c.buf.items ≡ 65553 };
 }
@@ -55,7 +56,8 @@ fn put(text: &[u8], skip: usize, buf: &mut [u8], done: usize, end: usize) -> usi
     requires done { done < end }
     requires end { end ≤ length buf.old }
     ensures count { result ≡ min (length text.now - skip) (end - done) }
-    ensures bytes { buf.new ≡ take done buf.old ++ take result (drop skip text.now) ++ drop (done + result) buf.old }
+    ensures bytes { buf.new
+        ≡ take done buf.old ++ take result (drop skip text.now) ++ drop (done + result) buf.old }
 {
     let n = (text.len() - skip).min(end - done);
     let (_, tail) = buf.split_at_mut(done);
@@ -87,7 +89,8 @@ impl Chunks {
         payload_at: u64,
         max_chunks: u128,
     ) -> Result<Chunks, StreamFault>
-        ensures probes { Probes (D.bytes dev.old) (D.bytes dev.new) payload_at (D.given dev.old) (D.given dev.new) }
+        ensures probes { Probes (D.bytes dev.old) (D.bytes dev.new) payload_at (D.given dev.old)
+            (D.given dev.new) }
         ensures opens { OpensRanges key.now max_chunks payload_at (D.bytes dev.old) result }
         ensures named { IfErr result IsOpenFault }
         ensures count { CountsRead (D.failed dev.old) (D.failed dev.new) result }
@@ -126,9 +129,13 @@ impl Chunks {
         ensures sound { IsSound (D.bytes dev.old) self.old → IsSound (D.bytes dev.old) self.new }
         ensures lost { IfErr result (IsLost (D.bytes dev.old) self.old i) }
         ensures rises { self.old.opened ≤ self.new.opened }
-        ensures counts { Counts self.old self.new.opened (if is_kept self.old.index i then 0 else 1) }
-        ensures opened { self.new.opened + (if is_kept self.old.index i then 1 else 0) ≤ self.old.opened + 1 }
-        ensures given { D.given dev.new ≤ D.given dev.old + (if is_kept self.old.index i then 0 else text_len self.old.layout.plain i + 16) }
+        ensures counts { Counts self.old self.new.opened
+            (if is_kept self.old.index i then 0 else 1) }
+        ensures opened { self.new.opened + (if is_kept self.old.index i then 1 else 0)
+            ≤ self.old.opened + 1 }
+        ensures given { D.given dev.new
+            ≤ D.given dev.old
+            + (if is_kept self.old.index i then 0 else text_len self.old.layout.plain i + 16) }
         ensures count { CountsRead (D.failed dev.old) (D.failed dev.new) result }
     {
         if self.index == Some(i) {
@@ -163,18 +170,23 @@ impl Chunks {
         ensures sound { IsSound (D.bytes dev.old) self.old → IsSound (D.bytes dev.old) self.new }
         ensures number { IfOk result (λ n. n ≡ range_len self.old at (length buf.old)) }
         ensures filled { IfOk result (λ n. Fills (D.bytes dev.old) self.old at n buf.old buf.new) }
-        ensures stop { IfErr result (Stops (D.bytes dev.old) self.old at (range_len self.old at (length buf.old)) buf.old buf.new self.new.opened) }
+        ensures stop { IfErr result (Stops (D.bytes dev.old) self.old at
+            (range_len self.old at (length buf.old)) buf.old buf.new self.new.opened) }
         ensures count { CountsRead (D.failed dev.old) (D.failed dev.new) result }
         ensures kept { IfOk result (λ n. 0 < n → self.new.index ≡ Some ((at + n - 1) / 65536)) }
         ensures none { OnErr result (self.new.index ≡ None) }
         ensures rises { self.old.opened ≤ self.new.opened }
-        ensures counts { IfOk result (λ n. 0 < n → Counts self.old self.new.opened ((at + n - 1) / 65536 + 1 - fresh self.old.index at)) }
+        ensures counts { IfOk result (λ n. 0 < n
+            → Counts self.old self.new.opened
+            ((at + n - 1) / 65536 + 1 - fresh self.old.index at)) }
         ensures opened { (end : ℕ) → at + range_len self.old at (length buf.old) ≤ 65536 * end
             → self.new.opened ≤ self.old.opened + (end - fresh self.old.index at) }
         ensures given { (end : ℕ) → at + range_len self.old at (length buf.old) ≤ 65536 * end
-            → D.given dev.new ≤ D.given dev.old + sealed_span self.old.layout (fresh self.old.index at) end }
+            → D.given dev.new
+            ≤ D.given dev.old + sealed_span self.old.layout (fresh self.old.index at) end }
         ensures empty { range_len self.old at (length buf.old) ≡ 0
-            → (self.new.index ≡ self.old.index) × (self.new.opened ≡ self.old.opened) × (D.given dev.new ≡ D.given dev.old) }
+            → (self.new.index ≡ self.old.index) × (self.new.opened ≡ self.old.opened)
+            × (D.given dev.new ≡ D.given dev.old) }
     {
         let layout = self.layout();
         let end = range_len(layout.plain, at, buf.len());

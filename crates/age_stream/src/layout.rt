@@ -1,7 +1,8 @@
 //! Where the chunks of a payload lie.
 ghost use Rattle.std.specs.Prelude.{◌^◌, ◌+◌, ◌-◌, ◌*◌, ◌<◌, ◌≤◌};
 
-/// The sealed chunks of a payload: their key, the place of the first, the plaintext's length, and their number.
+/// The sealed chunks of a payload: their key, the place of the first, the plaintext's length, and
+/// their number.
 #[derive(Clone, Copy, Drop)]
 pub struct Layout {
     pub(crate) key: [u8; 32],

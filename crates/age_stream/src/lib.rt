@@ -1,5 +1,6 @@
-//! The payload of age v1 files (C2SP `age.md`, "Payload"): a nonce, then a plaintext's chunks, each sealed at its place. It is
-//! written and read one chunk at a time, in the memory of one `ChunkBuf`.
+//! The payload of age v1 files (C2SP `age.md`, "Payload"): a nonce, then a plaintext's chunks, each
+//! sealed at its place. It is written and read one chunk at a time, in the memory of one
+//! `ChunkBuf`.
 //!
 //! ```
 //! let mut writer = StreamWriter::new(alloc, &file_key, &nonce, &mut sink, max_chunks)?;
@@ -10,9 +11,11 @@
 //! while let Some(chunk) = reader.next_chunk()? {} // lent once its tag was verified
 //! ```
 //!
-//! `RangeReader` reads any part of a plaintext. `open_chunk` and `seal_chunk` work on one chunk in the caller's memory.
+//! `RangeReader` reads any part of a plaintext. `open_chunk` and `seal_chunk` work on one chunk in
+//! the caller's memory.
 //!
-//! Limits: at most 2^88 chunks of 65,536 bytes. A payload is whole only where its last chunk was read.
+//! Limits: at most 2^88 chunks of 65,536 bytes. A payload is whole only where its last chunk was
+//! read.
 #![tactic(auto)]
 
 mod buffer;

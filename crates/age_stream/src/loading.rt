@@ -35,7 +35,8 @@ fn read_behind<D: ReadAt>(
     ensures stay { D.bytes dev.new ≡ D.bytes dev.old }
     ensures within { IfOk result (λ n. got + n ≤ end) }
     ensures front { take got buf.new ≡ take got buf.old }
-    ensures gives { IfOk result (λ n. HasAt (D.bytes dev.old) (at + got) (take n (drop got buf.new))) }
+    ensures gives { IfOk result
+        (λ n. HasAt (D.bytes dev.old) (at + got) (take n (drop got buf.new))) }
     ensures end { IfOk result (λ n. n ≡ 0 → IsPast (D.bytes dev.old) (at + got)) }
     ensures given { IfOk result (λ n. D.given dev.new ≤ D.given dev.old + n) }
     ensures none_given { OnErr result (D.given dev.new ≡ D.given dev.old) }
@@ -47,7 +48,8 @@ fn read_behind<D: ReadAt>(
     dev.read_at(place, hole)
 }
 
-/// Reads the first `end` bytes of `buf`, in as many reads as it takes; false where the source gives nothing more before.
+/// Reads the first `end` bytes of `buf`, in as many reads as it takes; false where the source gives
+/// nothing more before.
 pub(crate) fn read_full<D: ReadAt>(
     dev: &mut D,
     at: u64,
@@ -93,8 +95,10 @@ pub(crate) fn load<D: ReadAt>(
     ensures stay { D.bytes dev.new ≡ D.bytes dev.old }
     ensures opens { OnOk result (IsThere (D.bytes dev.old) layout
         → opens_to (D.bytes dev.old) layout i ≡ Some (take (text_len layout.plain i) buf.new)) }
-    ensures lost { IfErr result (λ fault. (fault ≡ StreamFault.Read) ⊎ ((fault ≡ StreamFault.BadChunk i)
-        × (IsThere (D.bytes dev.old) layout → opens_to (D.bytes dev.old) layout i ≡ None))) }
+    ensures lost { IfErr result (λ fault. (fault ≡ StreamFault.Read)
+        ⊎ ((fault ≡ StreamFault.BadChunk i)
+        × (IsThere (D.bytes dev.old) layout
+        → opens_to (D.bytes dev.old) layout i ≡ None))) }
     ensures given { D.given dev.new ≤ D.given dev.old + (text_len layout.plain i + 16) }
     ensures count { CountsRead (D.failed dev.old) (D.failed dev.new) result }
 {
@@ -142,7 +146,8 @@ pub(crate) fn nonce_at<D: ReadAt>(dev: &mut D, at: u64) -> Result<Nonce, StreamF
     }
 }
 
-/// Reads and opens the last of the pieces, which have so many bytes from place `first` on. Its text is in front then.
+/// Reads and opens the last of the pieces, which have so many bytes from place `first` on. Its text
+/// is in front then.
 pub(crate) fn load_last<D: ReadAt>(
     dev: &mut D,
     key: [u8; 32],

@@ -16,8 +16,8 @@ use age_header::{Sink, Source, fill_from, write_all};
 use age_recipient::FileKey;
 use std::marker::Model;
 
-/// Opens the pieces of a payload in order, each in the same memory. It keeps a fault, and returns it from then on without asking
-/// its source.
+/// Opens the pieces of a payload in order, each in the same memory. It keeps a fault, and returns
+/// it from then on without asking its source.
 #[derive(Drop)]
 pub struct ChunkOpener {
     key: [u8; 32],
@@ -63,8 +63,10 @@ impl ChunkOpener {
         buf: ChunkBuf,
     ) -> Result<ChunkOpener, StreamFault>
         requires { max_chunks ≤ 2 ^ 88 }
-        ensures starts { Starts key.now max_chunks (S.to_come source.old) (S.to_come source.new) result }
-        ensures gave { IsErrOf result StreamFault.Read ⊎ GaveAtMost 16 (S.to_come source.old) (S.to_come source.new) }
+        ensures starts { Starts key.now max_chunks (S.to_come source.old) (S.to_come source.new)
+            result }
+        ensures gave { IsErrOf result StreamFault.Read
+            ⊎ GaveAtMost 16 (S.to_come source.old) (S.to_come source.new) }
         ensures count { CountsRead (S.failed source.old) (S.failed source.new) result }
     {
         let nonce = match read_nonce(source) {
@@ -100,9 +102,11 @@ impl ChunkOpener {
 
     /// Reads and opens the next piece; false after the last.
     pub fn advance<S: Source>(&mut self, source: &mut S) -> Result<bool, StreamFault>
-        ensures kept { IfSome self.old.fault (λ f. (result ≡ Err f) × (source.new ≡ source.old) × (self.new ≡ self.old)) }
+        ensures kept { IfSome self.old.fault
+            (λ f. (result ≡ Err f) × (source.new ≡ source.old) × (self.new ≡ self.old)) }
         ensures keeps { IfNone self.old.fault (IfErr result (λ f. self.new.fault ≡ Some f)) }
-        ensures count { IfNone self.old.fault (CountsRead (S.failed source.old) (S.failed source.new) result) }
+        ensures count { IfNone self.old.fault
+            (CountsRead (S.failed source.old) (S.failed source.new) result) }
         ensures opens { IfNone self.old.fault (IsErrOf result StreamFault.Read
             ⊎ Advances self.old self.new (S.to_come source.old) (S.to_come source.new) result) }
     {
@@ -135,16 +139,19 @@ impl ChunkOpener {
         }
     }
 
-    /// Opens the pieces that are left, and writes the text of each as soon as it is verified. Returns how much was written.
+    /// Opens the pieces that are left, and writes the text of each as soon as it is verified.
+    /// Returns how much was written.
     pub(crate) fn write_pieces<S: Source, W: Sink>(
         self,
         source: &mut S,
         out: &mut W,
     ) -> Result<Done, StreamFault>
         requires { self.fault ≡ None }
-        ensures writes_all { WritesAll self (S.to_come source.old) (W.taken out.old) (W.taken out.new) result }
+        ensures writes_all { WritesAll self (S.to_come source.old) (W.taken out.old)
+            (W.taken out.new) result }
         ensures ends { IfErr result (λ f. (f ≡ StreamFault.Read)
-            ⊎ EndsAt self.max_chunks 0 (S.to_come source.old) (S.to_come source.new) (W.taken out.old) (W.taken out.new) f) }
+            ⊎ EndsAt self.max_chunks 0 (S.to_come source.old) (S.to_come source.new)
+            (W.taken out.old) (W.taken out.new) f) }
         ensures reads { CountsRead (S.failed source.old) (S.failed source.new) result }
         ensures writes { CountsWrite (W.failed out.old) (W.failed out.new) result }
     {
@@ -174,7 +181,8 @@ struct Piece {
     more: bool,
 }
 
-/// Reads the next piece, and opens it as piece i. The buffer ends with `ahead` bytes of it, and then with the byte that follows it.
+/// Reads the next piece, and opens it as piece i. The buffer ends with `ahead` bytes of it, and
+/// then with the byte that follows it.
 fn next_piece<S: Source>(
     source: &mut S,
     bytes: &mut [u8],
@@ -189,11 +197,16 @@ fn next_piece<S: Source>(
     requires small { max ≤ 2 ^ 88 }
     ensures len { length bytes.new ≡ 65553 }
     ensures count { CountsRead (S.failed source.old) (S.failed source.new) result }
-    ensures opens { IsErrOf result StreamFault.Read ⊎ ((d : List ℕ) → MayGive (S.to_come source.new) d → (c : List ℕ)
-        × MayGive (S.to_come source.old) c × Opens key.now max i (take ahead (drop 65552 bytes.old) ++ c) bytes.new d result) }
-    ensures gave { IsErrOf result StreamFault.Read ⊎ GaveAtMost (65553 - ahead) (S.to_come source.old) (S.to_come source.new) }
+    ensures opens { IsErrOf result StreamFault.Read
+        ⊎ ((d : List ℕ) → MayGive (S.to_come source.new) d
+        → (c : List ℕ) × MayGive (S.to_come source.old) c
+        × Opens key.now max i (take ahead (drop 65552 bytes.old) ++ c) bytes.new d
+        result) }
+    ensures gave { IsErrOf result StreamFault.Read
+        ⊎ GaveAtMost (65553 - ahead) (S.to_come source.old) (S.to_come source.new) }
     ensures at { IfErr result (λ f. (f ≡ StreamFault.Read) ⊎ IsAtPiece max i f) }
-    ensures size { IfOk result (λ piece. (piece.len ≤ 65536) × (piece.more ≡ true → piece.len ≡ 65536)) }
+    ensures size { IfOk result
+        (λ piece. (piece.len ≤ 65536) × (piece.more ≡ true → piece.len ≡ 65536)) }
     ensures within { OnOk result (i < max) }
 {
     carry(bytes, ahead);
@@ -216,7 +229,8 @@ fn next_piece<S: Source>(
 /// The 16 bytes of a payload's nonce.
 fn read_nonce<S: Source>(source: &mut S) -> Result<[u8; 16], StreamFault>
     ensures nonce { GivesNonce (S.to_come source.old) (S.to_come source.new) result }
-    ensures gave { IsErrOf result StreamFault.Read ⊎ GaveAtMost 16 (S.to_come source.old) (S.to_come source.new) }
+    ensures gave { IsErrOf result StreamFault.Read
+        ⊎ GaveAtMost 16 (S.to_come source.old) (S.to_come source.new) }
     ensures count { CountsRead (S.failed source.old) (S.failed source.new) result }
 {
     let mut nonce = [0; 16];
@@ -240,13 +254,15 @@ fn carry(bytes: &mut [u8], ahead: usize)
     first.copy_from_slice(next);
 }
 
-/// Opens the first `end` bytes where they stand, as chunk i, and returns the length of their text, which is in front then. The tag, and
-/// what follows it, stays as it was. `last` says whether the chunk ends its payload. A payload may have `max` chunks.
+/// Opens the first `end` bytes where they stand, as chunk i, and returns the length of their text,
+/// which is in front then. The tag, and what follows it, stays as it was. `last` says whether the
+/// chunk ends its payload. A payload may have `max` chunks.
 ///
 /// # Errors
-/// The first that applies of `TooManyChunks` where `i` is `max`; `ChunkShort` where there are fewer bytes than a tag, 16; `EmptyFinal`
-/// where the last chunk, not being the first, is a tag alone; `BadChunk` where no plaintext seals to these bytes at their place. On
-/// each the buffer is as it was.
+/// The first that applies of `TooManyChunks` where `i` is `max`; `ChunkShort` where there are fewer
+/// bytes than a tag, 16; `EmptyFinal` where the last chunk, not being the first, is a tag alone;
+/// `BadChunk` where no plaintext seals to these bytes at their place. On each the buffer is as it
+/// was.
 pub fn open_chunk(
     key: &[u8; 32],
     max: u128,
@@ -298,7 +314,8 @@ pub(crate) fn open_front(key: &[u8; 32], nonce: &[u8; 12], bytes: &mut [u8], end
     ensures len { length bytes.new ≡ length bytes.old }
     ensures rest { drop (end - 16) bytes.new ≡ drop (end - 16) bytes.old }
     ensures kept { OnFalse result (bytes.new ≡ bytes.old) }
-    ensures opened { OnTrue result (opened key.now nonce.now [] (take end bytes.old) ≡ Some (take (end - 16) bytes.new)) }
+    ensures opened { OnTrue result
+        (opened key.now nonce.now [] (take end bytes.old) ≡ Some (take (end - 16) bytes.new)) }
     ensures refused { OnFalse result (opened key.now nonce.now [] (take end bytes.old) ≡ None) }
 {
     let (front, _) = bytes.split_at_mut(end);

@@ -10,8 +10,9 @@ use crate::refused::Refused;
 use age_recipient::FileKey;
 use std::alloc::Global;
 
-/// Reads any part of a payload's plaintext from a caller's source. It reads and opens just the chunks that a part touches, and keeps
-/// the chunk that it opened last. Its memory is that of one `ChunkBuf`, which is allocated once.
+/// Reads any part of a payload's plaintext from a caller's source. It reads and opens just the
+/// chunks that a part touches, and keeps the chunk that it opened last. Its memory is that of one
+/// `ChunkBuf`, which is allocated once.
 #[derive(Drop)]
 pub struct RangeReader<'a, D, B = Chunks> {
     dev: &'a mut D,
@@ -39,13 +40,19 @@ impl<'a, D: ReadAt> RangeReader<'a, D> {
         payload_at: u64,
         max_chunks: u128,
     ) -> Result<RangeReader<'a, D>, Refused<'a, D, StreamFault>>
-        ensures same_reference { IfOk result (λ reader. reader.dev.ghost_name ≡ dev.entry.ghost_name) }
-        ensures opens { IfOk result (λ reader. OpensRanges key.now max_chunks payload_at (D.bytes dev.old) (Ok reader.chunks)) }
-        ensures probes { IfOk result (λ reader. Probes (D.bytes dev.old) (D.bytes reader.dev.now) payload_at (D.given dev.old) (D.given reader.dev.now)) }
+        ensures same_reference { IfOk result
+            (λ reader. reader.dev.ghost_name ≡ dev.entry.ghost_name) }
+        ensures opens { IfOk result (λ reader.
+            OpensRanges key.now max_chunks payload_at (D.bytes dev.old) (Ok reader.chunks)) }
+        ensures probes { IfOk result (λ reader. Probes (D.bytes dev.old) (D.bytes reader.dev.now)
+            payload_at (D.given dev.old) (D.given reader.dev.now)) }
         ensures uncounted { IfOk result (λ reader. D.failed reader.dev.now ≡ D.failed dev.old) }
-        ensures handed_back { IfErr result (λ refused. refused.device.ghost_name ≡ dev.entry.ghost_name) }
-        ensures refuses { IfErr result (λ refused. OpensRanges key.now max_chunks payload_at (D.bytes dev.old) (Err refused.fault)
-            × Probes (D.bytes dev.old) (D.bytes refused.device.now) payload_at (D.given dev.old) (D.given refused.device.now)
+        ensures handed_back { IfErr result
+            (λ refused. refused.device.ghost_name ≡ dev.entry.ghost_name) }
+        ensures refuses { IfErr result (λ refused. OpensRanges key.now max_chunks payload_at
+            (D.bytes dev.old) (Err refused.fault)
+            × Probes (D.bytes dev.old) (D.bytes refused.device.now) payload_at (D.given dev.old)
+            (D.given refused.device.now)
             × CountsReadFault (D.failed dev.old) (D.failed refused.device.now) refused.fault) }
         ensures named { IfErr result (λ refused. IsOpenFault refused.fault) }
     {
@@ -55,15 +62,17 @@ impl<'a, D: ReadAt> RangeReader<'a, D> {
         }
     }
 
-    /// A reader of the payload that begins at place `payload_at` of the source, under this file key (C2SP `age.md`, "Payload"). It takes
-    /// its memory, reads the nonce, and reads and opens the last piece, since its length and its tag prove where the payload ends. The
-    /// last chunk is the kept one then. Of the source after an error `started` says more.
+    /// A reader of the payload that begins at place `payload_at` of the source, under this file key
+    /// (C2SP `age.md`, "Payload"). It takes its memory, reads the nonce, and reads and opens the
+    /// last piece, since its length and its tag prove where the payload ends. The last chunk is the
+    /// kept one then. Of the source after an error `started` says more.
     ///
     /// # Errors
-    /// `Memory` where the allocation was refused: nothing was read. `NonceTruncated` where fewer than 16 bytes stand there. Then the
-    /// first that applies: `TooManyChunks` where there are more than `max_chunks` pieces, `ChunkShort` where the last is shorter than a
-    /// tag, `EmptyFinal` where it is not the first and a tag alone, `BadChunk` where nothing seals to it at its place. `Read` where the
-    /// source failed.
+    /// `Memory` where the allocation was refused: nothing was read. `NonceTruncated` where fewer
+    /// than 16 bytes stand there. Then the first that applies: `TooManyChunks` where there are more
+    /// than `max_chunks` pieces, `ChunkShort` where the last is shorter than a tag, `EmptyFinal`
+    /// where it is not the first and a tag alone, `BadChunk` where nothing seals to it at its
+    /// place. `Read` where the source failed.
     pub fn open(
         alloc: Global,
         key: &FileKey,
@@ -71,12 +80,18 @@ impl<'a, D: ReadAt> RangeReader<'a, D> {
         payload_at: u64,
         max_chunks: u128,
     ) -> Result<RangeReader<'a, D>, StreamFault>
-        ensures same_reference { IfOk result (λ reader. reader.dev.ghost_name ≡ dev.entry.ghost_name) }
-        ensures opens { IfOk result (λ reader. OpensRanges key.now max_chunks payload_at (D.bytes dev.old) (Ok reader.chunks)) }
-        ensures probes { IfOk result (λ reader. Probes (D.bytes dev.old) (D.bytes reader.dev.now) payload_at (D.given dev.old) (D.given reader.dev.now)) }
+        ensures same_reference { IfOk result
+            (λ reader. reader.dev.ghost_name ≡ dev.entry.ghost_name) }
+        ensures opens { IfOk result (λ reader.
+            OpensRanges key.now max_chunks payload_at (D.bytes dev.old) (Ok reader.chunks)) }
+        ensures probes { IfOk result (λ reader. Probes (D.bytes dev.old) (D.bytes reader.dev.now)
+            payload_at (D.given dev.old) (D.given reader.dev.now)) }
         ensures uncounted { IfOk result (λ reader. D.failed reader.dev.now ≡ D.failed dev.old) }
-        ensures refuses { IfErr result (λ fault. OpensRanges key.now max_chunks payload_at (D.bytes dev.old) (Err fault)
-            × ((last : D) × Probes (D.bytes dev.old) (D.bytes last) payload_at (D.given dev.old) (D.given last)
+        ensures refuses { IfErr result (λ fault. OpensRanges key.now max_chunks payload_at
+            (D.bytes dev.old) (Err fault)
+            × ((last : D)
+            × Probes (D.bytes dev.old) (D.bytes last) payload_at (D.given dev.old)
+            (D.given last)
             × CountsReadFault (D.failed dev.old) (D.failed last) fault)) }
         ensures named { IfErr result IsOpenFault }
     {
@@ -93,41 +108,54 @@ impl<'a, D: ReadAt> RangeReader<'a, D> {
         self.chunks.layout().plain
     }
 
-    /// How many times a chunk was read to be opened so far, failures included: 1 after `open`. It stays at the largest `u64`.
+    /// How many times a chunk was read to be opened so far, failures included: 1 after `open`. It
+    /// stays at the largest `u64`.
     pub fn opened(&self) -> u64
         ensures { result ≡ self.now.chunks.opened }
     {
         self.chunks.opened()
     }
 
-    /// Fills the front of `buf` with the plaintext from byte `at` on, and returns how many bytes: the smaller of `buf.len()` and what
-    /// the plaintext has from `at` on, 0 past its end. The rest of `buf` stays as it was. An empty range reads nothing. After a range
-    /// that is not empty its last chunk is kept; it takes no memory.
+    /// Fills the front of `buf` with the plaintext from byte `at` on, and returns how many bytes:
+    /// the smaller of `buf.len()` and what the plaintext has from `at` on, 0 past its end. The rest
+    /// of `buf` stays as it was. An empty range reads nothing. After a range that is not empty its
+    /// last chunk is kept; it takes no memory.
     ///
     /// # Errors
-    /// `BadChunk(i)` for the first chunk i of the range that does not open, `Read` where the source failed. The bytes before that chunk
-    /// are in `buf` then, the rest of `buf` stays as it was, and no chunk is kept. A later call reads afresh.
+    /// `BadChunk(i)` for the first chunk i of the range that does not open, `Read` where the source
+    /// failed. The bytes before that chunk are in `buf` then, the rest of `buf` stays as it was,
+    /// and no chunk is kept. A later call reads afresh.
     pub fn read_range(&mut self, at: u64, buf: &mut [u8]) -> Result<usize, StreamFault>
         ensures same_reference { self.new.dev.ghost_name ≡ self.old.dev.ghost_name }
         ensures stay { D.bytes self.new.dev.now ≡ D.bytes self.old.dev.now }
         ensures same { self.new.chunks.layout ≡ self.old.chunks.layout }
-        ensures sound { IsSound (D.bytes self.old.dev.now) self.old.chunks → IsSound (D.bytes self.old.dev.now) self.new.chunks }
+        ensures sound { IsSound (D.bytes self.old.dev.now) self.old.chunks
+            → IsSound (D.bytes self.old.dev.now) self.new.chunks }
         ensures number { IfOk result (λ n. n ≡ range_len self.old.chunks at (length buf.old)) }
-        ensures filled { IfOk result (λ n. Fills (D.bytes self.old.dev.now) self.old.chunks at n buf.old buf.new) }
-        ensures stop { IfErr result (Stops (D.bytes self.old.dev.now) self.old.chunks at (range_len self.old.chunks at (length buf.old)) buf.old buf.new
+        ensures filled { IfOk result
+            (λ n. Fills (D.bytes self.old.dev.now) self.old.chunks at n buf.old buf.new) }
+        ensures stop { IfErr result (Stops (D.bytes self.old.dev.now) self.old.chunks at
+            (range_len self.old.chunks at (length buf.old)) buf.old buf.new
             self.new.chunks.opened) }
         ensures count { CountsRead (D.failed self.old.dev.now) (D.failed self.new.dev.now) result }
-        ensures kept { IfOk result (λ n. 0 < n → self.new.chunks.index ≡ Some ((at + n - 1) / 65536)) }
+        ensures kept { IfOk result
+            (λ n. 0 < n → self.new.chunks.index ≡ Some ((at + n - 1) / 65536)) }
         ensures none { OnErr result (self.new.chunks.index ≡ None) }
         ensures rises { self.old.chunks.opened ≤ self.new.chunks.opened }
         ensures counts { IfOk result (λ n. 0 < n → Counts self.old.chunks self.new.chunks.opened
             ((at + n - 1) / 65536 + 1 - fresh self.old.chunks.index at)) }
-        ensures opened { (end : ℕ) → at + range_len self.old.chunks at (length buf.old) ≤ 65536 * end
-            → self.new.chunks.opened ≤ self.old.chunks.opened + (end - fresh self.old.chunks.index at) }
+        ensures opened { (end : ℕ)
+            → at + range_len self.old.chunks at (length buf.old) ≤ 65536 * end
+            → self.new.chunks.opened
+            ≤ self.old.chunks.opened + (end - fresh self.old.chunks.index at) }
         ensures given { (end : ℕ) → at + range_len self.old.chunks at (length buf.old) ≤ 65536 * end
-            → D.given self.new.dev.now ≤ D.given self.old.dev.now + sealed_span self.old.chunks.layout (fresh self.old.chunks.index at) end }
-        ensures empty { range_len self.old.chunks at (length buf.old) ≡ 0 → (self.new.chunks.index ≡ self.old.chunks.index)
-            × (self.new.chunks.opened ≡ self.old.chunks.opened) × (D.given self.new.dev.now ≡ D.given self.old.dev.now) }
+            → D.given self.new.dev.now
+            ≤ D.given self.old.dev.now
+            + sealed_span self.old.chunks.layout (fresh self.old.chunks.index at) end }
+        ensures empty { range_len self.old.chunks at (length buf.old) ≡ 0
+            → (self.new.chunks.index ≡ self.old.chunks.index)
+            × (self.new.chunks.opened ≡ self.old.chunks.opened)
+            × (D.given self.new.dev.now ≡ D.given self.old.dev.now) }
     {
         self.chunks.read_range(self.dev, at, buf)
     }

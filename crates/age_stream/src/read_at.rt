@@ -9,8 +9,9 @@ ghost use Rattle.age_stream.specs.Places.{CountsGiven, FindsSize, GivesAt, HasPl
 use age_header::DeviceFault;
 use std::io::{Read, Seek, SeekFrom};
 
-/// Where bytes are read from at their places, in any order. A source whose contents are known to proofs keeps them: the same place
-/// gives the same byte at each read. Of other sources, such as files, nothing is known but counts and sizes.
+/// Where bytes are read from at their places, in any order. A source whose contents are known to
+/// proofs keeps them: the same place gives the same byte at each read. Of other sources, such as
+/// files, nothing is known but counts and sizes.
 pub trait ReadAt {
     // The contents, where they are known to proofs.
     ghost bytes: { Self → Option (List ℕ) };
@@ -34,8 +35,8 @@ pub trait ReadAt {
         ensures given { given self.new ≡ given self.old }
         ensures count { Counts (failed self.old) (failed self.new) result };
 
-    /// Reads the bytes from place `at` on into the front of `buf`, and returns their number; 0 with a nonempty `buf` only at the end
-    /// or past it. A short read is not the end.
+    /// Reads the bytes from place `at` on into the front of `buf`, and returns their number; 0 with
+    /// a nonempty `buf` only at the end or past it. A short read is not the end.
     ///
     /// # Errors
     /// The read failed, and gave no byte. The failure is counted.
@@ -104,8 +105,9 @@ impl<'a> ReadAt for MemAt<'a> {
     }
 }
 
-/// A file, or whatever else can be read and sought. Its contents are not known to proofs. It keeps the first size that it found: a
-/// read that gives no byte below that size is a failure. A read where the one before ended does not seek.
+/// A file, or whatever else can be read and sought. Its contents are not known to proofs. It keeps
+/// the first size that it found: a read that gives no byte below that size is a failure. A read
+/// where the one before ended does not seek.
 #[derive(Drop)]
 pub struct FileAt<F> {
     file: F,

@@ -17,8 +17,8 @@ use age_header::{Sink, Source};
 use age_recipient::FileKey;
 use std::alloc::Global;
 
-/// Reads a payload from a caller's source, and lends its chunks in order, each once it is verified. It keeps a fault, and returns it
-/// from then on without asking the source.
+/// Reads a payload from a caller's source, and lends its chunks in order, each once it is verified.
+/// It keeps a fault, and returns it from then on without asking the source.
 #[derive(Drop)]
 pub struct StreamReader<'a, S, B = ChunkOpener> {
     input: &'a mut S,
@@ -41,8 +41,8 @@ impl<'a, S: Source> StreamReader<'a, S> {
     /// As `new`, but hands the source back with the fault.
     ///
     /// # Errors
-    /// `Memory` where the allocation was refused: nothing was read. `NonceTruncated` where the source gives fewer than 16 bytes,
-    /// `Read` where it failed.
+    /// `Memory` where the allocation was refused: nothing was read. `NonceTruncated` where the
+    /// source gives fewer than 16 bytes, `Read` where it failed.
     pub fn started(
         alloc: Global,
         key: &FileKey,
@@ -50,12 +50,17 @@ impl<'a, S: Source> StreamReader<'a, S> {
         max_chunks: u128,
     ) -> Result<StreamReader<'a, S>, Refused<'a, S, StreamFault>>
         requires { max_chunks ≤ 2 ^ 88 }
-        ensures same_reference { IfOk result (λ reader. reader.input.ghost_name ≡ input.entry.ghost_name) }
-        ensures starts { IfOk result (λ reader. Starts key.now max_chunks (S.to_come input.old) (S.to_come reader.input.now) (Ok reader.opener)) }
-        ensures gave { IfOk result (λ reader. GaveAtMost 16 (S.to_come input.old) (S.to_come reader.input.now)) }
+        ensures same_reference { IfOk result
+            (λ reader. reader.input.ghost_name ≡ input.entry.ghost_name) }
+        ensures starts { IfOk result (λ reader. Starts key.now max_chunks (S.to_come input.old)
+            (S.to_come reader.input.now) (Ok reader.opener)) }
+        ensures gave { IfOk result
+            (λ reader. GaveAtMost 16 (S.to_come input.old) (S.to_come reader.input.now)) }
         ensures uncounted { IfOk result (λ reader. S.failed reader.input.now ≡ S.failed input.old) }
-        ensures handed_back { IfErr result (λ refused. refused.device.ghost_name ≡ input.entry.ghost_name) }
-        ensures misses { IfErr result (λ refused. ((refused.fault ≡ StreamFault.Memory) × (refused.device.now ≡ input.old))
+        ensures handed_back { IfErr result
+            (λ refused. refused.device.ghost_name ≡ input.entry.ghost_name) }
+        ensures misses { IfErr result (λ refused. ((refused.fault ≡ StreamFault.Memory)
+            × (refused.device.now ≡ input.old))
             ⊎ MissesNonce key.now max_chunks (S.to_come input.old) (S.to_come refused.device.now)
             (S.failed input.old) (S.failed refused.device.now) refused.fault) }
     {
@@ -68,12 +73,12 @@ impl<'a, S: Source> StreamReader<'a, S> {
         }
     }
 
-    /// A reader of the payload that the source still gives, under this file key. It takes its memory, and then reads the nonce. Of the
-    /// source after an error `started` says more.
+    /// A reader of the payload that the source still gives, under this file key. It takes its
+    /// memory, and then reads the nonce. Of the source after an error `started` says more.
     ///
     /// # Errors
-    /// `Memory` where the allocation was refused: nothing was read. `NonceTruncated` where the source gives fewer than 16 bytes,
-    /// `Read` where it failed.
+    /// `Memory` where the allocation was refused: nothing was read. `NonceTruncated` where the
+    /// source gives fewer than 16 bytes, `Read` where it failed.
     pub fn new(
         alloc: Global,
         key: &FileKey,
@@ -81,12 +86,17 @@ impl<'a, S: Source> StreamReader<'a, S> {
         max_chunks: u128,
     ) -> Result<StreamReader<'a, S>, StreamFault>
         requires { max_chunks ≤ 2 ^ 88 }
-        ensures same_reference { IfOk result (λ reader. reader.input.ghost_name ≡ input.entry.ghost_name) }
-        ensures starts { IfOk result (λ reader. Starts key.now max_chunks (S.to_come input.old) (S.to_come reader.input.now) (Ok reader.opener)) }
-        ensures gave { IfOk result (λ reader. GaveAtMost 16 (S.to_come input.old) (S.to_come reader.input.now)) }
+        ensures same_reference { IfOk result
+            (λ reader. reader.input.ghost_name ≡ input.entry.ghost_name) }
+        ensures starts { IfOk result (λ reader. Starts key.now max_chunks (S.to_come input.old)
+            (S.to_come reader.input.now) (Ok reader.opener)) }
+        ensures gave { IfOk result
+            (λ reader. GaveAtMost 16 (S.to_come input.old) (S.to_come reader.input.now)) }
         ensures uncounted { IfOk result (λ reader. S.failed reader.input.now ≡ S.failed input.old) }
-        ensures misses { IfErr result (λ fault. (last : S) × (((fault ≡ StreamFault.Memory) × (last ≡ input.old))
-            ⊎ MissesNonce key.now max_chunks (S.to_come input.old) (S.to_come last) (S.failed input.old) (S.failed last) fault)) }
+        ensures misses { IfErr result (λ fault. (last : S)
+            × (((fault ≡ StreamFault.Memory) × (last ≡ input.old))
+            ⊎ MissesNonce key.now max_chunks (S.to_come input.old) (S.to_come last)
+            (S.failed input.old) (S.failed last) fault)) }
     {
         match StreamReader::started(alloc, key, input, max_chunks) {
             Ok(reader) => Ok(reader),
@@ -104,27 +114,36 @@ impl<'a, S: Source> StreamReader<'a, S> {
     /// Reads and opens the next piece; false after the last.
     fn advance(&mut self) -> Result<bool, StreamFault>
         ensures same_reference { self.new.input.ghost_name ≡ self.old.input.ghost_name }
-        ensures kept { IfSome self.old.opener.fault (λ f. (result ≡ Err f) × (self.new.opener ≡ self.old.opener)
-            × (self.new.input.now ≡ self.old.input.now)) }
-        ensures keeps { IfNone self.old.opener.fault (IfErr result (λ f. self.new.opener.fault ≡ Some f)) }
-        ensures count { IfNone self.old.opener.fault (CountsRead (S.failed self.old.input.now) (S.failed self.new.input.now) result) }
+        ensures kept { IfSome self.old.opener.fault (λ f. (result ≡ Err f)
+            × (self.new.opener ≡ self.old.opener) × (self.new.input.now ≡ self.old.input.now)) }
+        ensures keeps { IfNone self.old.opener.fault
+            (IfErr result (λ f. self.new.opener.fault ≡ Some f)) }
+        ensures count { IfNone self.old.opener.fault
+            (CountsRead (S.failed self.old.input.now) (S.failed self.new.input.now) result) }
         ensures opens { IfNone self.old.opener.fault (IsErrOf result StreamFault.Read
-            ⊎ Advances self.old.opener self.new.opener (S.to_come self.old.input.now) (S.to_come self.new.input.now) result) }
+            ⊎ Advances self.old.opener self.new.opener (S.to_come self.old.input.now)
+            (S.to_come self.new.input.now) result) }
     {
         self.opener.advance(self.input)
     }
 
-    /// Lends the next chunk of the plaintext, once it is verified; None after the last. Of an empty plaintext one empty chunk is lent.
+    /// Lends the next chunk of the plaintext, once it is verified; None after the last. Of an empty
+    /// plaintext one empty chunk is lent.
     ///
     /// # Errors
-    /// The first that applies to piece i: `TooManyChunks` where i reaches `max_chunks`, `ChunkShort` where it is shorter than a tag,
-    /// `EmptyFinal` where it is the last, not the first, and a tag alone, `BadChunk` where nothing seals to it at its place. `Read` where
-    /// the source failed.
+    /// The first that applies to piece i: `TooManyChunks` where i reaches `max_chunks`,
+    /// `ChunkShort` where it is shorter than a tag, `EmptyFinal` where it is the last, not the
+    /// first, and a tag alone, `BadChunk` where nothing seals to it at its place. `Read` where the
+    /// source failed.
     pub fn next_chunk(&mut self) -> Result<Option<&[u8]>, StreamFault>
-        ensures* after { sem 𝓛 (follows_so (the_row (record { mir = named 1; lft = [] }) S.row opener_row) (the_row (record { mir = named 1; lft = [] }) S.row opener_row)
-            self.entry.ghost_name none (λ _ _. ⊤) (λ last. (last.input.ghost_name ≡ self.old.input.ghost_name)
-            × IfSome self.old.opener.fault (λ f. (last.opener ≡ self.old.opener) × (last.input.now ≡ self.old.input.now))
-            × IfNone self.old.opener.fault (Lends self.old.opener last.opener (S.to_come self.old.input.now) (S.to_come last.input.now)
+        ensures* after { sem 𝓛 (follows_so
+            (the_row (record { mir = named 1; lft = [] }) S.row opener_row)
+            (the_row (record { mir = named 1; lft = [] }) S.row opener_row) self.entry.ghost_name
+            none (λ _ _. ⊤) (λ last. (last.input.ghost_name ≡ self.old.input.ghost_name)
+            × IfSome self.old.opener.fault
+            (λ f. (last.opener ≡ self.old.opener) × (last.input.now ≡ self.old.input.now))
+            × IfNone self.old.opener.fault (Lends self.old.opener last.opener
+            (S.to_come self.old.input.now) (S.to_come last.input.now)
             (S.failed self.old.input.now) (S.failed last.input.now) (lent result))
             × IfOk result (λ o. IfSome o (λ piece. piece.now ≡ last.opener.text)))) }
         ensures kept { IfSome self.old.opener.fault (λ f. result ≡ Err f) }
@@ -136,20 +155,24 @@ impl<'a, S: Source> StreamReader<'a, S> {
         }
     }
 
-    /// Writes the chunks of the plaintext that are left, each as soon as it is verified. Returns how many bytes it wrote, and of how
-    /// many chunks.
+    /// Writes the chunks of the plaintext that are left, each as soon as it is verified. Returns
+    /// how many bytes it wrote, and of how many chunks.
     ///
     /// # Errors
-    /// Those of `next_chunk`: the chunks before were written. `Write` where the sink failed: a beginning of the chunks was written.
+    /// Those of `next_chunk`: the chunks before were written. `Write` where the sink failed: a
+    /// beginning of the chunks was written.
     pub fn copy_to<W: Sink>(self, out: &mut W) -> Result<Done, StreamFault>
-        ensures kept { IfSome self.entry.opener.fault (λ f. (result ≡ Err f) × (self.exit.0.now ≡ self.entry.input.now)
-            × (out.new ≡ out.old)) }
-        ensures writes_all { IfNone self.entry.opener.fault (WritesAll self.entry.opener (S.to_come self.entry.input.now)
-            (W.taken out.old) (W.taken out.new) result) }
-        ensures ends { IfNone self.entry.opener.fault (IfErr result (λ f. (f ≡ StreamFault.Read) ⊎ EndsAt self.entry.opener.max_chunks 0
-            (S.to_come self.entry.input.now) (S.to_come self.exit.0.now) (W.taken out.old) (W.taken out.new) f)) }
-        ensures reads { IfNone self.entry.opener.fault (CountsRead (S.failed self.entry.input.now) (S.failed self.exit.0.now) result) }
-        ensures writes { IfNone self.entry.opener.fault (CountsWrite (W.failed out.old) (W.failed out.new) result) }
+        ensures kept { IfSome self.entry.opener.fault (λ f.
+            (result ≡ Err f) × (self.exit.0.now ≡ self.entry.input.now) × (out.new ≡ out.old)) }
+        ensures writes_all { IfNone self.entry.opener.fault (WritesAll self.entry.opener
+            (S.to_come self.entry.input.now) (W.taken out.old) (W.taken out.new) result) }
+        ensures ends { IfNone self.entry.opener.fault (IfErr result (λ f. (f ≡ StreamFault.Read)
+            ⊎ EndsAt self.entry.opener.max_chunks 0 (S.to_come self.entry.input.now)
+            (S.to_come self.exit.0.now) (W.taken out.old) (W.taken out.new) f)) }
+        ensures reads { IfNone self.entry.opener.fault
+            (CountsRead (S.failed self.entry.input.now) (S.failed self.exit.0.now) result) }
+        ensures writes { IfNone self.entry.opener.fault
+            (CountsWrite (W.failed out.old) (W.failed out.new) result) }
     {
         let StreamReader { input, opener } = self;
         match opener.kept() {

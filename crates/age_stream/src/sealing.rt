@@ -17,8 +17,9 @@ use age_header::{DeviceFault, Sink, Source, fill_from, write_all};
 use age_recipient::FileKey;
 use std::marker::Model;
 
-/// Seals the chunks of a plaintext in order, each in the same memory. A full chunk is held until more text comes, since the last
-/// one is sealed in another way. It keeps a fault, and returns it from then on without asking its devices.
+/// Seals the chunks of a plaintext in order, each in the same memory. A full chunk is held until
+/// more text comes, since the last one is sealed in another way. It keeps a fault, and returns it
+/// from then on without asking its devices.
 #[derive(Drop)]
 pub struct ChunkSealer {
     key: [u8; 32],
@@ -35,9 +36,16 @@ impl Model for ChunkSealer {
 
     ghost Value = { SealerState };
 
-    ghost view = { λ s. record { key = s.key; max_chunks = s.max_chunks; index = s.index; held = take s.len s.buf.items; fault = s.fault } };
+    ghost view = { λ s. record {
+      key = s.key;
+      max_chunks = s.max_chunks;
+      index = s.index;
+      held = take s.len s.buf.items;
+      fault = s.fault;
+    } };
 
-    ghost invariant = { λ s. (length s.buf.items ≡ 65553) × (s.len ≤ 65536) × (s.index < s.max_chunks) × (s.max_chunks ≤ 2 ^ 88) };
+    ghost invariant = { λ s. (length s.buf.items ≡ 65553) × (s.len ≤ 65536)
+        × (s.index < s.max_chunks) × (s.max_chunks ≤ 2 ^ 88) };
 }
 
 impl ChunkSealer {
@@ -65,11 +73,14 @@ impl ChunkSealer {
         plain: &mut S,
         out: &mut W,
     ) -> Result<(), StreamFault>
-        ensures kept { IfSome self.old.fault (λ f. (result ≡ Err f) × (self.new ≡ self.old) × (plain.new ≡ plain.old) × (out.new ≡ out.old)) }
-        ensures takes { IfNone self.old.fault (TakesAll self.old self.new (S.to_come plain.old) (S.to_come plain.new)
-            (W.taken out.old) (W.taken out.new) result) }
-        ensures reads { IfNone self.old.fault (CountsRead (S.failed plain.old) (S.failed plain.new) result) }
-        ensures writes { IfNone self.old.fault (CountsWrite (W.failed out.old) (W.failed out.new) result) }
+        ensures kept { IfSome self.old.fault (λ f. (result ≡ Err f) × (self.new ≡ self.old)
+            × (plain.new ≡ plain.old) × (out.new ≡ out.old)) }
+        ensures takes { IfNone self.old.fault (TakesAll self.old self.new (S.to_come plain.old)
+            (S.to_come plain.new) (W.taken out.old) (W.taken out.new) result) }
+        ensures reads { IfNone self.old.fault
+            (CountsRead (S.failed plain.old) (S.failed plain.new) result) }
+        ensures writes { IfNone self.old.fault
+            (CountsWrite (W.failed out.old) (W.failed out.new) result) }
     {
         if let Some(fault) = self.fault {
             return Err(fault);
@@ -97,8 +108,10 @@ impl ChunkSealer {
     /// Seals what is held as the last chunk, and writes it. Returns how much was sealed in all.
     pub fn finish<W: Sink>(self, out: &mut W) -> Result<Done, StreamFault>
         ensures kept { IfSome self.fault (λ f. (result ≡ Err f) × (out.new ≡ out.old)) }
-        ensures text { IfNone self.fault (FinishesBy self (W.taken out.old) (W.taken out.new) result) }
-        ensures writes { IfNone self.fault (CountsWrite (W.failed out.old) (W.failed out.new) result) }
+        ensures text { IfNone self.fault
+            (FinishesBy self (W.taken out.old) (W.taken out.new) result) }
+        ensures writes { IfNone self.fault
+            (CountsWrite (W.failed out.old) (W.failed out.new) result) }
     {
         let ChunkSealer {
             key,
@@ -122,8 +135,8 @@ impl ChunkSealer {
     }
 }
 
-/// Takes all that the source still gives, after the first `len` bytes, and writes the chunks that are full and not the last.
-/// Returns how many bytes are held then.
+/// Takes all that the source still gives, after the first `len` bytes, and writes the chunks that
+/// are full and not the last. Returns how many bytes are held then.
 fn feed<S: Source, W: Sink>(
     plain: &mut S,
     out: &mut W,
@@ -141,8 +154,11 @@ fn feed<S: Source, W: Sink>(
     ensures within { index.new < max }
     ensures len { IfOk result (λ n. n ≤ 65536) }
     ensures fed { MatchResult result
-        (λ n. IsFed key.now index.old index.new (take len bytes.old) (take n bytes.new) (S.to_come plain.old) (S.to_come plain.new) (W.taken out.old) (W.taken out.new) × IsAtEnd (S.to_come plain.new))
-        (Stopped key.now max index.old index.new (take len bytes.old) (S.to_come plain.old) (S.to_come plain.new) (W.taken out.old) (W.taken out.new)) }
+        (λ n. IsFed key.now index.old index.new (take len bytes.old) (take n bytes.new)
+        (S.to_come plain.old) (S.to_come plain.new) (W.taken out.old) (W.taken out.new)
+        × IsAtEnd (S.to_come plain.new))
+        (Stopped key.now max index.old index.new (take len bytes.old) (S.to_come plain.old)
+        (S.to_come plain.new) (W.taken out.old) (W.taken out.new)) }
     ensures reads { CountsRead (S.failed plain.old) (S.failed plain.new) result }
     ensures writes { CountsWrite (W.failed out.old) (W.failed out.new) result }
 {
@@ -162,12 +178,14 @@ fn feed<S: Source, W: Sink>(
     }
 }
 
-/// Reads after the first `held` bytes until there are a full chunk and one byte, or the source is at its end.
+/// Reads after the first `held` bytes until there are a full chunk and one byte, or the source is
+/// at its end.
 fn fill_chunk<S: Source>(plain: &mut S, bytes: &mut [u8], held: usize) -> Result<usize, DeviceFault>
     requires size { length bytes.old ≡ 65553 }
     requires held { held ≤ 65536 }
     ensures size { length bytes.new ≡ 65553 }
-    ensures bytes { IfOk result (λ n. (n ≤ 65537) × Filled held n bytes.old bytes.new (S.to_come plain.old) (S.to_come plain.new)) }
+    ensures bytes { IfOk result (λ n. (n ≤ 65537)
+        × Filled held n bytes.old bytes.new (S.to_come plain.old) (S.to_come plain.new)) }
     ensures end { IfOk result (λ n. n ≤ 65536 → IsAtEnd (S.to_come plain.new)) }
     ensures count { Counts (S.failed plain.old) (S.failed plain.new) result }
 {
@@ -175,7 +193,8 @@ fn fill_chunk<S: Source>(plain: &mut S, bytes: &mut [u8], held: usize) -> Result
     fill_from(plain, front, held)
 }
 
-/// Writes the full chunk that stands in front, as one that is not the last, and moves the byte that follows it to the front.
+/// Writes the full chunk that stands in front, as one that is not the last, and moves the byte that
+/// follows it to the front.
 fn put_full<W: Sink>(
     out: &mut W,
     key: &[u8; 32],
@@ -188,7 +207,8 @@ fn put_full<W: Sink>(
     requires small { max ≤ 2 ^ 88 }
     ensures size { length bytes.new ≡ 65553 }
     ensures within { index.new < max }
-    ensures puts { PutsFull key.now max index.old index.new bytes.old bytes.new (W.taken out.old) (W.taken out.new) result }
+    ensures puts { PutsFull key.now max index.old index.new bytes.old bytes.new (W.taken out.old)
+        (W.taken out.new) result }
     ensures writes { CountsWrite (W.failed out.old) (W.failed out.new) result }
 {
     if *index + 1 >= max {
@@ -218,7 +238,8 @@ fn put_sealed<W: Sink>(
     requires len { len ≤ 65536 }
     requires small { i < 2 ^ 88 }
     ensures size { length bytes.new ≡ 65553 }
-    ensures text { Writes (W.taken out.old) (W.taken out.new) result (sealed key.now (chunk_nonce i last) [] (take len bytes.old)) }
+    ensures text { Writes (W.taken out.old) (W.taken out.new) result
+        (sealed key.now (chunk_nonce i last) [] (take len bytes.old)) }
     ensures count { Counts (W.failed out.old) (W.failed out.new) result }
 {
     let (piece, _) = bytes.split_at_mut(len + 16);
@@ -226,14 +247,15 @@ fn put_sealed<W: Sink>(
     write_all(out, piece)
 }
 
-/// Seals all but the last 16 bytes where they stand, as chunk i; the last 16 become the tag. `last` says whether the chunk ends its
-/// payload.
+/// Seals all but the last 16 bytes where they stand, as chunk i; the last 16 become the tag. `last`
+/// says whether the chunk ends its payload.
 pub fn seal_chunk(key: &[u8; 32], i: u128, last: bool, chunk: &mut [u8])
     requires low { 16 ≤ length chunk.old }
     requires high { length chunk.old ≤ 65552 }
     requires small { i < 2 ^ 88 }
     ensures len { length chunk.new ≡ length chunk.old }
-    ensures sealed { chunk.new ≡ sealed key.now (chunk_nonce i last) [] (take (length chunk.old - 16) chunk.old) }
+    ensures sealed { chunk.new
+        ≡ sealed key.now (chunk_nonce i last) [] (take (length chunk.old - 16) chunk.old) }
 {
     let len = chunk.len() - 16;
     let (text, end) = chunk.split_at_mut(len);

@@ -18,8 +18,8 @@ const NONCE: [u8; 16] = [
 
 const MOST: u128 = 1 << 88;
 
-/// The payload of the empty plaintext under that key and nonce, and the last chunk of 131,073 bytes 7, both by
-/// tests/reference.py.
+/// The payload of the empty plaintext under that key and nonce, and the last chunk of 131,073 bytes
+/// 7, both by tests/reference.py.
 const EMPTY: [u8; 32] = [
     0x10, 0x11, 0x12, 0x13, 0x14, 0x15, 0x16, 0x17, 0x18, 0x19, 0x1a, 0x1b, 0x1c, 0x1d, 0x1e, 0x1f,
     0x50, 0x15, 0x09, 0x65, 0x52, 0xfe, 0x30, 0x35, 0x66, 0x48, 0x70, 0x85, 0x54, 0xcb, 0x9c, 0x28,
@@ -67,7 +67,8 @@ fn written(
     Ok((done, sink.into_vec()))
 }
 
-/// The plaintext of a payload, read from a source that gives so many bytes at a time, and the number of its chunks.
+/// The plaintext of a payload, read from a source that gives so many bytes at a time, and the
+/// number of its chunks.
 fn read(alloc: Global, payload: &[u8], most: usize) -> Result<(Vec<u8>, u64), Fail> {
     let mut source = Short::new(payload, most);
     let mut reader = StreamReader::new(alloc, &KEY, &mut source, MOST)?;

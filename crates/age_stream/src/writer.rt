@@ -16,15 +16,16 @@ use age_header::{MemSource, Sink, Source, write_all};
 use age_recipient::FileKey;
 use std::alloc::Global;
 
-/// Writes a payload to a caller's sink. It must be spent, by `seal_from`, `finish` or `abandon`. It keeps a fault, and returns it from
-/// then on without asking the sink.
+/// Writes a payload to a caller's sink. It must be spent, by `seal_from`, `finish` or `abandon`. It
+/// keeps a fault, and returns it from then on without asking the sink.
 pub struct StreamWriter<'a, W, B = ChunkSealer> {
     out: &'a mut W,
     sealer: B,
 }
 
 impl<'a, W: Sink> StreamWriter<'a, W> {
-    /// A writer to this sink, with the nonce of the sealer's payload already written. It writes nothing.
+    /// A writer to this sink, with the nonce of the sealer's payload already written. It writes
+    /// nothing.
     pub fn over(out: &'a mut W, sealer: ChunkSealer) -> StreamWriter<'a, W>
         ensures same_reference { result.out.ghost_name ≡ out.entry.ghost_name }
         ensures kept { result.out.now ≡ out.old }
@@ -46,13 +47,18 @@ impl<'a, W: Sink> StreamWriter<'a, W> {
     ) -> Result<StreamWriter<'a, W>, Refused<'a, W, StreamFault>>
         requires low { 1 ≤ max_chunks }
         requires high { max_chunks ≤ 2 ^ 88 }
-        ensures same_reference { IfOk result (λ writer. writer.out.ghost_name ≡ out.entry.ghost_name) }
-        ensures written { IfOk result (λ writer. Appends (W.taken out.old) (W.taken writer.out.now) nonce.now) }
+        ensures same_reference { IfOk result
+            (λ writer. writer.out.ghost_name ≡ out.entry.ghost_name) }
+        ensures written { IfOk result
+            (λ writer. Appends (W.taken out.old) (W.taken writer.out.now) nonce.now) }
         ensures uncounted { IfOk result (λ writer. W.failed writer.out.now ≡ W.failed out.old) }
-        ensures sealer { IfOk result (λ writer. writer.sealer ≡ at_start (payload_key key.now nonce.now) max_chunks) }
-        ensures handed_back { IfErr result (λ refused. refused.device.ghost_name ≡ out.entry.ghost_name) }
-        ensures front { IfErr result (λ refused. LosesNonce nonce.now (W.taken out.old) (W.taken refused.device.now)
-            (W.failed out.old) (W.failed refused.device.now) refused.fault) }
+        ensures sealer { IfOk result
+            (λ writer. writer.sealer ≡ at_start (payload_key key.now nonce.now) max_chunks) }
+        ensures handed_back { IfErr result
+            (λ refused. refused.device.ghost_name ≡ out.entry.ghost_name) }
+        ensures front { IfErr result (λ refused. LosesNonce nonce.now (W.taken out.old)
+            (W.taken refused.device.now) (W.failed out.old) (W.failed refused.device.now)
+            refused.fault) }
     {
         if let Err(fault) = put_nonce(nonce, out) {
             return Err(Refused::of(out, fault));
@@ -63,8 +69,8 @@ impl<'a, W: Sink> StreamWriter<'a, W> {
     /// As `new`, but hands the sink back with the fault.
     ///
     /// # Errors
-    /// `Memory` where the allocation was refused: nothing was written. `Write` where the sink failed: a beginning of the nonce was
-    /// written.
+    /// `Memory` where the allocation was refused: nothing was written. `Write` where the sink
+    /// failed: a beginning of the nonce was written.
     pub fn started(
         alloc: Global,
         key: &FileKey,
@@ -74,14 +80,19 @@ impl<'a, W: Sink> StreamWriter<'a, W> {
     ) -> Result<StreamWriter<'a, W>, Refused<'a, W, StreamFault>>
         requires low { 1 ≤ max_chunks }
         requires high { max_chunks ≤ 2 ^ 88 }
-        ensures same_reference { IfOk result (λ writer. writer.out.ghost_name ≡ out.entry.ghost_name) }
-        ensures written { IfOk result (λ writer. Appends (W.taken out.old) (W.taken writer.out.now) nonce.now) }
+        ensures same_reference { IfOk result
+            (λ writer. writer.out.ghost_name ≡ out.entry.ghost_name) }
+        ensures written { IfOk result
+            (λ writer. Appends (W.taken out.old) (W.taken writer.out.now) nonce.now) }
         ensures uncounted { IfOk result (λ writer. W.failed writer.out.now ≡ W.failed out.old) }
-        ensures sealer { IfOk result (λ writer. writer.sealer ≡ at_start (payload_key key.now nonce.now) max_chunks) }
-        ensures handed_back { IfErr result (λ refused. refused.device.ghost_name ≡ out.entry.ghost_name) }
-        ensures front { IfErr result (λ refused. ((refused.fault ≡ StreamFault.Memory) × (refused.device.now ≡ out.old))
-            ⊎ LosesNonce nonce.now (W.taken out.old) (W.taken refused.device.now)
-            (W.failed out.old) (W.failed refused.device.now) refused.fault) }
+        ensures sealer { IfOk result
+            (λ writer. writer.sealer ≡ at_start (payload_key key.now nonce.now) max_chunks) }
+        ensures handed_back { IfErr result
+            (λ refused. refused.device.ghost_name ≡ out.entry.ghost_name) }
+        ensures front { IfErr result (λ refused. ((refused.fault ≡ StreamFault.Memory)
+            × (refused.device.now ≡ out.old))
+            ⊎ LosesNonce nonce.now (W.taken out.old) (W.taken refused.device.now) (W.failed out.old)
+            (W.failed refused.device.now) refused.fault) }
     {
         let Ok(buf) = ChunkBuf::new(alloc) else {
             return Err(Refused::of(out, StreamFault::Memory));
@@ -92,8 +103,8 @@ impl<'a, W: Sink> StreamWriter<'a, W> {
         Ok(StreamWriter::over(out, ChunkSealer::new(key, nonce, max_chunks, buf)))
     }
 
-    /// A writer of the payload with this nonce under this file key. It takes no memory, and writes the nonce. Of the sink after an
-    /// error `started_with` says more.
+    /// A writer of the payload with this nonce under this file key. It takes no memory, and writes
+    /// the nonce. Of the sink after an error `started_with` says more.
     ///
     /// # Errors
     /// `Write` where the sink failed: a beginning of the nonce was written.
@@ -106,12 +117,16 @@ impl<'a, W: Sink> StreamWriter<'a, W> {
     ) -> Result<StreamWriter<'a, W>, StreamFault>
         requires low { 1 ≤ max_chunks }
         requires high { max_chunks ≤ 2 ^ 88 }
-        ensures same_reference { IfOk result (λ writer. writer.out.ghost_name ≡ out.entry.ghost_name) }
-        ensures written { IfOk result (λ writer. Appends (W.taken out.old) (W.taken writer.out.now) nonce.now) }
+        ensures same_reference { IfOk result
+            (λ writer. writer.out.ghost_name ≡ out.entry.ghost_name) }
+        ensures written { IfOk result
+            (λ writer. Appends (W.taken out.old) (W.taken writer.out.now) nonce.now) }
         ensures uncounted { IfOk result (λ writer. W.failed writer.out.now ≡ W.failed out.old) }
-        ensures sealer { IfOk result (λ writer. writer.sealer ≡ at_start (payload_key key.now nonce.now) max_chunks) }
-        ensures front { IfErr result (λ fault. (last : W) × LosesNonce nonce.now (W.taken out.old) (W.taken last)
-            (W.failed out.old) (W.failed last) fault) }
+        ensures sealer { IfOk result
+            (λ writer. writer.sealer ≡ at_start (payload_key key.now nonce.now) max_chunks) }
+        ensures front { IfErr result (λ fault. (last : W)
+            × LosesNonce nonce.now (W.taken out.old) (W.taken last) (W.failed out.old)
+            (W.failed last) fault) }
     {
         match StreamWriter::started_with(key, nonce, out, max_chunks, buf) {
             Ok(writer) => Ok(writer),
@@ -119,12 +134,12 @@ impl<'a, W: Sink> StreamWriter<'a, W> {
         }
     }
 
-    /// A writer of the payload with this nonce under this file key. It takes its memory, and then writes the nonce. Of the sink after
-    /// an error `started` says more.
+    /// A writer of the payload with this nonce under this file key. It takes its memory, and then
+    /// writes the nonce. Of the sink after an error `started` says more.
     ///
     /// # Errors
-    /// `Memory` where the allocation was refused: nothing was written. `Write` where the sink failed: a beginning of the nonce was
-    /// written.
+    /// `Memory` where the allocation was refused: nothing was written. `Write` where the sink
+    /// failed: a beginning of the nonce was written.
     pub fn new(
         alloc: Global,
         key: &FileKey,
@@ -134,12 +149,17 @@ impl<'a, W: Sink> StreamWriter<'a, W> {
     ) -> Result<StreamWriter<'a, W>, StreamFault>
         requires low { 1 ≤ max_chunks }
         requires high { max_chunks ≤ 2 ^ 88 }
-        ensures same_reference { IfOk result (λ writer. writer.out.ghost_name ≡ out.entry.ghost_name) }
-        ensures written { IfOk result (λ writer. Appends (W.taken out.old) (W.taken writer.out.now) nonce.now) }
+        ensures same_reference { IfOk result
+            (λ writer. writer.out.ghost_name ≡ out.entry.ghost_name) }
+        ensures written { IfOk result
+            (λ writer. Appends (W.taken out.old) (W.taken writer.out.now) nonce.now) }
         ensures uncounted { IfOk result (λ writer. W.failed writer.out.now ≡ W.failed out.old) }
-        ensures sealer { IfOk result (λ writer. writer.sealer ≡ at_start (payload_key key.now nonce.now) max_chunks) }
-        ensures front { IfErr result (λ fault. (last : W) × (((fault ≡ StreamFault.Memory) × (last ≡ out.old))
-            ⊎ LosesNonce nonce.now (W.taken out.old) (W.taken last) (W.failed out.old) (W.failed last) fault)) }
+        ensures sealer { IfOk result
+            (λ writer. writer.sealer ≡ at_start (payload_key key.now nonce.now) max_chunks) }
+        ensures front { IfErr result (λ fault. (last : W)
+            × (((fault ≡ StreamFault.Memory) × (last ≡ out.old))
+            ⊎ LosesNonce nonce.now (W.taken out.old) (W.taken last) (W.failed out.old)
+            (W.failed last) fault)) }
     {
         match StreamWriter::started(alloc, key, nonce, out, max_chunks) {
             Ok(writer) => Ok(writer),
@@ -150,31 +170,37 @@ impl<'a, W: Sink> StreamWriter<'a, W> {
     /// Takes one more piece of the plaintext, and writes the chunks that are full and not the last.
     ///
     /// # Errors
-    /// `Write` where the sink failed: a beginning of the sealed chunks was written. `TooManyChunks` where the text needs more than
-    /// `max_chunks`: those before the last one allowed were written.
+    /// `Write` where the sink failed: a beginning of the sealed chunks was written. `TooManyChunks`
+    /// where the text needs more than `max_chunks`: those before the last one allowed were written.
     pub fn write_piece(&mut self, piece: &[u8]) -> Result<(), StreamFault>
         ensures same_reference { self.new.out.ghost_name ≡ self.old.out.ghost_name }
-        ensures kept { IfSome self.old.sealer.fault (λ f. (result ≡ Err f) × (self.new.sealer ≡ self.old.sealer)
-            × (self.new.out.now ≡ self.old.out.now)) }
-        ensures takes { IfNone self.old.sealer.fault (TakesPiece self.old.sealer self.new.sealer piece.now
-            (W.taken self.old.out.now) (W.taken self.new.out.now) result) }
-        ensures count { IfNone self.old.sealer.fault (CountsWrite (W.failed self.old.out.now) (W.failed self.new.out.now) result) }
+        ensures kept { IfSome self.old.sealer.fault (λ f. (result ≡ Err f)
+            × (self.new.sealer ≡ self.old.sealer) × (self.new.out.now ≡ self.old.out.now)) }
+        ensures takes { IfNone self.old.sealer.fault (TakesPiece self.old.sealer self.new.sealer
+            piece.now (W.taken self.old.out.now) (W.taken self.new.out.now) result) }
+        ensures count { IfNone self.old.sealer.fault
+            (CountsWrite (W.failed self.old.out.now) (W.failed self.new.out.now) result) }
     {
         let mut source = MemSource::new(piece);
         self.sealer.write_from(&mut source, self.out)
     }
 
-    /// Takes all that the source still gives, and writes all its chunks, the last one too. Returns how much was sealed in all.
+    /// Takes all that the source still gives, and writes all its chunks, the last one too. Returns
+    /// how much was sealed in all.
     ///
     /// # Errors
-    /// Those of `write_piece`, and `Read` where the source failed: a beginning of the sealed chunks was written.
+    /// Those of `write_piece`, and `Read` where the source failed: a beginning of the sealed chunks
+    /// was written.
     pub fn seal_from<S: Source>(self, plain: &mut S) -> Result<Done, StreamFault>
-        ensures kept { IfSome self.entry.sealer.fault (λ f. (result ≡ Err f) × (plain.new ≡ plain.old)
-            × (self.exit.0.now ≡ self.entry.out.now)) }
-        ensures seals { IfNone self.entry.sealer.fault (SealsAll self.entry.sealer (S.to_come plain.old) (S.to_come plain.new)
-            (W.taken self.entry.out.now) (W.taken self.exit.0.now) result) }
-        ensures reads { IfNone self.entry.sealer.fault (CountsRead (S.failed plain.old) (S.failed plain.new) result) }
-        ensures writes { IfNone self.entry.sealer.fault (CountsWrite (W.failed self.entry.out.now) (W.failed self.exit.0.now) result) }
+        ensures kept { IfSome self.entry.sealer.fault (λ f.
+            (result ≡ Err f) × (plain.new ≡ plain.old) × (self.exit.0.now ≡ self.entry.out.now)) }
+        ensures seals { IfNone self.entry.sealer.fault (SealsAll self.entry.sealer
+            (S.to_come plain.old) (S.to_come plain.new) (W.taken self.entry.out.now)
+            (W.taken self.exit.0.now) result) }
+        ensures reads { IfNone self.entry.sealer.fault
+            (CountsRead (S.failed plain.old) (S.failed plain.new) result) }
+        ensures writes { IfNone self.entry.sealer.fault
+            (CountsWrite (W.failed self.entry.out.now) (W.failed self.exit.0.now) result) }
     {
         let StreamWriter { out, sealer } = self;
         let mut sealer = sealer;
@@ -189,9 +215,12 @@ impl<'a, W: Sink> StreamWriter<'a, W> {
     /// # Errors
     /// `Write` where the sink failed: a beginning of the sealed chunk was written.
     pub fn finish(self) -> Result<Done, StreamFault>
-        ensures kept { IfSome self.entry.sealer.fault (λ f. (result ≡ Err f) × (self.exit.0.now ≡ self.entry.out.now)) }
-        ensures text { IfNone self.entry.sealer.fault (FinishesBy self.entry.sealer (W.taken self.entry.out.now) (W.taken self.exit.0.now) result) }
-        ensures count { IfNone self.entry.sealer.fault (CountsWrite (W.failed self.entry.out.now) (W.failed self.exit.0.now) result) }
+        ensures kept { IfSome self.entry.sealer.fault
+            (λ f. (result ≡ Err f) × (self.exit.0.now ≡ self.entry.out.now)) }
+        ensures text { IfNone self.entry.sealer.fault (FinishesBy self.entry.sealer
+            (W.taken self.entry.out.now) (W.taken self.exit.0.now) result) }
+        ensures count { IfNone self.entry.sealer.fault
+            (CountsWrite (W.failed self.entry.out.now) (W.failed self.exit.0.now) result) }
     {
         let StreamWriter { out, sealer } = self;
         sealer.finish(out)

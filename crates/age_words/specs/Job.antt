@@ -14,7 +14,8 @@ abbrev pub NamesInput : {A : Type 0} → Command → Option A → Type 0
 NamesInput Range input = IsSome input
 NamesInput _ input = ⊤
 
--- each number lies in its range: a work factor is 1 to 30, the limit of a header 1 KiB to 16 MiB, a place below 2^63
+-- each number lies in its range: a work factor is 1 to 30, the limit of a header 1 KiB to 16 MiB, a
+-- place below 2^63
 pub record IsInRange (job : Job) : Type 0 where
   pub work : Lies 1 30 job.work
   pub max_work : Lies 1 30 job.max_work

@@ -19,7 +19,8 @@ pub enum Command {
     Rewrap,
 }
 
-/// A command with its options. A field whose option the command lacks has that option's default, or none.
+/// A command with its options. A field whose option the command lacks has that option's default, or
+/// none.
 #[derive(Debug, Drop)]
 pub struct Job {
     pub command: Command,
@@ -33,7 +34,8 @@ pub struct Job {
     pub new_key: Option<String>,
     /// The work factor that `encrypt` and `rewrap` write, 1 to 30.
     pub work: u8,
-    /// The file whose first 48 bytes are the file key, the nonce and the salt that `encrypt` takes, and of which `rewrap` takes the salt.
+    /// The file whose first 48 bytes are the file key, the nonce and the salt that `encrypt` takes,
+    /// and of which `rewrap` takes the salt.
     pub seed: String,
     /// The greatest work factor that `decrypt`, `range` and `rewrap` take, 1 to 30.
     pub max_work: u8,
@@ -47,7 +49,8 @@ pub struct Job {
     pub file_key: Option<String>,
     /// The file to read; standard input where there is none. `range` always has one.
     pub input: Option<String>,
-    /// The place in the plaintext from which `range` gives it, in bytes, at most 9,223,372,036,854,775,807.
+    /// The place in the plaintext from which `range` gives it, in bytes, at most
+    /// 9,223,372,036,854,775,807.
     pub at: u64,
     /// How many bytes `range` gives at most, up to 9,223,372,036,854,775,807.
     pub len: u64,
@@ -60,7 +63,8 @@ pub enum WordsFault {
     Refused(Error),
     /// An allocation was refused.
     Memory,
-    /// `clap` took the words, and then had no value in range for one of them, or met another subcommand.
+    /// `clap` took the words, and then had no value in range for one of them, or met another
+    /// subcommand.
     Lost,
 }
 

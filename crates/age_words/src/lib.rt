@@ -5,7 +5,8 @@
 //! // job.command, job.pass, job.work and so on; else the text of clap, for help too
 //! ```
 //!
-//! Limits: words are UTF-8. No file is opened here, and whether a file that a word names is there is not looked at.
+//! Limits: words are UTF-8. No file is opened here, and whether a file that a word names is there
+//! is not looked at.
 #![tactic(auto)]
 
 mod job;

@@ -22,8 +22,9 @@ const DEFAULT_MAX_WORK: u8 = 22;
 /// Each number of the job lies in its range, and a range has a file to read.
 ///
 /// # Errors
-/// `Refused` with `clap`'s own text for words that name no job, and for help and the version; `Memory` where an allocation was
-/// refused; `Lost` where `clap` took the words and then had no value in range for one of them, or another subcommand.
+/// `Refused` with `clap`'s own text for words that name no job, and for help and the version;
+/// `Memory` where an allocation was refused; `Lost` where `clap` took the words and then had no
+/// value in range for one of them, or another subcommand.
 pub fn read_words(alloc: Global, words: &[&str]) -> Result<Job, WordsFault>
     ensures ranges { IfOk result IsInRange }
 {

@@ -20,7 +20,8 @@ pub record GivesUp (number : ℕ) (old new : List ℕ) (told : Report) (result :
   pub buffer : new ≡ old
 
 -- the text stands in front of the buffer, the rest of which is as it was, and its fault is reported
-pub record Fits (text : List ℕ) (fault : Option Fault) (old new : List ℕ) (told : Report) (result : ℕ) : Type 0 where
+pub record Fits (text : List ℕ) (fault : Option Fault) (old new : List ℕ) (told : Report)
+    (result : ℕ) : Type 0 where
   pub fits : length text ≤ length old
   pub code : result ≡ code_of fault
   pub report : told ≡ report_of (length text) fault
@@ -35,7 +36,8 @@ pub record Exceeds (text old new : List ℕ) (told : Report) (result : ℕ) : Ty
 
 -- a text is given, and a fault after it, where the buffer has room for the text
 abbrev pub Gives : List ℕ → Option Fault → List ℕ → List ℕ → Report → ℕ → Type 0
-Gives text fault old new told result = Fits text fault old new told result ⊎ Exceeds text old new told result
+Gives text fault old new told result =
+    Fits text fault old new told result ⊎ Exceeds text old new told result
 
 -- the answers of one identity of this meaning
 abbrev pub alone : (List StanzaParts → Unwrapped) → Answering
@@ -45,7 +47,8 @@ alone meaning = λ stanzas. meaning stanzas ∷ []
 abbrev pub GivesPlain : Answering → List ℕ → List ℕ → List ℕ → Report → ℕ → Type 0
 GivesPlain answers b old new told result =
     GivesUp 17 old new told result
-    ⊎ ((verdict : Reading Fault) × IsVerdict limits answers b verdict × Gives verdict.front verdict.fault old new told result)
+    ⊎ ((verdict : Reading Fault) × IsVerdict limits answers b verdict
+    × Gives verdict.front verdict.fault old new told result)
 
 -- a seed: 48 bytes
 pub record IsSeed (seed : List ℕ) : Type 0 where
@@ -65,17 +68,21 @@ abbrev pub only : StanzaParts → Result (List StanzaParts) Fault → Type 0
 only stanza given = given ≡ Ok (stanza ∷ [])
 
 -- what encrypting gives: the file of this plaintext and stanza under this seed; or out of memory
-abbrev pub GivesFile : List ℕ → (FileKey → StanzaParts) → List ℕ → List ℕ → List ℕ → Report → ℕ → Type 0
+abbrev pub GivesFile : List ℕ → (FileKey → StanzaParts) → List ℕ → List ℕ → List ℕ → Report → ℕ
+    → Type 0
 GivesFile seed stanza plain old new told result =
     GivesUp 17 old new told result
-    ⊎ ((file : List ℕ) × NewFile limits (fresh_of seed) (only (stanza (fresh_of seed).file_key)) plain file
+    ⊎ ((file : List ℕ)
+    × NewFile limits (fresh_of seed) (only (stanza (fresh_of seed).file_key)) plain file
     × Gives file None old new told result)
 
--- the same for whatever recipients give. In a refusal, and where there are too many chunks, nothing is said of what the call returns: the
--- exports have one recipient, which leaves neither case.
-abbrev pub GivesGathered : List ℕ → (Result (List StanzaParts) Fault → Type 0) → List ℕ → List ℕ → List ℕ → Report → ℕ → Type 0
+-- the same for whatever recipients give. In a refusal, and where there are too many chunks, nothing
+-- is said of what the call returns: the exports have one recipient, which leaves neither case.
+abbrev pub GivesGathered : List ℕ → (Result (List StanzaParts) Fault → Type 0) → List ℕ → List ℕ
+    → List ℕ → Report → ℕ → Type 0
 GivesGathered seed given plain old new told result =
     GivesUp 17 old new told result
     ⊎ (((fault : Fault) × IsRefusal limits (fresh_of seed).file_key given fault)
     ⊎ (((begun : List ℕ) × CutFile limits (fresh_of seed) given plain begun)
-    ⊎ ((file : List ℕ) × NewFile limits (fresh_of seed) given plain file × Gives file None old new told result)))
+    ⊎ ((file : List ℕ) × NewFile limits (fresh_of seed) given plain file
+    × Gives file None old new told result)))

@@ -28,7 +28,8 @@ fault_code NoRecipients = 18
 fault_code (Refused i reason) = 19
 fault_code (IncompatibleRecipients i) = 20
 
--- the line or the chunk of a fault, else 0; of a chunk's number beyond 64 bits the largest of 64 bits
+-- the line or the chunk of a fault, else 0; of a chunk's number beyond 64 bits the largest of 64
+-- bits
 abbrev pub fault_place : Fault → ℕ
 fault_place (BadLine line) = line
 fault_place (ChunkShort i) = min i (2 ^ 64 - 1)

@@ -17,28 +17,37 @@ use Rattle.agefile.specs.Report.{report_of}
 
 -- the header in front of b, or its fault, or out of memory
 abbrev pub HeaderOf : List ℕ → Result HeaderParts Fault → Type 0
-HeaderOf b (Ok h) = (text : List ℕ) × HeaderVerdict b limits.max_header (Ok (record { stanzas = h.stanzas; mac = h.mac; text = text }))
+HeaderOf b (Ok h) =
+    (text : List ℕ)
+    × HeaderVerdict b limits.max_header
+    (Ok (record { stanzas = h.stanzas; mac = h.mac; text = text }))
 HeaderOf b (Err fault) =
-    (fault ≡ OutOfMemory) ⊎ ((reason : HeaderFault) × HeaderVerdict b limits.max_header (Err reason) × (fault ≡ of_header reason))
+    (fault ≡ OutOfMemory)
+    ⊎ ((reason : HeaderFault) × HeaderVerdict b limits.max_header (Err reason)
+    × (fault ≡ of_header reason))
 
 -- a header's fault is returned, and its place reported
 abbrev pub TellsFault : HeaderFault → Report → ℕ → Type 0
-TellsFault reason told result = (result ≡ fault_code (of_header reason)) × (told ≡ report_of 0 (Some (of_header reason)))
+TellsFault reason told result =
+    (result ≡ fault_code (of_header reason)) × (told ≡ report_of 0 (Some (of_header reason)))
 
 -- what a header is summed up as
 abbrev pub summary_of : Found → Summary
-summary_of found = record { header_len = length found.text; stanzas = length found.stanzas; mac = found.mac }
+summary_of found =
+    record { header_len = length found.text; stanzas = length found.stanzas; mac = found.mac }
 
 -- the header is summed up, or its fault is returned and the summary is as it was
 abbrev pub SumsUp : Result Found HeaderFault → Summary → Summary → Report → ℕ → Type 0
-SumsUp (Ok found) old new told result = (result ≡ 0) × (told ≡ report_of 0 None) × (new ≡ summary_of found)
+SumsUp (Ok found) old new told result =
+    (result ≡ 0) × (told ≡ report_of 0 None) × (new ≡ summary_of found)
 SumsUp (Err reason) old new told result = TellsFault reason told result × (new ≡ old)
 
 -- what inspecting b gives, by its header verdict; or out of memory, with the summary as it was
 abbrev pub Inspected : List ℕ → Summary → Summary → Report → ℕ → Type 0
 Inspected b old new told result =
     ((result ≡ 17) × (told ≡ report_of 0 None) × (new ≡ old))
-    ⊎ ((verdict : Result Found HeaderFault) × HeaderVerdict b limits.max_header verdict × SumsUp verdict old new told result)
+    ⊎ ((verdict : Result Found HeaderFault) × HeaderVerdict b limits.max_header verdict
+    × SumsUp verdict old new told result)
 
 -- the arguments of a stanza, joined by single spaces
 abbrev pub joined : List (List ℕ) → List ℕ
@@ -46,20 +55,30 @@ joined args = join_by (λ arg. arg) (32 ∷ []) args
 
 -- what a stanza is summed up as
 abbrev pub stanza_summary : StanzaParts → StanzaSummary
-stanza_summary s = record { args = length s.args; args_len = length (joined s.args); body_len = length s.body }
+stanza_summary s =
+    record { args = length s.args; args_len = length (joined s.args); body_len = length s.body }
 
--- the stanza at a place is summed up and its arguments are given, where the buffer has room for them; or there is none
-abbrev pub GivesStanza : Option StanzaParts → List ℕ → List ℕ → StanzaSummary → StanzaSummary → Report → ℕ → Type 0
-GivesStanza (Some s) old new before after told result = Gives (joined s.args) None old new told result × (after ≡ stanza_summary s)
-GivesStanza None old new before after told result = GivesUp 23 old new told result × (after ≡ before)
+-- the stanza at a place is summed up and its arguments are given, where the buffer has room for
+-- them; or there is none
+abbrev pub GivesStanza : Option StanzaParts → List ℕ → List ℕ → StanzaSummary → StanzaSummary
+    → Report → ℕ → Type 0
+GivesStanza (Some s) old new before after told result =
+    Gives (joined s.args) None old new told result × (after ≡ stanza_summary s)
+GivesStanza None old new before after told result =
+    GivesUp 23 old new told result × (after ≡ before)
 
 -- the same of a place in a header; or the header's fault is returned, and nothing is given
-abbrev pub StanzaOf : Result Found HeaderFault → ℕ → List ℕ → List ℕ → StanzaSummary → StanzaSummary → Report → ℕ → Type 0
-StanzaOf (Ok found) index old new before after told result = GivesStanza (slice_get found.stanzas index) old new before after told result
-StanzaOf (Err reason) index old new before after told result = TellsFault reason told result × (new ≡ old) × (after ≡ before)
+abbrev pub StanzaOf : Result Found HeaderFault → ℕ → List ℕ → List ℕ → StanzaSummary → StanzaSummary
+    → Report → ℕ → Type 0
+StanzaOf (Ok found) index old new before after told result =
+    GivesStanza (slice_get found.stanzas index) old new before after told result
+StanzaOf (Err reason) index old new before after told result =
+    TellsFault reason told result × (new ≡ old) × (after ≡ before)
 
 -- what asking for the stanza at a place of b's header gives; or out of memory, and nothing is given
-abbrev pub AnswersStanza : List ℕ → ℕ → List ℕ → List ℕ → StanzaSummary → StanzaSummary → Report → ℕ → Type 0
+abbrev pub AnswersStanza : List ℕ → ℕ → List ℕ → List ℕ → StanzaSummary → StanzaSummary → Report → ℕ
+    → Type 0
 AnswersStanza b index old new before after told result =
     (GivesUp 17 old new told result × (after ≡ before))
-    ⊎ ((verdict : Result Found HeaderFault) × HeaderVerdict b limits.max_header verdict × StanzaOf verdict index old new before after told result)
+    ⊎ ((verdict : Result Found HeaderFault) × HeaderVerdict b limits.max_header verdict
+    × StanzaOf verdict index old new before after told result)

@@ -1,4 +1,5 @@
--- Ranges of a plaintext in steps: the caller reads one sealed chunk of the file at a time (C2SP age.md, "Payload").
+-- Ranges of a plaintext in steps: the caller reads one sealed chunk of the file at a time (C2SP
+-- age.md, "Payload").
 use Rattle.std.specs.Prelude.{ℕ, List, ◌≡◌, ◌⊎◌, ◌<◌, ◌≤◌, ◌+◌, ◌-◌, ◌*◌, ◌/◌, ◌%◌, ◌^◌, ◌++◌, ◌&&◌, Bool, length, take, drop, min, nat_eq, nat_le, nat_lt, replicate, None, Some, Result, Ok, Err}
 use Rattle.age_stream.specs.declared.fault.StreamFault.{StreamFault}
 use Rattle.age_stream.specs.Reading.{outcome}
@@ -30,7 +31,8 @@ closed = record { key = replicate 32 0; first = 0; sealed_len = 0; state = 0 }
 
 -- the payload from its start to the end of a file of so many bytes
 abbrev pub opened : Start → ℕ → Ranges
-opened start file_len = record { key = start.key; first = start.first; sealed_len = file_len - start.first; state = 1 }
+opened start file_len =
+    record { key = start.key; first = start.first; sealed_len = file_len - start.first; state = 1 }
 
 -- where piece i stands in the file, and how long it is
 abbrev pub place_of : Ranges → ℕ → Report
@@ -42,18 +44,21 @@ pub record StaysClosed (number : ℕ) (new : Ranges) (told : Report) (result : �
   pub report : told ≡ report_of 0 None
   pub ranges : new ≡ closed
 
--- the payload is open, and its last piece is reported; or the fault is returned; or the file ends before its first piece
+-- the payload is open, and its last piece is reported; or the fault is returned; or the file ends
+-- before its first piece
 abbrev pub OpensAt : ℕ → Result Start Fault → Ranges → Report → ℕ → Type 0
 OpensAt file_len (Ok start) new told result =
     ((file_len < start.first) × StaysClosed 23 new told result)
     ⊎ ((start.first ≤ file_len) × (result ≡ 0) × (new ≡ opened start file_len)
     × (told ≡ place_of (opened start file_len) (last_index (file_len - start.first))))
-OpensAt file_len (Err fault) new told result = (result ≡ fault_code fault) × (told ≡ report_of 0 (Some fault)) × (new ≡ closed)
+OpensAt file_len (Err fault) new told result =
+    (result ≡ fault_code fault) × (told ≡ report_of 0 (Some fault)) × (new ≡ closed)
 
 -- what opening a file of so many bytes with this front gives
 abbrev pub OpensRanges : Answering → List ℕ → ℕ → Ranges → Report → ℕ → Type 0
 OpensRanges answers front file_len new told result =
-    (start : Result Start Fault) × FindsStart answers front start × OpensAt file_len start new told result
+    (start : Result Start Fault) × FindsStart answers front start
+    × OpensAt file_len start new told result
 
 -- the bytes of piece i in a file
 abbrev pub piece_at : Ranges → List ℕ → ℕ → List ℕ
@@ -64,27 +69,40 @@ abbrev pub gives : Ranges → ℕ → List ℕ → Result (List ℕ) StreamFault
 gives r i piece = outcome r.key limits.max_chunks i (nat_le r.sealed_len (65552 * (i + 1))) piece
 
 -- what the last piece gives, verified: on its text the plaintext's length is known
-abbrev pub Verified : Ranges → Ranges → List ℕ → List ℕ → Report → ℕ → Result (List ℕ) StreamFault → Type 0
-Verified old new chunk chunk2 report result (Ok text) = (result ≡ 0) × (new ≡ record { key = old.key; first = old.first; sealed_len = old.sealed_len; state = 2 })
-    × (chunk2 ≡ text ++ drop (length text) chunk) × (report ≡ report_of (plain_of old.sealed_len) None)
-Verified old new chunk chunk2 report result (Err fault) = (result ≡ fault_code (of_stream fault))
-    × (new ≡ record { key = old.key; first = old.first; sealed_len = old.sealed_len; state = 1 }) × (chunk2 ≡ chunk) × (report ≡ report_of 0 (Some (of_stream fault)))
+abbrev pub Verified : Ranges → Ranges → List ℕ → List ℕ → Report → ℕ → Result (List ℕ) StreamFault
+    → Type 0
+Verified old new chunk chunk2 report result (Ok text) =
+    (result ≡ 0)
+    × (new ≡ record { key = old.key; first = old.first; sealed_len = old.sealed_len; state = 2 })
+    × (chunk2 ≡ text ++ drop (length text) chunk)
+    × (report ≡ report_of (plain_of old.sealed_len) None)
+Verified old new chunk chunk2 report result (Err fault) =
+    (result ≡ fault_code (of_stream fault))
+    × (new ≡ record { key = old.key; first = old.first; sealed_len = old.sealed_len; state = 1 })
+    × (chunk2 ≡ chunk) × (report ≡ report_of 0 (Some (of_stream fault)))
 
 -- the payload was opened, and these are as many bytes as the last piece has
 abbrev pub may_verify : Ranges → List ℕ → Bool
-may_verify r chunk = nat_lt 0 r.state && nat_eq (length chunk) (piece_len r.sealed_len (last_index r.sealed_len))
+may_verify r chunk =
+    nat_lt 0 r.state && nat_eq (length chunk) (piece_len r.sealed_len (last_index r.sealed_len))
 
--- the last piece was verified, places in the file fit 64 bits, and the plaintext has a byte at this place
+-- the last piece was verified, places in the file fit 64 bits, and the plaintext has a byte at this
+-- place
 abbrev pub has_byte : Ranges → ℕ → Bool
-has_byte r at = nat_eq r.state 2 && nat_lt (r.first + r.sealed_len) (2 ^ 64) && nat_lt at (plain_of r.sealed_len)
+has_byte r at =
+    nat_eq r.state 2 && nat_lt (r.first + r.sealed_len) (2 ^ 64)
+    && nat_lt at (plain_of r.sealed_len)
 
 -- there is such a byte, and these are as many bytes as the piece that holds it
 abbrev pub may_open : Ranges → ℕ → List ℕ → Bool
 may_open r at chunk = has_byte r at && nat_eq (length chunk) (piece_len r.sealed_len (at / 65536))
 
--- what the piece that holds byte `at` gives: its text in front, from which the plaintext goes on at `at`
+-- what the piece that holds byte `at` gives: its text in front, from which the plaintext goes on at
+-- `at`
 abbrev pub GivesFrom : ℕ → List ℕ → List ℕ → Report → ℕ → Result (List ℕ) StreamFault → Type 0
-GivesFrom at chunk chunk2 report result (Ok text) = (result ≡ 0) × (chunk2 ≡ text ++ drop (length text) chunk)
+GivesFrom at chunk chunk2 report result (Ok text) =
+    (result ≡ 0) × (chunk2 ≡ text ++ drop (length text) chunk)
     × (report ≡ record { len = length text - at % 65536; place = at % 65536; detail = 0 })
 GivesFrom at chunk chunk2 report result (Err fault) =
-    (result ≡ fault_code (of_stream fault)) × (chunk2 ≡ chunk) × (report ≡ report_of 0 (Some (of_stream fault)))
+    (result ≡ fault_code (of_stream fault)) × (chunk2 ≡ chunk)
+    × (report ≡ report_of 0 (Some (of_stream fault)))

@@ -37,27 +37,36 @@ pub record StaysClosed (number : ℕ) (new : Reader) (told : Report) (result : �
 
 -- the reader stands before chunk 0, and the report says where that begins; or the fault is returned
 abbrev pub OpensAt : Result Start Fault → Reader → Report → ℕ → Type 0
-OpensAt (Ok start) new told result = (result ≡ 0) × (told ≡ report_of start.first None) × (new ≡ before_first start.key)
-OpensAt (Err fault) new told result = (result ≡ fault_code fault) × (told ≡ report_of 0 (Some fault)) × (new ≡ closed)
+OpensAt (Ok start) new told result =
+    (result ≡ 0) × (told ≡ report_of start.first None) × (new ≡ before_first start.key)
+OpensAt (Err fault) new told result =
+    (result ≡ fault_code fault) × (told ≡ report_of 0 (Some fault)) × (new ≡ closed)
 
 -- what opening the file with this front gives
 abbrev pub OpensReader : Answering → List ℕ → Reader → Report → ℕ → Type 0
-OpensReader answers front new told result = (start : Result Start Fault) × FindsStart answers front start × OpensAt start new told result
+OpensReader answers front new told result =
+    (start : Result Start Fault) × FindsStart answers front start × OpensAt start new told result
 
--- whether a reader takes a chunk of so many bytes: it is open, and the chunk is full, or the last and no longer
+-- whether a reader takes a chunk of so many bytes: it is open, and the chunk is full, or the last
+-- and no longer
 abbrev pub takes : Reader → ℕ → Bool → Bool
 takes r len last = nat_eq r.state 1 && (if last then nat_le len 65552 else nat_eq len 65552)
 
--- the text stands in front of the chunk, of which the rest is as it was; or its fault is returned, and all of it is as it was
-abbrev pub Reads : Reader → Reader → List ℕ → List ℕ → Bool → Report → ℕ → Result (List ℕ) StreamFault → Type 0
+-- the text stands in front of the chunk, of which the rest is as it was; or its fault is returned,
+-- and all of it is as it was
+abbrev pub Reads : Reader → Reader → List ℕ → List ℕ → Bool → Report → ℕ
+    → Result (List ℕ) StreamFault → Type 0
 Reads old new chunk after last told result (Ok text) =
-    (result ≡ 0) × (told ≡ report_of (length text) None) × (new ≡ after_chunk old last) × (after ≡ text ++ drop (length text) chunk)
+    (result ≡ 0) × (told ≡ report_of (length text) None) × (new ≡ after_chunk old last)
+    × (after ≡ text ++ drop (length text) chunk)
 Reads old new chunk after last told result (Err fault) =
-    (result ≡ fault_code (of_stream fault)) × (told ≡ report_of 0 (Some (of_stream fault))) × (new ≡ failed old) × (after ≡ chunk)
+    (result ≡ fault_code (of_stream fault)) × (told ≡ report_of 0 (Some (of_stream fault)))
+    × (new ≡ failed old) × (after ≡ chunk)
 
 -- one call: the chunk's outcome as the next piece, where the reader takes it
 abbrev pub ReadsStep : Reader → Reader → List ℕ → List ℕ → Bool → Report → ℕ → Type 0
 ReadsStep old new chunk after last told result =
     ((takes old (length chunk) last ≡ false) × IsOutOfOrder old new chunk after told result)
     ⊎ ((takes old (length chunk) last ≡ true)
-    × Reads old new chunk after last told result (outcome old.key limits.max_chunks old.number last chunk))
+    × Reads old new chunk after last told result
+    (outcome old.key limits.max_chunks old.number last chunk))

@@ -11,7 +11,8 @@ use Rattle.age_file.specs.Verdict.{Answering, of_header, unlocked}
 use Rattle.agefile.specs.declared.start.Start.{Start}
 use Rattle.agefile.specs.Limits.{limits}
 
--- where the chunks begin and their key, where a header of `len` bytes is followed by `rest`, under the file key
+-- where the chunks begin and their key, where a header of `len` bytes is followed by `rest`, under
+-- the file key
 abbrev pub start_under : ℕ → List ℕ → Result FileKey Fault → Result Start Fault
 start_under len rest (Err fault) = Err fault
 start_under len rest (Ok k) =
@@ -21,12 +22,14 @@ start_under len rest (Ok k) =
 -- the start of b, or the first fault before its first chunk, given its header verdict
 abbrev pub start_of : Answering → List ℕ → Result Found HeaderFault → Result Start Fault
 start_of answers b (Err fault) = Err (of_header fault)
-start_of answers b (Ok found) = start_under (length found.text) (drop (length found.text) b) (unlocked answers (parts_of found))
+start_of answers b (Ok found) =
+    start_under (length found.text) (drop (length found.text) b) (unlocked answers (parts_of found))
 
 -- the same, whatever the header verdict is
 abbrev pub IsStart : Answering → List ℕ → Result Start Fault → Type 0
 IsStart answers b start =
-    (header : Result Found HeaderFault) × HeaderVerdict b limits.max_header header × (start ≡ start_of answers b header)
+    (header : Result Found HeaderFault) × HeaderVerdict b limits.max_header header
+    × (start ≡ start_of answers b header)
 
 -- the start of b is returned, or its first fault; or out of memory
 abbrev pub FindsStart : Answering → List ℕ → Result Start Fault → Type 0

@@ -4,7 +4,8 @@ use Rattle.agefile.specs.declared.report.Report.{Report}
 use Rattle.agefile.specs.Report.{report_of}
 
 -- the call doesn't fit the state, and changes nothing
-pub record IsOutOfOrder {S : Type 0} (old new : S) (chunk after : List ℕ) (told : Report) (result : ℕ) : Type 0 where
+pub record IsOutOfOrder {S : Type 0} (old new : S) (chunk after : List ℕ) (told : Report)
+    (result : ℕ) : Type 0 where
   pub code : result ≡ 23
   pub report : told ≡ report_of 0 None
   pub state : new ≡ old

@@ -33,49 +33,64 @@ failed w = record { key = w.key; number = w.number; state = 3 }
 
 -- the call returns this code alone, the buffer is as it was, and the writer is not open
 abbrev pub StaysClosed : ℕ → List ℕ → List ℕ → Writer → Report → ℕ → Type 0
-StaysClosed number old new writer told result = GivesUp number old new told result × (writer ≡ closed)
+StaysClosed number old new writer told result =
+    GivesUp number old new told result × (writer ≡ closed)
 
--- a file's front, its header and its nonce, stands in front of the buffer, and the writer before chunk 0; or the buffer is too small for it
+-- a file's front, its header and its nonce, stands in front of the buffer, and the writer before
+-- chunk 0; or the buffer is too small for it
 abbrev pub GivesFront : List ℕ → Fresh → List ℕ → List ℕ → Writer → Report → ℕ → Type 0
 GivesFront front fresh old new writer told result =
-    (Fits front None old new told result × (writer ≡ before_first (payload_key fresh.file_key fresh.nonce)))
+    (Fits front None old new told result
+    × (writer ≡ before_first (payload_key fresh.file_key fresh.nonce)))
     ⊎ (Exceeds front old new told result × (writer ≡ closed))
 
--- what opening a new file under this seed gives, whose header has this stanza alone, and at most 156 bytes: its front; or out of memory
-abbrev pub OpensWriter : List ℕ → (FileKey → StanzaParts) → List ℕ → List ℕ → Writer → Report → ℕ → Type 0
+-- what opening a new file under this seed gives, whose header has this stanza alone, and at most
+-- 156 bytes: its front; or out of memory
+abbrev pub OpensWriter : List ℕ → (FileKey → StanzaParts) → List ℕ → List ℕ → Writer → Report → ℕ
+    → Type 0
 OpensWriter seed stanza old new writer told result =
     StaysClosed 17 old new writer told result
     ⊎ ((text : List ℕ) × (length text ≤ 156)
-    × IsHeading limits (fresh_of seed).file_key (only (stanza (fresh_of seed).file_key)) (stanza (fresh_of seed).file_key ∷ []) text
+    × IsHeading limits (fresh_of seed).file_key (only (stanza (fresh_of seed).file_key))
+    (stanza (fresh_of seed).file_key ∷ []) text
     × GivesFront (text ++ (fresh_of seed).nonce) (fresh_of seed) old new writer told result)
 
--- the same for whatever recipients give. In a refusal nothing is said of what the call returns: the exports have one recipient, which
--- never refuses.
-abbrev pub OpensFor : Fresh → (Result (List StanzaParts) Fault → Type 0) → List ℕ → List ℕ → Writer → Report → ℕ → Type 0
+-- the same for whatever recipients give. In a refusal nothing is said of what the call returns: the
+-- exports have one recipient, which never refuses.
+abbrev pub OpensFor : Fresh → (Result (List StanzaParts) Fault → Type 0) → List ℕ → List ℕ → Writer
+    → Report → ℕ → Type 0
 OpensFor fresh given old new writer told result =
     StaysClosed 17 old new writer told result
     ⊎ (((fault : Fault) × IsRefusal limits fresh.file_key given fault)
-    ⊎ ((stanzas : List StanzaParts) × (text : List ℕ) × IsHeading limits fresh.file_key given stanzas text
+    ⊎ ((stanzas : List StanzaParts) × (text : List ℕ)
+    × IsHeading limits fresh.file_key given stanzas text
     × GivesFront (text ++ fresh.nonce) fresh old new writer told result))
 
--- whether a last chunk of so many bytes, of which 16 are for the tag, has some text; that of an empty plaintext has none
+-- whether a last chunk of so many bytes, of which 16 are for the tag, has some text; that of an
+-- empty plaintext has none
 abbrev pub has_text : ℕ → ℕ → Bool
 has_text number len = nat_lt 16 len || (nat_eq len 16 && nat_eq number 0)
 
--- whether a writer takes a chunk of so many bytes: it is open, and the chunk is full, or the last and no longer, with some text
+-- whether a writer takes a chunk of so many bytes: it is open, and the chunk is full, or the last
+-- and no longer, with some text
 abbrev pub takes : Writer → ℕ → Bool → Bool
-takes w len last = nat_eq w.state 1 && (if last then nat_le len 65552 && has_text w.number len else nat_eq len 65552)
+takes w len last =
+    nat_eq w.state 1
+    && (if last then nat_le len 65552 && has_text w.number len else nat_eq len 65552)
 
 -- the chunk's text, all but the last 16 bytes, was sealed at its place
-pub record Seals (old new : Writer) (chunk after : List ℕ) (last : Bool) (told : Report) (result : ℕ) : Type 0 where
+pub record Seals (old new : Writer) (chunk after : List ℕ) (last : Bool) (told : Report)
+    (result : ℕ) : Type 0 where
   pub few : old.number < limits.max_chunks
   pub code : result ≡ 0
   pub report : told ≡ report_of (length chunk) None
   pub writer : new ≡ after_chunk old last
-  pub buffer : after ≡ sealed old.key (chunk_nonce old.number last) [] (take (length chunk - 16) chunk)
+  pub buffer : after
+      ≡ sealed old.key (chunk_nonce old.number last) [] (take (length chunk - 16) chunk)
 
 -- the file has as many chunks as it may have
-pub record IsTooMany (old new : Writer) (chunk after : List ℕ) (told : Report) (result : ℕ) : Type 0 where
+pub record IsTooMany (old new : Writer) (chunk after : List ℕ) (told : Report) (result : ℕ)
+    : Type 0 where
   pub many : limits.max_chunks ≤ old.number
   pub code : result ≡ 14
   pub report : told ≡ report_of 0 (Some TooManyChunks)

@@ -48,7 +48,8 @@ pub(crate) fn code_of(fault: Fault) -> u32
     }
 }
 
-/// The line or the chunk of a fault, else 0. Of a chunk's number beyond `u64` it is the largest `u64`.
+/// The line or the chunk of a fault, else 0. Of a chunk's number beyond `u64` it is the largest
+/// `u64`.
 pub(crate) fn place_of(fault: Fault) -> u64
     ensures { result ≡ fault_place fault }
 {

@@ -12,12 +12,12 @@ use crate::report::Report;
 use age_file::{Identity, KeyIdentity, MemSink, MemSource, PassError, PassIdentity, decrypt};
 use std::alloc::Global;
 
-/// Decrypts a file with a passphrase, any bytes, that takes work factors of at most `max_work`, 1 to 30. On a fault after some chunks `out`
-/// has the plaintext of the chunks before it.
+/// Decrypts a file with a passphrase, any bytes, that takes work factors of at most `max_work`, 1
+/// to 30. On a fault after some chunks `out` has the plaintext of the chunks before it.
 ///
 /// # Errors
-/// 22 where `max_work` is not 1 to 30, 21 where `out` is too small for the plaintext, 17 where an allocation was refused; in these `out` is
-/// as it was. Else those of `age_file::decrypt`.
+/// 22 where `max_work` is not 1 to 30, 21 where `out` is too small for the plaintext, 17 where an
+/// allocation was refused; in these `out` is as it was. Else those of `age_file::decrypt`.
 #[unsafe(no_mangle)]
 pub extern "C" fn agefile_decrypt_passphrase(
     alloc: Global,
@@ -28,7 +28,8 @@ pub extern "C" fn agefile_decrypt_passphrase(
     report: &mut Report,
 ) -> u32
     ensures answer { WorkFits max_work
-        → GivesPlain (alone (pass_unwraps (record { pass = pass.now; max = max_work }))) file.now out.old out.new report.new result }
+        → GivesPlain (alone (pass_unwraps (record { pass = pass.now; max = max_work }))) file.now
+        out.old out.new report.new result }
     ensures unfit { (WorkFits max_work → ⊥) → GivesUp 22 out.old out.new report.new result }
 {
     let identity = match PassIdentity::new(alloc, pass, max_work) {
@@ -42,12 +43,12 @@ pub extern "C" fn agefile_decrypt_passphrase(
     }
 }
 
-/// Decrypts a file with a key of 32 bytes, this project's own kind. On a fault after some chunks `out` has the plaintext of the chunks
-/// before it.
+/// Decrypts a file with a key of 32 bytes, this project's own kind. On a fault after some chunks
+/// `out` has the plaintext of the chunks before it.
 ///
 /// # Errors
-/// 21 where `out` is too small for the plaintext, 17 where an allocation was refused; in these `out` is as it was. Else those of
-/// `age_file::decrypt`.
+/// 21 where `out` is too small for the plaintext, 17 where an allocation was refused; in these
+/// `out` is as it was. Else those of `age_file::decrypt`.
 #[unsafe(no_mangle)]
 pub extern "C" fn agefile_decrypt_key(
     alloc: Global,
@@ -88,7 +89,8 @@ fn open_for(
     out: &mut [u8],
     report: &mut Report,
 ) -> u32
-    ensures { GivesPlain (λ stanzas. map (λ i. meaning i stanzas) identities.now) file.now out.old out.new report.new result }
+    ensures { GivesPlain (λ stanzas. map (λ i. meaning i stanzas) identities.now) file.now out.old
+        out.new report.new result }
 {
     let mut source = MemSource::new(file);
     let mut sink = MemSink::new(Vec::new(alloc));

@@ -16,12 +16,12 @@ use age_file::{
 };
 use std::alloc::Global;
 
-/// Encrypts a plaintext under a passphrase, any bytes, with a work factor of 1 to 30. The seed is a file key, a nonce and a salt, of 16
-/// bytes each; its bytes must be random, and never used twice.
+/// Encrypts a plaintext under a passphrase, any bytes, with a work factor of 1 to 30. The seed is a
+/// file key, a nonce and a salt, of 16 bytes each; its bytes must be random, and never used twice.
 ///
 /// # Errors
-/// 22 where `work` is not 1 to 30, 21 where `out` is too small for the file, 17 where an allocation was refused; in these `out` is as it
-/// was. There is no other.
+/// 22 where `work` is not 1 to 30, 21 where `out` is too small for the file, 17 where an allocation
+/// was refused; in these `out` is as it was. There is no other.
 #[unsafe(no_mangle)]
 pub extern "C" fn agefile_encrypt_passphrase(
     alloc: Global,
@@ -33,7 +33,8 @@ pub extern "C" fn agefile_encrypt_passphrase(
     report: &mut Report,
 ) -> u32
     ensures answer { WorkFits work
-        → GivesFile seed.now (pass_stanza pass.now work (salt_of seed.now)) plain.now out.old out.new report.new result }
+        → GivesFile seed.now (pass_stanza pass.now work (salt_of seed.now)) plain.now out.old
+        out.new report.new result }
     ensures unfit { (WorkFits work → ⊥) → GivesUp 22 out.old out.new report.new result }
 {
     let recipient = match PassRecipient::new(alloc, pass, part(seed, 32), work) {
@@ -47,11 +48,12 @@ pub extern "C" fn agefile_encrypt_passphrase(
     }
 }
 
-/// Encrypts a plaintext under a key of 32 bytes, this project's own kind. The seed is a file key, a nonce and a salt, of 16 bytes each;
-/// its bytes must be random, and never used twice.
+/// Encrypts a plaintext under a key of 32 bytes, this project's own kind. The seed is a file key, a
+/// nonce and a salt, of 16 bytes each; its bytes must be random, and never used twice.
 ///
 /// # Errors
-/// 21 where `out` is too small for the file, 17 where an allocation was refused; in these `out` is as it was. There is no other.
+/// 21 where `out` is too small for the file, 17 where an allocation was refused; in these `out` is
+/// as it was. There is no other.
 #[unsafe(no_mangle)]
 pub extern "C" fn agefile_encrypt_key(
     alloc: Global,
@@ -61,7 +63,8 @@ pub extern "C" fn agefile_encrypt_key(
     out: &mut [u8],
     report: &mut Report,
 ) -> u32
-    ensures { GivesFile seed.now (keyed_stanza key.now (salt_of seed.now)) plain.now out.old out.new report.new result }
+    ensures { GivesFile seed.now (keyed_stanza key.now (salt_of seed.now)) plain.now out.old out.new
+        report.new result }
 {
     match Box::new(alloc, KeyRecipient::new(*key, part(seed, 32))) {
         Ok(recipient) => seal_with(alloc, plain, recipient, seed, out, report),
@@ -98,7 +101,8 @@ fn seal_with(
     out: &mut [u8],
     report: &mut Report,
 ) -> u32
-    ensures { GivesGathered seed.now (Gathered (wraps recipient (fresh_of seed.now).file_key ∷ []) (the_labels recipient ∷ []))
+    ensures { GivesGathered seed.now
+        (Gathered (wraps recipient (fresh_of seed.now).file_key ∷ []) (the_labels recipient ∷ []))
         plain.now out.old out.new report.new result }
 {
     match vec![in alloc; recipient] {
@@ -116,8 +120,9 @@ fn seal_for(
     out: &mut [u8],
     report: &mut Report,
 ) -> u32
-    ensures { GivesGathered seed.now
-        (Gathered (map (λ r. wraps r (fresh_of seed.now).file_key) recipients.now) (map (λ r. the_labels r) recipients.now))
+    ensures { GivesGathered seed.now (Gathered
+        (map (λ r. wraps r (fresh_of seed.now).file_key) recipients.now)
+        (map (λ r. the_labels r) recipients.now))
         plain.now out.old out.new report.new result }
 {
     let fresh = fresh_of(seed);

@@ -36,7 +36,8 @@ pub(crate) fn give_part(text: &[u8], fault: Fault, out: &mut [u8], report: &mut 
 /// Gives a text with a code, where the buffer has room for it; else only its length stays reported.
 fn give(text: &[u8], code: u32, out: &mut [u8], report: &mut Report) -> u32
     ensures { ((length text.now ≤ length out.old) × (result ≡ code) × (report.new ≡ report.old)
-        × (out.new ≡ text.now ++ drop (length text.now) out.old)) ⊎ Exceeds text.now out.old out.new report.new result }
+        × (out.new ≡ text.now ++ drop (length text.now) out.old))
+        ⊎ Exceeds text.now out.old out.new report.new result }
 {
     if text.len() > out.len() {
         *report = Report::of_len(text.len() as u64);

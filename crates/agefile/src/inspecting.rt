@@ -36,11 +36,13 @@ pub struct StanzaSummary {
     pub body_len: u64,
 }
 
-/// Sums up the header at the front of a file. Its MAC is not verified, since that needs the file key. Of a file of more than 65,552 bytes
-/// the first 65,552 suffice: they have its header, if there is one.
+/// Sums up the header at the front of a file. Its MAC is not verified, since that needs the file
+/// key. Of a file of more than 65,552 bytes the first 65,552 suffice: they have its header, if
+/// there is one.
 ///
 /// # Errors
-/// Those of `age_file::inspect`, or 17 where an allocation was refused; in these `summary` is as it was.
+/// Those of `age_file::inspect`, or 17 where an allocation was refused; in these `summary` is as it
+/// was.
 #[unsafe(no_mangle)]
 pub extern "C" fn agefile_inspect(
     alloc: Global,
@@ -49,7 +51,8 @@ pub extern "C" fn agefile_inspect(
     report: &mut Report,
 ) -> u32
     ensures front { Inspected front.now summary.old summary.new report.new result }
-    ensures file { (b : List ℕ) → front.now ≡ take 65552 b → Inspected b summary.old summary.new report.new result }
+    ensures file { (b : List ℕ) → front.now ≡ take 65552 b
+        → Inspected b summary.old summary.new report.new result }
 {
     match header_of(alloc, front) {
         Ok(header) => {
@@ -68,12 +71,14 @@ pub extern "C" fn agefile_inspect(
     }
 }
 
-/// Sums up the stanza at a place of the header, the first being 0, and writes its arguments to the front of `args`, joined by single spaces.
-/// Where `args` is too small for them, the stanza is still summed up. Of a file of more than 65,552 bytes the first 65,552 suffice.
+/// Sums up the stanza at a place of the header, the first being 0, and writes its arguments to the
+/// front of `args`, joined by single spaces. Where `args` is too small for them, the stanza is
+/// still summed up. Of a file of more than 65,552 bytes the first 65,552 suffice.
 ///
 /// # Errors
-/// 23 where there is no such stanza, 21 where `args` is too small, 17 where an allocation was refused, else those of `age_file::inspect`; in
-/// these `args` is as it was, and in all but 21 `stanza` too.
+/// 23 where there is no such stanza, 21 where `args` is too small, 17 where an allocation was
+/// refused, else those of `age_file::inspect`; in these `args` is as it was, and in all but 21
+/// `stanza` too.
 #[unsafe(no_mangle)]
 pub extern "C" fn agefile_stanza(
     alloc: Global,
@@ -83,7 +88,8 @@ pub extern "C" fn agefile_stanza(
     stanza: &mut StanzaSummary,
     report: &mut Report,
 ) -> u32
-    ensures front { AnswersStanza front.now index args.old args.new stanza.old stanza.new report.new result }
+    ensures front { AnswersStanza front.now index args.old args.new stanza.old stanza.new report.new
+        result }
     ensures file { (b : List ℕ) → front.now ≡ take 65552 b
         → AnswersStanza b index args.old args.new stanza.old stanza.new report.new result }
 {

@@ -23,48 +23,67 @@ ghost use Rattle.agefile.specs.declared.ranges.Ranges.{Ranges};
 ghost use Rattle.agefile.specs.Ranges.{OpensRanges, gives, last_index, piece_at, plain_of};
 ghost use Rattle.agefile.specs.Start.{IsStart};
 
-/// Reading a file in steps gives what decrypting it does. Of bytes b the front of 65,552 is enough to open. A fault of the opening is the
-/// verdict's, before any plaintext. Else the texts of the sealed chunks after the nonce, joined up to the first fault, are the verdict's
-/// plaintext, and that fault, with its place, is the verdict's.
+/// Reading a file in steps gives what decrypting it does. Of bytes b the front of 65,552 is enough
+/// to open. A fault of the opening is the verdict's, before any plaintext. Else the texts of the
+/// sealed chunks after the nonce, joined up to the first fault, are the verdict's plaintext, and
+/// that fault, with its place, is the verdict's.
 pub fn steps_read()
-    ensures refused { (answers : Answering) (b : List ℕ) (reader : Reader) (told : Report) (result : ℕ) (v : Reading Fault)
-        → OpensReader answers (take 65552 b) reader told result → IsVerdict limits answers b v → result ≢ 0 → result ≢ 17
+    ensures refused { (answers : Answering) (b : List ℕ) (reader : Reader) (told : Report)
+        (result : ℕ) (v : Reading Fault)
+        → OpensReader answers (take 65552 b) reader told result → IsVerdict limits answers b v
+        → result ≢ 0 → result ≢ 17
         → (v.front ≡ []) × (code_of v.fault ≡ result) × (told ≡ report_of 0 v.fault) }
-    ensures read { (answers : Answering) (b : List ℕ) (reader : Reader) (told : Report) (text : List ℕ) (code place : ℕ) (v : Reading Fault)
-        → OpensReader answers (take 65552 b) reader told 0 → ReadsRun reader (pieces (drop told.len b)) text code place
-        → IsVerdict limits answers b v → (v.front ≡ text) × ((code_of v.fault ≡ code) × ((report_of 0 v.fault).place ≡ place)) }
+    ensures read { (answers : Answering) (b : List ℕ) (reader : Reader) (told : Report)
+        (text : List ℕ) (code place : ℕ) (v : Reading Fault)
+        → OpensReader answers (take 65552 b) reader told 0
+        → ReadsRun reader (pieces (drop told.len b)) text code place → IsVerdict limits answers b v
+        → (v.front ≡ text) × ((code_of v.fault ≡ code) × ((report_of 0 v.fault).place ≡ place)) }
 {}
 
-/// Writing a file in steps gives what encrypting does: the front that the opening gave and the sealed chunks of a plaintext, joined, are the
-/// plaintext's file. Else the plaintext has more chunks than the limit, and a step returns 14.
+/// Writing a file in steps gives what encrypting does: the front that the opening gave and the
+/// sealed chunks of a plaintext, joined, are the plaintext's file. Else the plaintext has more
+/// chunks than the limit, and a step returns 14.
 pub fn steps_write()
-    ensures { (seed : List ℕ) (stanza : FileKey → StanzaParts) (plain old new : List ℕ) (writer : Writer) (told : Report) (out : List ℕ) (code : ℕ)
-        → length seed ≡ 48 → OpensWriter seed stanza old new writer told 0 → WritesRun writer (chunks plain) out code
-        → ((code ≡ 0) × NewFile limits (fresh_of seed) (only (stanza (fresh_of seed).file_key)) plain (take told.len new ++ out))
+    ensures { (seed : List ℕ) (stanza : FileKey → StanzaParts) (plain old new : List ℕ)
+        (writer : Writer) (told : Report) (out : List ℕ) (code : ℕ)
+        → length seed ≡ 48 → OpensWriter seed stanza old new writer told 0
+        → WritesRun writer (chunks plain) out code
+        → ((code ≡ 0)
+        × NewFile limits (fresh_of seed) (only (stanza (fresh_of seed).file_key)) plain
+        (take told.len new ++ out))
         ⊎ ((code ≡ 14) × (limits.max_chunks < length (chunks plain))) }
 {}
 
-/// Reading ranges in steps gives parts of the plaintext. Of a file b the front of 65,552 bytes and b's length are enough to open. A fault of
-/// the opening is the verdict's, before any plaintext. Else what was opened is b's own payload: the piece that is verified first is its last
-/// one, and with it the plaintext's length is known. The text that a located piece gives is, from the asked byte on, a slice of the
-/// plaintext; where the verdict has no fault, it is a part of the verdict's plaintext.
+/// Reading ranges in steps gives parts of the plaintext. Of a file b the front of 65,552 bytes and
+/// b's length are enough to open. A fault of the opening is the verdict's, before any plaintext.
+/// Else what was opened is b's own payload: the piece that is verified first is its last one, and
+/// with it the plaintext's length is known. The text that a located piece gives is, from the asked
+/// byte on, a slice of the plaintext; where the verdict has no fault, it is a part of the verdict's
+/// plaintext.
 pub fn ranges_in_steps()
-    ensures refused { (answers : Answering) (b : List ℕ) (r : Ranges) (told : Report) (result : ℕ) (v : Reading Fault)
-        → OpensRanges answers (take 65552 b) (length b) r told result → IsVerdict limits answers b v → result ≢ 0 → result ≢ 17
+    ensures refused { (answers : Answering) (b : List ℕ) (r : Ranges) (told : Report) (result : ℕ)
+        (v : Reading Fault)
+        → OpensRanges answers (take 65552 b) (length b) r told result → IsVerdict limits answers b v
+        → result ≢ 0 → result ≢ 17
         → (v.front ≡ []) × (code_of v.fault ≡ result) × (told ≡ report_of 0 v.fault) }
     ensures opened { (answers : Answering) (b : List ℕ) (r : Ranges) (told : Report)
         → OpensRanges answers (take 65552 b) (length b) r told 0
-        → IsStart answers b (Ok (record { first = r.first; key = r.key })) × (length b ≡ r.first + r.sealed_len) }
+        → IsStart answers b (Ok (record { first = r.first; key = r.key }))
+        × (length b ≡ r.first + r.sealed_len) }
     ensures last { (r : Ranges) (b : List ℕ) → length b ≡ r.first + r.sealed_len
-        → outcome r.key limits.max_chunks (last_index r.sealed_len) true (piece_at r b (last_index r.sealed_len))
+        → outcome r.key limits.max_chunks (last_index r.sealed_len) true
+        (piece_at r b (last_index r.sealed_len))
         ≡ last_outcome r.key limits.max_chunks (drop r.first b) }
     ensures len { (r : Ranges) (b text : List ℕ) → length b ≡ r.first + r.sealed_len
-        → last_outcome r.key limits.max_chunks (drop r.first b) ≡ Ok text → plain_len (drop r.first b) ≡ plain_of r.sealed_len }
-    ensures slice { (r : Ranges) (b text : List ℕ) (at : ℕ) → length b ≡ r.first + r.sealed_len → at < plain_of r.sealed_len
-        → gives r (at / 65536) (piece_at r b (at / 65536)) ≡ Ok text
-        → (at % 65536 < length text) × IsSlice r.key (drop r.first b) at (drop (at % 65536) text) }
-    ensures verdict { (answers : Answering) (b : List ℕ) (r : Ranges) (told : Report) (v : Reading Fault) (at : ℕ) (text : List ℕ)
-        → OpensRanges answers (take 65552 b) (length b) r told 0 → IsVerdict limits answers b v → v.fault ≡ None
+        → last_outcome r.key limits.max_chunks (drop r.first b) ≡ Ok text
+        → plain_len (drop r.first b) ≡ plain_of r.sealed_len }
+    ensures slice { (r : Ranges) (b text : List ℕ) (at : ℕ) → length b ≡ r.first + r.sealed_len
         → at < plain_of r.sealed_len → gives r (at / 65536) (piece_at r b (at / 65536)) ≡ Ok text
+        → (at % 65536 < length text) × IsSlice r.key (drop r.first b) at (drop (at % 65536) text) }
+    ensures verdict { (answers : Answering) (b : List ℕ) (r : Ranges) (told : Report)
+        (v : Reading Fault) (at : ℕ) (text : List ℕ)
+        → OpensRanges answers (take 65552 b) (length b) r told 0 → IsVerdict limits answers b v
+        → v.fault ≡ None → at < plain_of r.sealed_len
+        → gives r (at / 65536) (piece_at r b (at / 65536)) ≡ Ok text
         → drop (at % 65536) text ≡ take (length (drop (at % 65536) text)) (drop at v.front) }
 {}

@@ -1,17 +1,20 @@
-//! Age v1 files (C2SP `age.md`) for callers in C: the exports of `agefile.h`. Each states the contract of what it calls again, over the
-//! bytes behind its pointers, and none has a `requires`. Nothing is kept between two calls but what the caller holds.
+//! Age v1 files (C2SP `age.md`) for callers in C: the exports of `agefile.h`. Each states the
+//! contract of what it calls again, over the bytes behind its pointers, and none has a `requires`.
+//! Nothing is kept between two calls but what the caller holds.
 //!
 //! ```c
 //! agefile_report report;
-//! uint32_t code = agefile_decrypt_passphrase(file, file_len, pass, pass_len, 22, out, out_len, &report);
+//! uint32_t code = agefile_decrypt_passphrase(
+//!     file, file_len, pass, pass_len, 22, out, out_len, &report);
 //! if (code == AGEFILE_OK)
 //!     fwrite(out, 1, report.len, stdout);
 //! ```
 //!
-//! The exports are in `decrypting` and `encrypting` (whole buffers), `inspecting` (headers), `sizes`, and `reader`, `writer` and `ranges` (steps). The
-//! other modules have none.
+//! The exports are in `decrypting` and `encrypting` (whole buffers), `inspecting` (headers),
+//! `sizes`, and `reader`, `writer` and `ranges` (steps). The other modules have none.
 //!
-//! Limits: a header of 65,536 bytes, 2^64 - 1 chunks, one recipient. The duties of a caller, and what is proved, are in docs/C.md.
+//! Limits: a header of 65,536 bytes, 2^64 - 1 chunks, one recipient. The duties of a caller, and
+//! what is proved, are in docs/C.md.
 #![tactic(auto)]
 
 mod bounds;

@@ -50,13 +50,15 @@ impl Ranges {
     }
 }
 
-/// Opens a file of `file_len` bytes with this front, its first 65,552 bytes or all of a shorter one, for a passphrase, any bytes, that takes work
-/// factors of at most `max_work`, 1 to 30. On 0 the report has the last sealed chunk's place in the file and its length.
+/// Opens a file of `file_len` bytes with this front, its first 65,552 bytes or all of a shorter
+/// one, for a passphrase, any bytes, that takes work factors of at most `max_work`, 1 to 30. On 0
+/// the report has the last sealed chunk's place in the file and its length.
 ///
 /// # Errors
-/// 22 where `max_work` is not 1 to 30, 17 where an allocation was refused. Else the first that applies of those of `age_file::inspect`
-/// and `age_file::unlock_header`, and 10 where fewer than 16 bytes follow the header; then 23 where the file ends before its first
-/// sealed chunk. No payload is open then.
+/// 22 where `max_work` is not 1 to 30, 17 where an allocation was refused. Else the first that
+/// applies of those of `age_file::inspect` and `age_file::unlock_header`, and 10 where fewer than
+/// 16 bytes follow the header; then 23 where the file ends before its first sealed chunk. No
+/// payload is open then.
 #[unsafe(no_mangle)]
 pub extern "C" fn agefile_ranges_open_passphrase(
     alloc: Global,
@@ -67,8 +69,9 @@ pub extern "C" fn agefile_ranges_open_passphrase(
     ranges: &mut Ranges,
     report: &mut Report,
 ) -> u32
-    ensures answer { WorkFits max_work → OpensRanges (alone (pass_unwraps (record { pass = pass.now; max = max_work })))
-        front.now file_len ranges.new report.new result }
+    ensures answer { WorkFits max_work
+        → OpensRanges (alone (pass_unwraps (record { pass = pass.now; max = max_work }))) front.now
+        file_len ranges.new report.new result }
     ensures unfit { (WorkFits max_work → ⊥) → StaysClosed 22 ranges.new report.new result }
 {
     match start_for_passphrase(alloc, front, pass, max_work) {
@@ -77,8 +80,9 @@ pub extern "C" fn agefile_ranges_open_passphrase(
     }
 }
 
-/// Opens a file of `file_len` bytes with this front, its first 65,552 bytes or all of a shorter one, for a key of 32 bytes, this project's own kind.
-/// On 0 the report has the last sealed chunk's place in the file and its length.
+/// Opens a file of `file_len` bytes with this front, its first 65,552 bytes or all of a shorter
+/// one, for a key of 32 bytes, this project's own kind. On 0 the report has the last sealed chunk's
+/// place in the file and its length.
 ///
 /// # Errors
 /// Those of `agefile_ranges_open_passphrase`, but for 22.
@@ -91,7 +95,8 @@ pub extern "C" fn agefile_ranges_open_key(
     ranges: &mut Ranges,
     report: &mut Report,
 ) -> u32
-    ensures { OpensRanges (alone (key_unwraps key.now)) front.now file_len ranges.new report.new result }
+    ensures { OpensRanges (alone (key_unwraps key.now)) front.now file_len ranges.new report.new
+        result }
 {
     open_at(start_for_key(alloc, front, key), file_len, ranges, report)
 }
@@ -142,8 +147,8 @@ fn open_at(
     OK
 }
 
-/// Verifies the last sealed chunk, whose length and tag prove where the file ends, and opens it where it stands. It must come before
-/// the other calls.
+/// Verifies the last sealed chunk, whose length and tag prove where the file ends, and opens it
+/// where it stands. It must come before the other calls.
 #[unsafe(no_mangle)]
 pub extern "C" fn agefile_ranges_last(
     ranges: &mut Ranges,
@@ -151,9 +156,12 @@ pub extern "C" fn agefile_ranges_last(
     report: &mut Report,
 ) -> u32
     ensures out_of_order { OnFalse (may_verify ranges.old chunk.old)
-        ((result ≡ 23) × (ranges.new ≡ ranges.old) × (chunk.new ≡ chunk.old) × (report.new ≡ report_of 0 None)) }
-    ensures verified { OnTrue (may_verify ranges.old chunk.old) (Verified ranges.old ranges.new chunk.old chunk.new report.new result
-        (outcome ranges.old.key limits.max_chunks (last_index ranges.old.sealed_len) true chunk.old)) }
+        ((result ≡ 23) × (ranges.new ≡ ranges.old) × (chunk.new ≡ chunk.old)
+        × (report.new ≡ report_of 0 None)) }
+    ensures verified { OnTrue (may_verify ranges.old chunk.old)
+        (Verified ranges.old ranges.new chunk.old chunk.new report.new result
+        (outcome ranges.old.key limits.max_chunks (last_index ranges.old.sealed_len) true
+        chunk.old)) }
 {
     *report = Report::of_len(0);
     let sealed_len = ranges.sealed_len;
@@ -177,11 +185,14 @@ pub extern "C" fn agefile_ranges_last(
     }
 }
 
-/// Finds the sealed chunk that holds byte `at` of the plaintext: its place in the file, and its length.
+/// Finds the sealed chunk that holds byte `at` of the plaintext: its place in the file, and its
+/// length.
 #[unsafe(no_mangle)]
 pub extern "C" fn agefile_ranges_locate(ranges: &Ranges, at: u64, report: &mut Report) -> u32
-    ensures out_of_order { OnFalse (has_byte ranges.now at) ((result ≡ 23) × (report.new ≡ report_of 0 None)) }
-    ensures located { OnTrue (has_byte ranges.now at) ((result ≡ 0) × (report.new ≡ place_of ranges.now (at / 65536))) }
+    ensures out_of_order { OnFalse (has_byte ranges.now at)
+        ((result ≡ 23) × (report.new ≡ report_of 0 None)) }
+    ensures located { OnTrue (has_byte ranges.now at)
+        ((result ≡ 0) × (report.new ≡ place_of ranges.now (at / 65536))) }
 {
     *report = Report::of_len(0);
     if !has_byte(ranges, at) {
@@ -193,8 +204,8 @@ pub extern "C" fn agefile_ranges_locate(ranges: &Ranges, at: u64, report: &mut R
     OK
 }
 
-/// Opens the sealed chunk that holds byte `at` of the plaintext where it stands. The plaintext from `at` on is then in the chunk from the
-/// reported place on, as many bytes as are reported.
+/// Opens the sealed chunk that holds byte `at` of the plaintext where it stands. The plaintext from
+/// `at` on is then in the chunk from the reported place on, as many bytes as are reported.
 #[unsafe(no_mangle)]
 pub extern "C" fn agefile_ranges_chunk(
     ranges: &Ranges,
@@ -205,7 +216,8 @@ pub extern "C" fn agefile_ranges_chunk(
     ensures out_of_order { OnFalse (may_open ranges.now at chunk.old)
         ((result ≡ 23) × (chunk.new ≡ chunk.old) × (report.new ≡ report_of 0 None)) }
     ensures gives { OnTrue (may_open ranges.now at chunk.old)
-        (GivesFrom at chunk.old chunk.new report.new result (gives ranges.now (at / 65536) chunk.old)) }
+        (GivesFrom at chunk.old chunk.new report.new result
+        (gives ranges.now (at / 65536) chunk.old)) }
 {
     *report = Report::of_len(0);
     let len = chunk.len();

@@ -52,12 +52,14 @@ impl Reader {
     }
 }
 
-/// Opens a file with this front, its first 65,552 bytes or all of a shorter one, for a passphrase, any bytes, that takes work factors of at most
-/// `max_work`, 1 to 30. On 0 the report's length says where the first sealed chunk begins.
+/// Opens a file with this front, its first 65,552 bytes or all of a shorter one, for a passphrase,
+/// any bytes, that takes work factors of at most `max_work`, 1 to 30. On 0 the report's length says
+/// where the first sealed chunk begins.
 ///
 /// # Errors
-/// 22 where `max_work` is not 1 to 30, 17 where an allocation was refused. Else the first that applies of those of `age_file::inspect`
-/// and `age_file::unlock_header`, and 10 where fewer than 16 bytes follow the header. The reader is not open then.
+/// 22 where `max_work` is not 1 to 30, 17 where an allocation was refused. Else the first that
+/// applies of those of `age_file::inspect` and `age_file::unlock_header`, and 10 where fewer than
+/// 16 bytes follow the header. The reader is not open then.
 #[unsafe(no_mangle)]
 pub extern "C" fn agefile_reader_open_passphrase(
     alloc: Global,
@@ -68,7 +70,8 @@ pub extern "C" fn agefile_reader_open_passphrase(
     report: &mut Report,
 ) -> u32
     ensures answer { WorkFits max_work
-        → OpensReader (alone (pass_unwraps (record { pass = pass.now; max = max_work }))) front.now reader.new report.new result }
+        → OpensReader (alone (pass_unwraps (record { pass = pass.now; max = max_work }))) front.now
+        reader.new report.new result }
     ensures unfit { (WorkFits max_work → ⊥) → StaysClosed 22 reader.new report.new result }
 {
     match start_for_passphrase(alloc, front, pass, max_work) {
@@ -77,12 +80,14 @@ pub extern "C" fn agefile_reader_open_passphrase(
     }
 }
 
-/// Opens a file with this front, its first 65,552 bytes or all of a shorter one, for a key of 32 bytes, this project's own kind. On 0 the report's
-/// length says where the first sealed chunk begins.
+/// Opens a file with this front, its first 65,552 bytes or all of a shorter one, for a key of 32
+/// bytes, this project's own kind. On 0 the report's length says where the first sealed chunk
+/// begins.
 ///
 /// # Errors
-/// 17 where an allocation was refused. Else the first that applies of those of `age_file::inspect` and `age_file::unlock_header`, and 10
-/// where fewer than 16 bytes follow the header. The reader is not open then.
+/// 17 where an allocation was refused. Else the first that applies of those of `age_file::inspect`
+/// and `age_file::unlock_header`, and 10 where fewer than 16 bytes follow the header. The reader is
+/// not open then.
 #[unsafe(no_mangle)]
 pub extern "C" fn agefile_reader_open_key(
     alloc: Global,
@@ -128,12 +133,13 @@ fn open_at(start: Result<Start, Fault>, reader: &mut Reader, report: &mut Report
     }
 }
 
-/// Opens the next sealed chunk where it stands: 65,552 bytes, or what is left where it is the last. On 0 its text is in front, and the
-/// report has its length. No memory is taken.
+/// Opens the next sealed chunk where it stands: 65,552 bytes, or what is left where it is the last.
+/// On 0 its text is in front, and the report has its length. No memory is taken.
 ///
 /// # Errors
-/// 23 where the reader is not open, or the chunk has another length: all is as it was. Else the first that applies of 14, 11, 12 and 13,
-/// as `age_stream::open_chunk` says: the chunk is as it was, and the reader takes no other.
+/// 23 where the reader is not open, or the chunk has another length: all is as it was. Else the
+/// first that applies of 14, 11, 12 and 13, as `age_stream::open_chunk` says: the chunk is as it
+/// was, and the reader takes no other.
 #[unsafe(no_mangle)]
 pub extern "C" fn agefile_reader_chunk(
     reader: &mut Reader,

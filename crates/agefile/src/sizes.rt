@@ -12,34 +12,39 @@ ghost use Rattle.agefile.specs.Answer.{fresh_of, only, salt_of};
 ghost use Rattle.agefile.specs.Limits.{limits};
 ghost use Rattle.agefile.specs.Sizes.{plain_len_at_most, sealed_len};
 
-/// The header of a file under a key, 156 bytes, and its payload's nonce. Under a passphrase the header has six or seven bytes fewer.
+/// The header of a file under a key, 156 bytes, and its payload's nonce. Under a passphrase the
+/// header has six or seven bytes fewer.
 const FRONT: u64 = 172;
 
 /// The shortest header, 70 bytes without its stanzas, and its payload's nonce.
 const LEAST_FRONT: u64 = 86;
 
-/// Room that suffices for the file of a plaintext of so many bytes under a key or a passphrase. It is the length under a key; the largest
-/// `u64` where that is longer.
+/// Room that suffices for the file of a plaintext of so many bytes under a key or a passphrase. It
+/// is the length under a key; the largest `u64` where that is longer.
 #[unsafe(no_mangle)]
 pub extern "C" fn agefile_sealed_len(plain_len: u64) -> u64
     ensures value { result ≡ min (sealed_len plain_len) (2 ^ 64 - 1) }
     ensures key { (key seed plain file : List ℕ) → length seed ≡ 48 → length plain ≡ plain_len
-        → NewFile limits (fresh_of seed) (only (keyed_stanza key (salt_of seed) (fresh_of seed).file_key)) plain file
+        → NewFile limits (fresh_of seed)
+        (only (keyed_stanza key (salt_of seed) (fresh_of seed).file_key)) plain file
         → length file ≡ sealed_len plain_len }
-    ensures pass { (pass seed plain file : List ℕ) (work : ℕ) → length seed ≡ 48 → WorkFits work → length plain ≡ plain_len
-        → NewFile limits (fresh_of seed) (only (pass_stanza pass work (salt_of seed) (fresh_of seed).file_key)) plain file
+    ensures pass { (pass seed plain file : List ℕ) (work : ℕ) → length seed ≡ 48 → WorkFits work
+        → length plain ≡ plain_len
+        → NewFile limits (fresh_of seed)
+        (only (pass_stanza pass work (salt_of seed) (fresh_of seed).file_key)) plain file
         → length file < sealed_len plain_len }
 {
     let chunks = plain_len.saturating_sub(1) / 65_536 + 1;
     FRONT.saturating_add(plain_len).saturating_add(16 * chunks)
 }
 
-/// Room that suffices for the plaintext of any file of so many bytes, and for the plaintext before a fault.
+/// Room that suffices for the plaintext of any file of so many bytes, and for the plaintext before
+/// a fault.
 #[unsafe(no_mangle)]
 pub extern "C" fn agefile_plain_len_at_most(file_len: u64) -> u64
     ensures value { result ≡ plain_len_at_most file_len }
-    ensures suffices { (answers : Answering) (b : List ℕ) (verdict : Reading Fault) → length b ≡ file_len
-        → IsVerdict limits answers b verdict → length verdict.front ≤ result }
+    ensures suffices { (answers : Answering) (b : List ℕ) (verdict : Reading Fault)
+        → length b ≡ file_len → IsVerdict limits answers b verdict → length verdict.front ≤ result }
 {
     let sealed = file_len.saturating_sub(LEAST_FRONT);
     65_536 * (sealed / 65_552) + (sealed % 65_552).saturating_sub(16)

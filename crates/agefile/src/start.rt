@@ -20,8 +20,8 @@ pub(crate) struct Start {
     pub(crate) key: [u8; 32],
 }
 
-/// Finds the start of a file with this front for a passphrase, any bytes, that takes work factors of at most `max_work`. None exactly
-/// where that is not 1 to 30.
+/// Finds the start of a file with this front for a passphrase, any bytes, that takes work factors
+/// of at most `max_work`. None exactly where that is not 1 to 30.
 pub(crate) fn start_for_passphrase(
     alloc: Global,
     front: &[u8],
@@ -29,7 +29,8 @@ pub(crate) fn start_for_passphrase(
     max_work: u8,
 ) -> Option<Result<Start, Fault>>
     ensures some { IfSome result (λ start. WorkFits max_work
-        × FindsStart (alone (pass_unwraps (record { pass = pass.now; max = max_work }))) front.now start) }
+        × FindsStart (alone (pass_unwraps (record { pass = pass.now; max = max_work }))) front.now
+        start) }
     ensures none { IfNone result (WorkFits max_work → ⊥) }
 {
     let identity = match PassIdentity::new(alloc, pass, max_work) {

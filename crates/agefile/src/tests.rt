@@ -1,4 +1,5 @@
-//! Each export over whole buffers once where it succeeds and where it fails, which no contract says to happen.
+//! Each export over whole buffers once where it succeeds and where it fails, which no contract says
+//! to happen.
 
 use crate::decrypting::{agefile_decrypt_key, agefile_decrypt_passphrase};
 use crate::encrypting::{agefile_encrypt_key, agefile_encrypt_passphrase};

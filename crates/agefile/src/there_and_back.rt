@@ -1,4 +1,5 @@
-//! What was encrypted comes back: a law over the definitions alone, which is the contract of a function that does nothing.
+//! What was encrypted comes back: a law over the definitions alone, which is the contract of a
+//! function that does nothing.
 
 ghost use Rattle.std.specs.Prelude.{ℕ, List};
 ghost use Rattle.age_recipient.specs.KeyedHolders.{key_unwraps};
@@ -13,15 +14,19 @@ ghost use Rattle.agefile.specs.Limits.{limits};
 
 use age_file::laws;
 
-/// The file that an encrypting call gives is to the decrypting call of the same key its plaintext, whole and without a fault; so with the
-/// same passphrase, where the maximum is at least the work factor. The seed is any 48 bytes.
+/// The file that an encrypting call gives is to the decrypting call of the same key its plaintext,
+/// whole and without a fault; so with the same passphrase, where the maximum is at least the work
+/// factor. The seed is any 48 bytes.
 pub fn comes_back()
     ensures key { (key seed plain file : List ℕ) → IsSeed seed
-        → NewFile limits (fresh_of seed) (only (keyed_stanza key (salt_of seed) (fresh_of seed).file_key)) plain file
+        → NewFile limits (fresh_of seed)
+        (only (keyed_stanza key (salt_of seed) (fresh_of seed).file_key)) plain file
         → IsVerdict limits (alone (key_unwraps key)) file (whole plain) }
     ensures pass { (pass seed plain file : List ℕ) (work max : ℕ) → IsSeed seed → PairFits work max
-        → NewFile limits (fresh_of seed) (only (pass_stanza pass work (salt_of seed) (fresh_of seed).file_key)) plain file
-        → IsVerdict limits (alone (pass_unwraps (record { pass = pass; max = max }))) file (whole plain) }
+        → NewFile limits (fresh_of seed)
+        (only (pass_stanza pass work (salt_of seed) (fresh_of seed).file_key)) plain file
+        → IsVerdict limits (alone (pass_unwraps (record { pass = pass; max = max }))) file
+        (whole plain) }
 {
     laws::ok_is_age_file();
 }

@@ -65,12 +65,13 @@ fn has_text(number: u64, len: usize) -> bool
     len > TAG || len == TAG && number == 0
 }
 
-/// Begins a file under a passphrase, any bytes, with a work factor of 1 to 30. The seed is a file key, a nonce and a salt, of 16 bytes
-/// each; its bytes must be random, and never used twice. On 0 the file's header and its nonce stand in front of `out`, at most 172 bytes.
+/// Begins a file under a passphrase, any bytes, with a work factor of 1 to 30. The seed is a file
+/// key, a nonce and a salt, of 16 bytes each; its bytes must be random, and never used twice. On 0
+/// the file's header and its nonce stand in front of `out`, at most 172 bytes.
 ///
 /// # Errors
-/// 22 where `work` is not 1 to 30, 21 where `out` is too small, 17 where an allocation was refused; in these `out` is as it was, and the
-/// writer is not open. There is no other.
+/// 22 where `work` is not 1 to 30, 21 where `out` is too small, 17 where an allocation was refused;
+/// in these `out` is as it was, and the writer is not open. There is no other.
 #[unsafe(no_mangle)]
 pub extern "C" fn agefile_writer_open_passphrase(
     alloc: Global,
@@ -82,8 +83,10 @@ pub extern "C" fn agefile_writer_open_passphrase(
     report: &mut Report,
 ) -> u32
     ensures answer { WorkFits work
-        → OpensWriter seed.now (pass_stanza pass.now work (salt_of seed.now)) out.old out.new writer.new report.new result }
-    ensures unfit { (WorkFits work → ⊥) → StaysClosed 22 out.old out.new writer.new report.new result }
+        → OpensWriter seed.now (pass_stanza pass.now work (salt_of seed.now)) out.old out.new
+        writer.new report.new result }
+    ensures unfit { (WorkFits work → ⊥)
+        → StaysClosed 22 out.old out.new writer.new report.new result }
 {
     let recipient = match PassRecipient::new(alloc, pass, part(seed, 32), work) {
         Ok(recipient) => recipient,
@@ -96,12 +99,13 @@ pub extern "C" fn agefile_writer_open_passphrase(
     }
 }
 
-/// Begins a file under a key of 32 bytes, this project's own kind. The seed is a file key, a nonce and a salt, of 16 bytes each; its bytes
-/// must be random, and never used twice. On 0 the file's header and its nonce stand in front of `out`, at most 172 bytes.
+/// Begins a file under a key of 32 bytes, this project's own kind. The seed is a file key, a nonce
+/// and a salt, of 16 bytes each; its bytes must be random, and never used twice. On 0 the file's
+/// header and its nonce stand in front of `out`, at most 172 bytes.
 ///
 /// # Errors
-/// 21 where `out` is too small, 17 where an allocation was refused; in these `out` is as it was, and the writer is not open. There is no
-/// other.
+/// 21 where `out` is too small, 17 where an allocation was refused; in these `out` is as it was,
+/// and the writer is not open. There is no other.
 #[unsafe(no_mangle)]
 pub extern "C" fn agefile_writer_open_key(
     alloc: Global,
@@ -111,7 +115,8 @@ pub extern "C" fn agefile_writer_open_key(
     writer: &mut Writer,
     report: &mut Report,
 ) -> u32
-    ensures { OpensWriter seed.now (keyed_stanza key.now (salt_of seed.now)) out.old out.new writer.new report.new result }
+    ensures { OpensWriter seed.now (keyed_stanza key.now (salt_of seed.now)) out.old out.new
+        writer.new report.new result }
 {
     match Box::new(alloc, KeyRecipient::new(*key, part(seed, 32))) {
         Ok(recipient) => open_with(alloc, recipient, seed, out, writer, report),
@@ -128,7 +133,8 @@ fn open_with(
     writer: &mut Writer,
     report: &mut Report,
 ) -> u32
-    ensures { OpensFor (fresh_of seed.now) (Gathered (wraps recipient (fresh_of seed.now).file_key ∷ []) (the_labels recipient ∷ []))
+    ensures { OpensFor (fresh_of seed.now)
+        (Gathered (wraps recipient (fresh_of seed.now).file_key ∷ []) (the_labels recipient ∷ []))
         out.old out.new writer.new report.new result }
 {
     match vec![in alloc; recipient] {
@@ -146,8 +152,9 @@ fn open_for(
     writer: &mut Writer,
     report: &mut Report,
 ) -> u32
-    ensures { OpensFor (fresh_of seed.now)
-        (Gathered (map (λ r. wraps r (fresh_of seed.now).file_key) recipients.now) (map (λ r. the_labels r) recipients.now))
+    ensures { OpensFor (fresh_of seed.now) (Gathered
+        (map (λ r. wraps r (fresh_of seed.now).file_key) recipients.now)
+        (map (λ r. the_labels r) recipients.now))
         out.old out.new writer.new report.new result }
 {
     let fresh = fresh_of(seed);
@@ -165,7 +172,8 @@ fn open_for(
     }
 }
 
-/// Gives a file's front, and a writer before its first chunk, where the buffer has room for the front.
+/// Gives a file's front, and a writer before its first chunk, where the buffer has room for the
+/// front.
 fn give_front(
     front: &[u8],
     fresh: &Fresh,
@@ -197,12 +205,13 @@ fn stay_closed(code: u32, out: &mut [u8], writer: &mut Writer, report: &mut Repo
     give_up(code, out, report)
 }
 
-/// Seals the next chunk where it stands: its text, 65,536 bytes or what is left where it is the last, and then 16 bytes for the tag. Only
-/// the last chunk of an empty plaintext has no text. On 0 all of it is the sealed chunk. No memory is taken.
+/// Seals the next chunk where it stands: its text, 65,536 bytes or what is left where it is the
+/// last, and then 16 bytes for the tag. Only the last chunk of an empty plaintext has no text. On 0
+/// all of it is the sealed chunk. No memory is taken.
 ///
 /// # Errors
-/// 23 where the writer is not open, or the chunk has another length; 14 where there are 2^64 - 1 chunks already, after which the writer
-/// takes no other. The chunk is as it was.
+/// 23 where the writer is not open, or the chunk has another length; 14 where there are 2^64 - 1
+/// chunks already, after which the writer takes no other. The chunk is as it was.
 #[unsafe(no_mangle)]
 pub extern "C" fn agefile_writer_chunk(
     writer: &mut Writer,

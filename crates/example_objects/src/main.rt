@@ -1,5 +1,5 @@
-//! A program that stands on `age_file` alone: it encrypts a text for a recipient of its own and decrypts it with an identity
-//! of its own.
+//! A program that stands on `age_file` alone: it encrypts a text for a recipient of its own and
+//! decrypts it with an identity of its own.
 #![tactic(auto)]
 
 mod objects;

@@ -48,7 +48,8 @@ pub fn encrypted(
 /// The plaintext of a file for one identity.
 ///
 /// # Errors
-/// Those of `decrypt`; of a file that this identity reads whole, `OutOfMemory`, or `Write` where the allocation was the sink's.
+/// Those of `decrypt`; of a file that this identity reads whole, `OutOfMemory`, or `Write` where
+/// the allocation was the sink's.
 pub fn decrypted(
     alloc: Global,
     identity: Box<dyn Identity>,
@@ -56,9 +57,11 @@ pub fn decrypted(
     limits: &Limits,
 ) -> Result<Vec<u8>, Fault>
     ensures text { IfOk result (λ text. (plain : List ℕ)
-        → IsVerdict limits.now (λ s. meaning identity s ∷ []) file.now (whole plain) → text.items ≡ plain) }
+        → IsVerdict limits.now (λ s. meaning identity s ∷ []) file.now (whole plain)
+        → text.items ≡ plain) }
     ensures lost { IfErr result (λ fault. (plain : List ℕ)
-        → IsVerdict limits.now (λ s. meaning identity s ∷ []) file.now (whole plain) → IsMemoryFault fault) }
+        → IsVerdict limits.now (λ s. meaning identity s ∷ []) file.now (whole plain)
+        → IsMemoryFault fault) }
 {
     laws::ok_is_age_file();
     let mut identities: Vec<Box<dyn Identity>> = Vec::new(alloc);

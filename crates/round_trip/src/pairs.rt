@@ -24,11 +24,13 @@ pub enum Lost {
     Decrypting(Fault),
 }
 
-/// What `decrypt` gives of what `encrypt` made of a plaintext, for a pair's recipient and identity: that plaintext. A pair lends
-/// its two parts and a box owns what it holds, so the boxes are handed in beside the pair.
+/// What `decrypt` gives of what `encrypt` made of a plaintext, for a pair's recipient and identity:
+/// that plaintext. A pair lends its two parts and a box owns what it holds, so the boxes are handed
+/// in beside the pair.
 ///
 /// # Errors
-/// `Encrypting` with a fault of `encrypt`; `Decrypting` with `OutOfMemory`, or with `Write` where the allocation was the sink's.
+/// `Encrypting` with a fault of `encrypt`; `Decrypting` with `OutOfMemory`, or with `Write` where
+/// the allocation was the sink's.
 pub fn there_and_back<M: Matched>(
     alloc: Global,
     pair: &M,

@@ -4,7 +4,8 @@ use age_header::{DeviceFault, Sink, Source};
 use std::io;
 use std::io::Write;
 
-/// Gives at most so many of these bytes at a time, and fails at the read with this number, counted from 1. Its contents are not known to proofs.
+/// Gives at most so many of these bytes at a time, and fails at the read with this number, counted
+/// from 1. Its contents are not known to proofs.
 #[derive(Drop)]
 pub(super) struct Drops<'a> {
     rest: &'a [u8],
@@ -51,7 +52,8 @@ impl<'a> Source for Drops<'a> {
     }
 }
 
-/// Takes one byte at a time, and fails where it holds so many. Its contents are not known to proofs.
+/// Takes one byte at a time, and fails where it holds so many. Its contents are not known to
+/// proofs.
 #[derive(Drop)]
 pub(super) struct Holds {
     pub(super) bytes: Vec<u8>,

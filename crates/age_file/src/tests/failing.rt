@@ -14,7 +14,8 @@ use age_recipient::{KeyIdentity, KeyRecipient};
 use std::alloc::Global;
 use std::test::Fail;
 
-/// A sink over a slice of each length: it gets a beginning of the passphrase's file, as much as it has room for.
+/// A sink over a slice of each length: it gets a beginning of the passphrase's file, as much as it
+/// has room for.
 #[test]
 fn failing_sinks(rt: HostRuntime) -> Result<(), Fail> {
     let alloc = rt.alloc();
@@ -61,7 +62,8 @@ fn reads_until(
     Ok((source.reads, if failing == 0 { whole } else { failed }))
 }
 
-/// Decrypting two chunks, with each read failed in turn: a beginning of the plaintext is written, and nothing more is read.
+/// Decrypting two chunks, with each read failed in turn: a beginning of the plaintext is written,
+/// and nothing more is read.
 #[test]
 fn failing_reads(rt: HostRuntime) -> Result<(), Fail> {
     let alloc = rt.alloc();
@@ -169,8 +171,8 @@ fn devices_at_their_limits(rt: HostRuntime) -> Result<(), Fail> {
 const FILE: &[u8] =
     b"age-encryption.org/v1\n-> example.org/key ICEiIyQlJicoKSorLC0uLw\nV4z9dcExmsj4rOYyl6enYhk5Msw0sZuovpzKf+BEY6Y\n--- vTjtX063xQZt7OcXF0O+SrfCT1OR+JXStLMiFO1M3/E\n\x10\x11\x12\x13\x14\x15\x16\x17\x18\x19\x1a\x1b\x1c\x1d\x1e\x1f\x50\x15\x09\x65\x52\xfe\x30\x35\x66\x48\x70\x85\x54\xcb\x9c\x28";
 
-/// The calls in steps are Ok or out of memory, and nothing else; what they stand on may be out of memory too. tests/steps.sh refuses each
-/// allocation in turn.
+/// The calls in steps are Ok or out of memory, and nothing else; what they stand on may be out of
+/// memory too. tests/steps.sh refuses each allocation in turn.
 #[test]
 fn whole_or_out_of_memory(rt: HostRuntime) -> Result<(), Fail> {
     let alloc = rt.alloc();

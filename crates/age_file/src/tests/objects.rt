@@ -56,7 +56,11 @@ pub(super) struct Curve;
 impl Recipient for Curve {
     ghost use Rattle.std.specs.Prelude.{Ok, [], ◌∷◌, codes, replicate};
 
-    ghost wraps = { λ _ _. Ok (record { args = codes "X25519" ∷ codes "AAAAAAAAAAAAAAAAAAAAAAAAAAAAAAAAAAAAAAAAAAA" ∷ []; body = replicate 32 0 }
+    ghost wraps = { λ _ _. Ok (record {
+      args = codes "X25519"
+          ∷ codes "AAAAAAAAAAAAAAAAAAAAAAAAAAAAAAAAAAAAAAAAAAA" ∷ [];
+      body = replicate 32 0;
+    }
         ∷ record { args = codes "abc-grease" ∷ codes "x" ∷ []; body = [] } ∷ []) };
 
     fn wrap(&self, alloc: Global, _key: &FileKey) -> Result<Vec<Stanza>, WrapFault> {
@@ -192,7 +196,8 @@ pub(super) struct Pair;
 impl Recipient for Pair {
     ghost use Rattle.std.specs.Prelude.{Ok, [], ◌∷◌, codes};
 
-    ghost wraps = { λ _ _. Ok (record { args = codes "x" ∷ []; body = [] } ∷ record { args = codes "scrypt" ∷ []; body = [] } ∷ []) };
+    ghost wraps = { λ _ _. Ok (record { args = codes "x" ∷ []; body = [] }
+        ∷ record { args = codes "scrypt" ∷ []; body = [] } ∷ []) };
 
     fn wrap(&self, alloc: Global, _key: &FileKey) -> Result<Vec<Stanza>, WrapFault> {
         let Ok(other) = Stanza::new(alloc, &["x"], &[]) else {

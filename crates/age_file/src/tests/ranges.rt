@@ -17,8 +17,8 @@ fn file_of(alloc: Global, len: usize) -> Result<Vec<u8>, Fail> {
     Ok(file)
 }
 
-/// Reads a range into a buffer of bytes 255: what is returned, and how many bytes of the plaintext are at the buffer's front; the others are
-/// still 255.
+/// Reads a range into a buffer of bytes 255: what is returned, and how many bytes of the plaintext
+/// are at the buffer's front; the others are still 255.
 fn range<T: Abort>(
     rt: &T,
     alloc: Global,

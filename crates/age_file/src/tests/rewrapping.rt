@@ -50,7 +50,8 @@ fn to_another_passphrase(rt: HostRuntime) -> Result<(), Fail> {
     Ok(())
 }
 
-/// Whether a file of the passphrase, rewrapped to a key, has this length, and both decrypt with this fault.
+/// Whether a file of the passphrase, rewrapped to a key, has this length, and both decrypt with
+/// this fault.
 fn is_kept(alloc: Global, file: &[u8], len: usize, fault: Option<Fault>) -> Result<bool, Fail> {
     let limits = Limits::default();
     let (answer, new) = rewrapped(alloc, file, &passphrase(alloc)?, &with_key(alloc, 3)?);

@@ -18,7 +18,8 @@ pub struct KeyPair {
 impl KeyPair {
     /// The pair of this secret: a recipient with a salt, and an identity.
     pub fn new(key: [u8; 32], salt: [u8; 16]) -> KeyPair
-        ensures recipient { ⟦<KeyPair as Matched>⟧.the_recipient result ≡ record { key = key; salt = salt } }
+        ensures recipient { ⟦<KeyPair as Matched>⟧.the_recipient result
+            ≡ record { key = key; salt = salt } }
         ensures identity { ⟦<KeyPair as Matched>⟧.the_identity result ≡ key }
     {
         KeyPair {
@@ -47,5 +48,6 @@ impl Matched for KeyPair {
         &self.identity
     }
 
-    ghost opens = { λ pair key stanzas. key_pair_law pair.recipient pair.identity key stanzas pair.one_key pair.salt };
+    ghost opens = { λ pair key stanzas.
+        key_pair_law pair.recipient pair.identity key stanzas pair.one_key pair.salt };
 }

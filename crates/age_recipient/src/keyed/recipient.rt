@@ -52,8 +52,8 @@ impl Recipient for KeyRecipient {
     }
 }
 
-/// Unwraps a file key with a secret of 32 bytes. Of the stanzas of type `example.org/key`, the first that is malformed or that
-/// opens decides.
+/// Unwraps a file key with a secret of 32 bytes. Of the stanzas of type `example.org/key`, the
+/// first that is malformed or that opens decides.
 #[derive(Drop)]
 pub struct KeyIdentity {
     key: [u8; 32],

@@ -60,7 +60,8 @@ fn arguments_answer(
     args: &[String],
     body: &[u8],
 ) -> Result<Unwrapped, AllocError>
-    ensures { IfOk result (λ answer. answer ≡ arguments_answer key.now (map string_bytes args.now) body.now) }
+    ensures { IfOk result
+        (λ answer. answer ≡ arguments_answer key.now (map string_bytes args.now) body.now) }
 {
     let [salt] = args else {
         return Ok(Unwrapped::Malformed(StanzaFault::ArgCount));

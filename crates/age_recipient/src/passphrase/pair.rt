@@ -21,7 +21,8 @@ pub struct PassPair {
 }
 
 impl PassPair {
-    /// The pair of this passphrase, any bytes: a recipient with a salt and a work factor, and an identity with a maximum.
+    /// The pair of this passphrase, any bytes: a recipient with a salt and a work factor, and an
+    /// identity with a maximum.
     ///
     /// # Errors
     /// `WorkFactor` where `work` or `max` is not 1 to 30, or `work` is above `max`; else `Memory`.
@@ -70,5 +71,6 @@ impl Matched for PassPair {
         &self.identity
     }
 
-    ghost opens = { λ pair key stanzas. pair_law pair.recipient pair.identity key stanzas pair.one_passphrase pair.salt pair.work };
+    ghost opens = { λ pair key stanzas.
+        pair_law pair.recipient pair.identity key stanzas pair.one_passphrase pair.salt pair.work };
 }

@@ -23,9 +23,9 @@ pub enum PassError {
     Memory,
 }
 
-/// Wraps a file key under a passphrase (C2SP `age.md`, "The scrypt recipient type"). The salt must be 16 random bytes, fresh for each
-/// file. The work factor is the base-2 logarithm of the KiB of memory that wrapping and unwrapping take; 18 is usual, and takes about a
-/// second.
+/// Wraps a file key under a passphrase (C2SP `age.md`, "The scrypt recipient type"). The salt must
+/// be 16 random bytes, fresh for each file. The work factor is the base-2 logarithm of the KiB of
+/// memory that wrapping and unwrapping take; 18 is usual, and takes about a second.
 #[derive(Drop)]
 pub struct PassRecipient {
     pass: Vec<u8>,
@@ -44,7 +44,8 @@ impl Model for PassRecipient {
 }
 
 impl PassRecipient {
-    /// A recipient of this passphrase, any bytes, with a salt and a work factor, the base-2 logarithm of scrypt's N.
+    /// A recipient of this passphrase, any bytes, with a salt and a work factor, the base-2
+    /// logarithm of scrypt's N.
     ///
     /// # Errors
     /// `WorkFactor` where `work` is not 1 to 30, else `Memory`.
@@ -54,7 +55,8 @@ impl PassRecipient {
         salt: [u8; 16],
         work: u8,
     ) -> Result<PassRecipient, PassError>
-        ensures ok { IfOk result (λ r. WorkFits work × (r ≡ record { pass = pass.now; salt = salt; work = work })) }
+        ensures ok { IfOk result
+            (λ r. WorkFits work × (r ≡ record { pass = pass.now; salt = salt; work = work })) }
         ensures err { IfErr result (IsPassError (WorkFits work)) }
     {
         if work < 1 || work > 30 {
@@ -92,7 +94,8 @@ impl Recipient for PassRecipient {
     }
 }
 
-/// Unwraps a file key with a passphrase. Of the stanzas of type `scrypt`, the first that is malformed or that opens decides.
+/// Unwraps a file key with a passphrase. Of the stanzas of type `scrypt`, the first that is
+/// malformed or that opens decides.
 #[derive(Drop)]
 pub struct PassIdentity {
     pass: Vec<u8>,

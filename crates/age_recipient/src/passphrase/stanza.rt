@@ -92,7 +92,8 @@ fn arguments_answer(
     body: &[u8],
 ) -> Result<Unwrapped, AllocError>
     requires { max ≤ 30 }
-    ensures { IfOk result (λ answer. answer ≡ arguments_answer pass.now max (map string_bytes args.now) body.now) }
+    ensures { IfOk result
+        (λ answer. answer ≡ arguments_answer pass.now max (map string_bytes args.now) body.now) }
 {
     let [salt, work] = args else {
         return Ok(Unwrapped::Malformed(StanzaFault::ArgCount));
@@ -103,7 +104,8 @@ fn arguments_answer(
     }
 }
 
-/// What a stanza with this salt gives. Memory is taken, and scrypt run, only for a work factor and a body that are well formed.
+/// What a stanza with this salt gives. Memory is taken, and scrypt run, only for a work factor and
+/// a body that are well formed.
 fn salted_answer(
     alloc: Global,
     pass: &[u8],
@@ -113,8 +115,10 @@ fn salted_answer(
     salt: &[u8; 16],
 ) -> Result<Unwrapped, AllocError>
     requires { max ≤ 30 }
-    ensures answer { IfOk result (λ answer. answer ≡ salted_answer pass.now max work.now body.now (Some salt.now)) }
-    ensures memory { IfErr result (λ _. (is_work_factor work.now ≡ true) × (number_from 0 work.now ≤ max) × (length body.now ≡ 32)) }
+    ensures answer { IfOk result
+        (λ answer. answer ≡ salted_answer pass.now max work.now body.now (Some salt.now)) }
+    ensures memory { IfErr result (λ _. (is_work_factor work.now ≡ true)
+        × (number_from 0 work.now ≤ max) × (length body.now ≡ 32)) }
 {
     if !is_work_factor(work) {
         return Ok(Unwrapped::Malformed(StanzaFault::WorkFactorText));

@@ -24,7 +24,8 @@ fn are_digits(text: &[u8]) -> bool
 pub(crate) fn work_at_most(text: &[u8], max: u8) -> Option<u8>
     requires digits { is_work_factor text.now ≡ true }
     requires small { max ≤ 30 }
-    ensures some { IfSome result (λ work. (work ≡ number_from 0 text.now) × (1 ≤ work) × (work ≤ max)) }
+    ensures some { IfSome result
+        (λ work. (work ≡ number_from 0 text.now) × (1 ≤ work) × (work ≤ max)) }
     ensures none { IfNone result (max < number_from 0 text.now) }
 {
     let work = match text {

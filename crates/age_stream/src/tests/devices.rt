@@ -39,7 +39,8 @@ impl<'a> Source for Short<'a> {
     }
 }
 
-/// Takes pieces while there is room for so many bytes, and counts how often it is asked. Its contents are not known to proofs.
+/// Takes pieces while there is room for so many bytes, and counts how often it is asked. Its
+/// contents are not known to proofs.
 #[derive(Drop)]
 pub(super) struct Full {
     room: usize,
@@ -79,7 +80,8 @@ impl Sink for Full {
     }
 }
 
-/// Holds these bytes, counts its reads, and fails at the read with this number, counted from 1. Its contents are not known to proofs.
+/// Holds these bytes, counts its reads, and fails at the read with this number, counted from 1. Its
+/// contents are not known to proofs.
 #[derive(Drop)]
 pub(super) struct Counted<'a> {
     bytes: MemAt<'a>,

@@ -19,8 +19,8 @@ fn payload_of(alloc: Global, len: usize) -> Result<Vec<u8>, Fail> {
     Ok(bytes)
 }
 
-/// Reads so many bytes from place `at` on into a buffer of bytes 255: what is returned, and how many bytes of the plaintext are at the
-/// buffer's front; the others are still 255.
+/// Reads so many bytes from place `at` on into a buffer of bytes 255: what is returned, and how
+/// many bytes of the plaintext are at the buffer's front; the others are still 255.
 fn range<T: Abort, D: ReadAt>(
     rt: &T,
     alloc: Global,
@@ -42,7 +42,8 @@ fn range<T: Abort, D: ReadAt>(
     Ok(())
 }
 
-/// Ranges of 140,000 bytes, one after another: place and length, what is returned, and how many chunks were opened after it.
+/// Ranges of 140,000 bytes, one after another: place and length, what is returned, and how many
+/// chunks were opened after it.
 const ROWS: [((u64, usize), usize, u64); 8] = [
     ((139_990, 10), 10, 1),
     ((0, 10), 10, 2),
@@ -89,7 +90,8 @@ fn ranges_of_a_file(rt: HostRuntime) -> Result<(), Fail> {
     Ok(())
 }
 
-/// Each chunk that is opened costs one read of a source that gives all it is asked for, and the nonce one.
+/// Each chunk that is opened costs one read of a source that gives all it is asked for, and the
+/// nonce one.
 #[test]
 fn reads_are_counted(rt: HostRuntime) -> Result<(), Fail> {
     let alloc = rt.alloc();
@@ -104,7 +106,8 @@ fn reads_are_counted(rt: HostRuntime) -> Result<(), Fail> {
     Ok(())
 }
 
-/// Each read failed in turn: a failed read leaves the bytes of the chunks before it, and the same call again works.
+/// Each read failed in turn: a failed read leaves the bytes of the chunks before it, and the same
+/// call again works.
 #[test]
 fn failed_reads(rt: HostRuntime) -> Result<(), Fail> {
     let alloc = rt.alloc();
@@ -137,7 +140,8 @@ fn failed_reads(rt: HostRuntime) -> Result<(), Fail> {
     Ok(())
 }
 
-/// Each chunk damaged in turn, by its first byte: the ranges that do not touch it are right, also after a call that met it.
+/// Each chunk damaged in turn, by its first byte: the ranges that do not touch it are right, also
+/// after a call that met it.
 #[test]
 fn damaged_chunks(rt: HostRuntime) -> Result<(), Fail> {
     let alloc = rt.alloc();
@@ -167,7 +171,8 @@ fn damaged_chunks(rt: HostRuntime) -> Result<(), Fail> {
     Ok(())
 }
 
-/// A file that was cut after it was opened: a range that needs a lost byte is a failed read. The kept chunk is at hand still.
+/// A file that was cut after it was opened: a range that needs a lost byte is a failed read. The
+/// kept chunk is at hand still.
 #[test]
 fn file_cut_after_opening(rt: HostRuntime) -> Result<(), Fail> {
     let alloc = rt.alloc();
