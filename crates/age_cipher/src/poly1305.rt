@@ -1,5 +1,6 @@
 // Poly1305 (RFC 8439, 2.5), fed piece by piece.
 ghost use Rattle.std.specs.Prelude.{◌≡◌, ℕ, ◌+◌, ◌≤◌, List, [], ◌++◌, length, take};
+ghost use Rattle.age_cipher.specs.Bytes.{Bytes};
 ghost use Rattle.age_cipher.specs.Poly1305.{poly1305};
 ghost use Rattle.age_cipher.specs.Poly1305State.{tag_after};
 
@@ -49,7 +50,7 @@ impl Poly1305 {
     /// An authenticator of nothing yet. `key` is r and s, 16 bytes each; r's forbidden bits are
     /// cleared.
     pub fn new(key: &[u8; 32]) -> Poly1305
-        ensures { (text : List ℕ) → tag_after result text ≡ poly1305 key.now text }
+        ensures { (text : Bytes) → tag_after result text ≡ poly1305 key.now text }
     {
         let (front, back) = key.split_at(16);
         let mut half = [0; 16];
@@ -67,7 +68,7 @@ impl Poly1305 {
 
     /// Feeds the next piece of the message.
     pub fn update(&mut self, piece: &[u8])
-        ensures { (text : List ℕ)
+        ensures { (text : Bytes)
             → tag_after self.new text ≡ tag_after self.old (piece.now ++ text) }
     {
         let room = 16 - self.filled;

@@ -2,6 +2,7 @@
 use Rattle.std.specs.Prelude.{◌≡◌, ℕ, ◌^◌, ◌≤◌, ◌&&◌, Bool, false, List, [], ◌∷◌, ◌++◌, length, codes, nat_lt}
 use Rattle.std.specs.List.{list_any}
 use Rattle.std.specs.Str.{bytes_eq}
+use Rattle.age_header.specs.Device.{Bytes}
 use Rattle.age_header.specs.Header.{StanzaParts, Head}
 use Rattle.age_header.specs.Mac.{header_mac}
 use Rattle.age_recipient.specs.declared.key.FileKey.{FileKey}
@@ -20,7 +21,7 @@ pub record IsBounds (limits : Bounds) : Type 0 where
   pub chunks_high : limits.max_chunks ≤ 2 ^ 88
 
 -- whether the first argument, the type, is `scrypt`
-abbrev pub is_scrypt : List (List ℕ) → Bool
+abbrev pub is_scrypt : List Bytes → Bool
 is_scrypt [] = false
 is_scrypt (kind ∷ _) = bytes_eq kind (codes "scrypt")
 
@@ -30,10 +31,10 @@ is_mixed stanzas = nat_lt 1 (length stanzas) && list_any (λ s. is_scrypt s.args
 
 -- b is a file of these stanzas and this plaintext under this file key: a header with the right MAC,
 -- then a payload
-pub record AgeFile (limits : Bounds) (k : FileKey) (stanzas : List StanzaParts) (plain b : List ℕ)
+pub record AgeFile (limits : Bounds) (k : FileKey) (stanzas : List StanzaParts) (plain b : Bytes)
     : Type 0 where
-  pub header : List ℕ
-  pub nonce : List ℕ
+  pub header : Bytes
+  pub nonce : Bytes
   pub head : Head stanzas (header_mac k.0 stanzas) header
   pub nonce_len : length nonce ≡ 16
   pub spelled : b ≡ header ++ payload k nonce plain

@@ -1,28 +1,26 @@
 -- Copying all that a source still gives.
 use Rattle.std.specs.Prelude.{◌≡◌, ℕ, ◌^◌, ◌≤◌, Bool, true, false, List, length, Option, Result, Ok, Err}
 use Rattle.std.specs.Io.KnownBytes.{Appends, Consumes, IsAtEnd}
-use Rattle.age_header.specs.Device.{MayGive, WritesPart}
+use Rattle.age_header.specs.Device.{Bytes, Known, MayGive, WritesPart}
 use Rattle.age_file.specs.declared.fault.Fault.{Fault}
 use Rattle.age_file.specs.declared.fault.Fault.TheVariants.{TooManyChunks, Read, Write}
 
 -- one piece: a full one of this length, or what was left of the source
-abbrev pub CopiesPiece : ℕ → Option (List ℕ) → Option (List ℕ) → Option (List ℕ) → Option (List ℕ)
-    → Result Bool Fault → Type 0
+abbrev pub CopiesPiece : (size : ℕ) (from to old new : Known) (result : Result Bool Fault) → Type 0
 CopiesPiece size from to old new (Ok true) =
-    (piece : List ℕ) × Consumes from to piece × Appends old new piece × (length piece ≡ size)
+    (piece : Bytes) × Consumes from to piece × Appends old new piece × (length piece ≡ size)
 CopiesPiece size from to old new (Ok false) =
-    (piece : List ℕ) × Consumes from to piece × Appends old new piece × IsAtEnd to
+    (piece : Bytes) × Consumes from to piece × Appends old new piece × IsAtEnd to
 CopiesPiece size from to old new (Err Read) = new ≡ old
 CopiesPiece size from to old new (Err Write) =
-    (piece : List ℕ) × Consumes from to piece × WritesPart old new piece
+    (piece : Bytes) × Consumes from to piece × WritesPart old new piece
 CopiesPiece size from to old new (Err _) = ⊥
 
 -- all of it; where a device failed a beginning; no more than 2^105 bytes
-abbrev pub Copies : Option (List ℕ) → Option (List ℕ) → Option (List ℕ) → Result (Unit {0}) Fault
-    → Type 0
-Copies from old new (Ok done) = (bytes : List ℕ) × MayGive from bytes × Appends old new bytes
-Copies from old new (Err Read) = (bytes : List ℕ) × MayGive from bytes × WritesPart old new bytes
-Copies from old new (Err Write) = (bytes : List ℕ) × MayGive from bytes × WritesPart old new bytes
+abbrev pub Copies : (from old new : Known) (result : Result (Unit {0}) Fault) → Type 0
+Copies from old new (Ok done) = (bytes : Bytes) × MayGive from bytes × Appends old new bytes
+Copies from old new (Err Read) = (bytes : Bytes) × MayGive from bytes × WritesPart old new bytes
+Copies from old new (Err Write) = (bytes : Bytes) × MayGive from bytes × WritesPart old new bytes
 Copies from old new (Err TooManyChunks) =
-    (bytes : List ℕ) × MayGive from bytes × WritesPart old new bytes × (2 ^ 105 ≤ length bytes)
+    (bytes : Bytes) × MayGive from bytes × WritesPart old new bytes × (2 ^ 105 ≤ length bytes)
 Copies from old new (Err _) = ⊥

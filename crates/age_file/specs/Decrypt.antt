@@ -2,7 +2,7 @@
 use Rattle.std.specs.Prelude.{◌≡◌, ℕ, ◌+◌, ◌*◌, ◌/◌, List, [], ⊤, length, drop, Option, Some, None, Result, Ok, Err}
 use Rattle.std.specs.Io.KnownBytes.{Appends}
 use Rattle.age_header.specs.declared.fault.HeaderFault.{HeaderFault}
-use Rattle.age_header.specs.Device.{GaveAtMost, MayGive, WritesPart}
+use Rattle.age_header.specs.Device.{Bytes, Known, GaveAtMost, MayGive, WritesPart}
 use Rattle.age_header.specs.Verdict.{Found, HeaderVerdict}
 use Rattle.age_stream.specs.declared.done.Done.{Done}
 use Rattle.age_stream.specs.Payload.{pieces}
@@ -13,49 +13,50 @@ use Rattle.age_file.specs.AgeFile.{Bounds}
 use Rattle.age_file.specs.Verdict.{Answering, IsVerdict}
 
 -- the pieces of what follows the header and the nonce
-abbrev pub payload_pieces : List ℕ → Result Found HeaderFault → List (List ℕ)
+abbrev pub payload_pieces : Bytes → Result Found HeaderFault → List Bytes
 payload_pieces b (Ok found) = pieces (drop 16 (drop (length found.text) b))
 payload_pieces b (Err fault) = []
 
 -- a verdict's fault is returned, or where it has none the length of its plaintext and the number of
 -- pieces
-abbrev pub Tells : Reading Fault → ℕ → Result Done Fault → Type 0
+abbrev pub Tells : (verdict : Reading Fault) (n : ℕ) (result : Result Done Fault) → Type 0
 Tells verdict n (Ok done) =
     (verdict.fault ≡ None) × (done.bytes ≡ length verdict.front) × (done.chunks ≡ n)
 Tells verdict n (Err fault) = verdict.fault ≡ Some fault
 
 -- the verdict on b is returned, and its plaintext was written
-abbrev pub GivesVerdict : Bounds → Answering → List ℕ → Option (List ℕ) → Option (List ℕ)
-    → Result Done Fault → Type 0
+abbrev pub GivesVerdict : (limits : Bounds) (answers : Answering) (b : Bytes) (old new : Known)
+    (r : Result Done Fault) → Type 0
 GivesVerdict limits answers b old new r =
     (verdict : Reading Fault) × (is : IsVerdict limits answers b verdict)
     × Tells verdict (length (payload_pieces b is.header)) r × Appends old new verdict.front
 
 -- the verdict's plaintext was begun
-abbrev pub BeginsVerdict : Bounds → Answering → List ℕ → Option (List ℕ) → Option (List ℕ) → Type 0
+abbrev pub BeginsVerdict : (limits : Bounds) (answers : Answering) (b : Bytes) (old new : Known)
+    → Type 0
 BeginsVerdict limits answers b old new =
     (verdict : Reading Fault) × IsVerdict limits answers b verdict
     × WritesPart old new verdict.front
 
 -- What is returned where b was to come, and what is written: the verdict, unless a device failed or
 -- memory was refused.
-abbrev pub DecryptsText : Bounds → Answering → List ℕ → Option (List ℕ) → Option (List ℕ)
-    → Result Done Fault → Type 0
+abbrev pub DecryptsText : (limits : Bounds) (answers : Answering) (b : Bytes) (old new : Known)
+    (r : Result Done Fault) → Type 0
 DecryptsText limits answers b old new (Err Read) = BeginsVerdict limits answers b old new
 DecryptsText limits answers b old new (Err Write) = BeginsVerdict limits answers b old new
 DecryptsText limits answers b old new (Err OutOfMemory) = ⊤
 DecryptsText limits answers b old new r = GivesVerdict limits answers b old new r
 
 -- The same of a source that may leave its bytes untold: then of some bytes.
-abbrev pub Decrypts : Bounds → Answering → Option (List ℕ) → Option (List ℕ) → Option (List ℕ)
-    → Result Done Fault → Type 0
-Decrypts limits answers None old new r = (b : List ℕ) × DecryptsText limits answers b old new r
+abbrev pub Decrypts : (limits : Bounds) (answers : Answering) (from old new : Known)
+    (r : Result Done Fault) → Type 0
+Decrypts limits answers None old new r = (b : Bytes) × DecryptsText limits answers b old new r
 Decrypts limits answers (Some b) old new r = DecryptsText limits answers b old new r
 
 -- of a source that may have given b at most the header, the nonce, the pieces through number i and
 -- one byte were taken
-pub record TookThrough (limits : Bounds) (i : ℕ) (come rest : Option (List ℕ)) : Type 0 where
-  pub b : List ℕ
+pub record TookThrough (limits : Bounds) (i : ℕ) (come rest : Known) : Type 0 where
+  pub b : Bytes
   pub may : MayGive come b
   pub found : Found
   pub header : HeaderVerdict b limits.max_header (Ok found)
@@ -63,13 +64,12 @@ pub record TookThrough (limits : Bounds) (i : ℕ) (come rest : Option (List ℕ
 
 -- How much of the source was taken where decrypting ended at a piece, or at a write behind so many
 -- written bytes.
-abbrev pub Takes : Bounds → Option (List ℕ) → Option (List ℕ) → Option (List ℕ) → Option (List ℕ)
-    → Fault → Type 0
+abbrev pub Takes : (limits : Bounds) (come rest old new : Known) (fault : Fault) → Type 0
 Takes limits come rest old new (ChunkShort i) = TookThrough limits i come rest
 Takes limits come rest old new (EmptyFinal i) = TookThrough limits i come rest
 Takes limits come rest old new (BadChunk i) = TookThrough limits i come rest
 Takes limits come rest old new TooManyChunks = TookThrough limits limits.max_chunks come rest
 Takes limits come rest old new Write =
-    (written : List ℕ) × Appends old new written
+    (written : Bytes) × Appends old new written
     × TookThrough limits (length written / 65536) come rest
 Takes limits come rest old new _ = ⊤

@@ -4,12 +4,12 @@ use Rattle.age_file.specs.declared.fault.Fault.{Fault}
 use Rattle.age_file.specs.declared.fault.Fault.TheVariants.{ChunkShort, EmptyFinal, BadChunk, TooManyChunks, Read, Write}
 
 -- the count of failed reads rises by one where the answer is Read, and else stays
-abbrev pub CountsRead : {A : Type 0} → ℕ → ℕ → Result A Fault → Type 0
+abbrev pub CountsRead : {A : Type 0} (old new : ℕ) (result : Result A Fault) → Type 0
 CountsRead old new (Err Read) = new ≡ min (old + 1) (2 ^ 64 - 1)
 CountsRead old new _ = new ≡ old
 
 -- the count of failed writes rises by one where the answer is Write, and else stays
-abbrev pub CountsWrite : {A : Type 0} → ℕ → ℕ → Result A Fault → Type 0
+abbrev pub CountsWrite : {A : Type 0} (old new : ℕ) (result : Result A Fault) → Type 0
 CountsWrite old new (Err Write) = new ≡ min (old + 1) (2 ^ 64 - 1)
 CountsWrite old new _ = new ≡ old
 

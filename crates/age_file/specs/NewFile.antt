@@ -3,7 +3,7 @@ use Rattle.std.specs.Prelude.{◌≡◌, ℕ, ◌+◌, ◌-◌, ◌*◌, ◌<◌
 use Rattle.std.specs.Global.{Global}
 use Rattle.std.specs.List.{AllZip, concat}
 use Rattle.std.specs.Io.KnownBytes.{Appends}
-use Rattle.age_header.specs.Device.{GaveAtMost, WritesPart}
+use Rattle.age_header.specs.Device.{Bytes, Known, GaveAtMost, WritesPart}
 use Rattle.age_header.specs.Header.{StanzaParts, Head}
 use Rattle.age_header.specs.Mac.{header_mac}
 use Rattle.age_recipient.specs.declared.key.FileKey.{FileKey}
@@ -41,21 +41,21 @@ IsApart meant place =
     (labels : List Labels) × AllZip MayLabel meant labels × (place ≡ incompatible labels)
 
 -- the same, of which the labels of place 0 are known
-abbrev pub IsApartFrom : Labels → List Labels → Option ℕ → Type 0
+abbrev pub IsApartFrom : (first : Labels) (meant : List Labels) (place : Option ℕ) → Type 0
 IsApartFrom first meant place =
     (labels : List Labels) × AllZip MayLabel meant labels × (place ≡ incompatible (first ∷ labels))
 
 -- what recipients with these meanings may give: all their stanzas, the first refusal, or the first
 -- place that is apart
-abbrev pub Gathered : List (Result (List StanzaParts) ℕ) → List Labels
-    → Result (List StanzaParts) Fault → Type 0
+abbrev pub Gathered : (wrapped : List (Result (List StanzaParts) ℕ)) (meant : List Labels)
+    (given : Result (List StanzaParts) Fault) → Type 0
 Gathered wrapped meant given =
     (place : Option ℕ) × IsApart meant place × (given ≡ together (gathered_from 0 wrapped) place)
 
 -- the header of a new file: its stanzas, of which none is a `scrypt` stanza beside another, and its
 -- text, within the limit
 pub record IsHeading (limits : Bounds) (k : FileKey)
-    (given : Result (List StanzaParts) Fault → Type 0) (stanzas : List StanzaParts) (text : List ℕ)
+    (given : Result (List StanzaParts) Fault → Type 0) (stanzas : List StanzaParts) (text : Bytes)
     : Type 0 where
   pub gives : given (Ok stanzas)
   pub unmixed : is_mixed stanzas ≡ false
@@ -66,7 +66,7 @@ pub record IsHeading (limits : Bounds) (k : FileKey)
 pub record IsTooLarge (limits : Bounds) (k : FileKey)
     (given : Result (List StanzaParts) Fault → Type 0) : Type 0 where
   pub stanzas : List StanzaParts
-  pub text : List ℕ
+  pub text : Bytes
   pub gives : given (Ok stanzas)
   pub unmixed : is_mixed stanzas ≡ false
   pub head : Head stanzas (header_mac k.0 stanzas) text
@@ -74,8 +74,8 @@ pub record IsTooLarge (limits : Bounds) (k : FileKey)
 
 -- the first fault for which there is no header: a refusal, recipients that do not go together, no
 -- stanza at all, a `scrypt` stanza beside another, too great a length
-abbrev pub IsRefusal : Bounds → FileKey → (Result (List StanzaParts) Fault → Type 0) → Fault
-    → Type 0
+abbrev pub IsRefusal : (limits : Bounds) (k : FileKey)
+    (given : (Result (List StanzaParts) Fault → Type 0)) (fault : Fault) → Type 0
 IsRefusal limits k given (Refused i code) = given (Err (Refused i code))
 IsRefusal limits k given (IncompatibleRecipients i) = given (Err (IncompatibleRecipients i))
 IsRefusal limits k given NoRecipients = given (Ok [])
@@ -87,10 +87,10 @@ IsRefusal limits k given _ = ⊥
 -- the file that was written: that of these stanzas, this plaintext, and the file key and nonce that
 -- were handed in
 pub record NewFile (limits : Bounds) (fresh : Fresh)
-    (given : Result (List StanzaParts) Fault → Type 0) (plain : List ℕ) (gained : List ℕ)
+    (given : Result (List StanzaParts) Fault → Type 0) (plain : Bytes) (gained : Bytes)
     : Type 0 where
   pub stanzas : List StanzaParts
-  pub text : List ℕ
+  pub text : Bytes
   pub heading : IsHeading limits fresh.file_key given stanzas text
   pub spelled : gained ≡ text ++ payload fresh.file_key fresh.nonce plain
   pub file : AgeFile limits fresh.file_key stanzas plain gained
@@ -98,10 +98,10 @@ pub record NewFile (limits : Bounds) (fresh : Fresh)
 -- what was written of a plaintext of too many chunks: the header, the nonce, and the sealed chunks
 -- with an index below max_chunks - 1
 pub record CutFile (limits : Bounds) (fresh : Fresh)
-    (given : Result (List StanzaParts) Fault → Type 0) (plain : List ℕ) (gained : List ℕ)
+    (given : Result (List StanzaParts) Fault → Type 0) (plain : Bytes) (gained : Bytes)
     : Type 0 where
   pub stanzas : List StanzaParts
-  pub text : List ℕ
+  pub text : Bytes
   pub heading : IsHeading limits fresh.file_key given stanzas text
   pub too_many : limits.max_chunks < length (chunks plain)
   pub spelled : gained
@@ -112,22 +112,23 @@ pub record CutFile (limits : Bounds) (fresh : Fresh)
 
 -- a beginning of the header and payload was written
 pub record BegunFile (limits : Bounds) (fresh : Fresh)
-    (given : Result (List StanzaParts) Fault → Type 0) (plain : List ℕ) (old new : Option (List ℕ))
+    (given : Result (List StanzaParts) Fault → Type 0) (plain : Bytes) (old new : Known)
     : Type 0 where
   pub stanzas : List StanzaParts
-  pub text : List ℕ
+  pub text : Bytes
   pub heading : IsHeading limits fresh.file_key given stanzas text
   pub part : WritesPart old new (text ++ payload fresh.file_key fresh.nonce plain)
 
 -- What `encrypt` answers and writes, `given` being what the recipients give, and the source giving
 -- `plain`.
-abbrev pub EncryptsText : Bounds → Fresh → (Result (List StanzaParts) Fault → Type 0) → List ℕ
-    → Option (List ℕ) → Option (List ℕ) → Result Done Fault → Type 0
+abbrev pub EncryptsText : (limits : Bounds) (fresh : Fresh)
+    (given : (Result (List StanzaParts) Fault → Type 0)) (plain : Bytes) (old new : Known)
+    (result : Result Done Fault) → Type 0
 EncryptsText limits fresh given plain old new (Ok done) =
-    (gained : List ℕ) × NewFile limits fresh given plain gained × Appends old new gained
+    (gained : Bytes) × NewFile limits fresh given plain gained × Appends old new gained
     × (done.bytes ≡ length plain) × (done.chunks ≡ length (chunks plain))
 EncryptsText limits fresh given plain old new (Err TooManyChunks) =
-    (gained : List ℕ) × CutFile limits fresh given plain gained × Appends old new gained
+    (gained : Bytes) × CutFile limits fresh given plain gained × Appends old new gained
 EncryptsText limits fresh given plain old new (Err Read) =
     BegunFile limits fresh given plain old new
 EncryptsText limits fresh given plain old new (Err Write) =
@@ -135,17 +136,18 @@ EncryptsText limits fresh given plain old new (Err Write) =
 EncryptsText limits fresh given plain old new (Err fault) = ⊤
 
 -- The same of a source that may leave its bytes untold: then of some bytes.
-abbrev pub EncryptsGiven : Bounds → Fresh → (Result (List StanzaParts) Fault → Type 0)
-    → Option (List ℕ) → Option (List ℕ) → Option (List ℕ) → Result Done Fault → Type 0
+abbrev pub EncryptsGiven : (limits : Bounds) (fresh : Fresh)
+    (given : (Result (List StanzaParts) Fault → Type 0)) (from old new : Known)
+    (r : Result Done Fault) → Type 0
 EncryptsGiven limits fresh given None old new r =
-    (plain : List ℕ) × EncryptsText limits fresh given plain old new r
+    (plain : Bytes) × EncryptsText limits fresh given plain old new r
 EncryptsGiven limits fresh given (Some plain) old new r =
     EncryptsText limits fresh given plain old new r
 
 -- a fault with which no header was made names the first reason; what else is answered says nothing
 -- of it
-abbrev pub RefusesFirst : Bounds → FileKey → (Result (List StanzaParts) Fault → Type 0) → Fault
-    → Type 0
+abbrev pub RefusesFirst : (limits : Bounds) (k : FileKey)
+    (given : (Result (List StanzaParts) Fault → Type 0)) (fault : Fault) → Type 0
 RefusesFirst limits k given TooManyChunks = ⊤
 RefusesFirst limits k given Read = ⊤
 RefusesFirst limits k given Write = ⊤
@@ -169,8 +171,8 @@ Gathers given (Err fault) = (fault ≡ OutOfMemory)
     ⊎ ((i : ℕ) × (fault ≡ IncompatibleRecipients i) × given (Err (IncompatibleRecipients i))))
 
 -- with which faults no header is made, and why
-abbrev pub FailsHeading : Bounds → FileKey → (Result (List StanzaParts) Fault → Type 0) → Fault
-    → Type 0
+abbrev pub FailsHeading : (limits : Bounds) (k : FileKey)
+    (given : (Result (List StanzaParts) Fault → Type 0)) (fault : Fault) → Type 0
 FailsHeading limits k given fault =
     (fault ≡ OutOfMemory)
     ⊎ (((i : ℕ) × (code : ℕ) × (fault ≡ Refused i code) × IsRefusal limits k given (Refused i code))
@@ -185,20 +187,21 @@ FailsHeading limits k given fault =
 -- Of the source at most so much was taken: with n full sealed chunks written behind the header and
 -- the nonce, n + 2 chunks of text.
 pub record TookChunks (limits : Bounds) (fresh : Fresh)
-    (given : Result (List StanzaParts) Fault → Type 0) (from to old new : Option (List ℕ))
+    (given : Result (List StanzaParts) Fault → Type 0) (from to old new : Known)
     : Type 0 where
   pub stanzas : List StanzaParts
-  pub text : List ℕ
+  pub text : Bytes
   pub heading : IsHeading limits fresh.file_key given stanzas text
-  pub written : List ℕ
+  pub written : Bytes
   pub gained : Appends old new written
   pub n : ℕ
   pub whole : 65552 * n ≤ length written - (length text + 16)
   pub gave : GaveAtMost (65536 * (n + 2)) from to
 
 -- how much of the source was taken where encrypting ended at a write, or with too many chunks
-abbrev pub TakesOf : Bounds → Fresh → (Result (List StanzaParts) Fault → Type 0) → Option (List ℕ)
-    → Option (List ℕ) → Option (List ℕ) → Option (List ℕ) → Fault → Type 0
+abbrev pub TakesOf : (limits : Bounds) (fresh : Fresh)
+    (given : (Result (List StanzaParts) Fault → Type 0)) (from to old new : Known) (fault : Fault)
+    → Type 0
 TakesOf limits fresh given from to old new TooManyChunks =
     TookChunks limits fresh given from to old new
 TakesOf limits fresh given from to old new Write = TookChunks limits fresh given from to old new

@@ -1,6 +1,7 @@
 -- Opening a file for ranges of its plaintext.
 use Rattle.std.specs.Prelude.{◌≡◌, ◌⊎◌, ℕ, ◌+◌, ◌≤◌, List, length, drop, IfSome, ⊤, Option, Some, Result, Ok, Err}
 use Rattle.std.specs.Result.{result_map_both}
+use Rattle.age_header.specs.Device.{Bytes, Known}
 use Rattle.age_header.specs.declared.fault.HeaderFault.{HeaderFault}
 use Rattle.age_header.specs.Header.{HeaderParts}
 use Rattle.age_header.specs.Verdict.{Found, HeaderVerdict}
@@ -15,12 +16,12 @@ use Rattle.age_file.specs.Verdict.{Answering, of_header, of_stream, unlocked}
 -- a source with places that is read from its first byte on: its contents, the next place, and how
 -- many reads have failed
 pub record AtState : Type 0 where
-  pub told : Option (List ℕ)
+  pub told : Known
   pub at : ℕ
   pub failed : ℕ
 
 -- the place is not past the end of the known bytes
-abbrev pub IsWithin : Option (List ℕ) → ℕ → Type 0
+abbrev pub IsWithin : (told : Known) (at : ℕ) → Type 0
 IsWithin told at = IfSome told (λ bytes. at ≤ length bytes)
 
 -- a fault with which opening a file for ranges may end
@@ -31,26 +32,28 @@ IsOpenFault Write = ⊥
 IsOpenFault _ = ⊤
 
 -- the known bytes begin with this header, which is `at` bytes long
-abbrev pub HasFront : Bounds → Option (List ℕ) → ℕ → HeaderParts → Type 0
+abbrev pub HasFront : (limits : Bounds) (told : Known) (at : ℕ) (h : HeaderParts) → Type 0
 HasFront limits told at h =
-    IfSome told (λ b. (text : List ℕ) × (length text ≡ at)
+    IfSome told (λ b. (text : Bytes) × (length text ≡ at)
     × HeaderVerdict b limits.max_header
     (Ok (record { stanzas = h.stanzas; mac = h.mac; text = text })))
 
 -- the known bytes begin with no header, and this is its fault; or a read failed, or memory was
 -- refused
-abbrev pub MissesFront : Bounds → Option (List ℕ) → Fault → Type 0
+abbrev pub MissesFront : (limits : Bounds) (told : Known) (fault : Fault) → Type 0
 MissesFront limits told fault = (fault ≡ Read) ⊎ ((fault ≡ OutOfMemory) ⊎ IfSome told (λ b.
     (e : HeaderFault) × HeaderVerdict b limits.max_header (Err e) × (fault ≡ of_header e)))
 
 -- what follows a header, opened for ranges under the file key
-abbrev pub ranges_under : Bounds → List ℕ → Result FileKey Fault → Result (List ℕ) Fault
+abbrev pub ranges_under : (limits : Bounds) (rest : Bytes) (result : Result FileKey Fault)
+    → Result Bytes Fault
 ranges_under limits rest (Err fault) = Err fault
 ranges_under limits rest (Ok k) =
     result_map_both (λ text. text) of_stream (range_outcome k limits.max_chunks rest)
 
 -- the fault of b, given its header verdict
-abbrev pub IsRangeFault : Bounds → Answering → List ℕ → Result Found HeaderFault → Fault → Type 0
+abbrev pub IsRangeFault : (limits : Bounds) (answers : Answering) (b : Bytes)
+    (result : Result Found HeaderFault) (fault : Fault) → Type 0
 IsRangeFault limits answers b (Err e) fault = fault ≡ of_header e
 IsRangeFault limits answers b (Ok found) fault =
     ranges_under limits (drop (length found.text) b)
@@ -58,7 +61,8 @@ IsRangeFault limits answers b (Ok found) fault =
     ≡ Err fault
 
 -- the fault is the first of the known bytes; or a read failed, or memory was refused
-abbrev pub MissesRanges : Bounds → Answering → Option (List ℕ) → Fault → Type 0
+abbrev pub MissesRanges : (limits : Bounds) (answers : Answering) (told : Known) (fault : Fault)
+    → Type 0
 MissesRanges limits answers told fault =
     (fault ≡ Read)
     ⊎ ((fault ≡ OutOfMemory)
@@ -68,7 +72,7 @@ MissesRanges limits answers told fault =
 
 -- A reader of the ranges of b: behind b's header, under the key that was chosen. At most the
 -- header, the nonce and the last piece were given.
-pub record IsRangesOf (limits : Bounds) (answers : Answering) (b : List ℕ) (chunks : RangeState)
+pub record IsRangesOf (limits : Bounds) (answers : Answering) (b : Bytes) (chunks : RangeState)
     (given given2 : ℕ) : Type 0 where
   pub found : Found
   pub header : HeaderVerdict b limits.max_header (Ok found)

@@ -3,7 +3,7 @@
 use Rattle.std.specs.Prelude.{◌≡◌, ◌⊎◌, ℕ, true, List, ◌++◌, Option, Result, Ok, Err}
 use Rattle.std.specs.Io.KnownBytes.{Appends}
 use denote.Ref.{MutBor}
-use Rattle.age_header.specs.Device.{WritesPart}
+use Rattle.age_header.specs.Device.{Bytes, Known, WritesPart}
 use Rattle.age_header.specs.Header.{Head, HeaderParts}
 use Rattle.age_recipient.specs.declared.key.FileKey.{FileKey}
 use Rattle.age_stream.specs.declared.fault.StreamFault.{StreamFault}
@@ -25,16 +25,17 @@ pub record EncryptorState : Type 0 where
   pub limits : Bounds
 
 -- its header and then its nonce were written
-abbrev pub PutsFront : EncryptorState → Option (List ℕ) → Option (List ℕ) → Type 0
+abbrev pub PutsFront : (s : EncryptorState) (old new : Known) → Type 0
 PutsFront s old new =
-    (text : List ℕ) × Head s.header.stanzas s.header.mac text
+    (text : Bytes) × Head s.header.stanzas s.header.mac text
     × Appends old new (text ++ s.fresh.nonce)
 
 -- a write of them failed: a beginning of both was written, and one failure more was counted
-abbrev pub LosesFront : EncryptorState → Option (List ℕ) → Option (List ℕ) → ℕ → ℕ → Fault → Type 0
+abbrev pub LosesFront : (s : EncryptorState) (old new : Known) (before after : ℕ) (fault : Fault)
+    → Type 0
 LosesFront s old new before after fault =
     (fault ≡ Write)
-    × ((text : List ℕ) × Head s.header.stanzas s.header.mac text
+    × ((text : Bytes) × Head s.header.stanzas s.header.mac text
     × WritesPart old new (text ++ s.fresh.nonce))
     × CountsWrite {A = ℕ} before after (Err fault)
 
@@ -49,7 +50,8 @@ abbrev pub limits_of : {S H : Type 0} → Decryptor S H → Bounds
 limits_of d = d.limits
 
 -- no header was read, or one with a `scrypt` stanza beside another; a failed read was counted
-abbrev pub RefusesHeader : Bounds → Option (List ℕ) → Option (List ℕ) → ℕ → ℕ → Fault → Type 0
+abbrev pub RefusesHeader : (limits : Bounds) (from to : Known) (before after : ℕ) (fault : Fault)
+    → Type 0
 RefusesHeader limits from to before after fault =
     CountsRead {A = HeaderParts} before after (Err fault)
     × (Inspects limits from to (Err fault)
@@ -58,14 +60,14 @@ RefusesHeader limits from to before after fault =
     × (is_mixed header.stanzas ≡ true))))
 
 -- the nonce was read, and the opener stands before piece 0 under the key that was found
-abbrev pub StartsUnder : Bounds → Result FileKey Fault → Option (List ℕ) → Option (List ℕ)
-    → OpenerState → Type 0
+abbrev pub StartsUnder : (limits : Bounds) (found : Result FileKey Fault) (from to : Known)
+    (opener : OpenerState) → Type 0
 StartsUnder limits found from to opener =
     (k : FileKey) × (found ≡ Ok k) × Starts k limits.max_chunks from to (Ok opener)
 
 -- a key was found, and the nonce was not read
-abbrev pub MissesUnder : Bounds → Result FileKey Fault → Option (List ℕ) → Option (List ℕ) → ℕ → ℕ
-    → Fault → Type 0
+abbrev pub MissesUnder : (limits : Bounds) (found : Result FileKey Fault) (from to : Known)
+    (before after : ℕ) (fault : Fault) → Type 0
 MissesUnder limits found from to before after fault =
     (k : FileKey) × (met : StreamFault) × (found ≡ Ok k) × (fault ≡ of_stream met)
     × MissesNonce k limits.max_chunks from to before after met

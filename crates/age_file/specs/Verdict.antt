@@ -2,6 +2,7 @@
 -- before it.
 use Rattle.std.specs.Prelude.{◌≡◌, ℕ, List, length, drop, option_map, Result, Ok, Err, if◌then◌else◌}
 use Rattle.std.specs.Str.{bytes_eq}
+use Rattle.age_header.specs.Device.{Bytes}
 use Rattle.age_header.specs.declared.fault.HeaderFault.{HeaderFault}
 use Rattle.age_header.specs.declared.fault.HeaderFault.TheVariants as header
 use Rattle.age_header.specs.Header.{StanzaParts, HeaderParts}
@@ -62,7 +63,8 @@ unlocked answers h =
     else checked h (choice (answers h.stanzas))
 
 -- what follows a header, read under the file key
-abbrev pub read_under : Bounds → List ℕ → Result FileKey Fault → Reading Fault
+abbrev pub read_under : (limits : Bounds) (rest : Bytes) (result : Result FileKey Fault)
+    → Reading Fault
 read_under limits rest (Err fault) = stops fault
 read_under limits rest (Ok k) = record {
   front = (payload_reading k limits.max_chunks rest).front;
@@ -70,14 +72,15 @@ read_under limits rest (Ok k) = record {
 }
 
 -- what b comes to, given its header verdict
-abbrev pub judged : Bounds → Answering → List ℕ → Result Found HeaderFault → Reading Fault
+abbrev pub judged : (limits : Bounds) (answers : Answering) (b : Bytes)
+    (result : Result Found HeaderFault) → Reading Fault
 judged limits answers b (Err fault) = stops (of_header fault)
 judged limits answers b (Ok found) =
     read_under limits (drop (length found.text) b)
     (unlocked answers (record { stanzas = found.stanzas; mac = found.mac }))
 
 -- The verdict on b: the first fault, if there is one, and the plaintext of the chunks before it.
-pub record IsVerdict (limits : Bounds) (answers : Answering) (b : List ℕ) (verdict : Reading Fault)
+pub record IsVerdict (limits : Bounds) (answers : Answering) (b : Bytes) (verdict : Reading Fault)
     : Type 0 where
   pub header : Result Found HeaderFault
   pub header_verdict : HeaderVerdict b limits.max_header header

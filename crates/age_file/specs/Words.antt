@@ -1,4 +1,5 @@
 -- The names of the crates below that a caller's clauses and objects cite, passed on from one place.
+pub use Rattle.age_header.specs.Device.{Bytes, Known}
 pub use Rattle.age_header.specs.Header.{StanzaParts}
 pub use Rattle.age_recipient.specs.declared.key.FileKey.{FileKey}
 pub use Rattle.age_recipient.specs.Key.{IsFileKey}

@@ -1,5 +1,6 @@
 //! The bytes of a source with places, read one after another from the first on.
 ghost use Rattle.std.specs.Prelude.{◌≡◌, ◌+◌, ◌≤◌, drop, option_map};
+ghost use Rattle.age_header.specs.Device.{Known};
 ghost use Rattle.age_file.specs.Ranges.{AtState, IsWithin};
 
 use age_header::{DeviceFault, Source};
@@ -10,8 +11,9 @@ use std::marker::{Brand, Model, PhantomData};
 pub(crate) trait Origin {
     ghost use Rattle.std.specs.Prelude.{List, ℕ};
     ghost use Rattle.std.specs.declared.option.Option.{Option};
+    ghost use Rattle.age_header.specs.Device.{Known};
 
-    ghost bytes: { Option (List ℕ) };
+    ghost bytes: { Known };
 
     ghost given: { ℕ };
 }

@@ -1,6 +1,7 @@
 //! A file that is written in steps: its header, then its payload piece by piece.
 
 ghost use Rattle.std.specs.Prelude.{◌≡◌, ◌⊎◌, List, ℕ, map, IfOk, IfErr};
+ghost use Rattle.age_header.specs.Device.{Bytes};
 ghost use Rattle.age_header.specs.Mac.{header_mac};
 ghost use Rattle.age_stream.specs.Payload.{payload_key};
 ghost use Rattle.age_stream.specs.Sealing.{at_start};
@@ -36,6 +37,7 @@ impl Model for Encryptor {
 
 impl Encryptor {
     ghost use Rattle.age_file.specs.States.{LosesFront, PutsFront};
+    ghost use Rattle.age_header.specs.Device.{Bytes};
 
     /// Makes the header of a new file for these recipients.
     ///
@@ -52,7 +54,7 @@ impl Encryptor {
     ) -> Result<Encryptor, Fault>
         ensures ok { IfOk result (λ e. (e.fresh ≡ fresh.now) × (e.limits ≡ limits.now)
             × (e.header.mac ≡ header_mac fresh.now.file_key.0 e.header.stanzas)
-            × ((text : List ℕ)
+            × ((text : Bytes)
             × IsHeading limits.now fresh.now.file_key
             (Gathered (map (λ r. wraps r fresh.now.file_key) recipients.now)
             (map (λ r. the_labels r) recipients.now))

@@ -1,6 +1,7 @@
 //! Laws over the definitions alone: functions that do nothing, with the law as their contract.
 
 ghost use Rattle.std.specs.Prelude.{◌≡◌, ◌↔◌, ℕ, ◌+◌, List, [], ◌∷◌, ◌++◌, replicate, Option, Some, None, Ok};
+ghost use Rattle.age_header.specs.Device.{Bytes};
 ghost use Rattle.age_header.specs.Header.{StanzaParts};
 ghost use Rattle.age_recipient.specs.declared.key.FileKey.{FileKey};
 ghost use Rattle.age_recipient.specs.Choice.{choice};
@@ -18,19 +19,19 @@ use age_recipient::{Labels, Matched};
 /// The verdict is a plaintext exactly on the age files of this plaintext for the file key that the
 /// identities choose. All bytes have one verdict, and only one.
 pub fn ok_is_age_file()
-    ensures ok { (limits : Bounds) (answers : Answering) (b plain : List ℕ)
+    ensures ok { (limits : Bounds) (answers : Answering) (b plain : Bytes)
         → IsVerdict limits answers b (whole plain) ↔ ((stanzas : List StanzaParts) × (k : FileKey)
         × AgeFile limits k stanzas plain b × (choice (answers stanzas) ≡ Ok k)) }
-    ensures one { (limits : Bounds) (answers : Answering) (b : List ℕ) (v w : Reading Fault)
+    ensures one { (limits : Bounds) (answers : Answering) (b : Bytes) (v w : Reading Fault)
         → IsVerdict limits answers b v → IsVerdict limits answers b w → v ≡ w }
-    ensures some { (limits : Bounds) (answers : Answering) (b : List ℕ)
+    ensures some { (limits : Bounds) (answers : Answering) (b : Bytes)
         → (v : Reading Fault) × IsVerdict limits answers b v }
 {}
 
 /// An age file of the stanzas in which a pair's recipient wraps its file key is its plaintext to
 /// the pair's identity.
 pub fn pair_opens<M: Matched>(pair: &M)
-    ensures { (limits : Bounds) (k : FileKey) (stanzas : List StanzaParts) (plain b : List ℕ)
+    ensures { (limits : Bounds) (k : FileKey) (stanzas : List StanzaParts) (plain b : Bytes)
         → IsFileKey k → M.R.wraps (M.the_recipient pair.now) k ≡ Ok stanzas
         → AgeFile limits k stanzas plain b
         → IsVerdict limits (λ s. M.I.meaning (M.the_identity pair.now) s ∷ []) b (whole plain) }
@@ -53,7 +54,7 @@ pub fn own_recipients()
 /// A rewrapped file is to identities that find its file key what the file was to those that found
 /// it before: the same plaintext, or the same fault after the same plaintext.
 pub fn rewrap_keeps()
-    ensures { (limits : Bounds) (old new : Answering) (b c : List ℕ) (is : Rewrapped limits old b c)
+    ensures { (limits : Bounds) (old new : Answering) (b c : Bytes) (is : Rewrapped limits old b c)
         → choice (new is.stanzas) ≡ Ok is.key → (v : Reading Fault)
         → IsVerdict limits old b v ↔ IsVerdict limits new c v }
 {}

@@ -1,6 +1,7 @@
 //! The header of a new file.
 
 ghost use Rattle.std.specs.Prelude.{◌≡◌, ◌≤◌, ℕ, List, Some, None, map, IfOk, IfErr};
+ghost use Rattle.age_header.specs.Device.{Bytes};
 ghost use Rattle.age_header.specs.Mac.{header_mac};
 ghost use Rattle.age_recipient.specs.Labels.{MayLabel};
 ghost use Rattle.age_recipient.specs.Wrap.{WrapsAs};
@@ -27,7 +28,7 @@ pub fn header_for(
     limits: &Limits,
 ) -> Result<Header, Fault>
     ensures ok { IfOk result (λ h. (h.mac ≡ header_mac key.now.0 h.stanzas)
-        × ((text : List ℕ)
+        × ((text : Bytes)
         × IsHeading limits.now key.now (Gathered (map (λ r. wraps r key.now) recipients.now)
         (map (λ r. the_labels r) recipients.now))
         h.stanzas text)) }

@@ -2,7 +2,7 @@
 
 ghost use Rattle.std.specs.Prelude.{◌≡◌, ◌⊎◌, ◌++◌, List, ℕ, map, IfErr};
 ghost use Rattle.std.specs.Io.KnownBytes.{Keeps};
-ghost use Rattle.age_header.specs.Device.{Counts, Writes};
+ghost use Rattle.age_header.specs.Device.{Bytes, Counts, Writes};
 ghost use Rattle.age_header.specs.Header.{Head};
 ghost use Rattle.age_file.specs.Device.{CountsRead, CountsWrite, IsLate};
 ghost use Rattle.age_file.specs.NewFile.{EncryptsGiven, RefusesFirst, Gathered, TakesOf};
@@ -80,7 +80,7 @@ pub fn write_front<W: Sink>(
     nonce: &[u8; 16],
     out: &mut W,
 ) -> Result<(), DeviceFault>
-    ensures text { (text : List ℕ) × Head header.now.stanzas header.now.mac text
+    ensures text { (text : Bytes) × Head header.now.stanzas header.now.mac text
         × Writes (W.taken out.old) (W.taken out.new) result (text ++ nonce.now) }
     ensures count { Counts (W.failed out.old) (W.failed out.new) result }
 {

@@ -5,36 +5,37 @@ use Rattle.std.specs.List.{position_or_len}
 use Rattle.std.specs.Str.{bytes_eq}
 use Rattle.std.specs.declared.option.Option.{Option}
 use Rattle.std.specs.declared.option.Option.TheVariants.{None, Some}
+use Rattle.age_kdf.specs.Bytes.{Bytes}
 use Rattle.base64.specs.Rfc4648.{encode_symbols}
 
 -- the 64 characters, by their values
-unfoldable pub alphabet : List ℕ
+unfoldable pub alphabet : Bytes
 alphabet = codes "ABCDEFGHIJKLMNOPQRSTUVWXYZabcdefghijklmnopqrstuvwxyz0123456789+/"
 
 -- the sign c stands for the six bits v
-abbrev pub StandsFor : ℕ → ℕ → Type 0
+abbrev pub StandsFor : (c v : ℕ) → Type 0
 StandsFor c v = (v < 64) × (c ≡ slice_index alphabet v)
 
 -- one byte as two characters: its eight bits, then four zero bits
-abbrev pub IsOne : ℕ → ℕ → ℕ → Type 0
+abbrev pub IsOne : (a p q : ℕ) → Type 0
 IsOne a p q =
     (u : ℕ) × (v : ℕ) × StandsFor p u × StandsFor q v × (a < 256) × (a * 16 ≡ u * 64 + v)
 
 -- two bytes as three characters: their sixteen bits, then two zero bits
-abbrev pub IsTwo : ℕ → ℕ → ℕ → ℕ → ℕ → Type 0
+abbrev pub IsTwo : (a b p q r : ℕ) → Type 0
 IsTwo a b p q r =
     (u : ℕ) × (v : ℕ) × (w : ℕ) × StandsFor p u × StandsFor q v × StandsFor r w
     × (a < 256) × (b < 256) × ((a * 256 + b) * 4 ≡ (u * 64 + v) * 64 + w)
 
 -- three bytes as four characters, the same twenty-four bits
-abbrev pub IsThree : ℕ → ℕ → ℕ → ℕ → ℕ → ℕ → ℕ → Type 0
+abbrev pub IsThree : (a b c p q r s : ℕ) → Type 0
 IsThree a b c p q r s =
     (u : ℕ) × (v : ℕ) × (w : ℕ) × (x : ℕ) × StandsFor p u × StandsFor q v × StandsFor r w
     × StandsFor s x × (a < 256) × (b < 256) × (c < 256)
     × ((a * 256 + b) * 256 + c ≡ ((u * 64 + v) * 64 + w) * 64 + x)
 
 -- the characters are the base64 of the bytes
-unfoldable pub B64 : List ℕ → List ℕ → Type 0
+unfoldable pub B64 : (bytes characters : Bytes) → Type 0
 B64 [] [] = Unit {0}
 B64 (a ∷ []) (p ∷ q ∷ []) = IsOne a p q
 B64 (a ∷ b ∷ []) (p ∷ q ∷ r ∷ []) = IsTwo a b p q r
@@ -42,7 +43,7 @@ B64 (a ∷ b ∷ c ∷ bytes) (p ∷ q ∷ r ∷ s ∷ signs) = IsThree a b c p 
 B64 _ _ = ⊥
 
 -- the base64 of bytes, as a function
-unfoldable pub base64_of : List ℕ → List ℕ
+unfoldable pub base64_of : Bytes → Bytes
 base64_of bytes = encode_symbols alphabet bytes
 
 -- the value of a sign
@@ -50,7 +51,7 @@ unfoldable pub value_of : ℕ → ℕ
 value_of c = position_or_len (λ b. b == c) alphabet
 
 -- the only bytes whose base64 these characters may be
-unfoldable pub candidate : List ℕ → List ℕ
+unfoldable pub candidate : Bytes → Bytes
 candidate (p ∷ q ∷ []) = (value_of p * 4 + value_of q / 16) % 256 ∷ []
 candidate (p ∷ q ∷ r ∷ []) =
     (value_of p * 4 + value_of q / 16) % 256 ∷ (value_of q * 16 + value_of r / 4) % 256 ∷ []
@@ -61,6 +62,6 @@ candidate _ = []
 
 -- the bytes whose base64 these characters are, where there are such bytes: the only candidate is
 -- tried
-unfoldable pub decoded : List ℕ → Option (List ℕ)
+unfoldable pub decoded : Bytes → Option Bytes
 decoded signs =
     if bytes_eq (base64_of (candidate signs)) signs then Some (candidate signs) else None

@@ -4,38 +4,43 @@ use Rattle.std.specs.declared.option.Option.{Option}
 use Rattle.std.specs.declared.option.Option.TheVariants.{None, Some}
 use Rattle.std.specs.declared.result.Result.{Result}
 use Rattle.std.specs.Io.KnownBytes.{Consumes, Appends, Keeps, IsAtEnd}
+pub use Rattle.age_kdf.specs.Bytes.{Bytes}
+
+-- the bytes that a source still gives, or that a sink has taken, where the device tells them; None
+-- where it does not
+abbrev pub Known : Type 0
+Known = Option Bytes
 
 -- an Err raises the count by one, or leaves it at the largest u64; an Ok leaves it
-abbrev pub Counts : {A E : Type 0} → ℕ → ℕ → Result A E → Type 0
+abbrev pub Counts : {A E : Type 0} (old new : ℕ) (r : Result A E) → Type 0
 Counts old new r = MatchResult r (λ _. new ≡ old) (λ _. new ≡ min (old + 1) (2 ^ 64 - 1))
 
 -- Ok(n) gives the next n bytes, and none of them with room only at the end; an Err says nothing of
 -- the bytes
-abbrev pub Gives : {E : Type 0} → Option (List ℕ) → Option (List ℕ) → Result ℕ E → List ℕ → Type 0
+abbrev pub Gives : {E : Type 0} (old new : Known) (r : Result ℕ E) (buf : Bytes) → Type 0
 Gives old new r buf =
     MatchResult r (λ n. Consumes old new (take n buf) × (n ≡ 0 → 0 < length buf → IsAtEnd new))
     (λ _. ⊤)
 
 -- Ok(n) takes the first n bytes, at least one of a nonempty piece; an Err takes nothing
-abbrev pub Takes : {E : Type 0} → Option (List ℕ) → Option (List ℕ) → Result ℕ E → List ℕ → Type 0
+abbrev pub Takes : {E : Type 0} (old new : Known) (r : Result ℕ E) (piece : Bytes) → Type 0
 Takes old new r piece =
     MatchResult r (λ n. Appends old new (take n piece) × (0 < length piece → 0 < n))
     (λ _. Keeps old new)
 
 -- a beginning of the text was written
-abbrev pub WritesPart : Option (List ℕ) → Option (List ℕ) → List ℕ → Type 0
+abbrev pub WritesPart : (old new : Known) (text : Bytes) → Type 0
 WritesPart old new text = (n : ℕ) × Appends old new (take n text)
 
 -- on Ok the text was written, on an Err a beginning of it
-abbrev pub Writes : {A E : Type 0} → Option (List ℕ) → Option (List ℕ) → Result A E → List ℕ
-    → Type 0
+abbrev pub Writes : {A E : Type 0} (old new : Known) (r : Result A E) (text : Bytes) → Type 0
 Writes old new r text = MatchResult r (λ _. Appends old new text) (λ _. WritesPart old new text)
 
 -- A source may still give these bytes: just those that it tells, or any where it tells none.
-abbrev pub MayGive : Option (List ℕ) → List ℕ → Type 0
+abbrev pub MayGive : (left : Known) (bytes : Bytes) → Type 0
 MayGive None bytes = ⊤
 MayGive (Some told) bytes = told ≡ bytes
 
 -- the source gave at most n bytes
-abbrev pub GaveAtMost : ℕ → Option (List ℕ) → Option (List ℕ) → Type 0
-GaveAtMost n old new = (given : List ℕ) × Consumes old new given × (length given ≤ n)
+abbrev pub GaveAtMost : (n : ℕ) (old new : Known) → Type 0
+GaveAtMost n old new = (given : Bytes) × Consumes old new given × (length given ≤ n)

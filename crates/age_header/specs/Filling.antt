@@ -2,11 +2,13 @@
 use Rattle.std.specs.Prelude.{ℕ, List, ◌++◌, ◌≡◌, ◌≤◌, ◌<◌, ◌+◌, length, take}
 use Rattle.std.specs.declared.option.Option.{Option}
 use Rattle.std.specs.Io.KnownBytes.{Consumes, IsAtEnd}
+use Rattle.age_header.specs.Device.{Known}
+use Rattle.age_kdf.specs.Bytes.{Bytes}
 
 -- the source gave n bytes, which follow the first `at` in the buffer; none only at its end or where
 -- there was no room
-pub record Got (at n : ℕ) (buf after : List ℕ) (old new : Option (List ℕ)) : Type 0 where
-  pub piece : List ℕ
+pub record Got (at n : ℕ) (buf after : Bytes) (old new : Known) : Type 0 where
+  pub piece : Bytes
   pub len : length piece ≡ n
   pub room : at + n ≤ length buf
   pub is : take (at + n) after ≡ take at buf ++ piece
@@ -14,8 +16,8 @@ pub record Got (at n : ℕ) (buf after : List ℕ) (old new : Option (List ℕ))
   pub none : n ≡ 0 → at < length buf → IsAtEnd new
 
 -- the source gave the bytes that follow the first `start` in the buffer, n bytes with these
-pub record Filled (start n : ℕ) (buf after : List ℕ) (old new : Option (List ℕ)) : Type 0 where
-  pub piece : List ℕ
+pub record Filled (start n : ℕ) (buf after : Bytes) (old new : Known) : Type 0 where
+  pub piece : Bytes
   pub len : start + length piece ≡ n
   pub room : n ≤ length buf
   pub is : take n after ≡ take start buf ++ piece

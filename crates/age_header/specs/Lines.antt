@@ -2,19 +2,20 @@
 use Rattle.std.specs.Prelude.{◌≡◌, ℕ, ◌<◌, ⊤, List, ◌++◌, [], ◌∷◌}
 use Rattle.std.specs.declared.option.Option.{Option}
 use Rattle.std.specs.Io.KnownBytes.{IsAtEnd}
+use Rattle.age_kdf.specs.Bytes.{Bytes}
 use Rattle.age_header.specs.declared.fault.HeaderFault.{HeaderFault}
 use Rattle.age_header.specs.declared.fault.HeaderFault.TheVariants.{Read, Memory}
 use Rattle.age_header.specs.declared.lines.LineEnd.{LineEnd}
 use Rattle.age_header.specs.declared.lines.LineEnd.TheVariants.{Lf, Input, Room}
 
 -- the bytes that a line took
-abbrev pub taken : List ℕ → LineEnd → List ℕ
+abbrev pub taken : Bytes → LineEnd → Bytes
 taken text Lf = text ++ 10 ∷ []
 taken text Input = text
 taken text Room = text
 
 -- how a line of at most room bytes ended, and what the source still has
-abbrev pub IsEnd : LineEnd → ℕ → ℕ → Option (List ℕ) → Type 0
+abbrev pub IsEnd : (end : LineEnd) (len room : ℕ) (left : Option Bytes) → Type 0
 IsEnd Lf len room left = len < room
 IsEnd Input len room left = (len < room) × IsAtEnd left
 IsEnd Room len room left = len ≡ room

@@ -1,5 +1,6 @@
 -- The MAC of a header (C2SP age.md, "Header MAC").
 use Rattle.std.specs.Prelude.{ℕ, List, [], codes}
+use Rattle.age_kdf.specs.Bytes.{Bytes}
 use Rattle.age_kdf.specs.Hmac.{hmac}
 use Rattle.age_kdf.specs.Hkdf.{hkdf}
 use Rattle.age_header.specs.Header.{StanzaParts}
@@ -7,5 +8,5 @@ use Rattle.age_header.specs.Text.{signed}
 
 -- HMAC-SHA-256 of the header through `---`, under a key of 32 bytes that HKDF-SHA-256 makes of the
 -- file key
-unfoldable pub header_mac : List ℕ → List StanzaParts → List ℕ
+unfoldable pub header_mac : Bytes → List StanzaParts → Bytes
 header_mac key stanzas = hmac (hkdf key [] (codes "header") 32) (signed stanzas)

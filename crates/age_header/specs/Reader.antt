@@ -5,35 +5,37 @@ use Rattle.std.specs.declared.option.Option.TheVariants.{None, Some}
 use Rattle.std.specs.declared.result.Result.{Result}
 use Rattle.std.specs.declared.result.Result.TheVariants.{Ok, Err}
 use Rattle.std.specs.Io.KnownBytes.{Consumes}
+use Rattle.age_header.specs.Device.{Known}
+use Rattle.age_kdf.specs.Bytes.{Bytes}
 use Rattle.age_header.specs.declared.fault.HeaderFault.{HeaderFault}
 use Rattle.age_header.specs.declared.fault.HeaderFault.TheVariants.{Read, Memory}
 use Rattle.age_header.specs.Header.{HeaderParts}
 use Rattle.age_header.specs.Verdict.{HeaderVerdict, IsFault}
 
 -- b is refused with its fault, or for want of memory or a failed read, which say nothing of b
-abbrev pub Refuses : List ℕ → ℕ → HeaderFault → Type 0
+abbrev pub Refuses : (b : Bytes) (max : ℕ) (fault : HeaderFault) → Type 0
 Refuses b max Read = ⊤
 Refuses b max Memory = ⊤
 Refuses b max fault = IsFault b max fault
 
 -- What a reader under a limit of max bytes answers of b: its verdict. On a header just the header's
 -- bytes are taken.
-abbrev pub AnswersOf : List ℕ → Option (List ℕ) → Option (List ℕ) → ℕ
-    → Result HeaderParts HeaderFault → Type 0
+abbrev pub AnswersOf : (b : Bytes) (old new : Known) (max : ℕ)
+    (result : Result HeaderParts HeaderFault) → Type 0
 AnswersOf b old new max (Ok h) =
-    (text : List ℕ)
+    (text : Bytes)
     × HeaderVerdict b max (Ok (record { stanzas = h.stanzas; mac = h.mac; text = text }))
     × Consumes old new text
 AnswersOf b old new max (Err fault) = Refuses b max fault
 
 -- What it answers of a source: of the bytes that were to come, or of some bytes where the source
 -- doesn't tell them.
-abbrev pub Answers : Option (List ℕ) → Option (List ℕ) → ℕ → Result HeaderParts HeaderFault → Type 0
-Answers None new max r = (b : List ℕ) × AnswersOf b None new max r
+abbrev pub Answers : (old new : Known) (max : ℕ) (r : Result HeaderParts HeaderFault) → Type 0
+Answers None new max r = (b : Bytes) × AnswersOf b None new max r
 Answers (Some b) new max r = AnswersOf b (Some b) new max r
 
 -- the count of failures rises by one where the answer is Read, and else stays
-abbrev pub CountsRead : {A : Type 0} → ℕ → ℕ → Result A HeaderFault → Type 0
+abbrev pub CountsRead : {A : Type 0} (old new : ℕ) (result : Result A HeaderFault) → Type 0
 CountsRead old new (Err Read) = new ≡ min (old + 1) (2 ^ 64 - 1)
 CountsRead old new _ = new ≡ old
 

@@ -1,5 +1,6 @@
 -- The lines of a header between the version line and the end line, one after the other.
 use Rattle.std.specs.Prelude.{◌≡◌, ℕ, ◌<◌, List, [], ◌∷◌, ◌++◌, length}
+use Rattle.age_kdf.specs.Bytes.{Bytes}
 use Rattle.age_header.specs.Base64.{B64}
 use Rattle.age_header.specs.Header.{StanzaParts, AreArguments, IsFullLine, argument_line, line}
 
@@ -7,21 +8,21 @@ use Rattle.age_header.specs.Header.{StanzaParts, AreArguments, IsFullLine, argum
 -- bytes so far
 pub data State : Type 0 where
   between : List StanzaParts → State
-  within : List StanzaParts → List (List ℕ) → List ℕ → State
+  within : List StanzaParts → List Bytes → Bytes → State
 
 -- how a line l leads from one state to the next
-abbrev pub Step : State → List ℕ → State → Type 0
+abbrev pub Step : (s : State) (l : Bytes) (t : State) → Type 0
 Step (between ss) l (between ts) = ⊥
 Step (between ss) l (within ts args body) =
     (ts ≡ ss) × (body ≡ []) × AreArguments args × (line l ≡ argument_line args)
 Step (within ss args body) l (within ts args' body') =
-    (more : List ℕ) × (ts ≡ ss) × (args' ≡ args) × IsFullLine l × B64 more l
+    (more : Bytes) × (ts ≡ ss) × (args' ≡ args) × IsFullLine l × B64 more l
     × (body' ≡ body ++ more)
 Step (within ss args body) l (between ts) =
-    (more : List ℕ) × (length l < 64) × B64 more l
+    (more : Bytes) × (length l < 64) × B64 more l
     × (ts ≡ ss ++ record { args = args; body = body ++ more } ∷ [])
 
 -- how lines lead from one state to another
-abbrev pub Leads : State → List (List ℕ) → State → Type 0
+abbrev pub Leads : (s : State) (lines : List Bytes) (t : State) → Type 0
 Leads s [] t = s ≡ t
 Leads s (l ∷ ls) t = (m : State) × Step s l m × Leads m ls t

@@ -1,6 +1,7 @@
 -- The text that a writer writes, part by part.
 use Rattle.std.specs.Prelude.{◌≡◌, ◌≢◌, ℕ, zero, suc, ◌/◌, false, List, [], ◌∷◌, ◌++◌, length, take, drop, codes, flat_map}
 use Rattle.std.specs.List.{AllByRecursion}
+use Rattle.age_kdf.specs.Bytes.{Bytes}
 use Rattle.base64.specs.GeneralPurpose.{IsBytes, IsStrict, engine_symbols, engine_config, config_padding}
 use Rattle.base64.specs.declared.engine.general_purpose.GeneralPurpose.{GeneralPurpose}
 use Rattle.age_header.specs.Base64.{alphabet, base64_of}
@@ -13,24 +14,24 @@ pub record IsPlain (e : GeneralPurpose) : Type 0 where
   pub signs : engine_symbols e ≡ alphabet
 
 -- n full lines, and a last line
-unfoldable pub body_lines : ℕ → List ℕ → List ℕ
+unfoldable pub body_lines : ℕ → Bytes → Bytes
 body_lines zero body = line (base64_of body)
 body_lines (suc n) body = line (base64_of (take 48 body)) ++ body_lines n (drop 48 body)
 
 -- a line for each 48 bytes, then the last
-unfoldable pub body_text : List ℕ → List ℕ
+unfoldable pub body_text : Bytes → Bytes
 body_text body = body_lines (length body / 48) body
 
 -- an argument line, and the body
-unfoldable pub stanza_text : StanzaParts → List ℕ
+unfoldable pub stanza_text : StanzaParts → Bytes
 stanza_text s = argument_line s.args ++ body_text s.body
 
 -- the header through the three bytes `---`
-unfoldable pub signed : List StanzaParts → List ℕ
+unfoldable pub signed : List StanzaParts → Bytes
 signed ss = version_line ++ flat_map stanza_text ss ++ codes "---"
 
 -- what follows them
-unfoldable pub mac_end : List ℕ → List ℕ
+unfoldable pub mac_end : Bytes → Bytes
 mac_end mac = 32 ∷ (base64_of mac ++ 10 ∷ [])
 
 -- a stanza that has a text
@@ -38,7 +39,7 @@ abbrev pub IsWhole : StanzaParts → Type 0
 IsWhole s = AreArguments s.args × IsBytes s.body
 
 -- stanzas and a MAC that have a text
-pub record IsHeaderValue (stanzas : List StanzaParts) (mac : List ℕ) : Type 0 where
+pub record IsHeaderValue (stanzas : List StanzaParts) (mac : Bytes) : Type 0 where
   pub some : stanzas ≢ []
   pub each : AllByRecursion IsWhole stanzas
   pub mac_len : length mac ≡ 32

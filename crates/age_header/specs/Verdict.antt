@@ -4,88 +4,89 @@ use Rattle.std.specs.Io.{StartsWith}
 use Rattle.std.specs.List.{concat, AllByRecursion}
 use Rattle.std.specs.declared.result.Result.{Result}
 use Rattle.std.specs.declared.result.Result.TheVariants.{Ok, Err}
+use Rattle.age_kdf.specs.Bytes.{Bytes}
 use Rattle.age_header.specs.declared.fault.HeaderFault.{HeaderFault}
 use Rattle.age_header.specs.declared.fault.HeaderFault.TheVariants.{NotAge, BadLine, Truncated, TooLarge, Read, Memory}
 use Rattle.age_header.specs.Base64.{B64}
 use Rattle.age_header.specs.Header.{StanzaParts, Head, AreStanzas, AreArguments, IsFullLine, argument_line, line, version_line}
 
 -- an unfinished stanza: an argument line, and full lines of base64
-pub record IsOpenStanza (text : List ℕ) : Type 0 where
-  pub args : List (List ℕ)
-  pub full : List (List ℕ)
-  pub bytes : List ℕ
+pub record IsOpenStanza (text : Bytes) : Type 0 where
+  pub args : List Bytes
+  pub full : List Bytes
+  pub bytes : Bytes
   pub arguments : AreArguments args
   pub cut : AllByRecursion IsFullLine full
   pub body : B64 bytes (concat full)
   pub spelled : text ≡ argument_line args ++ flat_map line full
 
 -- the version line, whole stanzas, then nothing or an unfinished stanza
-pub record IsFront (text : List ℕ) : Type 0 where
+pub record IsFront (text : Bytes) : Type 0 where
   pub stanzas : List StanzaParts
-  pub whole : List ℕ
-  pub rest : List ℕ
+  pub whole : Bytes
+  pub rest : Bytes
   pub stanza_text : AreStanzas stanzas whole
   pub rest_text : (rest ≡ []) ⊎ IsOpenStanza rest
   pub spelled : text ≡ version_line ++ whole ++ rest
 
 -- whole lines from which a header can still come, or nothing yet
-abbrev pub IsViable : List ℕ → Type 0
+abbrev pub IsViable : Bytes → Type 0
 IsViable text = (text ≡ []) ⊎ IsFront text
 
 -- some stanzas and MAC have this text
-abbrev pub IsHeader : List ℕ → Type 0
-IsHeader text = (stanzas : List StanzaParts) × (mac : List ℕ) × Head stanzas mac text
+abbrev pub IsHeader : Bytes → Type 0
+IsHeader text = (stanzas : List StanzaParts) × (mac : Bytes) × Head stanzas mac text
 
 -- a line's text has no LF
-abbrev pub IsLineText : List ℕ → Type 0
+abbrev pub IsLineText : Bytes → Type 0
 IsLineText text = AllByRecursion (λ c. c ≢ 10) text
 
 -- the bytes of whole lines
-abbrev pub lines_text : List (List ℕ) → List ℕ
+abbrev pub lines_text : List Bytes → Bytes
 lines_text ls = flat_map line ls
 
 -- these are the first whole lines of b
-pub record AreLines (ls : List (List ℕ)) (b : List ℕ) : Type 0 where
-  pub rest : List ℕ
+pub record AreLines (ls : List Bytes) (b : Bytes) : Type 0 where
+  pub rest : Bytes
   pub each : AllByRecursion IsLineText ls
   pub front : b ≡ lines_text ls ++ rest
 
 -- The least number of first lines of b that are a header or not viable: fewer lines are viable and
 -- no header.
-pub record Decides (ls : List (List ℕ)) (b : List ℕ) : Type 0 where
+pub record Decides (ls : List Bytes) (b : Bytes) : Type 0 where
   pub lines : AreLines ls b
   pub decided : IsHeader (lines_text ls) ⊎ (IsViable (lines_text ls) → ⊥)
-  pub first : (ks : List (List ℕ)) → AreLines ks b → length ks < length ls
+  pub first : (ks : List Bytes) → AreLines ks b → length ks < length ls
       → IsViable (lines_text ks) × (IsHeader (lines_text ks) → ⊥)
 
 -- no number of lines decides
-abbrev pub IsUndecided : List ℕ → Type 0
-IsUndecided b = (ls : List (List ℕ)) → Decides ls b → ⊥
+abbrev pub IsUndecided : Bytes → Type 0
+IsUndecided b = (ls : List Bytes) → Decides ls b → ⊥
 
 -- the first 22 bytes, or all where there are fewer, begin the version line
-abbrev pub BeginsAsAge : List ℕ → Type 0
+abbrev pub BeginsAsAge : Bytes → Type 0
 BeginsAsAge b = StartsWith version_line (take 22 b)
 
 -- a header that stands in a text: its stanzas, its MAC, and its own bytes
 pub record Found : Type 0 where
   pub stanzas : List StanzaParts
-  pub mac : List ℕ
-  pub text : List ℕ
+  pub mac : Bytes
+  pub text : Bytes
 
 -- the first max bytes of b are decided by the lines of this header
-pub record Finds (b : List ℕ) (max : ℕ) (found : Found) : Type 0 where
-  pub lines : List (List ℕ)
+pub record Finds (b : Bytes) (max : ℕ) (found : Found) : Type 0 where
+  pub lines : List Bytes
   pub begun : BeginsAsAge (take max b)
   pub decides : Decides lines (take max b)
   pub is : found.text ≡ lines_text lines
   pub head : Head found.stanzas found.mac found.text
 
 -- the fault of b under a limit of max bytes
-abbrev pub IsFault : List ℕ → ℕ → HeaderFault → Type 0
+abbrev pub IsFault : (b : Bytes) (max : ℕ) (fault : HeaderFault) → Type 0
 IsFault b max NotAge = BeginsAsAge (take max b) → ⊥
 IsFault b max (BadLine n) =
     BeginsAsAge (take max b)
-    × ((ls : List (List ℕ)) × (length ls ≡ n) × Decides ls (take max b)
+    × ((ls : List Bytes) × (length ls ≡ n) × Decides ls (take max b)
     × (IsHeader (lines_text ls) → ⊥))
 IsFault b max Truncated = BeginsAsAge (take max b) × IsUndecided (take max b) × (length b < max)
 IsFault b max TooLarge = BeginsAsAge (take max b) × IsUndecided (take max b) × (max ≤ length b)
@@ -93,13 +94,13 @@ IsFault b max Read = ⊥
 IsFault b max Memory = ⊥
 
 -- the header verdict: what b is under a limit of max bytes
-abbrev pub HeaderVerdict : List ℕ → ℕ → Result Found HeaderFault → Type 0
+abbrev pub HeaderVerdict : (b : Bytes) (max : ℕ) (result : Result Found HeaderFault) → Type 0
 HeaderVerdict b max (Ok found) = Finds b max found
 HeaderVerdict b max (Err fault) = IsFault b max fault
 
 -- b begins with this header, which is within the limit
-pub record BeginsWith (b : List ℕ) (max : ℕ) (found : Found) : Type 0 where
-  pub rest : List ℕ
+pub record BeginsWith (b : Bytes) (max : ℕ) (found : Found) : Type 0 where
+  pub rest : Bytes
   pub head : Head found.stanzas found.mac found.text
   pub front : b ≡ found.text ++ rest
   pub fits : length found.text ≤ max

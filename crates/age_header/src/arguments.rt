@@ -3,6 +3,7 @@
 ghost use Rattle.std.specs.Prelude.{◌≡◌, ◌≢◌, ◌≤◌, ◌++◌, ℕ, List, map, length, take, drop, IfOk, MatchOption};
 ghost use Rattle.std.specs.List.{AllByRecursion};
 ghost use Rattle.std.specs.String.{string_bytes};
+ghost use Rattle.age_kdf.specs.Bytes.{Bytes};
 ghost use Rattle.age_header.specs.Header.{IsVisible};
 ghost use Rattle.age_header.specs.Arguments.{NoVisible};
 
@@ -17,9 +18,10 @@ pub(crate) struct Arguments {
 
 impl Model for Arguments {
     ghost use Rattle.std.specs.Prelude.{List, ℕ, map};
+    ghost use Rattle.age_kdf.specs.Bytes.{Bytes};
     ghost use Rattle.std.specs.String.{string_bytes};
 
-    ghost Value = { List (List ℕ) };
+    ghost Value = { List Bytes };
 
     ghost view = { λ a. map string_bytes a.texts.items };
 }
@@ -27,6 +29,7 @@ impl Model for Arguments {
 impl Arguments {
     ghost use Rattle.std.specs.Prelude.{List, ℕ, IfSome, IfNone, ◌≡◌};
     ghost use Rattle.age_header.specs.Header.{AreArguments, argument_line, line};
+    ghost use Rattle.age_header.specs.Device.{Bytes};
 
     /// These texts, copied.
     pub(crate) fn copied(alloc: Global, texts: &[&str]) -> Result<Arguments, AllocError>
@@ -45,7 +48,7 @@ impl Arguments {
         ensures some { IfOk result
             (λ o. IfSome o (λ args. AreArguments args × (line text.now ≡ argument_line args))) }
         ensures none { IfOk result (λ o. IfNone o
-            ((args : List (List ℕ)) → AreArguments args → line text.now ≡ argument_line args → ⊥)) }
+            ((args : List Bytes) → AreArguments args → line text.now ≡ argument_line args → ⊥)) }
     {
         let Some(mut rest) = behind(text, b"->") else {
             return Ok(None);
@@ -80,7 +83,7 @@ impl Arguments {
 
 /// What follows this front, where the text begins with it.
 pub(crate) fn behind<'a>(text: &'a [u8], front: &[u8]) -> Option<&'a [u8]>
-    ensures { MatchOption result ((x : List ℕ) → text.now ≢ front.now ++ x)
+    ensures { MatchOption result ((x : Bytes) → text.now ≢ front.now ++ x)
         (λ x. text.now ≡ front.now ++ x.now) }
 {
     text.strip_prefix(front)

@@ -4,7 +4,7 @@
 ghost use Rattle.std.specs.Prelude.{◌≡◌, ◌<◌, ◌≤◌, ◌+◌, ◌-◌, ◌^◌, ℕ, List, Some, length, min, vec_capacity, vec_len, IfOk, OnErr};
 ghost use Rattle.std.specs.declared.option.Option.{Option};
 ghost use Rattle.std.specs.Io.{ReadsAtMost};
-ghost use Rattle.age_header.specs.Device.{Counts, Gives, Takes, Writes};
+ghost use Rattle.age_header.specs.Device.{Known, Counts, Gives, Takes, Writes};
 ghost use Rattle.age_header.specs.MemSink.{spare_of};
 
 use std::io::{Read, Write};
@@ -19,7 +19,7 @@ pub trait Source {
     ghost failed: { Self → ℕ };
 
     // The bytes that are still to come, where the source tells them.
-    ghost to_come: { Self → Option (List ℕ) };
+    ghost to_come: { Self → Known };
 
     /// Reads the next bytes into the front of `buf`, and gives their number; 0 in a nonempty `buf`
     /// only at the end of the input. A short read is not the end. An error says nothing of the
@@ -40,7 +40,7 @@ pub trait Sink {
     ghost failed: { Self → ℕ };
 
     // The bytes that were taken, where the sink tells them.
-    ghost taken: { Self → Option (List ℕ) };
+    ghost taken: { Self → Known };
 
     /// Takes the front of `piece`, and gives the number of bytes taken, at least 1 of a nonempty
     /// piece. An error takes nothing.

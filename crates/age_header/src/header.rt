@@ -1,4 +1,5 @@
 ghost use Rattle.std.specs.Prelude.{◌≡◌, ◌≢◌, ◌-◌, ◌^◌, [], ℕ, List, length, min, IfSome, IfNone};
+ghost use Rattle.age_kdf.specs.Bytes.{Bytes};
 
 use crate::base64_no_pad;
 use crate::size::stanza_len;
@@ -27,6 +28,7 @@ impl Header {
     ghost use Rattle.age_header.specs.Base64.{B64};
     ghost use Rattle.age_header.specs.Header.{Head};
     ghost use Rattle.age_header.specs.Text.{IsHeaderValue};
+    ghost use Rattle.age_header.specs.Device.{Bytes};
 
     /// A header of these stanzas and this MAC; None where there is no stanza.
     pub fn new(stanzas: Vec<Stanza>, mac: [u8; 32]) -> Option<Header>
@@ -73,7 +75,7 @@ impl Header {
 
     /// The length in bytes of the header's text, or the largest `u64` where it is longer.
     pub fn text_len(&self) -> u64
-        ensures { (h : List ℕ) × Head self.now.stanzas self.now.mac h
+        ensures { (h : Bytes) × Head self.now.stanzas self.now.mac h
             × (result ≡ min (length h) (2 ^ 64 - 1)) }
     {
         let mut len = 70u64;

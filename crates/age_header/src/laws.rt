@@ -3,6 +3,7 @@
 
 ghost use Rattle.std.specs.Prelude.{◌≡◌, ◌↔◌, ◌++◌, ◌-◌, [], ℕ, List, Ok, Some, length, take};
 ghost use Rattle.std.specs.declared.result.Result.{Result};
+ghost use Rattle.age_kdf.specs.Bytes.{Bytes};
 ghost use Rattle.age_header.specs.declared.fault.HeaderFault.{HeaderFault};
 ghost use Rattle.base64.specs.GeneralPurpose.{IsBytes};
 ghost use Rattle.age_header.specs.Base64.{B64, decoded, base64_of};
@@ -13,33 +14,33 @@ ghost use Rattle.age_header.specs.Verdict.{Found, HeaderVerdict, BeginsWith};
 /// Characters are decoded to just the bytes whose base64 they are, and what bytes are encoded to is
 /// their base64.
 pub fn one_base64()
-    ensures decoded { (signs bytes : List ℕ) → (decoded signs ≡ Some bytes) ↔ B64 bytes signs }
-    ensures encoded { (bytes : List ℕ) → IsBytes bytes → B64 bytes (base64_of bytes) }
+    ensures decoded { (signs bytes : Bytes) → (decoded signs ≡ Some bytes) ↔ B64 bytes signs }
+    ensures encoded { (bytes : Bytes) → IsBytes bytes → B64 bytes (base64_of bytes) }
 {}
 
 /// A header's text has one reading, stanzas and a MAC have one text, and no header's text begins
 /// another one.
 pub fn one_reading()
-    ensures reading { (ss ts : List StanzaParts) (m n h : List ℕ) → Head ss m h → Head ts n h
+    ensures reading { (ss ts : List StanzaParts) (m n h : Bytes) → Head ss m h → Head ts n h
         → (ss ≡ ts) × (m ≡ n) }
-    ensures text { (ss : List StanzaParts) (m h k : List ℕ) → Head ss m h → Head ss m k → h ≡ k }
-    ensures front { (ss ts : List StanzaParts) (m n h x : List ℕ) → Head ss m h → Head ts n (h ++ x)
+    ensures text { (ss : List StanzaParts) (m h k : Bytes) → Head ss m h → Head ss m k → h ≡ k }
+    ensures front { (ss ts : List StanzaParts) (m n h x : Bytes) → Head ss m h → Head ts n (h ++ x)
         → x ≡ [] }
 {}
 
 /// Bytes have one header verdict under a limit, and it is a header exactly where they begin with
 /// that header and the limit holds it.
 pub fn one_verdict()
-    ensures some { (b : List ℕ) (max : ℕ) → (r : Result Found HeaderFault) × HeaderVerdict b max r }
-    ensures one { (b : List ℕ) (max : ℕ) (r q : Result Found HeaderFault) → HeaderVerdict b max r
+    ensures some { (b : Bytes) (max : ℕ) → (r : Result Found HeaderFault) × HeaderVerdict b max r }
+    ensures one { (b : Bytes) (max : ℕ) (r q : Result Found HeaderFault) → HeaderVerdict b max r
         → HeaderVerdict b max q → r ≡ q }
-    ensures header { (b : List ℕ) (max : ℕ) (found : Found)
+    ensures header { (b : Bytes) (max : ℕ) (found : Found)
         → HeaderVerdict b max (Ok found) ↔ BeginsWith b max found }
 {}
 
 /// What a header's MAC is taken over is its text without the last 45 bytes: the space, the MAC's 43
 /// characters and the LF.
 pub fn signed_front()
-    ensures { (ss : List StanzaParts) (mac h : List ℕ) → Head ss mac h
+    ensures { (ss : List StanzaParts) (mac h : Bytes) → Head ss mac h
         → signed ss ≡ take (length h - 45) h }
 {}

@@ -2,6 +2,7 @@
 
 ghost use Rattle.std.specs.Prelude.{◌≡◌, ◌≤◌, ◌++◌, ℕ, List, length, codes, None, Err, IfOk, IfErr, OnOk, IfSome, IfNone};
 ghost use Rattle.std.specs.Io.KnownBytes.{Consumes};
+ghost use Rattle.age_kdf.specs.Bytes.{Bytes};
 ghost use Rattle.age_header.specs.Base64.{B64};
 ghost use Rattle.age_header.specs.Header.{version_line};
 ghost use Rattle.age_header.specs.Reader.{Answers, CountsRead};
@@ -143,9 +144,9 @@ fn end_mac(
     text: &[u8],
 ) -> Result<Option<[u8; 32]>, AllocError>
     requires { IsPlain engine.now }
-    ensures some { IfOk result (λ o. IfSome o (λ mac. (signs : List ℕ)
+    ensures some { IfOk result (λ o. IfSome o (λ mac. (signs : Bytes)
         × (length mac ≡ 32) × (text.now ≡ codes "--- " ++ signs) × B64 mac signs)) }
-    ensures none { IfOk result (λ o. IfNone o ((mac signs : List ℕ) → length mac ≡ 32
+    ensures none { IfOk result (λ o. IfNone o ((mac signs : Bytes) → length mac ≡ 32
         → text.now ≡ codes "--- " ++ signs → B64 mac signs → ⊥)) }
 {
     let Some(signs) = behind(text, b"--- ") else {

@@ -2,6 +2,7 @@
 
 ghost use Rattle.std.specs.Prelude.{◌≡◌, ◌-◌, ◌^◌, ℕ, List, length, map, min};
 ghost use Rattle.std.specs.String.{string_bytes};
+ghost use Rattle.age_kdf.specs.Bytes.{Bytes};
 ghost use Rattle.age_header.specs.Header.{argument_line};
 ghost use Rattle.age_header.specs.Text.{body_text, stanza_text};
 
@@ -27,7 +28,7 @@ fn args_len(args: &[String]) -> u64
 
 /// The length of the lines of a body of so many bytes.
 fn body_len(len: usize) -> u64
-    ensures { (b : List ℕ) → length b ≡ len → result ≡ min (length (body_text b)) (2 ^ 64 - 1) }
+    ensures { (b : Bytes) → length b ≡ len → result ≡ min (length (body_text b)) (2 ^ 64 - 1) }
 {
     let full = (len / 48) as u64;
     let last = ((len % 48 * 4 + 2) / 3 + 1) as u64;

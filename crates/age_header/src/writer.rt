@@ -2,6 +2,7 @@
 
 ghost use Rattle.std.specs.Prelude.{◌≡◌, ◌≤◌, ℕ, List, length, map};
 ghost use Rattle.std.specs.String.{string_bytes};
+ghost use Rattle.age_kdf.specs.Bytes.{Bytes};
 ghost use Rattle.age_header.specs.Device.{Counts, Writes};
 ghost use Rattle.age_header.specs.Header.{Head, argument_line};
 ghost use Rattle.age_header.specs.Base64.{base64_of};
@@ -15,7 +16,7 @@ use base64::engine::general_purpose::GeneralPurpose;
 
 /// Writes the header's text (C2SP `age.md`, "Header"). On an error a beginning of it was written.
 pub fn write_header<W: Sink>(header: &Header, out: &mut W) -> Result<(), DeviceFault>
-    ensures text { (h : List ℕ) × Head header.now.stanzas header.now.mac h
+    ensures text { (h : Bytes) × Head header.now.stanzas header.now.mac h
         × Writes (W.taken out.old) (W.taken out.new) result h }
     ensures count { Counts (W.failed out.old) (W.failed out.new) result }
 {

@@ -1,14 +1,15 @@
 -- The sixteen words of Salsa20/8 as four vectors, and its four steps on numbers.
 use Rattle.std.specs.Prelude.{ℕ, ◌+◌, ◌%◌, List, [], ◌∷◌, slice_index, slice_index_or, bit_xor}
 use Rattle.std.specs.Int.{w32, rotate_left}
+use Rattle.age_kdf.specs.Bytes.{Words}
 use Rattle.age_kdf.specs.Salsa.{add32}
 
 -- one step: b xor R(a + d, k)
-abbrev pub stepped : ℕ → ℕ → ℕ → ℕ → ℕ
+abbrev pub stepped : (b a d k : ℕ) → ℕ
 stepped b a d k = bit_xor b (rotate_left w32 (add32 a d) k)
 
 -- the four steps
-unfoldable pub quartered : ℕ → ℕ → ℕ → ℕ → ℕ × ℕ × ℕ × ℕ
+unfoldable pub quartered : (a b c d : ℕ) → ℕ × ℕ × ℕ × ℕ
 quartered a b c d =
     let b1 = stepped b a d 7 in
     let c1 = stepped c b1 a 9 in
@@ -16,11 +17,11 @@ quartered a b c d =
     (stepped a d1 c1 18, b1, c1, d1)
 
 -- lane j of vector k
-abbrev pub lane : List (List ℕ) → ℕ → ℕ → ℕ
+abbrev pub lane : (s : List Words) (k j : ℕ) → ℕ
 lane s k j = slice_index (slice_index_or s k []) j
 
 -- the words in their order
-abbrev pub spread : List (List ℕ) → List ℕ
+abbrev pub spread : List Words → Words
 spread s =
     lane s 0 0 ∷ lane s 3 1 ∷ lane s 2 2 ∷ lane s 1 3
     ∷ lane s 1 0 ∷ lane s 0 1 ∷ lane s 3 2 ∷ lane s 2 3
@@ -28,7 +29,7 @@ spread s =
     ∷ lane s 3 0 ∷ lane s 2 1 ∷ lane s 1 2 ∷ lane s 0 3 ∷ []
 
 -- four lanes, each moved down by n places
-abbrev pub turned : ℕ → List ℕ → List ℕ
+abbrev pub turned : ℕ → Words → Words
 turned n v =
     slice_index v (n % 4) ∷ slice_index v ((n + 1) % 4) ∷ slice_index v ((n + 2) % 4)
     ∷ slice_index v ((n + 3) % 4) ∷ []

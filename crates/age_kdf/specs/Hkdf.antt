@@ -1,21 +1,22 @@
 -- HKDF-SHA-256 (RFC 5869) on lists of bytes.
 use Rattle.std.specs.Prelude.{ℕ, zero, suc, ◌+◌, ◌/◌, List, [], ◌∷◌, ◌++◌, take}
+use Rattle.age_kdf.specs.Bytes.{Bytes}
 use Rattle.age_kdf.specs.Hmac.{hmac}
 
 -- T(i): HMAC(PRK, T(i-1) | info | i), T(0) being empty (section 2.3)
-unfoldable pub hkdf_block : List ℕ → List ℕ → ℕ → List ℕ
+unfoldable pub hkdf_block : (prk info : Bytes) (i : ℕ) → Bytes
 hkdf_block prk info zero = []
 hkdf_block prk info (suc i) = hmac prk (hkdf_block prk info i ++ info ++ (i + 1) ∷ [])
 
 -- T(1) | T(2) | .. | T(n)
-unfoldable pub hkdf_blocks : List ℕ → List ℕ → ℕ → List ℕ
+unfoldable pub hkdf_blocks : (prk info : Bytes) (n : ℕ) → Bytes
 hkdf_blocks prk info zero = []
 hkdf_blocks prk info (suc n) = hkdf_blocks prk info n ++ hkdf_block prk info (suc n)
 
 -- HKDF-Expand: the first len bytes of the blocks, of which there are len / 32, rounded up
-abbrev pub hkdf_expand : List ℕ → List ℕ → ℕ → List ℕ
+abbrev pub hkdf_expand : (prk info : Bytes) (len : ℕ) → Bytes
 hkdf_expand prk info len = take len (hkdf_blocks prk info ((len + 31) / 32))
 
 -- HKDF-Expand of the key that HKDF-Extract makes: HMAC(salt, IKM) (section 2.2)
-unfoldable pub hkdf : List ℕ → List ℕ → List ℕ → ℕ → List ℕ
+unfoldable pub hkdf : (ikm salt info : Bytes) (len : ℕ) → Bytes
 hkdf ikm salt info len = hkdf_expand (hmac salt ikm) info len

@@ -1,17 +1,18 @@
 -- HMAC-SHA-256 (RFC 2104, with the hash function of RFC 6234) on lists of bytes.
 use Rattle.std.specs.Prelude.{ℕ, ◌-◌, List, ◌++◌, length, replicate, map, bit_xor, nat_le, if◌then◌else◌}
+use Rattle.age_kdf.specs.Bytes.{Bytes}
 use Rattle.sha2.specs.Sha256.{sha256}
 
 -- the key, hashed first where it is longer than a block of 64 bytes (RFC 2104, section 2)
-abbrev pub short_key : List ℕ → List ℕ
+abbrev pub short_key : Bytes → Bytes
 short_key key = if nat_le (length key) 64 then key else sha256 key
 
 -- K: the short key with zeros behind it, 64 bytes in all
-abbrev pub block_key : List ℕ → List ℕ
+abbrev pub block_key : Bytes → Bytes
 block_key key = short_key key ++ replicate (64 - length (short_key key)) 0
 
 -- K XOR the pad that repeats one byte
-abbrev pub padded_key : List ℕ → ℕ → List ℕ
+abbrev pub padded_key : Bytes → ℕ → Bytes
 padded_key key byte = map (λ k. bit_xor k byte) (block_key key)
 
 -- the bytes that ipad and opad repeat
@@ -22,5 +23,5 @@ abbrev pub opad : ℕ
 opad = 0x5c
 
 -- H(K XOR opad, H(K XOR ipad, text)) (RFC 2104, section 2)
-unfoldable pub hmac : List ℕ → List ℕ → List ℕ
+unfoldable pub hmac : (key text : Bytes) → Bytes
 hmac key text = sha256 (padded_key key opad ++ sha256 (padded_key key ipad ++ text))

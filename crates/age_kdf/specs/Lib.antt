@@ -1,3 +1,4 @@
+pub mod Bytes
 pub mod Hmac
 pub mod Hkdf
 pub mod Pbkdf2

@@ -2,6 +2,7 @@
 
 ghost use Rattle.std.specs.Prelude.{◌≡◌, ℕ, ◌≤◌, ◌++◌, List, [], map, length, drop, bit_xor};
 ghost use Rattle.std.specs.List.{flat_map};
+ghost use Rattle.age_kdf.specs.Bytes.{Bytes};
 ghost use Rattle.age_kdf.specs.Hmac.{hmac, block_key};
 
 use sha2::{Digest, Sha256};
@@ -51,6 +52,7 @@ pub(crate) struct Mac {
 
 impl Mac {
     ghost use Rattle.age_kdf.specs.HmacState.{IsFed};
+    ghost use Rattle.age_kdf.specs.Bytes.{Bytes};
 
     /// A running HMAC under `key` that has been fed nothing.
     pub(crate) fn new(key: &[u8]) -> Mac
@@ -75,7 +77,7 @@ impl Mac {
 
     /// Feeds `bytes`.
     pub(crate) fn update(&mut self, bytes: &[u8])
-        ensures { (key text : List ℕ) → IsFed self.old key text
+        ensures { (key text : Bytes) → IsFed self.old key text
             → IsFed self.new key (text ++ bytes.now) }
     {
         self.inner.update(bytes);
@@ -83,7 +85,7 @@ impl Mac {
 
     /// The MAC of what was fed.
     fn finalize(self) -> [u8; 32]
-        ensures { (key text : List ℕ) → IsFed self key text → result ≡ hmac key text }
+        ensures { (key text : Bytes) → IsFed self key text → result ≡ hmac key text }
     {
         let Mac { inner, mut outer } = self;
         outer.update(&inner.finalize());
@@ -92,7 +94,7 @@ impl Mac {
 
     /// The MAC of what was fed followed by the parts; the running HMAC stays as it is.
     pub(crate) fn tag_with(&self, parts: &[&[u8]]) -> [u8; 32]
-        ensures { (key text : List ℕ) → IsFed self.now key text
+        ensures { (key text : Bytes) → IsFed self.now key text
             → result ≡ hmac key (text ++ flat_map (λ p. p.now) parts.now) }
     {
         let mut mac = self.copy();

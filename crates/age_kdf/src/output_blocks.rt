@@ -1,12 +1,13 @@
 // Outputs that are the front of a row of blocks of 32 bytes.
 
 ghost use Rattle.std.specs.Prelude.{◌≡◌, ℕ, ◌+◌, ◌*◌, ◌<◌, ◌++◌, List, length, take};
+ghost use Rattle.age_kdf.specs.Bytes.{Bytes};
 
 /// Writes block `i`, or as much of its front as there is room for: where `out` held the blocks of
 /// `front` before, it holds these and `block` after.
 pub(crate) fn put_block(out: &mut [u8], i: usize, block: &[u8; 32])
     requires { 32 * i < length out.old }
-    ensures { (front : List ℕ) → length front ≡ 32 * i
+    ensures { (front : Bytes) → length front ≡ 32 * i
         → take (32 * i) out.old ≡ take (length out.old) front
         → take (32 * (i + 1)) out.new ≡ take (length out.old) (front ++ block.now) }
 {

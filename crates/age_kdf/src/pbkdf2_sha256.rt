@@ -2,6 +2,7 @@
 
 ghost use Rattle.std.specs.Prelude.{◌≡◌, ℕ, ◌≤◌, ◌++◌, List, [], length, bit_xor};
 ghost use Rattle.std.specs.Simd.Lanes.{zip2};
+ghost use Rattle.age_kdf.specs.Bytes.{Bytes};
 ghost use Rattle.age_kdf.specs.Pbkdf2.{pbkdf2, pbkdf2_block};
 ghost use Rattle.age_kdf.specs.HmacState.{IsFed};
 
@@ -20,7 +21,7 @@ fn xor_block(sum: &mut [u8; 32], block: &[u8; 32])
 /// been fed the salt too.
 pub(crate) fn pbkdf2_block(keyed: &Mac, salted: &Mac, number: u32, rounds: u32) -> [u8; 32]
     requires { 1 ≤ rounds }
-    ensures { (pass salt : List ℕ) → IsFed keyed.now pass [] → IsFed salted.now pass salt
+    ensures { (pass salt : Bytes) → IsFed keyed.now pass [] → IsFed salted.now pass salt
         → result ≡ pbkdf2_block pass salt rounds number }
 {
     let mut last = salted.tag_with(&[&number.to_be_bytes()]);
@@ -36,7 +37,7 @@ pub(crate) fn pbkdf2_block(keyed: &Mac, salted: &Mac, number: u32, rounds: u32) 
 pub(crate) fn fill(keyed: &Mac, salted: &Mac, rounds: u32, out: &mut [u8])
     requires rounds { 1 ≤ rounds }
     requires room { length out.old ≤ 137438953440 }
-    ensures { (pass salt : List ℕ) → IsFed keyed.now pass [] → IsFed salted.now pass salt
+    ensures { (pass salt : Bytes) → IsFed keyed.now pass [] → IsFed salted.now pass salt
         → out.new ≡ pbkdf2 pass salt rounds (length out.old) }
 {
     let count = out.len().div_ceil(32);

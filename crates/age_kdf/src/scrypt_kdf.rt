@@ -1,6 +1,7 @@
 // scrypt (RFC 7914, section 6), over a work space that is handed in, or that it takes itself.
 
 ghost use Rattle.std.specs.Prelude.{◌≡◌, ℕ, ◌+◌, ◌*◌, ◌^◌, ◌≤◌, ◌++◌, List, [], length, OnErr, OnOk};
+ghost use Rattle.age_kdf.specs.Bytes.{Bytes};
 ghost use Rattle.age_kdf.specs.Pbkdf2.{pbkdf2};
 ghost use Rattle.age_kdf.specs.Params.{work_words};
 ghost use Rattle.age_kdf.specs.Scrypt.{words_of, bytes_of, parts_mixed, scrypt};
@@ -31,7 +32,7 @@ fn load_block(words: &mut [u32], block: &[u8; 32])
 fn load(keyed: &Mac, salted: &Mac, words: &mut [u32], count: usize)
     requires count { count ≤ 4294967295 }
     requires len { length words.old ≡ 8 * count }
-    ensures { (pass salt : List ℕ) → IsFed keyed.now pass [] → IsFed salted.now pass salt
+    ensures { (pass salt : Bytes) → IsFed keyed.now pass [] → IsFed salted.now pass salt
         → words.new ≡ words_of (pbkdf2 pass salt 1 (32 * count)) (8 * count) }
 {
     'each_block: for i in 0..count {
@@ -42,7 +43,7 @@ fn load(keyed: &Mac, salted: &Mac, words: &mut [u32], count: usize)
 
 // Feeds the bytes of the words.
 fn feed_words(mac: &mut Mac, words: &[u32])
-    ensures { (key text : List ℕ) → IsFed mac.old key text
+    ensures { (key text : Bytes) → IsFed mac.old key text
         → IsFed mac.new key (text ++ bytes_of words.now) }
 {
     for word in words {

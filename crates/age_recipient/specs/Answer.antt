@@ -4,6 +4,7 @@ use Rattle.std.specs.Prelude.{ℕ, List, [], ◌∷◌, if◌then◌else◌}
 use Rattle.std.specs.Str.{bytes_eq}
 use Rattle.std.specs.declared.option.Option.{Option}
 use Rattle.std.specs.declared.option.Option.TheVariants.{None, Some}
+use Rattle.age_kdf.specs.Bytes.{Bytes}
 use Rattle.age_recipient.specs.declared.unwrapped.Unwrapped.{Unwrapped}
 use Rattle.age_recipient.specs.declared.unwrapped.Unwrapped.TheVariants.{NotMine, Failed, Key, Malformed}
 
@@ -21,11 +22,11 @@ abbrev pub decided : List Unwrapped → Unwrapped
 decided answers = decided_from NotMine answers
 
 -- of the arguments of a stanza of this type those behind the type
-abbrev pub behind_type : List ℕ → List (List ℕ) → Option (List (List ℕ))
+abbrev pub behind_type : Bytes → List Bytes → Option (List Bytes)
 behind_type kind [] = None
 behind_type kind (first ∷ rest) = if bytes_eq first kind then Some rest else None
 
 -- what a stanza gives by its arguments behind the type; one of another type is not this identity's
-abbrev pub typed_answer : (List (List ℕ) → Unwrapped) → Option (List (List ℕ)) → Unwrapped
+abbrev pub typed_answer : (List Bytes → Unwrapped) → Option (List Bytes) → Unwrapped
 typed_answer answer None = NotMine
 typed_answer answer (Some args) = answer args

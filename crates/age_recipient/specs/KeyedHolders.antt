@@ -2,6 +2,7 @@
 use Rattle.std.specs.Prelude.{ℕ, List, [], ◌∷◌, map}
 use Rattle.std.specs.declared.result.Result.{Result}
 use Rattle.std.specs.declared.result.Result.TheVariants.{Ok}
+use Rattle.age_kdf.specs.Bytes.{Bytes}
 use Rattle.age_header.specs.Header.{StanzaParts}
 use Rattle.age_recipient.specs.declared.key.FileKey.{FileKey}
 use Rattle.age_recipient.specs.declared.unwrapped.Unwrapped.{Unwrapped}
@@ -10,13 +11,13 @@ use Rattle.age_recipient.specs.KeyedStanza.{keyed_answer, keyed_stanza}
 
 -- what a recipient holds; an identity holds the key alone
 pub record KeySecret : Type 0 where
-  pub key : List ℕ
-  pub salt : List ℕ
+  pub key : Bytes
+  pub salt : Bytes
 
 -- a recipient gives one stanza for each file key
 abbrev pub key_wraps : KeySecret → FileKey → Result (List StanzaParts) ℕ
 key_wraps r file_key = Ok (keyed_stanza r.key r.salt file_key ∷ [])
 
 -- an identity goes through the stanzas in order
-abbrev pub key_unwraps : List ℕ → List StanzaParts → Unwrapped
+abbrev pub key_unwraps : Bytes → List StanzaParts → Unwrapped
 key_unwraps key stanzas = decided (map (keyed_answer key) stanzas)

@@ -2,6 +2,7 @@
 use Rattle.std.specs.Prelude.{ℕ, List, [], ◌∷◌, length, codes, nat_eq, if◌then◌else◌}
 use Rattle.std.specs.declared.option.Option.{Option}
 use Rattle.std.specs.declared.option.Option.TheVariants.{None, Some}
+use Rattle.age_kdf.specs.Bytes.{Bytes}
 use Rattle.age_kdf.specs.Hkdf.{hkdf}
 use Rattle.age_header.specs.Base64.{decoded, base64_of}
 use Rattle.age_header.specs.Header.{StanzaParts}
@@ -14,29 +15,29 @@ use Rattle.age_recipient.specs.Salt.{salt_of}
 use Rattle.age_recipient.specs.Sealing.{sealed_key, unsealed}
 
 -- the key that wraps the file key
-unfoldable pub wrap_key : List ℕ → List ℕ → List ℕ
+unfoldable pub wrap_key : (key salt : Bytes) → Bytes
 wrap_key key salt = hkdf key salt (codes "example.org/key") 32
 
 -- the stanza that wraps a file key
-unfoldable pub keyed_stanza : List ℕ → List ℕ → FileKey → StanzaParts
+unfoldable pub keyed_stanza : Bytes → Bytes → FileKey → StanzaParts
 keyed_stanza key salt file_key = record {
   args = codes "example.org/key" ∷ base64_of salt ∷ [];
   body = sealed_key (wrap_key key salt) file_key;
 }
 
 -- the body's length is looked at, and only then is the key tried
-abbrev pub salted_answer : List ℕ → List ℕ → Option (List ℕ) → Unwrapped
+abbrev pub salted_answer : (key body : Bytes) (salt : Option Bytes) → Unwrapped
 salted_answer key body None = Malformed Salt
 salted_answer key body (Some salt) =
     if nat_eq (length body) 32 then unsealed (wrap_key key salt) body else Malformed BodyLength
 
 -- what a stanza of this type gives, whose arguments behind the type are these
-abbrev pub arguments_answer : List ℕ → List (List ℕ) → List ℕ → Unwrapped
+abbrev pub arguments_answer : (key : Bytes) (args : List Bytes) (body : Bytes) → Unwrapped
 arguments_answer key (salt ∷ []) body = salted_answer key body (salt_of (decoded salt))
 arguments_answer key _ body = Malformed ArgCount
 
 -- what one stanza gives
-unfoldable pub keyed_answer : List ℕ → StanzaParts → Unwrapped
+unfoldable pub keyed_answer : Bytes → StanzaParts → Unwrapped
 keyed_answer key stanza =
     typed_answer (λ args. arguments_answer key args stanza.body)
     (behind_type (codes "example.org/key") stanza.args)

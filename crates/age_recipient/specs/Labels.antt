@@ -7,13 +7,14 @@ use Rattle.std.specs.Ordering.{nat_cmp}
 use Rattle.std.specs.Str.{bytes_eq}
 use Rattle.std.specs.declared.option.Option.{Option}
 use Rattle.std.specs.declared.option.Option.TheVariants.{None}
+use Rattle.age_kdf.specs.Bytes.{Bytes}
 use Rattle.age_recipient.specs.declared.labels.Labels.{Labels}
 use Rattle.age_recipient.specs.declared.labels.Labels.TheVariants.{Names}
 
 -- the texts in byte order, each once
-pub record IsSetOf (texts set : List (List ℕ)) : Type 0 where
+pub record IsSetOf (texts set : List Bytes) : Type 0 where
   pub ordered : IsStrictlySortedBy (slice_cmp nat_cmp) set
-  pub members : (text : List ℕ) → list_any (bytes_eq text) set ≡ list_any (bytes_eq text) texts
+  pub members : (text : Bytes) → list_any (bytes_eq text) set ≡ list_any (bytes_eq text) texts
 
 -- both have names, and the same set of them; what stands alone goes together with nothing
 abbrev pub go_together : Labels → Labels → Bool
@@ -27,5 +28,5 @@ incompatible (first ∷ others) = position_from (λ other. not (go_together firs
 
 -- what a recipient with this meaning may return: a recipient may also leave the method's own body,
 -- which returns no names
-abbrev pub MayLabel : Labels → Labels → Type 0
+abbrev pub MayLabel : (meant labels : Labels) → Type 0
 MayLabel meant labels = (labels ≡ Names []) ⊎ (labels ≡ meant)

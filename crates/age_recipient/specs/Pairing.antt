@@ -8,6 +8,7 @@ use Rattle.std.proofs.lemmas.Fmt.{decimal-digits_of}
 use Rattle.std.specs.Fmt.{decimal}
 use Rattle.std.specs.Int.Digits.{digits_of}
 use Rattle.std.specs.declared.result.Result.{Result}
+use Rattle.age_kdf.specs.Bytes.{Bytes}
 use Rattle.age_cipher.proofs.OpeningLemmas.{length-sealed, opened-sealed}
 use Rattle.age_header.specs.Base64.{decoded, base64_of}
 use Rattle.age_header.specs.Header.{StanzaParts}
@@ -43,11 +44,11 @@ all_below_at f (suc n) k e low =
     ]
 
 -- a text is a work factor, and spells this number
-abbrev is_spelled : List ℕ → ℕ → Bool
+abbrev is_spelled : Bytes → ℕ → Bool
 is_spelled text n = is_work_factor text && nat_eq (number_from 0 text) n
 
 -- the digits of a number above 0, as text
-abbrev digits_text : ℕ → List ℕ
+abbrev digits_text : ℕ → Bytes
 digits_text n = map (λ d. 48 + d) (digits_of 10 n)
 
 -- the decimal text of a work factor spells it
@@ -61,24 +62,24 @@ spelled (suc n) low high =
     at
 
 -- a sealed key is unsealed
-pub unsealed-sealed : (wrap_key : List ℕ) (key : FileKey)
+pub unsealed-sealed : (wrap_key : Bytes) (key : FileKey)
     → unsealed wrap_key (sealed_key wrap_key key) ≡ Key key
 unfolding unsealed
 unsealed-sealed wrap_key key = rw (opened-sealed wrap_key zero_nonce [] key.0) refl
 
 -- a sealed key has 32 bytes
-sealed_whole : (wrap_key : List ℕ) (key : FileKey) → IsFileKey key
+sealed_whole : (wrap_key : Bytes) (key : FileKey) → IsFileKey key
     → nat_eq (length (sealed_key wrap_key key)) 32 ≡ true
 sealed_whole wrap_key key is =
     eq-eqb (length (sealed_key wrap_key key)) 32
     (length-sealed wrap_key zero_nonce [] key.0 ∙ ap (λ n. n + 16) is.len)
 
 -- a salt's characters spell it
-salt_spelled : (salt : List ℕ) → IsSalt salt → salt_of (decoded (base64_of salt)) ≡ Some salt
+salt_spelled : (salt : Bytes) → IsSalt salt → salt_of (decoded (base64_of salt)) ≡ Some salt
 salt_spelled salt is = rw (decoded-base64_of salt is.bytes, eq-eqb (length salt) 16 is.len) refl
 
 -- an identity's answer to the stanza that a recipient of the same passphrase makes
-pass_opens : (pass salt : List ℕ) (work max : ℕ) (key : FileKey) → IsSalt salt → PairFits work max
+pass_opens : (pass salt : Bytes) (work max : ℕ) (key : FileKey) → IsSalt salt → PairFits work max
     → IsFileKey key → pass_answer pass max (pass_stanza pass work salt key) ≡ Key key
 unfolding pass_answer pass_stanza
 pass_opens pass salt work max key is_salt fits is_key =
@@ -97,7 +98,7 @@ pass_opens pass salt work max key is_salt fits is_key =
     (unsealed-sealed (pass_key pass salt work) key)
 
 -- an identity's answer to the stanza that a recipient of the same key makes
-keyed_opens : (key salt : List ℕ) (file_key : FileKey) → IsSalt salt → IsFileKey file_key
+keyed_opens : (key salt : Bytes) (file_key : FileKey) → IsSalt salt → IsFileKey file_key
     → keyed_answer key (keyed_stanza key salt file_key) ≡ Key file_key
 unfolding keyed_answer keyed_stanza
 keyed_opens key salt file_key is_salt is_key =
@@ -119,11 +120,11 @@ pair_law r i key stanzas same salt fits is wraps =
     ∷ [] = sym (ap stanzas_of wraps) in let opens : pass_answer i.pass i.max
     (pass_stanza r.pass r.work r.salt key)
     ≡ Key key = subst
-    (λ (p : List ℕ). pass_answer p i.max (pass_stanza r.pass r.work r.salt key) ≡ Key key) same
+    (λ (p : Bytes). pass_answer p i.max (pass_stanza r.pass r.work r.salt key) ≡ Key key) same
     (pass_opens r.pass r.salt r.work i.max key salt fits is) in rw (list, opens) refl
 
 -- the law of a key's pair
-pub key_pair_law : (r : KeySecret) (i : List ℕ) (key : FileKey) (stanzas : List StanzaParts)
+pub key_pair_law : (r : KeySecret) (i : Bytes) (key : FileKey) (stanzas : List StanzaParts)
     → r.key ≡ i → IsSalt r.salt → IsFileKey key → key_wraps r key ≡ Ok stanzas
     → key_unwraps i stanzas ≡ Key key
 unfolding stanzas_of
@@ -132,5 +133,5 @@ key_pair_law r i key stanzas same salt is wraps =
     ≡ keyed_stanza r.key r.salt key
     ∷ [] = sym (ap stanzas_of wraps) in let opens : keyed_answer i
     (keyed_stanza r.key r.salt key)
-    ≡ Key key = subst (λ (k : List ℕ). keyed_answer k (keyed_stanza r.key r.salt key) ≡ Key key)
+    ≡ Key key = subst (λ (k : Bytes). keyed_answer k (keyed_stanza r.key r.salt key) ≡ Key key)
     same (keyed_opens r.key r.salt key salt is) in rw (list, opens) refl

@@ -2,6 +2,7 @@
 use Rattle.std.specs.Prelude.{ℕ, ◌≤◌, List, [], ◌∷◌, map}
 use Rattle.std.specs.declared.result.Result.{Result}
 use Rattle.std.specs.declared.result.Result.TheVariants.{Ok}
+use Rattle.age_kdf.specs.Bytes.{Bytes}
 use Rattle.age_header.specs.Header.{StanzaParts}
 use Rattle.age_recipient.specs.declared.key.FileKey.{FileKey}
 use Rattle.age_recipient.specs.declared.unwrapped.Unwrapped.{Unwrapped}
@@ -12,13 +13,13 @@ use Rattle.age_recipient.specs.PassphraseStanza.{pass_answer, pass_stanza}
 
 -- what a recipient holds
 pub record PassSecret : Type 0 where
-  pub pass : List ℕ
-  pub salt : List ℕ
+  pub pass : Bytes
+  pub salt : Bytes
   pub work : ℕ
 
 -- what an identity holds
 pub record PassGuess : Type 0 where
-  pub pass : List ℕ
+  pub pass : Bytes
   pub max : ℕ
 
 -- a work factor is 1 to 30

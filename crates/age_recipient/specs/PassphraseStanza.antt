@@ -4,6 +4,7 @@ use Rattle.std.specs.Fmt.{decimal}
 use Rattle.std.specs.List.{list_all}
 use Rattle.std.specs.declared.option.Option.{Option}
 use Rattle.std.specs.declared.option.Option.TheVariants.{None, Some}
+use Rattle.age_kdf.specs.Bytes.{Bytes}
 use Rattle.age_kdf.specs.Scrypt.{scrypt}
 use Rattle.age_header.specs.Base64.{decoded, base64_of}
 use Rattle.age_header.specs.Header.{StanzaParts}
@@ -16,12 +17,12 @@ use Rattle.age_recipient.specs.Salt.{salt_of}
 use Rattle.age_recipient.specs.Sealing.{sealed_key, unsealed}
 
 -- the key that wraps the file key; the work factor is the base-2 logarithm of scrypt's N
-unfoldable pub pass_key : List ℕ → List ℕ → ℕ → List ℕ
+unfoldable pub pass_key : (pass salt : Bytes) (work : ℕ) → Bytes
 pass_key pass salt work =
     scrypt pass (codes "age-encryption.org/v1/scrypt" ++ salt) (2 ^ work) 8 1 32
 
 -- the stanza that wraps a file key
-unfoldable pub pass_stanza : List ℕ → ℕ → List ℕ → FileKey → StanzaParts
+unfoldable pub pass_stanza : Bytes → ℕ → Bytes → FileKey → StanzaParts
 pass_stanza pass work salt key = record {
   args = codes "scrypt" ∷ base64_of salt ∷ decimal work ∷ [];
   body = sealed_key (pass_key pass salt work) key;
@@ -32,18 +33,19 @@ abbrev pub is_digit : ℕ → Bool
 is_digit c = nat_le 48 c && nat_le c 57
 
 -- a digit 1 to 9, then any digits
-abbrev pub is_work_factor : List ℕ → Bool
+abbrev pub is_work_factor : Bytes → Bool
 is_work_factor [] = false
 is_work_factor (c ∷ digits) = nat_le 49 c && nat_le c 57 && list_all is_digit digits
 
 -- the number that decimal digits spell behind n
-abbrev pub number_from : ℕ → List ℕ → ℕ
+abbrev pub number_from : ℕ → Bytes → ℕ
 number_from n [] = n
 number_from n (c ∷ digits) = number_from (n * 10 + (c - 48)) digits
 
 -- the work factor's text is looked at, then its number, then the body's length, and only then is
 -- the key tried
-abbrev pub salted_answer : List ℕ → ℕ → List ℕ → List ℕ → Option (List ℕ) → Unwrapped
+abbrev pub salted_answer : (pass : Bytes) (max : ℕ) (work body : Bytes) (salt : Option Bytes)
+    → Unwrapped
 salted_answer pass max work body None = Malformed Salt
 salted_answer pass max work body (Some salt) =
     if is_work_factor work then
@@ -54,13 +56,14 @@ salted_answer pass max work body (Some salt) =
     else Malformed WorkFactorText
 
 -- what a stanza of this type gives, whose arguments behind the type are these
-abbrev pub arguments_answer : List ℕ → ℕ → List (List ℕ) → List ℕ → Unwrapped
+abbrev pub arguments_answer : (pass : Bytes) (max : ℕ) (args : List Bytes) (body : Bytes)
+    → Unwrapped
 arguments_answer pass max (salt ∷ work ∷ []) body =
     salted_answer pass max work body (salt_of (decoded salt))
 arguments_answer pass max _ body = Malformed ArgCount
 
 -- what one stanza gives
-unfoldable pub pass_answer : List ℕ → ℕ → StanzaParts → Unwrapped
+unfoldable pub pass_answer : (pass : Bytes) (max : ℕ) (stanza : StanzaParts) → Unwrapped
 pass_answer pass max stanza =
     typed_answer (λ args. arguments_answer pass max args stanza.body)
     (behind_type (codes "scrypt") stanza.args)

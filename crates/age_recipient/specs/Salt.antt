@@ -2,13 +2,14 @@
 use Rattle.std.specs.Prelude.{◌≡◌, ◌<◌, ℕ, List, length, nat_eq, slice_index, if◌then◌else◌}
 use Rattle.std.specs.declared.option.Option.{Option}
 use Rattle.std.specs.declared.option.Option.TheVariants.{None, Some}
+use Rattle.age_kdf.specs.Bytes.{Bytes}
 
 -- sixteen bytes
-pub record IsSalt (salt : List ℕ) : Type 0 where
+pub record IsSalt (salt : Bytes) : Type 0 where
   pub len : length salt ≡ 16
   pub bytes : (i : ℕ) → slice_index salt i < 256
 
 -- a salt has 16 bytes
-abbrev pub salt_of : Option (List ℕ) → Option (List ℕ)
+abbrev pub salt_of : Option Bytes → Option Bytes
 salt_of None = None
 salt_of (Some salt) = if nat_eq (length salt) 16 then Some salt else None

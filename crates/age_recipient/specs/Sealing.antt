@@ -4,24 +4,25 @@
 use Rattle.std.specs.Prelude.{ℕ, List, [], replicate}
 use Rattle.std.specs.declared.option.Option.{Option}
 use Rattle.std.specs.declared.option.Option.TheVariants.{None, Some}
+use Rattle.age_kdf.specs.Bytes.{Bytes}
 use Rattle.age_cipher.specs.Sealing.{sealed, opened}
 use Rattle.age_recipient.specs.declared.key.FileKey.{FileKey}
 use Rattle.age_recipient.specs.declared.unwrapped.Unwrapped.{Unwrapped}
 use Rattle.age_recipient.specs.declared.unwrapped.Unwrapped.TheVariants.{Failed, Key}
 
 -- a wrap key seals one file key alone
-abbrev pub zero_nonce : List ℕ
+abbrev pub zero_nonce : Bytes
 zero_nonce = replicate 12 0
 
 -- the body that holds this file key
-abbrev pub sealed_key : List ℕ → FileKey → List ℕ
+abbrev pub sealed_key : Bytes → FileKey → Bytes
 sealed_key wrap_key key = sealed wrap_key zero_nonce [] key.0
 
 -- the key that was found, or a failure
-abbrev pub key_answer : Option (List ℕ) → Unwrapped
+abbrev pub key_answer : Option Bytes → Unwrapped
 key_answer None = Failed
 key_answer (Some bytes) = Key (record { 0 = bytes })
 
 -- what a body of 32 bytes gives under a wrap key: the key that it opens to, or nothing
-unfoldable pub unsealed : List ℕ → List ℕ → Unwrapped
+unfoldable pub unsealed : (wrap_key body : Bytes) → Unwrapped
 unsealed wrap_key body = key_answer (opened wrap_key zero_nonce [] body)

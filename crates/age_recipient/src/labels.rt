@@ -1,6 +1,7 @@
 //! With whom a recipient goes together.
 
 ghost use Rattle.std.specs.Prelude.{◌≡◌, map, IfOk};
+ghost use Rattle.age_kdf.specs.Bytes.{Bytes};
 ghost use Rattle.age_recipient.specs.Labels.{IsSetOf, go_together};
 
 use std::alloc::{AllocError, Global};
@@ -16,8 +17,9 @@ pub struct LabelSet {
 impl Model for LabelSet {
     ghost use Rattle.std.specs.Prelude.{List, ℕ, map};
     ghost use Rattle.std.specs.String.{string_bytes};
+    ghost use Rattle.age_header.specs.Device.{Bytes};
 
-    ghost Value = { List (List ℕ) };
+    ghost Value = { List Bytes };
 
     ghost view = { λ s. map string_bytes s.names.keys };
 }

@@ -5,18 +5,18 @@ use Rattle.age_stream.specs.declared.fault.StreamFault.TheVariants.{Read, Write}
 
 -- where the fault is Read the count of failed reads rises by one, or stays at the largest u64; else
 -- it stays
-abbrev pub CountsReadFault : ℕ → ℕ → StreamFault → Type 0
+abbrev pub CountsReadFault : (old new : ℕ) (fault : StreamFault) → Type 0
 CountsReadFault old new Read = new ≡ min (old + 1) (2 ^ 64 - 1)
 CountsReadFault old new _ = new ≡ old
 
 -- where the fault is Write the count of failed writes rises by one, or stays at the largest u64;
 -- else it stays
-abbrev pub CountsWriteFault : ℕ → ℕ → StreamFault → Type 0
+abbrev pub CountsWriteFault : (old new : ℕ) (fault : StreamFault) → Type 0
 CountsWriteFault old new Write = new ≡ min (old + 1) (2 ^ 64 - 1)
 CountsWriteFault old new _ = new ≡ old
 
-abbrev pub CountsRead : {A : Type 0} → ℕ → ℕ → Result A StreamFault → Type 0
+abbrev pub CountsRead : {A : Type 0} (old new : ℕ) (r : Result A StreamFault) → Type 0
 CountsRead old new r = MatchResult r (λ _. new ≡ old) (CountsReadFault old new)
 
-abbrev pub CountsWrite : {A : Type 0} → ℕ → ℕ → Result A StreamFault → Type 0
+abbrev pub CountsWrite : {A : Type 0} (old new : ℕ) (r : Result A StreamFault) → Type 0
 CountsWrite old new r = MatchResult r (λ _. new ≡ old) (CountsWriteFault old new)

@@ -1,25 +1,26 @@
 -- Cutting a text into lists of one size (C2SP age.md, "Payload").
 use Rattle.std.specs.Prelude.{ℕ, List, [], ◌∷◌, ◌++◌, ◌<◌, ◌≤◌, ◌≡◌, ◌⊎◌, length, nat_lt, if◌then◌else◌}
 use Rattle.std.specs.List.{concat}
+use Rattle.age_kdf.specs.Bytes.{Bytes}
 
 -- each list but the last has `size` bytes, the last has 1 to `size`
-abbrev pub IsFilled : ℕ → List (List ℕ) → Type 0
+abbrev pub IsFilled : ℕ → List Bytes → Type 0
 IsFilled size [] = ⊥
 IsFilled size (c ∷ []) = (0 < length c) × (length c ≤ size)
 IsFilled size (c ∷ d ∷ more) = (length c ≡ size) × IsFilled size (d ∷ more)
 
 -- the lists join to the text and are filled, or are the one empty list of an empty text
-pub record IsCut (size : ℕ) (text : List ℕ) (lists : List (List ℕ)) : Type 0 where
+pub record IsCut (size : ℕ) (text : Bytes) (lists : List Bytes) : Type 0 where
   pub joined : concat lists ≡ text
   pub sizes : (lists ≡ [] ∷ []) ⊎ IsFilled size lists
 
 -- the cut of a text, `held` being what its first list has already
-abbrev pub cut_into : ℕ → List ℕ → List ℕ → List (List ℕ)
+abbrev pub cut_into : (size : ℕ) (held text : Bytes) → List Bytes
 cut_into size held [] = held ∷ []
 cut_into size held (x ∷ text) =
     if nat_lt (length held) size then cut_into size (held ++ x ∷ []) text
     else held ∷ cut_into size (x ∷ []) text
 
 -- the one cut of a text, as `one_cut` says
-abbrev pub cut : ℕ → List ℕ → List (List ℕ)
+abbrev pub cut : ℕ → Bytes → List Bytes
 cut size text = cut_into size [] text

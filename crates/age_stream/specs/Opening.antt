@@ -1,7 +1,9 @@
 -- An opener of pieces between two calls, and what a call does.
 use Rattle.std.specs.Prelude.{ℕ, List, [], ◌++◌, ◌≡◌, ◌≤◌, ◌<◌, ◌+◌, ◌-◌, ◌*◌, ◌^◌, ◌⊎◌, ⊤, length, take, drop, option_map, IfSome, Bool, true, false, Option, Some, None, Result, Ok, Err, if◌then◌else◌}
 use Rattle.std.specs.Io.KnownBytes.{Appends}
-use Rattle.age_header.specs.Device.{GaveAtMost, MayGive, WritesPart}
+use Rattle.age_cipher.specs.Bytes.{Key}
+use Rattle.age_kdf.specs.Bytes.{Bytes}
+use Rattle.age_header.specs.Device.{Known, GaveAtMost, MayGive, WritesPart}
 use Rattle.age_recipient.specs.declared.key.FileKey.{FileKey}
 use Rattle.age_stream.specs.declared.done.Done.{Done}
 use Rattle.age_stream.specs.declared.fault.StreamFault.{StreamFault}
@@ -13,42 +15,42 @@ use Rattle.age_stream.specs.Reading.{Reading, after_first, first_outcome, readin
 -- An opener: its key and limit, the number of the next piece, the bytes of it that were read
 -- already (None after the last piece), the text that was opened last, and the fault that it keeps.
 pub record OpenerState : Type 0 where
-  pub key : List ℕ
+  pub key : Key
   pub max_chunks : ℕ
   pub index : ℕ
-  pub held : Option (List ℕ)
-  pub text : List ℕ
+  pub held : Option Bytes
+  pub text : Bytes
   pub fault : Option StreamFault
 
 -- before piece 0
-abbrev pub at_start : List ℕ → ℕ → OpenerState
+abbrev pub at_start : Bytes → ℕ → OpenerState
 at_start key max =
     record { key = key; max_chunks = max; index = 0; held = Some []; text = []; fault = None }
 
 -- bytes that were read ahead, where another piece follows
-abbrev pub held_of : Bool → List ℕ → Option (List ℕ)
+abbrev pub held_of : Bool → Bytes → Option Bytes
 held_of more ahead = if more then Some ahead else None
 
 -- how many bytes were read ahead
-abbrev pub ahead_len : Option (List ℕ) → ℕ
+abbrev pub ahead_len : Option Bytes → ℕ
 ahead_len None = 0
 ahead_len (Some ahead) = length ahead
 
 -- what is left of a payload where `held` was read already and d is to come
-abbrev pub left_of : Option (List ℕ) → List ℕ → Option (List ℕ)
+abbrev pub left_of : Option Bytes → Bytes → Option Bytes
 left_of held d = option_map (λ h. h ++ d) held
 
 -- The first piece of what is left is opened as piece i, or its fault returned; after the last there
 -- is none.
-abbrev pub OpensNext : List ℕ → ℕ → ℕ → Option (List ℕ) → Option (List ℕ) → List ℕ
-    → Result Bool StreamFault → Type 0
+abbrev pub OpensNext : (key : Key) (max i : ℕ) (found left : Option Bytes) (text : Bytes)
+    (r : Result Bool StreamFault) → Type 0
 OpensNext key max i None left text r = (r ≡ Ok false) × (left ≡ None)
 OpensNext key max i (Some c) left text (Ok some) =
     (some ≡ true) × (first_outcome key max i c ≡ Ok text) × (left ≡ after_first c)
 OpensNext key max i (Some c) left text (Err fault) = first_outcome key max i c ≡ Err fault
 
 -- a fault at piece i
-abbrev pub IsAtPiece : ℕ → ℕ → StreamFault → Type 0
+abbrev pub IsAtPiece : (max i : ℕ) (fault : StreamFault) → Type 0
 IsAtPiece max i (ChunkShort j) = j ≡ i
 IsAtPiece max i (EmptyFinal j) = j ≡ i
 IsAtPiece max i (BadChunk j) = j ≡ i
@@ -59,7 +61,7 @@ IsAtPiece max i _ = ⊥
 abbrev pub goes_on : Bool → ℕ → ℕ
 goes_on some i = if some then i + 1 else i
 
-abbrev pub Keeps : OpenerState → OpenerState → Result Bool StreamFault → Type 0
+abbrev pub Keeps : (old new : OpenerState) (result : Result Bool StreamFault) → Type 0
 Keeps old new (Ok some) =
     (new.fault ≡ None) × (new.index ≡ goes_on some old.index)
     × (some ≡ true → old.index < old.max_chunks)
@@ -70,7 +72,7 @@ Keeps old new (Err fault) =
 -- One call of an opener that keeps no fault, on a source that could give `from` before it and can
 -- give `to` after it. Whatever comes after the call, something came before it that the call fits
 -- to.
-pub record Advances (old new : OpenerState) (from to : Option (List ℕ))
+pub record Advances (old new : OpenerState) (from to : Known)
     (r : Result Bool StreamFault) : Type 0 where
   pub key : new.key ≡ old.key
   pub max_chunks : new.max_chunks ≡ old.max_chunks
@@ -78,43 +80,43 @@ pub record Advances (old new : OpenerState) (from to : Option (List ℕ))
   pub keeps : Keeps old new r
   pub ahead : ahead_len old.held ≤ 1
   pub gave : GaveAtMost (65553 - ahead_len old.held) from to
-  pub opens : (d : List ℕ) → MayGive to d
-      → (c : List ℕ) × MayGive from c
+  pub opens : (d : Bytes) → MayGive to d
+      → (c : Bytes) × MayGive from c
       × OpensNext old.key old.max_chunks old.index (left_of old.held c) (left_of new.held d)
       new.text r
 
 -- the nonce that was read, where the source could give it
-abbrev pub GivesNonce : Option (List ℕ) → Option (List ℕ) → Result (List ℕ) StreamFault → Type 0
-GivesNonce from to (Ok nonce) = (d : List ℕ) → MayGive to d → MayGive from (nonce ++ d)
+abbrev pub GivesNonce : (from to : Known) (result : Result Bytes StreamFault) → Type 0
+GivesNonce from to (Ok nonce) = (d : Bytes) → MayGive to d → MayGive from (nonce ++ d)
 GivesNonce from to (Err Read) = ⊤
 GivesNonce from to (Err fault) =
-    (fault ≡ NonceTruncated) × ((c : List ℕ) × MayGive from c × (length c < 16))
+    (fault ≡ NonceTruncated) × ((c : Bytes) × MayGive from c × (length c < 16))
 
 -- the start of a payload was read: its nonce, under which the opener stands before piece 0; or
 -- there is no whole nonce
-abbrev pub Starts : FileKey → ℕ → Option (List ℕ) → Option (List ℕ) → Result OpenerState StreamFault
-    → Type 0
+abbrev pub Starts : (k : FileKey) (max : ℕ) (from to : Known)
+    (result : Result OpenerState StreamFault) → Type 0
 Starts k max from to (Ok opener) =
-    (nonce : List ℕ) × (length nonce ≡ 16) × (opener ≡ at_start (payload_key k nonce) max)
-    × ((d : List ℕ) → MayGive to d → MayGive from (nonce ++ d))
+    (nonce : Bytes) × (length nonce ≡ 16) × (opener ≡ at_start (payload_key k nonce) max)
+    × ((d : Bytes) → MayGive to d → MayGive from (nonce ++ d))
 Starts k max from to (Err Read) = ⊤
 Starts k max from to (Err fault) =
-    (fault ≡ NonceTruncated) × ((c : List ℕ) × MayGive from c × (length c < 16))
+    (fault ≡ NonceTruncated) × ((c : Bytes) × MayGive from c × (length c < 16))
 
 -- what is left, read from piece i on
-abbrev pub reading_left : List ℕ → ℕ → ℕ → Option (List ℕ) → Reading StreamFault
+abbrev pub reading_left : (key : Key) (max i : ℕ) (left : Option Bytes) → Reading StreamFault
 reading_left key max i None = whole []
 reading_left key max i (Some c) = reading_from key max i c
 
 -- the pieces that are left
-abbrev pub pieces_left : Option (List ℕ) → List (List ℕ)
+abbrev pub pieces_left : Option Bytes → List Bytes
 pieces_left None = []
 pieces_left (Some c) = pieces c
 
 -- A reading's fault was returned, or the length of its front and the number of its pieces, and its
 -- front was written; a beginning of its front where a device failed.
-abbrev pub WritesReading : Reading StreamFault → ℕ → Option (List ℕ) → Option (List ℕ)
-    → Result Done StreamFault → Type 0
+abbrev pub WritesReading : (reading : Reading StreamFault) (n : ℕ) (old new : Known)
+    (result : Result Done StreamFault) → Type 0
 WritesReading reading n old new (Ok done) =
     (reading.fault ≡ None) × Appends old new reading.front × (done.bytes ≡ length reading.front)
     × (done.chunks ≡ n)
@@ -124,31 +126,33 @@ WritesReading reading n old new (Err fault) =
     (reading.fault ≡ Some fault) × Appends old new reading.front
 
 -- the reading of what the source may have given was written
-abbrev pub WritesAll : OpenerState → Option (List ℕ) → Option (List ℕ) → Option (List ℕ)
-    → Result Done StreamFault → Type 0
+abbrev pub WritesAll : (s : OpenerState) (from old new : Known) (r : Result Done StreamFault)
+    → Type 0
 WritesAll s from old new r =
-    (c : List ℕ) × MayGive from c
+    (c : Bytes) × MayGive from c
     × WritesReading (reading_left s.key s.max_chunks s.index (left_of s.held c))
     (length (pieces_left (left_of s.held c))) old new r
 
 -- A fault of a piece or of a write: at which piece it was met, what had been written, and how much
 -- of the source had been taken.
-pub record EndsAt (max more : ℕ) (from to old new : Option (List ℕ)) (fault : StreamFault)
+pub record EndsAt (max more : ℕ) (from to old new : Known) (fault : StreamFault)
     : Type 0 where
   pub piece : ℕ
-  pub text : List ℕ
+  pub text : Bytes
   pub written : Appends old new text
   pub at : ((fault ≡ Write) × (65536 * piece ≤ length text)) ⊎ IsAtPiece max piece fault
   pub gave : GaveAtMost (more + (65552 * (piece + 1) + 1)) from to
 
 -- a piece's outcome is returned, and its opening stands in front
-abbrev pub GivesText : Result (List ℕ) StreamFault → List ℕ → Result ℕ StreamFault → Type 0
+abbrev pub GivesText : (outcome : Result Bytes StreamFault) (after : Bytes)
+    (result : Result ℕ StreamFault) → Type 0
 GivesText outcome after (Ok n) = (outcome ≡ Ok (take n after)) × (n ≤ length after)
 GivesText outcome after (Err fault) = outcome ≡ Err fault
 
 -- the first piece of c, as piece i, opens to the text in front, and what follows it is left; or its
 -- fault is returned
-abbrev pub Opens : List ℕ → ℕ → ℕ → List ℕ → List ℕ → List ℕ → Result Piece StreamFault → Type 0
+abbrev pub Opens : (key : Key) (max i : ℕ) (c after d : Bytes) (result : Result Piece StreamFault)
+    → Type 0
 Opens key max i c after d (Ok p) =
     (first_outcome key max i c ≡ Ok (take p.len after)) × (p.len ≤ length after)
     × (left_of (held_of p.more (drop 65552 after)) d ≡ after_first c)

@@ -1,5 +1,8 @@
 -- A reader of ranges between two calls, and what its calls do.
 use Rattle.std.specs.Prelude.{ℕ, List, [], ◌+◌, ◌-◌, ◌*◌, ◌/◌, ◌^◌, ◌<◌, ◌≤◌, ◌≡◌, ◌⊎◌, length, take, drop, min, nat_eq, unwrap_or, IsSome, IfSome, MatchResult, ⊤, Bool, false, Option, Some, None, Result, Ok, Err, if◌then◌else◌}
+use Rattle.age_cipher.specs.Bytes.{Key}
+use Rattle.age_header.specs.Device.{Known}
+use Rattle.age_kdf.specs.Bytes.{Bytes}
 use denote.Ref.{MutBor}
 use Rattle.age_recipient.specs.declared.key.FileKey.{FileKey}
 use Rattle.age_stream.specs.declared.fault.StreamFault.{StreamFault}
@@ -10,7 +13,7 @@ use Rattle.age_stream.specs.Payload.{payload_key}
 use Rattle.age_stream.specs.Slice.{opening, plain_len, text_len, IsSlice, last_piece, last_outcome, range_outcome}
 
 -- the known bytes from a place on
-abbrev pub bytes_from : Option (List ℕ) → ℕ → List ℕ
+abbrev pub bytes_from : (told : Known) (at : ℕ) → Bytes
 bytes_from told at = drop at (unwrap_or told [])
 
 -- a reader between two calls: where the chunks lie, which one is kept, the buffer with its text in
@@ -18,43 +21,43 @@ bytes_from told at = drop at (unwrap_or told [])
 pub record RangeState : Type 0 where
   pub layout : Layout
   pub index : Option ℕ
-  pub buf : List ℕ
+  pub buf : Bytes
   pub opened : ℕ
 
 -- what piece i opens to
-abbrev pub opens_to : Option (List ℕ) → Layout → ℕ → Option (List ℕ)
+abbrev pub opens_to : (told : Known) (layout : Layout) (i : ℕ) → Option Bytes
 opens_to told layout i = opening layout.key (bytes_from told layout.first) i
 
 -- the text of chunk i, while it is the kept one
-abbrev pub kept_text : RangeState → ℕ → List ℕ
+abbrev pub kept_text : RangeState → ℕ → Bytes
 kept_text s i = take (text_len s.layout.plain i) s.buf
 
 -- the source's contents are known, and end with the last piece
-pub record IsThere (told : Option (List ℕ)) (layout : Layout) : Type 0 where
+pub record IsThere (told : Known) (layout : Layout) : Type 0 where
   pub known : IsSome told
   pub size : length (bytes_from told layout.first) ≡ layout.plain + 16 * layout.count
 
 -- what holds between two calls over a source whose contents are known: the kept chunk is what its
 -- piece opens to
-pub record IsSound (told : Option (List ℕ)) (s : RangeState) : Type 0 where
+pub record IsSound (told : Known) (s : RangeState) : Type 0 where
   pub there : IsThere told s.layout
   pub keeps : (i : ℕ) → s.index ≡ Some i → opens_to told s.layout i ≡ Some (kept_text s i)
 
 -- how many bytes a range of n from `at` on has
-abbrev pub range_len : RangeState → ℕ → ℕ → ℕ
+abbrev pub range_len : (s : RangeState) (at n : ℕ) → ℕ
 range_len s at n = min n (s.layout.plain - at)
 
 -- xs are the plaintext's bytes from place `at` on
-abbrev pub HasPlain : Option (List ℕ) → Layout → ℕ → List ℕ → Type 0
+abbrev pub HasPlain : (told : Known) (layout : Layout) (at : ℕ) (xs : Bytes) → Type 0
 HasPlain told layout at xs = IsSlice layout.key (bytes_from told layout.first) at xs
 
 -- the front of the buffer has n bytes of the plaintext from `at` on, and its rest is as it was
-abbrev pub Fills : Option (List ℕ) → RangeState → ℕ → ℕ → List ℕ → List ℕ → Type 0
+abbrev pub Fills : (told : Known) (s : RangeState) (at n : ℕ) (old new : Bytes) → Type 0
 Fills told s at n old new =
     (drop n new ≡ drop n old) × (IsSound told s → HasPlain told s.layout at (take n new))
 
 -- chunk i does not open, or was not read
-abbrev pub IsLost : Option (List ℕ) → RangeState → ℕ → StreamFault → Type 0
+abbrev pub IsLost : (told : Known) (s : RangeState) (i : ℕ) (fault : StreamFault) → Type 0
 IsLost told s i fault =
     (fault ≡ Read) ⊎ ((fault ≡ BadChunk i) × (IsSound told s → opens_to told s.layout i ≡ None))
 
@@ -68,12 +71,12 @@ abbrev pub fresh : Option ℕ → ℕ → ℕ
 fresh index at = at / 65536 + (if is_kept index (at / 65536) then 1 else 0)
 
 -- the chunks opened so far are now at least n more; the count stays at the largest u64
-abbrev pub Counts : RangeState → ℕ → ℕ → Type 0
+abbrev pub Counts : (s : RangeState) (opened n : ℕ) → Type 0
 Counts s opened n = min (s.opened + n) (2 ^ 64 - 1) ≤ opened
 
 -- a range of n bytes from `at` on stops at chunk i, in which a place of it lies: the bytes before
 -- that chunk are filled in, and each chunk up to this one is counted that was not kept
-pub record Stops (told : Option (List ℕ)) (s : RangeState) (at n : ℕ) (old new : List ℕ)
+pub record Stops (told : Known) (s : RangeState) (at n : ℕ) (old new : Bytes)
     (opened : ℕ) (fault : StreamFault) : Type 0 where
   pub chunk : ℕ
   pub from : at < 65536 * (chunk + 1)
@@ -83,7 +86,7 @@ pub record Stops (told : Option (List ℕ)) (s : RangeState) (at n : ℕ) (old n
   pub counts : Counts s opened (chunk + 1 - fresh s.index at)
 
 -- how many sealed bytes the chunks from number `from` to before `end` have
-abbrev pub sealed_span : Layout → ℕ → ℕ → ℕ
+abbrev pub sealed_span : (layout : Layout) (from end : ℕ) → ℕ
 sealed_span layout from end = min (65552 * end) (layout.plain + 16 * layout.count) - 65552 * from
 
 -- how long the last piece is, of so many bytes
@@ -92,8 +95,8 @@ last_len sealed = sealed - 65552 * ((sealed - 1) / 65552)
 
 -- what the last piece gives was found, where so many known bytes stand from place `first` on: its
 -- text is in front, or its fault
-abbrev pub JudgesLast : List ℕ → ℕ → ℕ → ℕ → Option (List ℕ) → List ℕ → Result Layout StreamFault
-    → Type 0
+abbrev pub JudgesLast : (key : Key) (max first sealed : ℕ) (told : Known) (after : Bytes)
+    (r : Result Layout StreamFault) → Type 0
 JudgesLast key max first sealed told after r =
     MatchResult r
     (λ layout. (layout.key ≡ key) × (layout.first ≡ first)
@@ -107,7 +110,7 @@ JudgesLast key max first sealed told after r =
 
 -- a reader that was just opened on the payload at this place, over a source whose contents are
 -- known
-pub record IsOpened (k : FileKey) (max : ℕ) (told : Option (List ℕ)) (at : ℕ) (s : RangeState)
+pub record IsOpened (k : FileKey) (max : ℕ) (told : Known) (at : ℕ) (s : RangeState)
     : Type 0 where
   pub opens : range_outcome k max (bytes_from told at) ≡ Ok (kept_text s (s.layout.count - 1))
   pub key : s.layout.key ≡ payload_key k (take 16 (bytes_from told at))
@@ -117,7 +120,8 @@ pub record IsOpened (k : FileKey) (max : ℕ) (told : Option (List ℕ)) (at : �
 
 -- A reader was opened, which keeps the last chunk. Or the fault is a failed read, out of memory, or
 -- what opening the payload finds.
-abbrev pub OpensRanges : FileKey → ℕ → ℕ → Option (List ℕ) → Result RangeState StreamFault → Type 0
+abbrev pub OpensRanges : (k : FileKey) (max at : ℕ) (told : Known)
+    (r : Result RangeState StreamFault) → Type 0
 OpensRanges k max at told r =
     MatchResult r
     (λ s. (s.index ≡ Some (s.layout.count - 1)) × (s.opened ≡ 1)
@@ -132,7 +136,7 @@ IsOpenFault _ = ⊤
 
 -- a payload was opened: the source's contents stayed, and it gave at most the nonce and the last
 -- piece
-pub record Probes (told told2 : Option (List ℕ)) (at given given2 : ℕ) : Type 0 where
+pub record Probes (told told2 : Known) (at given given2 : ℕ) : Type 0 where
   pub stay : told2 ≡ told
   pub most : given2 ≤ given + 65568
   pub last : IfSome told

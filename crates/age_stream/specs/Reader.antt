@@ -1,7 +1,7 @@
 -- A reader of a payload: what its constructors and its calls do.
 use Rattle.std.specs.Prelude.{ℕ, List, ◌≡◌, ◌⊎◌, IfErr, IsErrOf, Bool, true, false, Option, None, Some, Result, Ok, Err}
 use denote.Ref.{MutBor}
-use Rattle.age_header.specs.Device.{GaveAtMost}
+use Rattle.age_header.specs.Device.{Known, GaveAtMost}
 use Rattle.age_recipient.specs.declared.key.FileKey.{FileKey}
 use Rattle.age_stream.specs.declared.fault.StreamFault.{StreamFault}
 use Rattle.age_stream.specs.declared.fault.StreamFault.TheVariants.{Read}
@@ -11,8 +11,8 @@ use Rattle.age_stream.specs.Opening.{Advances, OpenerState, Starts}
 
 -- the nonce was not read: the source gave fewer than 16 bytes, or failed, and then one failure more
 -- was counted
-abbrev pub MissesNonce : FileKey → ℕ → Option (List ℕ) → Option (List ℕ) → ℕ → ℕ → StreamFault
-    → Type 0
+abbrev pub MissesNonce : (key : FileKey) (max : ℕ) (from to : Known) (before after : ℕ)
+    (fault : StreamFault) → Type 0
 MissesNonce key max from to before after fault =
     Starts key max from to (Err fault) × CountsReadFault before after fault
     × ((fault ≡ Read) ⊎ GaveAtMost 16 from to)
@@ -25,8 +25,8 @@ lent (Err fault) = Err fault
 
 -- One call of a reader that keeps no fault, which asks its source at most for the next piece: a
 -- failed read is counted, and a fault is kept. Else the call is one of its opener.
-abbrev pub Lends : OpenerState → OpenerState → Option (List ℕ) → Option (List ℕ) → ℕ → ℕ
-    → Result Bool StreamFault → Type 0
+abbrev pub Lends : (old new : OpenerState) (from to : Known) (before after : ℕ)
+    (r : Result Bool StreamFault) → Type 0
 Lends old new from to before after r =
     IfErr r (λ fault. new.fault ≡ Some fault) × CountsRead before after r
     × (IsErrOf r Read ⊎ Advances old new from to r)

@@ -1,6 +1,8 @@
 -- What reading a payload gives: the first fault, and the plaintext before it (C2SP age.md,
 -- "Payload").
 use Rattle.std.specs.Prelude.{ℕ, List, [], ◌∷◌, ◌++◌, ◌+◌, ◌&&◌, Bool, length, take, drop, nat_lt, nat_le, nat_eq, Option, Some, None, Result, Ok, Err, ok_or, if◌then◌else◌}
+use Rattle.age_cipher.specs.Bytes.{Key}
+use Rattle.age_kdf.specs.Bytes.{Bytes}
 use Rattle.age_cipher.specs.Sealing.{opened}
 use Rattle.age_recipient.specs.declared.key.FileKey.{FileKey}
 use Rattle.age_stream.specs.declared.fault.StreamFault.{StreamFault}
@@ -8,11 +10,12 @@ use Rattle.age_stream.specs.declared.fault.StreamFault.TheVariants.{NonceTruncat
 use Rattle.age_stream.specs.Payload.{pieces, chunk_nonce, is_end, payload_key}
 
 -- what piece i opens to at its place
-abbrev pub opened_at : List ℕ → ℕ → Bool → List ℕ → Option (List ℕ)
+abbrev pub opened_at : (key : Key) (i : ℕ) (last : Bool) (piece : Bytes) → Option Bytes
 opened_at key i last piece = opened key (chunk_nonce i last) [] piece
 
 -- what piece i gives: the first fault that applies, or its opening
-unfoldable pub outcome : List ℕ → ℕ → ℕ → Bool → List ℕ → Result (List ℕ) StreamFault
+unfoldable pub outcome : (key : Key) (max i : ℕ) (last : Bool) (piece : Bytes)
+    → Result Bytes StreamFault
 outcome key max i last piece =
     if nat_le max i then Err TooManyChunks
     else if nat_lt (length piece) 16 then Err (ChunkShort i)
@@ -20,26 +23,27 @@ outcome key max i last piece =
     else ok_or (opened_at key i last piece) (BadChunk i)
 
 -- what each piece gives, numbered from i on
-abbrev pub outcomes : List ℕ → ℕ → ℕ → List (List ℕ) → List (Result (List ℕ) StreamFault)
+abbrev pub outcomes : (key : Key) (max i : ℕ) (pieces : List Bytes)
+    → List (Result Bytes StreamFault)
 outcomes key max i [] = []
 outcomes key max i (piece ∷ more) =
     outcome key max i (is_end more) piece ∷ outcomes key max (i + 1) more
 
 -- the first fault, if there is one
-abbrev pub first_fault : {F : Type 0} → List (Result (List ℕ) F) → Option F
+abbrev pub first_fault : {F : Type 0} → List (Result Bytes F) → Option F
 first_fault [] = None
 first_fault (Ok text ∷ more) = first_fault more
 first_fault (Err fault ∷ more) = Some fault
 
 -- the openings before the first fault, joined
-abbrev pub front : {F : Type 0} → List (Result (List ℕ) F) → List ℕ
+abbrev pub front : {F : Type 0} → List (Result Bytes F) → Bytes
 front [] = []
 front (Ok text ∷ more) = text ++ front more
 front (Err fault ∷ more) = []
 
 -- what a reading gives: some plaintext, then a fault or the end
 pub record Reading (F : Type 0) : Type 0 where
-  pub front : List ℕ
+  pub front : Bytes
   pub fault : Option F
 
 -- a fault before any plaintext
@@ -47,26 +51,26 @@ abbrev pub stops : {F : Type 0} → F → Reading F
 stops fault = record { front = []; fault = Some fault }
 
 -- a plaintext to its end
-abbrev pub whole : {F : Type 0} → List ℕ → Reading F
+abbrev pub whole : {F : Type 0} → Bytes → Reading F
 whole plain = record { front = plain; fault = None }
 
 -- a text read as the pieces from number i on
-abbrev pub reading_from : List ℕ → ℕ → ℕ → List ℕ → Reading StreamFault
+abbrev pub reading_from : Bytes → ℕ → ℕ → Bytes → Reading StreamFault
 reading_from key max i rest = record {
   front = front (outcomes key max i (pieces rest));
   fault = first_fault (outcomes key max i (pieces rest));
 }
 
 -- a payload read under a file key: its nonce, then its pieces
-abbrev pub payload_reading : FileKey → ℕ → List ℕ → Reading StreamFault
+abbrev pub payload_reading : (k : FileKey) (max : ℕ) (text : Bytes) → Reading StreamFault
 payload_reading k max text =
     if nat_lt (length text) 16 then stops NonceTruncated
     else reading_from (payload_key k (take 16 text)) max 0 (drop 16 text)
 
 -- what the first piece of c gives as piece i; it is the last where no byte follows it
-abbrev pub first_outcome : List ℕ → ℕ → ℕ → List ℕ → Result (List ℕ) StreamFault
+abbrev pub first_outcome : (key : Key) (max i : ℕ) (c : Bytes) → Result Bytes StreamFault
 first_outcome key max i c = outcome key max i (nat_le (length c) 65552) (take 65552 c)
 
 -- what follows the first piece of c, where anything does
-abbrev pub after_first : List ℕ → Option (List ℕ)
+abbrev pub after_first : Bytes → Option Bytes
 after_first c = if nat_le (length c) 65552 then None else Some (drop 65552 c)

@@ -2,8 +2,10 @@
 use Rattle.std.specs.Prelude.{ℕ, List, [], ◌++◌, ◌≡◌, ◌⊎◌, ◌≤◌, ◌<◌, ◌+◌, ◌-◌, ◌*◌, length, take, drop, false, MatchResult, Option, Some, None, Result, Ok, Err}
 use Rattle.std.specs.Io.KnownBytes.{Appends, Consumes, IsAtEnd}
 use Rattle.std.specs.List.{concat}
+use Rattle.age_cipher.specs.Bytes.{Key}
+use Rattle.age_kdf.specs.Bytes.{Bytes}
 use Rattle.age_cipher.specs.Sealing.{sealed}
-use Rattle.age_header.specs.Device.{GaveAtMost, MayGive, WritesPart}
+use Rattle.age_header.specs.Device.{Known, GaveAtMost, MayGive, WritesPart}
 use Rattle.age_stream.specs.declared.done.Done.{Done}
 use Rattle.age_stream.specs.declared.fault.StreamFault.{StreamFault}
 use Rattle.age_stream.specs.declared.fault.StreamFault.TheVariants.{Read, Write, TooManyChunks}
@@ -13,44 +15,44 @@ use Rattle.age_stream.specs.Payload.{chunk_nonce, sealed_from}
 -- a sealer: its key and limit, the number of the next chunk, the text that it holds of it, and the
 -- fault that it keeps
 pub record SealerState : Type 0 where
-  pub key : List ℕ
+  pub key : Key
   pub max_chunks : ℕ
   pub index : ℕ
-  pub held : List ℕ
+  pub held : Bytes
   pub fault : Option StreamFault
 
 -- before chunk 0
-abbrev pub at_start : List ℕ → ℕ → SealerState
+abbrev pub at_start : Bytes → ℕ → SealerState
 at_start key max = record { key = key; max_chunks = max; index = 0; held = []; fault = None }
 
 -- the sealed chunks from number i on, where `held` is held and `text` still comes
-abbrev pub sealed_after : List ℕ → ℕ → List ℕ → List ℕ → List (List ℕ)
+abbrev pub sealed_after : (key : Key) (i : ℕ) (held text : Bytes) → List Bytes
 sealed_after key i held text = sealed_from key i (cut_into 65536 held text)
 
 -- what a sealer writes if `text` still comes
-abbrev pub answer : SealerState → List ℕ → List ℕ
+abbrev pub answer : SealerState → Bytes → Bytes
 answer s text = concat (sealed_after s.key s.index s.held text)
 
 -- `text` came, `now` is held: the chunks `gone` went out, and whatever still comes the chunks that
 -- follow are as before
-pub record Fed (key : List ℕ) (i j : ℕ) (held text now : List ℕ) (old new : Option (List ℕ))
+pub record Fed (key : Key) (i j : ℕ) (held text now : Bytes) (old new : Known)
     : Type 0 where
-  pub gone : List (List ℕ)
+  pub gone : List Bytes
   pub count : j ≡ i + length gone
   pub size : length (concat gone) ≡ 65552 * length gone
   pub bytes : length held + length text ≡ 65536 * length gone + length now
   pub written : Appends old new (concat gone)
-  pub chunks : (more : List ℕ)
+  pub chunks : (more : Bytes)
       → sealed_after key i held (text ++ more) ≡ gone ++ sealed_after key j now more
 
 -- at least n bytes were written
-abbrev pub WroteAtLeast : ℕ → Option (List ℕ) → Option (List ℕ) → Type 0
-WroteAtLeast n old new = (text : List ℕ) × Appends old new text × (n ≤ length text)
+abbrev pub WroteAtLeast : (n : ℕ) (old new : Known) → Type 0
+WroteAtLeast n old new = (text : Bytes) × Appends old new text × (n ≤ length text)
 
 -- What was written where `text` was to come and a fault was met: of a device's fault a beginning of
 -- the sealed chunks; of too many chunks those with an index below the limit less one.
-abbrev pub StopsIn : List ℕ → ℕ → ℕ → List ℕ → List ℕ → Option (List ℕ) → Option (List ℕ)
-    → StreamFault → Type 0
+abbrev pub StopsIn : (key : Key) (max i : ℕ) (held text : Bytes) (old new : Known)
+    (fault : StreamFault) → Type 0
 StopsIn key max i held text old new Read =
     WritesPart old new (concat (sealed_after key i held text))
 StopsIn key max i held text old new Write =
@@ -60,26 +62,26 @@ StopsIn key max i held text old new TooManyChunks = (max < i + length (cut_into 
 StopsIn key max i held text old new _ = ⊥
 
 -- a text that the source may have given was taken
-pub record IsFed (key : List ℕ) (i j : ℕ) (held now : List ℕ) (from to old new : Option (List ℕ))
+pub record IsFed (key : Key) (i j : ℕ) (held now : Bytes) (from to old new : Known)
     : Type 0 where
-  pub text : List ℕ
+  pub text : Bytes
   pub took : Consumes from to text
   pub may : MayGive from text
   pub fed : Fed key i j held text now old new
 
 -- a fault was met in a text that the source may have given, with chunk j the next to be written; so
 -- much of the source was taken
-pub record Stopped (key : List ℕ) (max i j : ℕ) (held : List ℕ) (from to old new : Option (List ℕ))
+pub record Stopped (key : Key) (max i j : ℕ) (held : Bytes) (from to old new : Known)
     (fault : StreamFault) : Type 0 where
-  pub text : List ℕ
+  pub text : Bytes
   pub may : MayGive from text
   pub stops : StopsIn key max i held text old new fault
   pub wrote : WroteAtLeast (65552 * (j - i)) old new
   pub gave : (fault ≡ Read) ⊎ GaveAtMost (65536 * (j + 1 - i) + 1) from to
 
 -- all that a source gives was taken by a sealer that keeps no fault
-abbrev pub TakesAll : {A : Type 0} → SealerState → SealerState → Option (List ℕ) → Option (List ℕ)
-    → Option (List ℕ) → Option (List ℕ) → Result A StreamFault → Type 0
+abbrev pub TakesAll : {A : Type 0} (s t : SealerState) (from to old new : Known)
+    (r : Result A StreamFault) → Type 0
 TakesAll s t from to old new r =
     (t.key ≡ s.key) × (t.max_chunks ≡ s.max_chunks)
     × MatchResult r
@@ -89,7 +91,7 @@ TakesAll s t from to old new r =
     × Stopped s.key s.max_chunks s.index t.index s.held from to old new fault)
 
 -- the last chunk was written, or a beginning of it
-abbrev pub FinishesBy : SealerState → Option (List ℕ) → Option (List ℕ) → Result Done StreamFault
+abbrev pub FinishesBy : (s : SealerState) (old new : Known) (result : Result Done StreamFault)
     → Type 0
 FinishesBy s old new (Ok done) =
     Appends old new (answer s []) × (done.bytes ≡ 65536 * s.index + length s.held)
@@ -98,10 +100,10 @@ FinishesBy s old new (Err fault) = (fault ≡ Write) × WritesPart old new (answ
 
 -- all that a source gives was sealed and written by a sealer that keeps no fault; or a fault was
 -- met
-abbrev pub SealsAll : SealerState → Option (List ℕ) → Option (List ℕ) → Option (List ℕ)
-    → Option (List ℕ) → Result Done StreamFault → Type 0
+abbrev pub SealsAll : (s : SealerState) (from to old new : Known) (result : Result Done StreamFault)
+    → Type 0
 SealsAll s from to old new (Ok done) =
-    (text : List ℕ) × MayGive from text × Appends old new (answer s text)
+    (text : Bytes) × MayGive from text × Appends old new (answer s text)
     × (s.index + length (cut_into 65536 s.held text) ≤ s.max_chunks)
     × (done.bytes ≡ 65536 * s.index + length s.held + length text)
     × (done.chunks ≡ s.index + length (cut_into 65536 s.held text))
@@ -110,8 +112,8 @@ SealsAll s from to old new (Err fault) =
 
 -- the full chunk in front was written as chunk i, and the byte that followed it is in front; or a
 -- write of it failed, or there is no room for one more
-abbrev pub PutsFull : {A : Type 0} → List ℕ → ℕ → ℕ → ℕ → List ℕ → List ℕ → Option (List ℕ)
-    → Option (List ℕ) → Result A StreamFault → Type 0
+abbrev pub PutsFull : {A : Type 0} (key : Key) (max i j : ℕ) (bytes after : Bytes) (old new : Known)
+    (r : Result A StreamFault) → Type 0
 PutsFull key max i j bytes after old new r =
     MatchResult r
     (λ _. (j ≡ i + 1) × Appends old new (sealed key (chunk_nonce i false) [] (take 65536 bytes))

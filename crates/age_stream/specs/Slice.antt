@@ -2,6 +2,8 @@
 -- age.md, "Payload").
 use Rattle.std.specs.Prelude.{ℕ, List, [], ◌∷◌, ◌+◌, ◌-◌, ◌*◌, ◌/◌, ◌%◌, ◌<◌, ◌≡◌, length, get_or, take, drop, nat_lt, true, min, slice_get, slice_index, Option, Some, None, Result, Err, if◌then◌else◌}
 use Rattle.std.specs.List.{sum_by}
+use Rattle.age_cipher.specs.Bytes.{Key}
+use Rattle.age_kdf.specs.Bytes.{Bytes}
 use Rattle.age_recipient.specs.declared.key.FileKey.{FileKey}
 use Rattle.age_stream.specs.declared.fault.StreamFault.{StreamFault}
 use Rattle.age_stream.specs.declared.fault.StreamFault.TheVariants.{NonceTruncated}
@@ -9,40 +11,40 @@ use Rattle.age_stream.specs.Payload.{pieces, is_end, payload_key}
 use Rattle.age_stream.specs.Reading.{opened_at, outcome}
 
 -- what each piece opens to at its place, numbered from i on
-abbrev pub openings : List ℕ → ℕ → List (List ℕ) → List (Option (List ℕ))
+abbrev pub openings : (key : Key) (i : ℕ) (pieces : List Bytes) → List (Option Bytes)
 openings key i [] = []
 openings key i (piece ∷ more) = opened_at key i (is_end more) piece ∷ openings key (i + 1) more
 
 -- what piece i of what follows the nonce opens to
-abbrev pub opening : List ℕ → List ℕ → ℕ → Option (List ℕ)
+abbrev pub opening : (key : Key) (rest : Bytes) (i : ℕ) → Option Bytes
 opening key rest i = get_or (openings key 0 (pieces rest)) i None
 
 -- how long the plaintext is: each chunk has as many bytes as its piece, less the tag's
-abbrev pub plain_len : List ℕ → ℕ
+abbrev pub plain_len : Bytes → ℕ
 plain_len rest = sum_by (λ piece. length piece - 16) (pieces rest)
 
 -- how long chunk i of a plaintext of so many bytes is
-abbrev pub text_len : ℕ → ℕ → ℕ
+abbrev pub text_len : (plain i : ℕ) → ℕ
 text_len plain i = min 65536 (plain - 65536 * i)
 
 -- xs are the plaintext's bytes from place `at` on: at place x there is byte x - 65536 * i of what
 -- piece i opens to, i being the chunk in which x lies
-abbrev pub IsSlice : List ℕ → List ℕ → ℕ → List ℕ → Type 0
+abbrev pub IsSlice : (key : Key) (rest : Bytes) (at : ℕ) (xs : Bytes) → Type 0
 IsSlice key rest at xs =
     (k : ℕ) → k < length xs
-    → (text : List ℕ) × (opening key rest ((at + k) / 65536) ≡ Some text)
+    → (text : Bytes) × (opening key rest ((at + k) / 65536) ≡ Some text)
     × (slice_get text ((at + k) % 65536) ≡ Some (slice_index xs k))
 
 -- the last piece
-abbrev pub last_piece : List ℕ → List ℕ
+abbrev pub last_piece : Bytes → Bytes
 last_piece rest = get_or (pieces rest) (length (pieces rest) - 1) []
 
 -- what the last piece gives
-abbrev pub last_outcome : List ℕ → ℕ → List ℕ → Result (List ℕ) StreamFault
+abbrev pub last_outcome : (key : Key) (max : ℕ) (rest : Bytes) → Result Bytes StreamFault
 last_outcome key max rest = outcome key max (length (pieces rest) - 1) true (last_piece rest)
 
 -- what opening a payload for ranges finds: a nonce, and what the last piece gives
-abbrev pub range_outcome : FileKey → ℕ → List ℕ → Result (List ℕ) StreamFault
+abbrev pub range_outcome : (k : FileKey) (max : ℕ) (text : Bytes) → Result Bytes StreamFault
 range_outcome k max text =
     if nat_lt (length text) 16 then Err NonceTruncated
     else last_outcome (payload_key k (take 16 text)) max (drop 16 text)

@@ -1,7 +1,8 @@
 -- A writer of a payload: what its constructors and its calls do to its sink.
 use Rattle.std.specs.Prelude.{ℕ, List, ◌≡◌, ◌≤◌, ◌<◌, ◌≢◌, length, MatchResult, Option, None, Some, Result}
+use Rattle.age_kdf.specs.Bytes.{Bytes}
 use denote.Ref.{MutBor}
-use Rattle.age_header.specs.Device.{WritesPart}
+use Rattle.age_header.specs.Device.{Known, WritesPart}
 use Rattle.age_stream.specs.declared.fault.StreamFault.{StreamFault}
 use Rattle.age_stream.specs.declared.fault.StreamFault.TheVariants.{Read, Write}
 use Rattle.age_stream.specs.Counts.{CountsWriteFault}
@@ -11,8 +12,8 @@ use Rattle.age_stream.specs.Sealing.{Fed, SealerState, StopsIn}
 
 -- A piece was taken by a sealer that keeps no fault: whatever still comes, what is written is as
 -- before. Or a fault was met: of the sink, or too many chunks.
-abbrev pub TakesPiece : {A : Type 0} → SealerState → SealerState → List ℕ → Option (List ℕ)
-    → Option (List ℕ) → Result A StreamFault → Type 0
+abbrev pub TakesPiece : {A : Type 0} (s t : SealerState) (piece : Bytes) (old new : Known)
+    (r : Result A StreamFault) → Type 0
 TakesPiece s t piece old new r =
     (t.key ≡ s.key) × (t.max_chunks ≡ s.max_chunks)
     × MatchResult r
@@ -22,7 +23,8 @@ TakesPiece s t piece old new r =
     × StopsIn s.key s.max_chunks s.index s.held piece old new fault)
 
 -- a write of the nonce failed, and one failure more was counted
-abbrev pub LosesNonce : List ℕ → Option (List ℕ) → Option (List ℕ) → ℕ → ℕ → StreamFault → Type 0
+abbrev pub LosesNonce : (nonce : Bytes) (old new : Known) (before after : ℕ) (fault : StreamFault)
+    → Type 0
 LosesNonce nonce old new before after fault =
     (fault ≡ Write) × WritesPart old new nonce × CountsWriteFault before after fault
 

@@ -1,6 +1,7 @@
 //! Laws over the definitions alone: functions that do nothing, with the law as their contract.
 
 ghost use Rattle.std.specs.Prelude.{◌≡◌, ◌↔◌, ◌<◌, ◌≤◌, ℕ, List, Ok, drop, length, take};
+ghost use Rattle.age_kdf.specs.Bytes.{Bytes};
 ghost use Rattle.age_recipient.specs.declared.key.FileKey.{FileKey};
 ghost use Rattle.age_stream.specs.Cutting.{cut, IsCut};
 ghost use Rattle.age_stream.specs.Payload.{chunks, payload, payload_key, pieces};
@@ -9,17 +10,17 @@ ghost use Rattle.age_stream.specs.Slice.{IsSlice, plain_len, range_outcome};
 
 /// There is one cut of a text, and it is the computed one.
 pub fn one_cut()
-    ensures { (size : ℕ) (text : List ℕ) (lists : List (List ℕ)) → 0 < size
+    ensures { (size : ℕ) (text : Bytes) (lists : List Bytes) → 0 < size
         → IsCut size text lists ↔ (lists ≡ cut size text) }
 {}
 
 /// A payload reads whole as a plaintext exactly where it is the payload of this plaintext, which
 /// has few enough chunks. It then has as many pieces as the plaintext has chunks.
 pub fn ok_is_payload()
-    ensures ok { (k : FileKey) (text plain : List ℕ) (max : ℕ)
-        → (payload_reading k max text ≡ whole plain) ↔ ((nonce : List ℕ) × (length nonce ≡ 16)
+    ensures ok { (k : FileKey) (text plain : Bytes) (max : ℕ)
+        → (payload_reading k max text ≡ whole plain) ↔ ((nonce : Bytes) × (length nonce ≡ 16)
         × (text ≡ payload k nonce plain) × (length (chunks plain) ≤ max)) }
-    ensures count { (k : FileKey) (text plain : List ℕ) (max : ℕ)
+    ensures count { (k : FileKey) (text plain : Bytes) (max : ℕ)
         → payload_reading k max text ≡ whole plain
         → length (pieces (drop 16 text)) ≡ length (chunks plain) }
 {}
@@ -27,12 +28,12 @@ pub fn ok_is_payload()
 /// A payload that reads whole opens for ranges. Its length for ranges is that of the plaintext, and
 /// its slices are the plaintext's.
 pub fn whole_is_sliced()
-    ensures opens { (k : FileKey) (text plain : List ℕ) (max : ℕ)
+    ensures opens { (k : FileKey) (text plain : Bytes) (max : ℕ)
         → payload_reading k max text ≡ whole plain
-        → (last : List ℕ) × (range_outcome k max text ≡ Ok last) }
-    ensures len { (k : FileKey) (text plain : List ℕ) (max : ℕ)
+        → (last : Bytes) × (range_outcome k max text ≡ Ok last) }
+    ensures len { (k : FileKey) (text plain : Bytes) (max : ℕ)
         → payload_reading k max text ≡ whole plain → plain_len (drop 16 text) ≡ length plain }
-    ensures slice { (k : FileKey) (text plain xs : List ℕ) (max at : ℕ)
+    ensures slice { (k : FileKey) (text plain xs : Bytes) (max at : ℕ)
         → payload_reading k max text ≡ whole plain
         → IsSlice (payload_key k (take 16 text)) (drop 16 text) at xs
         → xs ≡ take (length xs) (drop at plain) }

@@ -1,6 +1,7 @@
 //! Opening a payload's pieces, one after another.
 ghost use Rattle.std.specs.Prelude.{◌≡◌, ◌≢◌, ◌⊎◌, ◌<◌, ◌≤◌, ◌+◌, ◌-◌, ◌^◌, ◌++◌, ◌&&◌, ℕ, List, [], length, take, drop, Some, None, Ok, Err, IfOk, OnOk, OnErr, IfErr, IfSome, IfNone, IsErrOf, nat_lt, nat_eq, true};
 ghost use Rattle.std.specs.Bool.{OnTrue, OnFalse};
+ghost use Rattle.age_kdf.specs.Bytes.{Bytes};
 ghost use Rattle.age_cipher.specs.Sealing.{opened};
 ghost use Rattle.age_header.specs.Device.{GaveAtMost, MayGive};
 ghost use Rattle.age_stream.specs.Counts.{CountsRead, CountsWrite};
@@ -198,8 +199,8 @@ fn next_piece<S: Source>(
     ensures len { length bytes.new ≡ 65553 }
     ensures count { CountsRead (S.failed source.old) (S.failed source.new) result }
     ensures opens { IsErrOf result StreamFault.Read
-        ⊎ ((d : List ℕ) → MayGive (S.to_come source.new) d
-        → (c : List ℕ) × MayGive (S.to_come source.old) c
+        ⊎ ((d : Bytes) → MayGive (S.to_come source.new) d
+        → (c : Bytes) × MayGive (S.to_come source.old) c
         × Opens key.now max i (take ahead (drop 65552 bytes.old) ++ c) bytes.new d
         result) }
     ensures gave { IsErrOf result StreamFault.Read

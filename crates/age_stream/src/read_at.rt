@@ -3,7 +3,8 @@
 ghost use Rattle.std.specs.Prelude.{◌≡◌, ◌+◌, ◌-◌, ◌^◌, ℕ, List, Some, None, length, min};
 ghost use Rattle.std.specs.declared.option.Option.{Option};
 ghost use Rattle.std.specs.Io.{ReadsAtMost};
-ghost use Rattle.age_header.specs.Device.{Counts};
+ghost use Rattle.age_kdf.specs.Bytes.{Bytes};
+ghost use Rattle.age_header.specs.Device.{Known, Counts};
 ghost use Rattle.age_stream.specs.Places.{CountsGiven, FindsSize, GivesAt, HasPlaces};
 
 use age_header::DeviceFault;
@@ -14,7 +15,7 @@ use std::io::{Read, Seek, SeekFrom};
 /// files, nothing is known but counts and sizes.
 pub trait ReadAt {
     // The contents, where they are known to proofs.
-    ghost bytes: { Self → Option (List ℕ) };
+    ghost bytes: { Self → Known };
 
     // How many bytes there are, once this was found.
     ghost found: { Self → Option ℕ };

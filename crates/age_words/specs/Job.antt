@@ -6,7 +6,7 @@ use Rattle.age_words.specs.declared.job.Command.TheVariants.{Range}
 use Rattle.age_words.specs.declared.job.Job.{Job}
 
 -- n is from least to most, both included
-abbrev pub Lies : ℕ → ℕ → ℕ → Type 0
+abbrev pub Lies : (least most n : ℕ) → Type 0
 Lies least most n = (least ≤ n) × (n ≤ most)
 
 -- a range names the file to read

@@ -1,5 +1,6 @@
 -- What a call over whole buffers gives.
 use Rattle.std.specs.Prelude.{◌≡◌, ◌⊎◌, ◌<◌, ◌≤◌, ◌++◌, ℕ, List, [], ◌∷◌, length, slice_index, drop, take, Option, None, Result, Ok}
+use Rattle.age_kdf.specs.Bytes.{Bytes}
 use Rattle.age_header.specs.Header.{StanzaParts}
 use Rattle.age_recipient.specs.declared.key.FileKey.{FileKey}
 use Rattle.age_recipient.specs.declared.unwrapped.Unwrapped.{Unwrapped}
@@ -14,13 +15,13 @@ use Rattle.agefile.specs.Limits.{limits}
 use Rattle.agefile.specs.Report.{report_of}
 
 -- the call returns this code alone, and the buffer is as it was
-pub record GivesUp (number : ℕ) (old new : List ℕ) (told : Report) (result : ℕ) : Type 0 where
+pub record GivesUp (number : ℕ) (old new : Bytes) (told : Report) (result : ℕ) : Type 0 where
   pub code : result ≡ number
   pub report : told ≡ report_of 0 None
   pub buffer : new ≡ old
 
 -- the text stands in front of the buffer, the rest of which is as it was, and its fault is reported
-pub record Fits (text : List ℕ) (fault : Option Fault) (old new : List ℕ) (told : Report)
+pub record Fits (text : Bytes) (fault : Option Fault) (old new : Bytes) (told : Report)
     (result : ℕ) : Type 0 where
   pub fits : length text ≤ length old
   pub code : result ≡ code_of fault
@@ -28,14 +29,15 @@ pub record Fits (text : List ℕ) (fault : Option Fault) (old new : List ℕ) (t
   pub buffer : new ≡ text ++ drop (length text) old
 
 -- the text is longer than the buffer, which is as it was; its length alone is reported
-pub record Exceeds (text old new : List ℕ) (told : Report) (result : ℕ) : Type 0 where
+pub record Exceeds (text old new : Bytes) (told : Report) (result : ℕ) : Type 0 where
   pub exceeds : length old < length text
   pub code : result ≡ 21
   pub report : told ≡ report_of (length text) None
   pub buffer : new ≡ old
 
 -- a text is given, and a fault after it, where the buffer has room for the text
-abbrev pub Gives : List ℕ → Option Fault → List ℕ → List ℕ → Report → ℕ → Type 0
+abbrev pub Gives : (text : Bytes) (fault : Option Fault) (old new : Bytes) (told : Report)
+    (result : ℕ) → Type 0
 Gives text fault old new told result =
     Fits text fault old new told result ⊎ Exceeds text old new told result
 
@@ -44,23 +46,24 @@ abbrev pub alone : (List StanzaParts → Unwrapped) → Answering
 alone meaning = λ stanzas. meaning stanzas ∷ []
 
 -- what decrypting b gives: the plaintext of its verdict and the fault after it; or out of memory
-abbrev pub GivesPlain : Answering → List ℕ → List ℕ → List ℕ → Report → ℕ → Type 0
+abbrev pub GivesPlain : (answers : Answering) (b old new : Bytes) (told : Report) (result : ℕ)
+    → Type 0
 GivesPlain answers b old new told result =
     GivesUp 17 old new told result
     ⊎ ((verdict : Reading Fault) × IsVerdict limits answers b verdict
     × Gives verdict.front verdict.fault old new told result)
 
 -- a seed: 48 bytes
-pub record IsSeed (seed : List ℕ) : Type 0 where
+pub record IsSeed (seed : Bytes) : Type 0 where
   pub len : length seed ≡ 48
   pub bytes : (i : ℕ) → slice_index seed i < 256
 
 -- a seed is a file key, a payload's nonce, and a stanza's salt
-abbrev pub fresh_of : List ℕ → Fresh
+abbrev pub fresh_of : Bytes → Fresh
 fresh_of seed = record { file_key = record { 0 = take 16 seed }; nonce = take 16 (drop 16 seed) }
 
 -- the salt of a seed
-abbrev pub salt_of : List ℕ → List ℕ
+abbrev pub salt_of : Bytes → Bytes
 salt_of seed = take 16 (drop 32 seed)
 
 -- the recipients gave this stanza alone
@@ -68,21 +71,21 @@ abbrev pub only : StanzaParts → Result (List StanzaParts) Fault → Type 0
 only stanza given = given ≡ Ok (stanza ∷ [])
 
 -- what encrypting gives: the file of this plaintext and stanza under this seed; or out of memory
-abbrev pub GivesFile : List ℕ → (FileKey → StanzaParts) → List ℕ → List ℕ → List ℕ → Report → ℕ
-    → Type 0
+abbrev pub GivesFile : (seed : Bytes) (stanza : (FileKey → StanzaParts)) (plain old new : Bytes)
+    (told : Report) (result : ℕ) → Type 0
 GivesFile seed stanza plain old new told result =
     GivesUp 17 old new told result
-    ⊎ ((file : List ℕ)
+    ⊎ ((file : Bytes)
     × NewFile limits (fresh_of seed) (only (stanza (fresh_of seed).file_key)) plain file
     × Gives file None old new told result)
 
 -- the same for whatever recipients give. In a refusal, and where there are too many chunks, nothing
 -- is said of what the call returns: the exports have one recipient, which leaves neither case.
-abbrev pub GivesGathered : List ℕ → (Result (List StanzaParts) Fault → Type 0) → List ℕ → List ℕ
-    → List ℕ → Report → ℕ → Type 0
+abbrev pub GivesGathered : (seed : Bytes) (given : (Result (List StanzaParts) Fault → Type 0))
+    (plain old new : Bytes) (told : Report) (result : ℕ) → Type 0
 GivesGathered seed given plain old new told result =
     GivesUp 17 old new told result
     ⊎ (((fault : Fault) × IsRefusal limits (fresh_of seed).file_key given fault)
-    ⊎ (((begun : List ℕ) × CutFile limits (fresh_of seed) given plain begun)
-    ⊎ ((file : List ℕ) × NewFile limits (fresh_of seed) given plain file
+    ⊎ (((begun : Bytes) × CutFile limits (fresh_of seed) given plain begun)
+    ⊎ ((file : Bytes) × NewFile limits (fresh_of seed) given plain file
     × Gives file None old new told result)))

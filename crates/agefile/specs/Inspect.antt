@@ -1,6 +1,7 @@
 -- What calls over a header give.
 use Rattle.std.specs.Prelude.{◌≡◌, ◌⊎◌, ℕ, List, [], ◌∷◌, length, Option, Some, None, Result, Ok, Err}
 use Rattle.std.specs.List.{join_by, slice_get}
+use Rattle.age_kdf.specs.Bytes.{Bytes}
 use Rattle.age_header.specs.declared.fault.HeaderFault.{HeaderFault}
 use Rattle.age_header.specs.Header.{HeaderParts, StanzaParts}
 use Rattle.age_header.specs.Verdict.{Found, HeaderVerdict}
@@ -16,9 +17,9 @@ use Rattle.agefile.specs.Limits.{limits}
 use Rattle.agefile.specs.Report.{report_of}
 
 -- the header in front of b, or its fault, or out of memory
-abbrev pub HeaderOf : List ℕ → Result HeaderParts Fault → Type 0
+abbrev pub HeaderOf : Bytes → Result HeaderParts Fault → Type 0
 HeaderOf b (Ok h) =
-    (text : List ℕ)
+    (text : Bytes)
     × HeaderVerdict b limits.max_header
     (Ok (record { stanzas = h.stanzas; mac = h.mac; text = text }))
 HeaderOf b (Err fault) =
@@ -27,7 +28,7 @@ HeaderOf b (Err fault) =
     × (fault ≡ of_header reason))
 
 -- a header's fault is returned, and its place reported
-abbrev pub TellsFault : HeaderFault → Report → ℕ → Type 0
+abbrev pub TellsFault : (reason : HeaderFault) (told : Report) (result : ℕ) → Type 0
 TellsFault reason told result =
     (result ≡ fault_code (of_header reason)) × (told ≡ report_of 0 (Some (of_header reason)))
 
@@ -37,20 +38,21 @@ summary_of found =
     record { header_len = length found.text; stanzas = length found.stanzas; mac = found.mac }
 
 -- the header is summed up, or its fault is returned and the summary is as it was
-abbrev pub SumsUp : Result Found HeaderFault → Summary → Summary → Report → ℕ → Type 0
+abbrev pub SumsUp : (result' : Result Found HeaderFault) (old new : Summary) (told : Report)
+    (result : ℕ) → Type 0
 SumsUp (Ok found) old new told result =
     (result ≡ 0) × (told ≡ report_of 0 None) × (new ≡ summary_of found)
 SumsUp (Err reason) old new told result = TellsFault reason told result × (new ≡ old)
 
 -- what inspecting b gives, by its header verdict; or out of memory, with the summary as it was
-abbrev pub Inspected : List ℕ → Summary → Summary → Report → ℕ → Type 0
+abbrev pub Inspected : (b : Bytes) (old new : Summary) (told : Report) (result : ℕ) → Type 0
 Inspected b old new told result =
     ((result ≡ 17) × (told ≡ report_of 0 None) × (new ≡ old))
     ⊎ ((verdict : Result Found HeaderFault) × HeaderVerdict b limits.max_header verdict
     × SumsUp verdict old new told result)
 
 -- the arguments of a stanza, joined by single spaces
-abbrev pub joined : List (List ℕ) → List ℕ
+abbrev pub joined : List Bytes → Bytes
 joined args = join_by (λ arg. arg) (32 ∷ []) args
 
 -- what a stanza is summed up as
@@ -60,24 +62,24 @@ stanza_summary s =
 
 -- the stanza at a place is summed up and its arguments are given, where the buffer has room for
 -- them; or there is none
-abbrev pub GivesStanza : Option StanzaParts → List ℕ → List ℕ → StanzaSummary → StanzaSummary
-    → Report → ℕ → Type 0
+abbrev pub GivesStanza : (found : Option StanzaParts) (old new : Bytes)
+    (before after : StanzaSummary) (told : Report) (result : ℕ) → Type 0
 GivesStanza (Some s) old new before after told result =
     Gives (joined s.args) None old new told result × (after ≡ stanza_summary s)
 GivesStanza None old new before after told result =
     GivesUp 23 old new told result × (after ≡ before)
 
 -- the same of a place in a header; or the header's fault is returned, and nothing is given
-abbrev pub StanzaOf : Result Found HeaderFault → ℕ → List ℕ → List ℕ → StanzaSummary → StanzaSummary
-    → Report → ℕ → Type 0
+abbrev pub StanzaOf : (result' : Result Found HeaderFault) (index : ℕ) (old new : Bytes)
+    (before after : StanzaSummary) (told : Report) (result : ℕ) → Type 0
 StanzaOf (Ok found) index old new before after told result =
     GivesStanza (slice_get found.stanzas index) old new before after told result
 StanzaOf (Err reason) index old new before after told result =
     TellsFault reason told result × (new ≡ old) × (after ≡ before)
 
 -- what asking for the stanza at a place of b's header gives; or out of memory, and nothing is given
-abbrev pub AnswersStanza : List ℕ → ℕ → List ℕ → List ℕ → StanzaSummary → StanzaSummary → Report → ℕ
-    → Type 0
+abbrev pub AnswersStanza : (b : Bytes) (index : ℕ) (old new : Bytes) (before after : StanzaSummary)
+    (told : Report) (result : ℕ) → Type 0
 AnswersStanza b index old new before after told result =
     (GivesUp 17 old new told result × (after ≡ before))
     ⊎ ((verdict : Result Found HeaderFault) × HeaderVerdict b limits.max_header verdict

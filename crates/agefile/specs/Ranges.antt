@@ -1,6 +1,7 @@
 -- Ranges of a plaintext in steps: the caller reads one sealed chunk of the file at a time (C2SP
 -- age.md, "Payload").
 use Rattle.std.specs.Prelude.{ℕ, List, ◌≡◌, ◌⊎◌, ◌<◌, ◌≤◌, ◌+◌, ◌-◌, ◌*◌, ◌/◌, ◌%◌, ◌^◌, ◌++◌, ◌&&◌, Bool, length, take, drop, min, nat_eq, nat_le, nat_lt, replicate, None, Some, Result, Ok, Err}
+use Rattle.age_kdf.specs.Bytes.{Bytes}
 use Rattle.age_stream.specs.declared.fault.StreamFault.{StreamFault}
 use Rattle.age_stream.specs.Reading.{outcome}
 use Rattle.age_file.specs.declared.fault.Fault.{Fault}
@@ -18,7 +19,7 @@ abbrev pub last_index : ℕ → ℕ
 last_index sealed = (sealed - 1) / 65552
 
 -- how long piece i of so many bytes is
-abbrev pub piece_len : ℕ → ℕ → ℕ
+abbrev pub piece_len : (sealed i : ℕ) → ℕ
 piece_len sealed i = min 65552 (sealed - 65552 * i)
 
 -- the plaintext's length: each piece has a tag
@@ -46,7 +47,8 @@ pub record StaysClosed (number : ℕ) (new : Ranges) (told : Report) (result : �
 
 -- the payload is open, and its last piece is reported; or the fault is returned; or the file ends
 -- before its first piece
-abbrev pub OpensAt : ℕ → Result Start Fault → Ranges → Report → ℕ → Type 0
+abbrev pub OpensAt : (file_len : ℕ) (result' : Result Start Fault) (new : Ranges) (told : Report)
+    (result : ℕ) → Type 0
 OpensAt file_len (Ok start) new told result =
     ((file_len < start.first) × StaysClosed 23 new told result)
     ⊎ ((start.first ≤ file_len) × (result ≡ 0) × (new ≡ opened start file_len)
@@ -55,22 +57,23 @@ OpensAt file_len (Err fault) new told result =
     (result ≡ fault_code fault) × (told ≡ report_of 0 (Some fault)) × (new ≡ closed)
 
 -- what opening a file of so many bytes with this front gives
-abbrev pub OpensRanges : Answering → List ℕ → ℕ → Ranges → Report → ℕ → Type 0
+abbrev pub OpensRanges : (answers : Answering) (front : Bytes) (file_len : ℕ) (new : Ranges)
+    (told : Report) (result : ℕ) → Type 0
 OpensRanges answers front file_len new told result =
     (start : Result Start Fault) × FindsStart answers front start
     × OpensAt file_len start new told result
 
 -- the bytes of piece i in a file
-abbrev pub piece_at : Ranges → List ℕ → ℕ → List ℕ
+abbrev pub piece_at : (r : Ranges) (b : Bytes) (i : ℕ) → Bytes
 piece_at r b i = take (piece_len r.sealed_len i) (drop (r.first + 65552 * i) b)
 
 -- what these bytes give as piece i
-abbrev pub gives : Ranges → ℕ → List ℕ → Result (List ℕ) StreamFault
+abbrev pub gives : (r : Ranges) (i : ℕ) (piece : Bytes) → Result Bytes StreamFault
 gives r i piece = outcome r.key limits.max_chunks i (nat_le r.sealed_len (65552 * (i + 1))) piece
 
 -- what the last piece gives, verified: on its text the plaintext's length is known
-abbrev pub Verified : Ranges → Ranges → List ℕ → List ℕ → Report → ℕ → Result (List ℕ) StreamFault
-    → Type 0
+abbrev pub Verified : (old new : Ranges) (chunk chunk2 : Bytes) (report : Report) (result : ℕ)
+    (result' : Result Bytes StreamFault) → Type 0
 Verified old new chunk chunk2 report result (Ok text) =
     (result ≡ 0)
     × (new ≡ record { key = old.key; first = old.first; sealed_len = old.sealed_len; state = 2 })
@@ -82,7 +85,7 @@ Verified old new chunk chunk2 report result (Err fault) =
     × (chunk2 ≡ chunk) × (report ≡ report_of 0 (Some (of_stream fault)))
 
 -- the payload was opened, and these are as many bytes as the last piece has
-abbrev pub may_verify : Ranges → List ℕ → Bool
+abbrev pub may_verify : Ranges → Bytes → Bool
 may_verify r chunk =
     nat_lt 0 r.state && nat_eq (length chunk) (piece_len r.sealed_len (last_index r.sealed_len))
 
@@ -94,12 +97,13 @@ has_byte r at =
     && nat_lt at (plain_of r.sealed_len)
 
 -- there is such a byte, and these are as many bytes as the piece that holds it
-abbrev pub may_open : Ranges → ℕ → List ℕ → Bool
+abbrev pub may_open : (r : Ranges) (at : ℕ) (chunk : Bytes) → Bool
 may_open r at chunk = has_byte r at && nat_eq (length chunk) (piece_len r.sealed_len (at / 65536))
 
 -- what the piece that holds byte `at` gives: its text in front, from which the plaintext goes on at
 -- `at`
-abbrev pub GivesFrom : ℕ → List ℕ → List ℕ → Report → ℕ → Result (List ℕ) StreamFault → Type 0
+abbrev pub GivesFrom : (at : ℕ) (chunk chunk2 : Bytes) (report : Report) (result : ℕ)
+    (result' : Result Bytes StreamFault) → Type 0
 GivesFrom at chunk chunk2 report result (Ok text) =
     (result ≡ 0) × (chunk2 ≡ text ++ drop (length text) chunk)
     × (report ≡ record { len = length text - at % 65536; place = at % 65536; detail = 0 })

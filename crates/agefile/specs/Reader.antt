@@ -1,5 +1,6 @@
 -- A reader of sealed chunks, which its caller holds between two calls.
 use Rattle.std.specs.Prelude.{◌≡◌, ◌⊎◌, ℕ, ◌+◌, ◌++◌, ◌&&◌, Bool, true, false, List, length, drop, replicate, nat_eq, nat_le, Some, None, Result, Ok, Err, if◌then◌else◌}
+use Rattle.age_kdf.specs.Bytes.{Bytes}
 use Rattle.age_stream.specs.declared.fault.StreamFault.{StreamFault}
 use Rattle.age_stream.specs.Reading.{outcome}
 use Rattle.age_file.specs.declared.fault.Fault.{Fault}
@@ -18,7 +19,7 @@ abbrev pub closed : Reader
 closed = record { key = replicate 32 0; number = 0; state = 0 }
 
 -- before chunk 0
-abbrev pub before_first : List ℕ → Reader
+abbrev pub before_first : Bytes → Reader
 before_first key = record { key = key; number = 0; state = 1 }
 
 -- after a chunk that opened
@@ -36,26 +37,28 @@ pub record StaysClosed (number : ℕ) (new : Reader) (told : Report) (result : �
   pub reader : new ≡ closed
 
 -- the reader stands before chunk 0, and the report says where that begins; or the fault is returned
-abbrev pub OpensAt : Result Start Fault → Reader → Report → ℕ → Type 0
+abbrev pub OpensAt : (result' : Result Start Fault) (new : Reader) (told : Report) (result : ℕ)
+    → Type 0
 OpensAt (Ok start) new told result =
     (result ≡ 0) × (told ≡ report_of start.first None) × (new ≡ before_first start.key)
 OpensAt (Err fault) new told result =
     (result ≡ fault_code fault) × (told ≡ report_of 0 (Some fault)) × (new ≡ closed)
 
 -- what opening the file with this front gives
-abbrev pub OpensReader : Answering → List ℕ → Reader → Report → ℕ → Type 0
+abbrev pub OpensReader : (answers : Answering) (front : Bytes) (new : Reader) (told : Report)
+    (result : ℕ) → Type 0
 OpensReader answers front new told result =
     (start : Result Start Fault) × FindsStart answers front start × OpensAt start new told result
 
 -- whether a reader takes a chunk of so many bytes: it is open, and the chunk is full, or the last
 -- and no longer
-abbrev pub takes : Reader → ℕ → Bool → Bool
+abbrev pub takes : (r : Reader) (len : ℕ) (last : Bool) → Bool
 takes r len last = nat_eq r.state 1 && (if last then nat_le len 65552 else nat_eq len 65552)
 
 -- the text stands in front of the chunk, of which the rest is as it was; or its fault is returned,
 -- and all of it is as it was
-abbrev pub Reads : Reader → Reader → List ℕ → List ℕ → Bool → Report → ℕ
-    → Result (List ℕ) StreamFault → Type 0
+abbrev pub Reads : (old new : Reader) (chunk after : Bytes) (last : Bool) (told : Report)
+    (result : ℕ) (result' : Result Bytes StreamFault) → Type 0
 Reads old new chunk after last told result (Ok text) =
     (result ≡ 0) × (told ≡ report_of (length text) None) × (new ≡ after_chunk old last)
     × (after ≡ text ++ drop (length text) chunk)
@@ -64,7 +67,8 @@ Reads old new chunk after last told result (Err fault) =
     × (new ≡ failed old) × (after ≡ chunk)
 
 -- one call: the chunk's outcome as the next piece, where the reader takes it
-abbrev pub ReadsStep : Reader → Reader → List ℕ → List ℕ → Bool → Report → ℕ → Type 0
+abbrev pub ReadsStep : (old new : Reader) (chunk after : Bytes) (last : Bool) (told : Report)
+    (result : ℕ) → Type 0
 ReadsStep old new chunk after last told result =
     ((takes old (length chunk) last ≡ false) × IsOutOfOrder old new chunk after told result)
     ⊎ ((takes old (length chunk) last ≡ true)

@@ -1,5 +1,6 @@
 -- What the steps of a whole file give, one after another.
 use Rattle.std.specs.Prelude.{◌≡◌, ◌≢◌, ◌⊎◌, ℕ, List, [], ◌∷◌, ◌++◌, length, take}
+use Rattle.age_kdf.specs.Bytes.{Bytes}
 use Rattle.agefile.specs.declared.reader.Reader.{Reader}
 use Rattle.agefile.specs.declared.report.Report.{Report}
 use Rattle.agefile.specs.declared.writer.Writer.{Writer}
@@ -10,22 +11,22 @@ use Rattle.agefile.specs.Writer.{WritesStep}
 -- Calls of a reader on these sealed chunks in order, the last as the last, up to the first that
 -- returns a code: the texts that they gave, joined, and that code and its place; both 0 where there
 -- is none.
-abbrev pub ReadsRun : Reader → List (List ℕ) → List ℕ → ℕ → ℕ → Type 0
+abbrev pub ReadsRun : (r : Reader) (pieces : List Bytes) (text : Bytes) (code place : ℕ) → Type 0
 ReadsRun r [] text code place = (text ≡ []) × ((code ≡ 0) × (place ≡ 0))
 ReadsRun r (chunk ∷ more) text code place =
-    (new : Reader) × (after : List ℕ) × (told : Report) × (result : ℕ)
+    (new : Reader) × (after : Bytes) × (told : Report) × (result : ℕ)
     × ReadsStep r new chunk after (is_end more) told result
     × (((result ≡ 0)
-    × ((rest : List ℕ) × (text ≡ take told.len after ++ rest)
+    × ((rest : Bytes) × (text ≡ take told.len after ++ rest)
     × ReadsRun new more rest code place))
     ⊎ ((result ≢ 0) × ((text ≡ []) × ((code ≡ result) × (place ≡ told.place)))))
 
 -- Calls of a writer on these texts in order, each followed by 16 bytes, the last as the last, up to
 -- the first that returns a code: the sealed chunks that they gave, joined, and that code, or 0.
-abbrev pub WritesRun : Writer → List (List ℕ) → List ℕ → ℕ → Type 0
+abbrev pub WritesRun : (w : Writer) (chunks : List Bytes) (out : Bytes) (code : ℕ) → Type 0
 WritesRun w [] out code = (out ≡ []) × (code ≡ 0)
 WritesRun w (text ∷ more) out code =
-    (new : Writer) × (room : List ℕ) × (length room ≡ 16) × (after : List ℕ) × (told : Report)
+    (new : Writer) × (room : Bytes) × (length room ≡ 16) × (after : Bytes) × (told : Report)
     × (result : ℕ) × WritesStep w new (text ++ room) after (is_end more) told result
-    × (((result ≡ 0) × ((rest : List ℕ) × (out ≡ after ++ rest) × WritesRun new more rest code))
+    × (((result ≡ 0) × ((rest : Bytes) × (out ≡ after ++ rest) × WritesRun new more rest code))
     ⊎ ((result ≢ 0) × ((out ≡ []) × (code ≡ result))))

@@ -1,5 +1,6 @@
 -- Where a file's sealed chunks begin, and their key.
 use Rattle.std.specs.Prelude.{◌≡◌, ◌⊎◌, ℕ, ◌+◌, List, length, take, drop, nat_lt, Result, Ok, Err, if◌then◌else◌}
+use Rattle.age_kdf.specs.Bytes.{Bytes}
 use Rattle.age_header.specs.declared.fault.HeaderFault.{HeaderFault}
 use Rattle.age_header.specs.Verdict.{Found, HeaderVerdict}
 use Rattle.age_recipient.specs.declared.key.FileKey.{FileKey}
@@ -13,24 +14,26 @@ use Rattle.agefile.specs.Limits.{limits}
 
 -- where the chunks begin and their key, where a header of `len` bytes is followed by `rest`, under
 -- the file key
-abbrev pub start_under : ℕ → List ℕ → Result FileKey Fault → Result Start Fault
+abbrev pub start_under : (len : ℕ) (rest : Bytes) (result : Result FileKey Fault)
+    → Result Start Fault
 start_under len rest (Err fault) = Err fault
 start_under len rest (Ok k) =
     if nat_lt (length rest) 16 then Err NonceTruncated
     else Ok (record { first = len + 16; key = payload_key k (take 16 rest) })
 
 -- the start of b, or the first fault before its first chunk, given its header verdict
-abbrev pub start_of : Answering → List ℕ → Result Found HeaderFault → Result Start Fault
+abbrev pub start_of : (answers : Answering) (b : Bytes) (result : Result Found HeaderFault)
+    → Result Start Fault
 start_of answers b (Err fault) = Err (of_header fault)
 start_of answers b (Ok found) =
     start_under (length found.text) (drop (length found.text) b) (unlocked answers (parts_of found))
 
 -- the same, whatever the header verdict is
-abbrev pub IsStart : Answering → List ℕ → Result Start Fault → Type 0
+abbrev pub IsStart : (answers : Answering) (b : Bytes) (start : Result Start Fault) → Type 0
 IsStart answers b start =
     (header : Result Found HeaderFault) × HeaderVerdict b limits.max_header header
     × (start ≡ start_of answers b header)
 
 -- the start of b is returned, or its first fault; or out of memory
-abbrev pub FindsStart : Answering → List ℕ → Result Start Fault → Type 0
+abbrev pub FindsStart : (answers : Answering) (b : Bytes) (result : Result Start Fault) → Type 0
 FindsStart answers b result = (result ≡ Err OutOfMemory) ⊎ IsStart answers b result

@@ -1,10 +1,11 @@
 -- What the steps of readers and writers share.
 use Rattle.std.specs.Prelude.{◌≡◌, ℕ, List, None}
+use Rattle.age_kdf.specs.Bytes.{Bytes}
 use Rattle.agefile.specs.declared.report.Report.{Report}
 use Rattle.agefile.specs.Report.{report_of}
 
 -- the call doesn't fit the state, and changes nothing
-pub record IsOutOfOrder {S : Type 0} (old new : S) (chunk after : List ℕ) (told : Report)
+pub record IsOutOfOrder {S : Type 0} (old new : S) (chunk after : Bytes) (told : Report)
     (result : ℕ) : Type 0 where
   pub code : result ≡ 23
   pub report : told ≡ report_of 0 None

@@ -1,5 +1,6 @@
 -- A writer of sealed chunks, which its caller holds between two calls.
 use Rattle.std.specs.Prelude.{◌≡◌, ◌⊎◌, ℕ, ◌+◌, ◌-◌, ◌<◌, ◌≤◌, ◌&&◌, ◌||◌, Bool, true, false, List, [], ◌∷◌, ◌++◌, length, take, replicate, nat_eq, nat_le, nat_lt, Some, None, Result, if◌then◌else◌}
+use Rattle.age_kdf.specs.Bytes.{Bytes}
 use Rattle.age_cipher.specs.Sealing.{sealed}
 use Rattle.age_header.specs.Header.{StanzaParts}
 use Rattle.age_recipient.specs.declared.key.FileKey.{FileKey}
@@ -20,7 +21,7 @@ abbrev pub closed : Writer
 closed = record { key = replicate 32 0; number = 0; state = 0 }
 
 -- before chunk 0
-abbrev pub before_first : List ℕ → Writer
+abbrev pub before_first : Bytes → Writer
 before_first key = record { key = key; number = 0; state = 1 }
 
 -- after a chunk that was sealed
@@ -32,13 +33,15 @@ abbrev pub failed : Writer → Writer
 failed w = record { key = w.key; number = w.number; state = 3 }
 
 -- the call returns this code alone, the buffer is as it was, and the writer is not open
-abbrev pub StaysClosed : ℕ → List ℕ → List ℕ → Writer → Report → ℕ → Type 0
+abbrev pub StaysClosed : (number : ℕ) (old new : Bytes) (writer : Writer) (told : Report)
+    (result : ℕ) → Type 0
 StaysClosed number old new writer told result =
     GivesUp number old new told result × (writer ≡ closed)
 
 -- a file's front, its header and its nonce, stands in front of the buffer, and the writer before
 -- chunk 0; or the buffer is too small for it
-abbrev pub GivesFront : List ℕ → Fresh → List ℕ → List ℕ → Writer → Report → ℕ → Type 0
+abbrev pub GivesFront : (front : Bytes) (fresh : Fresh) (old new : Bytes) (writer : Writer)
+    (told : Report) (result : ℕ) → Type 0
 GivesFront front fresh old new writer told result =
     (Fits front None old new told result
     × (writer ≡ before_first (payload_key fresh.file_key fresh.nonce)))
@@ -46,40 +49,40 @@ GivesFront front fresh old new writer told result =
 
 -- what opening a new file under this seed gives, whose header has this stanza alone, and at most
 -- 156 bytes: its front; or out of memory
-abbrev pub OpensWriter : List ℕ → (FileKey → StanzaParts) → List ℕ → List ℕ → Writer → Report → ℕ
-    → Type 0
+abbrev pub OpensWriter : (seed : Bytes) (stanza : (FileKey → StanzaParts)) (old new : Bytes)
+    (writer : Writer) (told : Report) (result : ℕ) → Type 0
 OpensWriter seed stanza old new writer told result =
     StaysClosed 17 old new writer told result
-    ⊎ ((text : List ℕ) × (length text ≤ 156)
+    ⊎ ((text : Bytes) × (length text ≤ 156)
     × IsHeading limits (fresh_of seed).file_key (only (stanza (fresh_of seed).file_key))
     (stanza (fresh_of seed).file_key ∷ []) text
     × GivesFront (text ++ (fresh_of seed).nonce) (fresh_of seed) old new writer told result)
 
 -- the same for whatever recipients give. In a refusal nothing is said of what the call returns: the
 -- exports have one recipient, which never refuses.
-abbrev pub OpensFor : Fresh → (Result (List StanzaParts) Fault → Type 0) → List ℕ → List ℕ → Writer
-    → Report → ℕ → Type 0
+abbrev pub OpensFor : (fresh : Fresh) (given : (Result (List StanzaParts) Fault → Type 0))
+    (old new : Bytes) (writer : Writer) (told : Report) (result : ℕ) → Type 0
 OpensFor fresh given old new writer told result =
     StaysClosed 17 old new writer told result
     ⊎ (((fault : Fault) × IsRefusal limits fresh.file_key given fault)
-    ⊎ ((stanzas : List StanzaParts) × (text : List ℕ)
+    ⊎ ((stanzas : List StanzaParts) × (text : Bytes)
     × IsHeading limits fresh.file_key given stanzas text
     × GivesFront (text ++ fresh.nonce) fresh old new writer told result))
 
 -- whether a last chunk of so many bytes, of which 16 are for the tag, has some text; that of an
 -- empty plaintext has none
-abbrev pub has_text : ℕ → ℕ → Bool
+abbrev pub has_text : (number len : ℕ) → Bool
 has_text number len = nat_lt 16 len || (nat_eq len 16 && nat_eq number 0)
 
 -- whether a writer takes a chunk of so many bytes: it is open, and the chunk is full, or the last
 -- and no longer, with some text
-abbrev pub takes : Writer → ℕ → Bool → Bool
+abbrev pub takes : (w : Writer) (len : ℕ) (last : Bool) → Bool
 takes w len last =
     nat_eq w.state 1
     && (if last then nat_le len 65552 && has_text w.number len else nat_eq len 65552)
 
 -- the chunk's text, all but the last 16 bytes, was sealed at its place
-pub record Seals (old new : Writer) (chunk after : List ℕ) (last : Bool) (told : Report)
+pub record Seals (old new : Writer) (chunk after : Bytes) (last : Bool) (told : Report)
     (result : ℕ) : Type 0 where
   pub few : old.number < limits.max_chunks
   pub code : result ≡ 0
@@ -89,7 +92,7 @@ pub record Seals (old new : Writer) (chunk after : List ℕ) (last : Bool) (told
       ≡ sealed old.key (chunk_nonce old.number last) [] (take (length chunk - 16) chunk)
 
 -- the file has as many chunks as it may have
-pub record IsTooMany (old new : Writer) (chunk after : List ℕ) (told : Report) (result : ℕ)
+pub record IsTooMany (old new : Writer) (chunk after : Bytes) (told : Report) (result : ℕ)
     : Type 0 where
   pub many : limits.max_chunks ≤ old.number
   pub code : result ≡ 14
@@ -98,7 +101,8 @@ pub record IsTooMany (old new : Writer) (chunk after : List ℕ) (told : Report)
   pub buffer : after ≡ chunk
 
 -- one call: the chunk is sealed as the next one, where the writer takes it
-abbrev pub WritesStep : Writer → Writer → List ℕ → List ℕ → Bool → Report → ℕ → Type 0
+abbrev pub WritesStep : (old new : Writer) (chunk after : Bytes) (last : Bool) (told : Report)
+    (result : ℕ) → Type 0
 WritesStep old new chunk after last told result =
     ((takes old (length chunk) last ≡ false) × IsOutOfOrder old new chunk after told result)
     ⊎ ((takes old (length chunk) last ≡ true)

@@ -2,6 +2,7 @@
 
 ghost use Rattle.std.specs.Prelude.{◌≡◌, ◌⊎◌, ℕ, List, take, Some, IfOk};
 ghost use Rattle.std.specs.String.{string_bytes};
+ghost use Rattle.age_kdf.specs.Bytes.{Bytes};
 ghost use Rattle.agefile.specs.Answer.{GivesUp};
 ghost use Rattle.agefile.specs.Inspect.{AnswersStanza, GivesStanza, HeaderOf, Inspected, joined, stanza_summary};
 
@@ -51,7 +52,7 @@ pub extern "C" fn agefile_inspect(
     report: &mut Report,
 ) -> u32
     ensures front { Inspected front.now summary.old summary.new report.new result }
-    ensures file { (b : List ℕ) → front.now ≡ take 65552 b
+    ensures file { (b : Bytes) → front.now ≡ take 65552 b
         → Inspected b summary.old summary.new report.new result }
 {
     match header_of(alloc, front) {
@@ -90,7 +91,7 @@ pub extern "C" fn agefile_stanza(
 ) -> u32
     ensures front { AnswersStanza front.now index args.old args.new stanza.old stanza.new report.new
         result }
-    ensures file { (b : List ℕ) → front.now ≡ take 65552 b
+    ensures file { (b : Bytes) → front.now ≡ take 65552 b
         → AnswersStanza b index args.old args.new stanza.old stanza.new report.new result }
 {
     let header = match header_of(alloc, front) {
@@ -144,7 +145,7 @@ fn joined(alloc: Global, stanza: &Stanza) -> Result<String, AllocError>
 /// The header at the front of a file.
 fn header_of(alloc: Global, front: &[u8]) -> Result<Header, Fault>
     ensures front { HeaderOf front.now result }
-    ensures file { (b : List ℕ) → front.now ≡ take 65552 b → HeaderOf b result }
+    ensures file { (b : Bytes) → front.now ≡ take 65552 b → HeaderOf b result }
 {
     inspect(alloc, &mut MemSource::new(front), &limits())
 }

@@ -1,6 +1,7 @@
 //! Laws over the definitions alone: functions that do nothing, with the law as their contract.
 
 ghost use Rattle.std.specs.Prelude.{List, None, Ok, [], drop, length, take, true, ℕ, ◌%◌, ◌++◌, ◌+◌, ◌/◌, ◌<◌, ◌≡◌, ◌≢◌, ◌⊎◌};
+ghost use Rattle.age_kdf.specs.Bytes.{Bytes};
 ghost use Rattle.age_header.specs.Header.{StanzaParts};
 ghost use Rattle.age_recipient.specs.declared.key.FileKey.{FileKey};
 ghost use Rattle.age_stream.specs.Payload.{chunks, pieces};
@@ -28,13 +29,13 @@ ghost use Rattle.agefile.specs.Start.{IsStart};
 /// sealed chunks after the nonce, joined up to the first fault, are the verdict's plaintext, and
 /// that fault, with its place, is the verdict's.
 pub fn steps_read()
-    ensures refused { (answers : Answering) (b : List ℕ) (reader : Reader) (told : Report)
+    ensures refused { (answers : Answering) (b : Bytes) (reader : Reader) (told : Report)
         (result : ℕ) (v : Reading Fault)
         → OpensReader answers (take 65552 b) reader told result → IsVerdict limits answers b v
         → result ≢ 0 → result ≢ 17
         → (v.front ≡ []) × (code_of v.fault ≡ result) × (told ≡ report_of 0 v.fault) }
-    ensures read { (answers : Answering) (b : List ℕ) (reader : Reader) (told : Report)
-        (text : List ℕ) (code place : ℕ) (v : Reading Fault)
+    ensures read { (answers : Answering) (b : Bytes) (reader : Reader) (told : Report)
+        (text : Bytes) (code place : ℕ) (v : Reading Fault)
         → OpensReader answers (take 65552 b) reader told 0
         → ReadsRun reader (pieces (drop told.len b)) text code place → IsVerdict limits answers b v
         → (v.front ≡ text) × ((code_of v.fault ≡ code) × ((report_of 0 v.fault).place ≡ place)) }
@@ -44,8 +45,8 @@ pub fn steps_read()
 /// sealed chunks of a plaintext, joined, are the plaintext's file. Else the plaintext has more
 /// chunks than the limit, and a step returns 14.
 pub fn steps_write()
-    ensures { (seed : List ℕ) (stanza : FileKey → StanzaParts) (plain old new : List ℕ)
-        (writer : Writer) (told : Report) (out : List ℕ) (code : ℕ)
+    ensures { (seed : Bytes) (stanza : FileKey → StanzaParts) (plain old new : Bytes)
+        (writer : Writer) (told : Report) (out : Bytes) (code : ℕ)
         → length seed ≡ 48 → OpensWriter seed stanza old new writer told 0
         → WritesRun writer (chunks plain) out code
         → ((code ≡ 0)
@@ -61,27 +62,27 @@ pub fn steps_write()
 /// byte on, a slice of the plaintext; where the verdict has no fault, it is a part of the verdict's
 /// plaintext.
 pub fn ranges_in_steps()
-    ensures refused { (answers : Answering) (b : List ℕ) (r : Ranges) (told : Report) (result : ℕ)
+    ensures refused { (answers : Answering) (b : Bytes) (r : Ranges) (told : Report) (result : ℕ)
         (v : Reading Fault)
         → OpensRanges answers (take 65552 b) (length b) r told result → IsVerdict limits answers b v
         → result ≢ 0 → result ≢ 17
         → (v.front ≡ []) × (code_of v.fault ≡ result) × (told ≡ report_of 0 v.fault) }
-    ensures opened { (answers : Answering) (b : List ℕ) (r : Ranges) (told : Report)
+    ensures opened { (answers : Answering) (b : Bytes) (r : Ranges) (told : Report)
         → OpensRanges answers (take 65552 b) (length b) r told 0
         → IsStart answers b (Ok (record { first = r.first; key = r.key }))
         × (length b ≡ r.first + r.sealed_len) }
-    ensures last { (r : Ranges) (b : List ℕ) → length b ≡ r.first + r.sealed_len
+    ensures last { (r : Ranges) (b : Bytes) → length b ≡ r.first + r.sealed_len
         → outcome r.key limits.max_chunks (last_index r.sealed_len) true
         (piece_at r b (last_index r.sealed_len))
         ≡ last_outcome r.key limits.max_chunks (drop r.first b) }
-    ensures len { (r : Ranges) (b text : List ℕ) → length b ≡ r.first + r.sealed_len
+    ensures len { (r : Ranges) (b text : Bytes) → length b ≡ r.first + r.sealed_len
         → last_outcome r.key limits.max_chunks (drop r.first b) ≡ Ok text
         → plain_len (drop r.first b) ≡ plain_of r.sealed_len }
-    ensures slice { (r : Ranges) (b text : List ℕ) (at : ℕ) → length b ≡ r.first + r.sealed_len
+    ensures slice { (r : Ranges) (b text : Bytes) (at : ℕ) → length b ≡ r.first + r.sealed_len
         → at < plain_of r.sealed_len → gives r (at / 65536) (piece_at r b (at / 65536)) ≡ Ok text
         → (at % 65536 < length text) × IsSlice r.key (drop r.first b) at (drop (at % 65536) text) }
-    ensures verdict { (answers : Answering) (b : List ℕ) (r : Ranges) (told : Report)
-        (v : Reading Fault) (at : ℕ) (text : List ℕ)
+    ensures verdict { (answers : Answering) (b : Bytes) (r : Ranges) (told : Report)
+        (v : Reading Fault) (at : ℕ) (text : Bytes)
         → OpensRanges answers (take 65552 b) (length b) r told 0 → IsVerdict limits answers b v
         → v.fault ≡ None → at < plain_of r.sealed_len
         → gives r (at / 65536) (piece_at r b (at / 65536)) ≡ Ok text

@@ -1,6 +1,7 @@
 //! How much room a caller needs.
 
 ghost use Rattle.std.specs.Prelude.{◌≡◌, ◌-◌, ◌^◌, ◌<◌, ◌≤◌, ℕ, List, length, min};
+ghost use Rattle.age_kdf.specs.Bytes.{Bytes};
 ghost use Rattle.age_recipient.specs.KeyedStanza.{keyed_stanza};
 ghost use Rattle.age_recipient.specs.PassphraseHolders.{WorkFits};
 ghost use Rattle.age_recipient.specs.PassphraseStanza.{pass_stanza};
@@ -24,11 +25,11 @@ const LEAST_FRONT: u64 = 86;
 #[unsafe(no_mangle)]
 pub extern "C" fn agefile_sealed_len(plain_len: u64) -> u64
     ensures value { result ≡ min (sealed_len plain_len) (2 ^ 64 - 1) }
-    ensures key { (key seed plain file : List ℕ) → length seed ≡ 48 → length plain ≡ plain_len
+    ensures key { (key seed plain file : Bytes) → length seed ≡ 48 → length plain ≡ plain_len
         → NewFile limits (fresh_of seed)
         (only (keyed_stanza key (salt_of seed) (fresh_of seed).file_key)) plain file
         → length file ≡ sealed_len plain_len }
-    ensures pass { (pass seed plain file : List ℕ) (work : ℕ) → length seed ≡ 48 → WorkFits work
+    ensures pass { (pass seed plain file : Bytes) (work : ℕ) → length seed ≡ 48 → WorkFits work
         → length plain ≡ plain_len
         → NewFile limits (fresh_of seed)
         (only (pass_stanza pass work (salt_of seed) (fresh_of seed).file_key)) plain file
@@ -43,7 +44,7 @@ pub extern "C" fn agefile_sealed_len(plain_len: u64) -> u64
 #[unsafe(no_mangle)]
 pub extern "C" fn agefile_plain_len_at_most(file_len: u64) -> u64
     ensures value { result ≡ plain_len_at_most file_len }
-    ensures suffices { (answers : Answering) (b : List ℕ) (verdict : Reading Fault)
+    ensures suffices { (answers : Answering) (b : Bytes) (verdict : Reading Fault)
         → length b ≡ file_len → IsVerdict limits answers b verdict → length verdict.front ≤ result }
 {
     let sealed = file_len.saturating_sub(LEAST_FRONT);

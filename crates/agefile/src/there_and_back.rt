@@ -2,6 +2,7 @@
 //! function that does nothing.
 
 ghost use Rattle.std.specs.Prelude.{ℕ, List};
+ghost use Rattle.age_kdf.specs.Bytes.{Bytes};
 ghost use Rattle.age_recipient.specs.KeyedHolders.{key_unwraps};
 ghost use Rattle.age_recipient.specs.KeyedStanza.{keyed_stanza};
 ghost use Rattle.age_recipient.specs.PassphraseHolders.{PairFits, pass_unwraps};
@@ -18,11 +19,11 @@ use age_file::laws;
 /// whole and without a fault; so with the same passphrase, where the maximum is at least the work
 /// factor. The seed is any 48 bytes.
 pub fn comes_back()
-    ensures key { (key seed plain file : List ℕ) → IsSeed seed
+    ensures key { (key seed plain file : Bytes) → IsSeed seed
         → NewFile limits (fresh_of seed)
         (only (keyed_stanza key (salt_of seed) (fresh_of seed).file_key)) plain file
         → IsVerdict limits (alone (key_unwraps key)) file (whole plain) }
-    ensures pass { (pass seed plain file : List ℕ) (work max : ℕ) → IsSeed seed → PairFits work max
+    ensures pass { (pass seed plain file : Bytes) (work max : ℕ) → IsSeed seed → PairFits work max
         → NewFile limits (fresh_of seed)
         (only (pass_stanza pass work (salt_of seed) (fresh_of seed).file_key)) plain file
         → IsVerdict limits (alone (pass_unwraps (record { pass = pass; max = max }))) file

@@ -3,7 +3,7 @@
 ghost use Rattle.std.specs.Prelude.{◌≡◌, ℕ, List, [], ◌∷◌, Ok, IfOk, IfErr};
 ghost use Rattle.age_file.specs.AgeFile.{AgeFile};
 ghost use Rattle.age_file.specs.Verdict.{IsVerdict};
-ghost use Rattle.age_file.specs.Words.{StanzaParts, whole};
+ghost use Rattle.age_file.specs.Words.{Bytes, StanzaParts, whole};
 ghost use Rattle.round_trip.specs.Losses.{IsMemoryFault};
 
 use age_file::{
@@ -56,10 +56,10 @@ pub fn decrypted(
     file: &[u8],
     limits: &Limits,
 ) -> Result<Vec<u8>, Fault>
-    ensures text { IfOk result (λ text. (plain : List ℕ)
+    ensures text { IfOk result (λ text. (plain : Bytes)
         → IsVerdict limits.now (λ s. meaning identity s ∷ []) file.now (whole plain)
         → text.items ≡ plain) }
-    ensures lost { IfErr result (λ fault. (plain : List ℕ)
+    ensures lost { IfErr result (λ fault. (plain : Bytes)
         → IsVerdict limits.now (λ s. meaning identity s ∷ []) file.now (whole plain)
         → IsMemoryFault fault) }
 {

@@ -1,6 +1,7 @@
 //! A key's recipient and identity.
 
 ghost use Rattle.std.specs.Prelude.{◌≡◌};
+ghost use Rattle.age_kdf.specs.Bytes.{Bytes};
 
 use super::stanza::{keyed_answer, keyed_stanza};
 use crate::identity::Identity;
@@ -61,8 +62,9 @@ pub struct KeyIdentity {
 
 impl Model for KeyIdentity {
     ghost use Rattle.std.specs.Prelude.{List, ℕ};
+    ghost use Rattle.age_header.specs.Device.{Bytes};
 
-    ghost Value = { List ℕ };
+    ghost Value = { Bytes };
 
     ghost view = { λ i. i.key };
 }
