@@ -7,18 +7,29 @@ use Rattle.age_header.specs.Header.{StanzaParts, Head}
 use Rattle.age_header.specs.Mac.{header_mac}
 use Rattle.age_recipient.specs.declared.key.FileKey.{FileKey}
 use Rattle.age_stream.specs.Payload.{chunks, payload}
+use Rattle.age_stream.specs.Sizes.{nonce_size, most_chunks}
 
 -- how long a header may be in bytes, and a payload in chunks
 pub record Bounds : Type 0 where
   pub max_header : ℕ
   pub max_chunks : ℕ
 
+-- the bounds of a header's limit, 1 KiB and 16 MiB, and the limit where the caller doesn't say
+abbrev pub least_max_header : ℕ
+least_max_header = 1024
+
+abbrev pub most_max_header : ℕ
+most_max_header = 16777216
+
+abbrev pub default_max_header : ℕ
+default_max_header = 65536
+
 -- the bounds that `Limits` may hold
 pub record IsBounds (limits : Bounds) : Type 0 where
-  pub header_low : 1024 ≤ limits.max_header
-  pub header_high : limits.max_header ≤ 16777216
+  pub header_low : least_max_header ≤ limits.max_header
+  pub header_high : limits.max_header ≤ most_max_header
   pub chunks_low : 1 ≤ limits.max_chunks
-  pub chunks_high : limits.max_chunks ≤ 2 ^ 88
+  pub chunks_high : limits.max_chunks ≤ most_chunks
 
 -- whether the first argument, the type, is `scrypt`
 abbrev pub is_scrypt : List Bytes → Bool
@@ -36,7 +47,7 @@ pub record AgeFile (limits : Bounds) (k : FileKey) (stanzas : List StanzaParts) 
   pub header : Bytes
   pub nonce : Bytes
   pub head : Head stanzas (header_mac k.0 stanzas) header
-  pub nonce_len : length nonce ≡ 16
+  pub nonce_len : length nonce ≡ nonce_size
   pub spelled : b ≡ header ++ payload k nonce plain
   pub header_fits : length header ≤ limits.max_header
   pub chunks_fit : length (chunks plain) ≤ limits.max_chunks

@@ -5,6 +5,14 @@ use Rattle.age_header.specs.Device.{Bytes, Known, MayGive, WritesPart}
 use Rattle.age_file.specs.declared.fault.Fault.{Fault}
 use Rattle.age_file.specs.declared.fault.Fault.TheVariants.{TooManyChunks, Read, Write}
 
+-- how many bytes are read and written at once
+abbrev pub buffer_size : ℕ
+buffer_size = 65536
+
+-- where a copy gives up: more bytes than any payload has
+abbrev pub most_copied : ℕ
+most_copied = 2 ^ 105
+
 -- one piece: a full one of this length, or what was left of the source
 abbrev pub CopiesPiece : (size : ℕ) (from to old new : Known) (result : Result Bool Fault) → Type 0
 CopiesPiece size from to old new (Ok true) =
@@ -22,5 +30,5 @@ Copies from old new (Ok done) = (bytes : Bytes) × MayGive from bytes × Appends
 Copies from old new (Err Read) = (bytes : Bytes) × MayGive from bytes × WritesPart old new bytes
 Copies from old new (Err Write) = (bytes : Bytes) × MayGive from bytes × WritesPart old new bytes
 Copies from old new (Err TooManyChunks) =
-    (bytes : Bytes) × MayGive from bytes × WritesPart old new bytes × (2 ^ 105 ≤ length bytes)
+    (bytes : Bytes) × MayGive from bytes × WritesPart old new bytes × (most_copied ≤ length bytes)
 Copies from old new (Err _) = ⊥

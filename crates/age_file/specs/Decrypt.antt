@@ -11,10 +11,11 @@ use Rattle.age_file.specs.declared.fault.Fault.{Fault}
 use Rattle.age_file.specs.declared.fault.Fault.TheVariants.{ChunkShort, EmptyFinal, BadChunk, TooManyChunks, Read, Write, OutOfMemory}
 use Rattle.age_file.specs.AgeFile.{Bounds}
 use Rattle.age_file.specs.Verdict.{Answering, IsVerdict}
+use Rattle.age_stream.specs.Sizes.{nonce_size, chunk_size, sealed_chunk_size}
 
 -- the pieces of what follows the header and the nonce
 abbrev pub payload_pieces : Bytes → Result Found HeaderFault → List Bytes
-payload_pieces b (Ok found) = pieces (drop 16 (drop (length found.text) b))
+payload_pieces b (Ok found) = pieces (drop nonce_size (drop (length found.text) b))
 payload_pieces b (Err fault) = []
 
 -- a verdict's fault is returned, or where it has none the length of its plaintext and the number of
@@ -60,7 +61,8 @@ pub record TookThrough (limits : Bounds) (i : ℕ) (come rest : Known) : Type 0 
   pub may : MayGive come b
   pub found : Found
   pub header : HeaderVerdict b limits.max_header (Ok found)
-  pub gave : GaveAtMost (length found.text + (16 + (65552 * (i + 1) + 1))) come rest
+  pub gave : GaveAtMost (length found.text + (nonce_size + (sealed_chunk_size * (i + 1) + 1))) come
+      rest
 
 -- How much of the source was taken where decrypting ended at a piece, or at a write behind so many
 -- written bytes.
@@ -71,5 +73,5 @@ Takes limits come rest old new (BadChunk i) = TookThrough limits i come rest
 Takes limits come rest old new TooManyChunks = TookThrough limits limits.max_chunks come rest
 Takes limits come rest old new Write =
     (written : Bytes) × Appends old new written
-    × TookThrough limits (length written / 65536) come rest
+    × TookThrough limits (length written / chunk_size) come rest
 Takes limits come rest old new _ = ⊤

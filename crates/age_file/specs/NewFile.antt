@@ -15,6 +15,7 @@ use Rattle.age_file.specs.declared.fault.Fault.{Fault}
 use Rattle.age_file.specs.declared.fault.Fault.TheVariants.{HeaderTooLarge, MixedPassphrase, TooManyChunks, Read, Write, OutOfMemory, NoRecipients, Refused, IncompatibleRecipients}
 use Rattle.age_file.specs.declared.limits.Fresh.{Fresh}
 use Rattle.age_file.specs.AgeFile.{AgeFile, Bounds, is_mixed}
+use Rattle.age_stream.specs.Sizes.{nonce_size, chunk_size, sealed_chunk_size}
 
 -- these stanzas, then those that come behind them
 abbrev pub before : List StanzaParts → Result (List StanzaParts) Fault
@@ -195,8 +196,8 @@ pub record TookChunks (limits : Bounds) (fresh : Fresh)
   pub written : Bytes
   pub gained : Appends old new written
   pub n : ℕ
-  pub whole : 65552 * n ≤ length written - (length text + 16)
-  pub gave : GaveAtMost (65536 * (n + 2)) from to
+  pub whole : sealed_chunk_size * n ≤ length written - (length text + nonce_size)
+  pub gave : GaveAtMost (chunk_size * (n + 2)) from to
 
 -- how much of the source was taken where encrypting ended at a write, or with too many chunks
 abbrev pub TakesOf : (limits : Bounds) (fresh : Fresh)

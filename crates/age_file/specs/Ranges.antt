@@ -12,6 +12,7 @@ use Rattle.age_file.specs.declared.fault.Fault.{Fault}
 use Rattle.age_file.specs.declared.fault.Fault.TheVariants.{NoRecipients, OutOfMemory, Read, Refused, Write}
 use Rattle.age_file.specs.AgeFile.{Bounds}
 use Rattle.age_file.specs.Verdict.{Answering, of_header, of_stream, unlocked}
+use Rattle.age_stream.specs.Sizes.{nonce_size}
 
 -- a source with places that is read from its first byte on: its contents, the next place, and how
 -- many reads have failed
@@ -80,4 +81,5 @@ pub record IsRangesOf (limits : Bounds) (answers : Answering) (b : Bytes) (chunk
   pub chosen : unlocked answers (record { stanzas = found.stanzas; mac = found.mac }) ≡ Ok key
   pub opened : IsOpened key limits.max_chunks (Some b) (length found.text) chunks
   pub gave : given2
-      ≤ given + length found.text + (16 + length (last_piece (drop (length found.text + 16) b)))
+      ≤ given + length found.text
+      + (nonce_size + length (last_piece (drop (length found.text + nonce_size) b)))

@@ -12,6 +12,7 @@ use Rattle.age_file.specs.declared.fault.Fault.TheVariants.{TooManyChunks, Read,
 use Rattle.age_file.specs.AgeFile.{Bounds, is_mixed}
 use Rattle.age_file.specs.NewFile.{IsRefusal}
 use Rattle.age_file.specs.Verdict.{Answering, of_header, unlocked}
+use Rattle.age_file.specs.Copying.{most_copied}
 
 -- the stanzas and the MAC of a header that was found
 abbrev pub parts_of : Found → HeaderParts
@@ -73,7 +74,7 @@ RewrapsText limits answers given b old new (Err Read) =
 RewrapsText limits answers given b old new (Err Write) =
     BeginsRewrapped limits answers given b old new
 RewrapsText limits answers given b old new (Err TooManyChunks) =
-    BeginsRewrapped limits answers given b old new × (2 ^ 105 ≤ length b)
+    BeginsRewrapped limits answers given b old new × (most_copied ≤ length b)
 RewrapsText limits answers given b old new (Err OutOfMemory) = ⊤
 RewrapsText limits answers given b old new (Err fault) = RefusesRewrap limits answers given b fault
 

@@ -1,7 +1,7 @@
 //! Copying what follows a header.
 
 ghost use Rattle.std.specs.Prelude.{◌≡◌, ◌≤◌, length};
-ghost use Rattle.age_file.specs.Copying.{Copies, CopiesPiece};
+ghost use Rattle.age_file.specs.Copying.{Copies, CopiesPiece, buffer_size};
 ghost use Rattle.age_file.specs.Device.{CountsRead, CountsWrite};
 
 use crate::fault::Fault;
@@ -19,8 +19,8 @@ pub(crate) fn copy_all<S: Source, W: Sink>(
     buf: &mut [u8],
     first: usize,
 ) -> Result<(), Fault>
-    requires size { length buf.old ≡ 65536 }
-    requires first { first ≤ 65536 }
+    requires size { length buf.old ≡ buffer_size }
+    requires first { first ≤ buffer_size }
     ensures copies { Copies (S.to_come input.old) (W.taken out.old) (W.taken out.new) result }
     ensures reads { CountsRead (S.failed input.old) (S.failed input.new) result }
     ensures writes { CountsWrite (W.failed out.old) (W.failed out.new) result }
@@ -35,7 +35,7 @@ pub(crate) fn copy_all<S: Source, W: Sink>(
 
 /// Copies all that the source still gives, a piece of the buffer's length at a time.
 fn copy_pieces<S: Source, W: Sink>(input: &mut S, out: &mut W, buf: &mut [u8]) -> Result<(), Fault>
-    requires { length buf.old ≡ 65536 }
+    requires { length buf.old ≡ buffer_size }
     ensures copies { Copies (S.to_come input.old) (W.taken out.old) (W.taken out.new) result }
     ensures reads { CountsRead (S.failed input.old) (S.failed input.new) result }
     ensures writes { CountsWrite (W.failed out.old) (W.failed out.new) result }

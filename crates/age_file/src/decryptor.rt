@@ -7,6 +7,7 @@ ghost use Rattle.age_stream.specs.Writer.{device_of, fault_of};
 ghost use Rattle.age_file.specs.AgeFile.{is_mixed};
 ghost use Rattle.age_file.specs.Inspect.{Inspects};
 ghost use Rattle.age_file.specs.Verdict.{unlocked};
+ghost use Rattle.age_stream.specs.Sizes.{nonce_size};
 
 use crate::fault::Fault;
 use crate::fault_names::stream_fault;
@@ -123,8 +124,8 @@ impl<'a, S: Source> Decryptor<'a, S> {
             (header_of self.entry))
             (S.to_come (input_of self.entry).now) (S.to_come (source_of reader).now)
             (opener_of reader)) }
-        ensures gave { IfOk result (λ reader. GaveAtMost 16 (S.to_come (input_of self.entry).now)
-            (S.to_come (source_of reader).now)) }
+        ensures gave { IfOk result (λ reader. GaveAtMost nonce_size
+            (S.to_come (input_of self.entry).now) (S.to_come (source_of reader).now)) }
         ensures uncounted { IfOk result
             (λ reader. S.failed (source_of reader).now ≡ S.failed (input_of self.entry).now) }
         ensures handed_back { IfErr result
@@ -177,8 +178,8 @@ impl<'a, S: Source> Decryptor<'a, S> {
             (header_of self.entry))
             (S.to_come (input_of self.entry).now) (S.to_come (source_of reader).now)
             (opener_of reader)) }
-        ensures gave { IfOk result (λ reader. GaveAtMost 16 (S.to_come (input_of self.entry).now)
-            (S.to_come (source_of reader).now)) }
+        ensures gave { IfOk result (λ reader. GaveAtMost nonce_size
+            (S.to_come (input_of self.entry).now) (S.to_come (source_of reader).now)) }
         ensures uncounted { IfOk result
             (λ reader. S.failed (source_of reader).now ≡ S.failed (input_of self.entry).now) }
         ensures misses { IfErr result (λ fault. ((fault ≡ Fault.OutOfMemory)

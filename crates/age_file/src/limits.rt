@@ -1,4 +1,6 @@
 ghost use Rattle.std.specs.Prelude.{◌≡◌, ◌^◌, Some, None, IfSome, IfNone};
+ghost use Rattle.age_file.specs.AgeFile.{default_max_header};
+ghost use Rattle.age_stream.specs.Sizes.{most_chunks};
 
 use age_recipient::FileKey;
 use std::marker::Model;
@@ -68,7 +70,8 @@ impl Limits {
 }
 
 impl Default for Limits {
-    ghost is_default = { λ limits. limits ≡ record { max_header = 65536; max_chunks = 2 ^ 88 } };
+    ghost is_default = { λ limits.
+        limits ≡ record { max_header = default_max_header; max_chunks = most_chunks } };
 
     /// A header of 65,536 bytes, and a payload of 2^88 chunks.
     fn default() -> Limits {

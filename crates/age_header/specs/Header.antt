@@ -14,9 +14,25 @@ pub record StanzaParts : Type 0 where
 abbrev pub line : Bytes → Bytes
 line text = text ++ 10 ∷ []
 
--- the first line, of 22 bytes with its LF
+-- the first line
 unfoldable pub version_line : Bytes
 version_line = line (codes "age-encryption.org/v1")
+
+-- how many bytes it has, with its LF
+abbrev pub version_size : ℕ
+version_size = 22
+
+-- how many characters of base64 a full line of a stanza's body has
+abbrev pub line_size : ℕ
+line_size = 64
+
+-- how many bytes of the body these are
+abbrev pub bytes_of_a_line : ℕ
+bytes_of_a_line = 48
+
+-- how many bytes a MAC has
+abbrev pub mac_size : ℕ
+mac_size = 32
 
 -- a visible character of ASCII
 abbrev pub IsVisible : ℕ → Type 0
@@ -36,7 +52,7 @@ argument_line args = line (codes "->" ++ flat_map (λ a. 32 ∷ a) args)
 
 -- a body line of 64 characters
 abbrev pub IsFullLine : Bytes → Type 0
-IsFullLine signs = length signs ≡ 64
+IsFullLine signs = length signs ≡ line_size
 
 -- The text of a stanza: its argument line, full lines, and a last line of fewer than 64 characters.
 -- The characters of these lines, joined, are the base64 of the body.
@@ -44,7 +60,7 @@ pub record IsStanza (s : StanzaParts) (text : Bytes) : Type 0 where
   pub full : List Bytes
   pub last : Bytes
   pub arguments : AreArguments s.args
-  pub cut : AllByRecursion IsFullLine full × (length last < 64)
+  pub cut : AllByRecursion IsFullLine full × (length last < line_size)
   pub body : B64 s.body (concat full ++ last)
   pub spelled : text ≡ argument_line s.args ++ flat_map line full ++ line last
 
@@ -61,7 +77,7 @@ pub record Head (stanzas : List StanzaParts) (mac : Bytes) (h : Bytes) : Type 0 
   pub signs : Bytes
   pub some : stanzas ≢ []
   pub stanza_text : AreStanzas stanzas body
-  pub mac_len : length mac ≡ 32
+  pub mac_len : length mac ≡ mac_size
   pub mac_text : B64 mac signs
   pub spelled : h ≡ version_line ++ body ++ line (codes "--- " ++ signs)
 

@@ -2,7 +2,7 @@
 use Rattle.std.specs.Prelude.{◌≡◌, ℕ, ◌<◌, List, [], ◌∷◌, ◌++◌, length}
 use Rattle.age_kdf.specs.Bytes.{Bytes}
 use Rattle.age_header.specs.Base64.{B64}
-use Rattle.age_header.specs.Header.{StanzaParts, AreArguments, IsFullLine, argument_line, line}
+use Rattle.age_header.specs.Header.{StanzaParts, AreArguments, IsFullLine, argument_line, line, line_size}
 
 -- between two stanzas, or within one: the whole stanzas, and of the open one its arguments and
 -- bytes so far
@@ -19,7 +19,7 @@ Step (within ss args body) l (within ts args' body') =
     (more : Bytes) × (ts ≡ ss) × (args' ≡ args) × IsFullLine l × B64 more l
     × (body' ≡ body ++ more)
 Step (within ss args body) l (between ts) =
-    (more : Bytes) × (length l < 64) × B64 more l
+    (more : Bytes) × (length l < line_size) × B64 more l
     × (ts ≡ ss ++ record { args = args; body = body ++ more } ∷ [])
 
 -- how lines lead from one state to another

@@ -5,7 +5,7 @@ use Rattle.age_kdf.specs.Bytes.{Bytes}
 use Rattle.base64.specs.GeneralPurpose.{IsBytes, IsStrict, engine_symbols, engine_config, config_padding}
 use Rattle.base64.specs.declared.engine.general_purpose.GeneralPurpose.{GeneralPurpose}
 use Rattle.age_header.specs.Base64.{alphabet, base64_of}
-use Rattle.age_header.specs.Header.{StanzaParts, AreArguments, argument_line, line, version_line}
+use Rattle.age_header.specs.Header.{StanzaParts, AreArguments, argument_line, line, version_line, bytes_of_a_line, mac_size}
 
 -- an engine for this alphabet, without padding, that decodes canonical text alone
 pub record IsPlain (e : GeneralPurpose) : Type 0 where
@@ -16,11 +16,12 @@ pub record IsPlain (e : GeneralPurpose) : Type 0 where
 -- n full lines, and a last line
 unfoldable pub body_lines : ℕ → Bytes → Bytes
 body_lines zero body = line (base64_of body)
-body_lines (suc n) body = line (base64_of (take 48 body)) ++ body_lines n (drop 48 body)
+body_lines (suc n) body =
+    line (base64_of (take bytes_of_a_line body)) ++ body_lines n (drop bytes_of_a_line body)
 
 -- a line for each 48 bytes, then the last
 unfoldable pub body_text : Bytes → Bytes
-body_text body = body_lines (length body / 48) body
+body_text body = body_lines (length body / bytes_of_a_line) body
 
 -- an argument line, and the body
 unfoldable pub stanza_text : StanzaParts → Bytes
@@ -42,5 +43,5 @@ IsWhole s = AreArguments s.args × IsBytes s.body
 pub record IsHeaderValue (stanzas : List StanzaParts) (mac : Bytes) : Type 0 where
   pub some : stanzas ≢ []
   pub each : AllByRecursion IsWhole stanzas
-  pub mac_len : length mac ≡ 32
+  pub mac_len : length mac ≡ mac_size
   pub mac_bytes : IsBytes mac

@@ -8,7 +8,7 @@ use Rattle.age_kdf.specs.Bytes.{Bytes}
 use Rattle.age_header.specs.declared.fault.HeaderFault.{HeaderFault}
 use Rattle.age_header.specs.declared.fault.HeaderFault.TheVariants.{NotAge, BadLine, Truncated, TooLarge, Read, Memory}
 use Rattle.age_header.specs.Base64.{B64}
-use Rattle.age_header.specs.Header.{StanzaParts, Head, AreStanzas, AreArguments, IsFullLine, argument_line, line, version_line}
+use Rattle.age_header.specs.Header.{StanzaParts, Head, AreStanzas, AreArguments, IsFullLine, argument_line, line, version_line, version_size}
 
 -- an unfinished stanza: an argument line, and full lines of base64
 pub record IsOpenStanza (text : Bytes) : Type 0 where
@@ -65,7 +65,7 @@ IsUndecided b = (ls : List Bytes) → Decides ls b → ⊥
 
 -- the first 22 bytes, or all where there are fewer, begin the version line
 abbrev pub BeginsAsAge : Bytes → Type 0
-BeginsAsAge b = StartsWith version_line (take 22 b)
+BeginsAsAge b = StartsWith version_line (take version_size b)
 
 -- a header that stands in a text: its stanzas, its MAC, and its own bytes
 pub record Found : Type 0 where

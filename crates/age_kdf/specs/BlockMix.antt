@@ -1,5 +1,5 @@
 -- scryptBlockMix (RFC 7914, section 4) on lists of words, 16 to a block of 64 bytes.
-use Rattle.std.specs.Prelude.{ℕ, zero, suc, ◌+◌, ◌-◌, ◌*◌, List, [], ◌++◌, take, drop, bit_xor}
+use Rattle.std.specs.Prelude.{ℕ, zero, suc, ◌+◌, ◌-◌, ◌*◌, [], ◌++◌, take, drop, bit_xor}
 use Rattle.std.specs.Simd.Lanes.{zip2}
 use Rattle.age_kdf.specs.Bytes.{Words}
 use Rattle.age_kdf.specs.Salsa.{salsa8}

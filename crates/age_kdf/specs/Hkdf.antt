@@ -1,5 +1,5 @@
 -- HKDF-SHA-256 (RFC 5869) on lists of bytes.
-use Rattle.std.specs.Prelude.{ℕ, zero, suc, ◌+◌, ◌/◌, List, [], ◌∷◌, ◌++◌, take}
+use Rattle.std.specs.Prelude.{ℕ, zero, suc, ◌+◌, ◌/◌, [], ◌∷◌, ◌++◌, take}
 use Rattle.age_kdf.specs.Bytes.{Bytes}
 use Rattle.age_kdf.specs.Hmac.{hmac}
 

@@ -1,5 +1,5 @@
 -- HMAC-SHA-256 (RFC 2104, with the hash function of RFC 6234) on lists of bytes.
-use Rattle.std.specs.Prelude.{ℕ, ◌-◌, List, ◌++◌, length, replicate, map, bit_xor, nat_le, if◌then◌else◌}
+use Rattle.std.specs.Prelude.{ℕ, ◌-◌, ◌++◌, length, replicate, map, bit_xor, nat_le, if◌then◌else◌}
 use Rattle.age_kdf.specs.Bytes.{Bytes}
 use Rattle.sha2.specs.Sha256.{sha256}
 

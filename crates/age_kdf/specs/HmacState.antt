@@ -1,5 +1,5 @@
 -- What a running HMAC has been fed.
-use Rattle.std.specs.Prelude.{ℕ, List, ◌++◌}
+use Rattle.std.specs.Prelude.{◌++◌}
 use Rattle.age_kdf.specs.Bytes.{Bytes}
 use Rattle.sha2.specs.Hashers.{Holds256}
 use Rattle.age_kdf.specs.Hmac.{padded_key, ipad, opad}

@@ -1,5 +1,5 @@
 -- PBKDF2-HMAC-SHA-256 (RFC 8018, section 5.2) on lists of bytes.
-use Rattle.std.specs.Prelude.{ℕ, zero, suc, ◌+◌, ◌/◌, List, [], ◌++◌, take, replicate, bit_xor}
+use Rattle.std.specs.Prelude.{ℕ, zero, suc, ◌+◌, ◌/◌, [], ◌++◌, take, replicate, bit_xor, ◌^◌, ◌-◌, ◌*◌}
 use Rattle.std.specs.Int.{w32, to_be_bytes}
 use Rattle.std.specs.Simd.Lanes.{zip2}
 use Rattle.age_kdf.specs.Bytes.{Bytes}
@@ -27,3 +27,7 @@ pbkdf2_blocks pass salt c (suc n) = pbkdf2_blocks pass salt c n ++ pbkdf2_block 
 -- the first len bytes of the blocks, of which there are len / 32, rounded up
 unfoldable pub pbkdf2 : (pass salt : Bytes) (c len : ℕ) → Bytes
 pbkdf2 pass salt c len = take len (pbkdf2_blocks pass salt c ((len + 31) / 32))
+
+-- the longest output: 2 ^ 32 - 1 blocks of 32 bytes (step 1)
+abbrev pub longest_output : ℕ
+longest_output = (2 ^ 32 - 1) * 32

@@ -1,5 +1,5 @@
 -- The Salsa20/8 core (RFC 7914, section 3) on lists of 16 words. A word is a number below 2 ^ 32.
-use Rattle.std.specs.Prelude.{ℕ, zero, suc, ◌+◌, ◌%◌, ◌^◌, List, slice_index, slice_set, bit_xor}
+use Rattle.std.specs.Prelude.{ℕ, zero, suc, ◌+◌, ◌%◌, ◌^◌, slice_index, slice_set, bit_xor}
 use Rattle.std.specs.Int.{w32, rotate_left}
 use Rattle.std.specs.Simd.Lanes.{zip2}
 use Rattle.age_kdf.specs.Bytes.{Words}

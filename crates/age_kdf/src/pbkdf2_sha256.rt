@@ -3,7 +3,7 @@
 ghost use Rattle.std.specs.Prelude.{◌≡◌, ℕ, ◌≤◌, ◌++◌, List, [], length, bit_xor};
 ghost use Rattle.std.specs.Simd.Lanes.{zip2};
 ghost use Rattle.age_kdf.specs.Bytes.{Bytes};
-ghost use Rattle.age_kdf.specs.Pbkdf2.{pbkdf2, pbkdf2_block};
+ghost use Rattle.age_kdf.specs.Pbkdf2.{pbkdf2, pbkdf2_block, longest_output};
 ghost use Rattle.age_kdf.specs.HmacState.{IsFed};
 
 use crate::hmac_sha256::Mac;
@@ -36,7 +36,7 @@ pub(crate) fn pbkdf2_block(keyed: &Mac, salted: &Mac, number: u32, rounds: u32) 
 /// PBKDF2 with the password and the salt given as running HMACs, as in `pbkdf2_block`.
 pub(crate) fn fill(keyed: &Mac, salted: &Mac, rounds: u32, out: &mut [u8])
     requires rounds { 1 ≤ rounds }
-    requires room { length out.old ≤ 137438953440 }
+    requires room { length out.old ≤ longest_output }
     ensures { (pass salt : Bytes) → IsFed keyed.now pass [] → IsFed salted.now pass salt
         → out.new ≡ pbkdf2 pass salt rounds (length out.old) }
 {
@@ -52,7 +52,7 @@ pub(crate) fn fill(keyed: &Mac, salted: &Mac, rounds: u32, out: &mut [u8])
 /// The caller asks for at least one round and at most 2^32 - 1 blocks of 32 bytes.
 pub fn pbkdf2(pass: &[u8], salt: &[u8], rounds: u32, out: &mut [u8])
     requires rounds { 1 ≤ rounds }
-    requires room { length out.old ≤ 137438953440 }
+    requires room { length out.old ≤ longest_output }
     ensures { out.new ≡ pbkdf2 pass.now salt.now rounds (length out.old) }
 {
     let keyed = Mac::new(pass);

@@ -2,7 +2,7 @@
 
 ghost use Rattle.std.specs.Prelude.{◌≡◌, ℕ, ◌+◌, ◌*◌, ◌^◌, ◌≤◌, ◌++◌, List, [], length, OnErr, OnOk};
 ghost use Rattle.age_kdf.specs.Bytes.{Bytes};
-ghost use Rattle.age_kdf.specs.Pbkdf2.{pbkdf2};
+ghost use Rattle.age_kdf.specs.Pbkdf2.{pbkdf2, longest_output};
 ghost use Rattle.age_kdf.specs.Params.{work_words};
 ghost use Rattle.age_kdf.specs.Scrypt.{words_of, bytes_of, parts_mixed, scrypt};
 ghost use Rattle.age_kdf.specs.HmacState.{IsFed};
@@ -80,7 +80,7 @@ pub fn scrypt_with(
     out: &mut [u8],
 )
     requires work { length work.old ≡ work_words params.now }
-    requires room { length out.old ≤ 137438953440 }
+    requires room { length out.old ≤ longest_output }
     ensures { out.new ≡ scrypt pass.now salt.now
         (2 ^ params.now.log_n) params.now.r params.now.p (length out.old) }
 {
@@ -112,7 +112,7 @@ pub fn scrypt(
     params: &ScryptParams,
     out: &mut [u8],
 ) -> Result<(), AllocError>
-    requires room { length out.old ≤ 137438953440 }
+    requires room { length out.old ≤ longest_output }
     ensures ok { OnOk result (out.new ≡ scrypt pass.now salt.now
         (2 ^ params.now.log_n) params.now.r params.now.p (length out.old)) }
     ensures err { OnErr result (out.new ≡ out.old) }

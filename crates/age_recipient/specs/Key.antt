@@ -2,7 +2,11 @@
 use Rattle.std.specs.Prelude.{◌≡◌, ◌<◌, ℕ, length, slice_index}
 use Rattle.age_recipient.specs.declared.key.FileKey.{FileKey}
 
--- sixteen bytes, as the file key of every call has
+-- how many bytes a file key has
+abbrev pub file_key_size : ℕ
+file_key_size = 16
+
+-- so many bytes, as the file key of every call has
 pub record IsFileKey (key : FileKey) : Type 0 where
-  pub len : length key.0 ≡ 16
+  pub len : length key.0 ≡ file_key_size
   pub bytes : (i : ℕ) → slice_index key.0 i < 256

@@ -12,7 +12,7 @@ use Rattle.age_recipient.specs.declared.unwrapped.Unwrapped.{Unwrapped}
 use Rattle.age_recipient.specs.declared.unwrapped.Unwrapped.TheVariants.{Malformed}
 use Rattle.age_recipient.specs.Answer.{behind_type, typed_answer}
 use Rattle.age_recipient.specs.Salt.{salt_of}
-use Rattle.age_recipient.specs.Sealing.{sealed_key, unsealed}
+use Rattle.age_recipient.specs.Sealing.{sealed_key, unsealed, sealed_key_size}
 
 -- the key that wraps the file key
 unfoldable pub wrap_key : (key salt : Bytes) → Bytes
@@ -29,7 +29,8 @@ keyed_stanza key salt file_key = record {
 abbrev pub salted_answer : (key body : Bytes) (salt : Option Bytes) → Unwrapped
 salted_answer key body None = Malformed Salt
 salted_answer key body (Some salt) =
-    if nat_eq (length body) 32 then unsealed (wrap_key key salt) body else Malformed BodyLength
+    if nat_eq (length body) sealed_key_size then unsealed (wrap_key key salt) body
+    else Malformed BodyLength
 
 -- what a stanza of this type gives, whose arguments behind the type are these
 abbrev pub arguments_answer : (key : Bytes) (args : List Bytes) (body : Bytes) → Unwrapped

@@ -22,15 +22,19 @@ pub record PassGuess : Type 0 where
   pub pass : Bytes
   pub max : ℕ
 
--- a work factor is 1 to 30
+-- the greatest work factor, with which scrypt takes 1 TiB of memory
+abbrev pub most_work : ℕ
+most_work = 30
+
+-- a work factor is from 1 to the greatest
 abbrev pub WorkFits : ℕ → Type 0
-WorkFits work = (1 ≤ work) × (work ≤ 30)
+WorkFits work = (1 ≤ work) × (work ≤ most_work)
 
 -- a pair's work factor is at most its maximum
 pub record PairFits (work max : ℕ) : Type 0 where
   pub low : 1 ≤ work
   pub within : work ≤ max
-  pub top : max ≤ 30
+  pub top : max ≤ most_work
 
 -- a work factor is refused exactly where it does not fit
 abbrev pub IsPassError : Type 0 → PassError → Type 0

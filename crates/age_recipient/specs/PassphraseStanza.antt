@@ -14,7 +14,7 @@ use Rattle.age_recipient.specs.declared.unwrapped.Unwrapped.{Unwrapped}
 use Rattle.age_recipient.specs.declared.unwrapped.Unwrapped.TheVariants.{Malformed}
 use Rattle.age_recipient.specs.Answer.{behind_type, typed_answer}
 use Rattle.age_recipient.specs.Salt.{salt_of}
-use Rattle.age_recipient.specs.Sealing.{sealed_key, unsealed}
+use Rattle.age_recipient.specs.Sealing.{sealed_key, unsealed, sealed_key_size}
 
 -- the key that wraps the file key; the work factor is the base-2 logarithm of scrypt's N
 unfoldable pub pass_key : (pass salt : Bytes) (work : ℕ) → Bytes
@@ -48,12 +48,10 @@ abbrev pub salted_answer : (pass : Bytes) (max : ℕ) (work body : Bytes) (salt 
     → Unwrapped
 salted_answer pass max work body None = Malformed Salt
 salted_answer pass max work body (Some salt) =
-    if is_work_factor work then
-    if nat_le (number_from 0 work) max then
-    if nat_eq (length body) 32 then unsealed (pass_key pass salt (number_from 0 work)) body
-    else Malformed BodyLength
-    else Malformed WorkFactorTooHigh
-    else Malformed WorkFactorText
+    if is_work_factor work then if nat_le (number_from 0 work) max
+    then if nat_eq (length body) sealed_key_size
+    then unsealed (pass_key pass salt (number_from 0 work)) body else Malformed BodyLength
+    else Malformed WorkFactorTooHigh else Malformed WorkFactorText
 
 -- what a stanza of this type gives, whose arguments behind the type are these
 abbrev pub arguments_answer : (pass : Bytes) (max : ℕ) (args : List Bytes) (body : Bytes)

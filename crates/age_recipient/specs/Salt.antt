@@ -4,12 +4,16 @@ use Rattle.std.specs.declared.option.Option.{Option}
 use Rattle.std.specs.declared.option.Option.TheVariants.{None, Some}
 use Rattle.age_kdf.specs.Bytes.{Bytes}
 
--- sixteen bytes
+-- how many bytes a salt has
+abbrev pub salt_size : ℕ
+salt_size = 16
+
+-- so many bytes
 pub record IsSalt (salt : Bytes) : Type 0 where
-  pub len : length salt ≡ 16
+  pub len : length salt ≡ salt_size
   pub bytes : (i : ℕ) → slice_index salt i < 256
 
--- a salt has 16 bytes
+-- a salt, where it has as many bytes as one
 abbrev pub salt_of : Option Bytes → Option Bytes
 salt_of None = None
-salt_of (Some salt) = if nat_eq (length salt) 16 then Some salt else None
+salt_of (Some salt) = if nat_eq (length salt) salt_size then Some salt else None

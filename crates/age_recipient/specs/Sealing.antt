@@ -1,7 +1,7 @@
 -- How a stanza of this project's own kinds holds the file key (C2SP age.md, "The scrypt recipient
 -- type"): sealed with ChaCha20-Poly1305 under a wrap key, a nonce of twelve zero bytes, and no
 -- associated data.
-use Rattle.std.specs.Prelude.{ℕ, List, [], replicate}
+use Rattle.std.specs.Prelude.{ℕ, ◌+◌, List, [], replicate}
 use Rattle.std.specs.declared.option.Option.{Option}
 use Rattle.std.specs.declared.option.Option.TheVariants.{None, Some}
 use Rattle.age_kdf.specs.Bytes.{Bytes}
@@ -9,10 +9,16 @@ use Rattle.age_cipher.specs.Sealing.{sealed, opened}
 use Rattle.age_recipient.specs.declared.key.FileKey.{FileKey}
 use Rattle.age_recipient.specs.declared.unwrapped.Unwrapped.{Unwrapped}
 use Rattle.age_recipient.specs.declared.unwrapped.Unwrapped.TheVariants.{Failed, Key}
+use Rattle.age_cipher.specs.Bytes.{tag_size}
+use Rattle.age_recipient.specs.Key.{file_key_size}
 
 -- a wrap key seals one file key alone
 abbrev pub zero_nonce : Bytes
 zero_nonce = replicate 12 0
+
+-- how many bytes the body of a stanza has
+abbrev pub sealed_key_size : ℕ
+sealed_key_size = file_key_size + tag_size
 
 -- the body that holds this file key
 abbrev pub sealed_key : Bytes → FileKey → Bytes
@@ -23,6 +29,6 @@ abbrev pub key_answer : Option Bytes → Unwrapped
 key_answer None = Failed
 key_answer (Some bytes) = Key (record { 0 = bytes })
 
--- what a body of 32 bytes gives under a wrap key: the key that it opens to, or nothing
+-- what a body gives under a wrap key: the key that it opens to, or nothing
 unfoldable pub unsealed : (wrap_key body : Bytes) → Unwrapped
 unsealed wrap_key body = key_answer (opened wrap_key zero_nonce [] body)

@@ -1,7 +1,7 @@
 //! The file key within a stanza's body (C2SP `age.md`, "The scrypt recipient type").
 
 ghost use Rattle.std.specs.Prelude.{◌≡◌, length};
-ghost use Rattle.age_recipient.specs.Sealing.{sealed_key, unsealed};
+ghost use Rattle.age_recipient.specs.Sealing.{sealed_key, unsealed, sealed_key_size};
 
 use crate::key::FileKey;
 use crate::unwrapped::Unwrapped;
@@ -25,7 +25,7 @@ pub(crate) fn seal_key(wrap_key: &[u8; 32], key: &FileKey) -> [u8; 32]
 
 /// What a body of 32 bytes gives under this wrap key.
 pub(crate) fn unseal_key(wrap_key: &[u8; 32], body: &[u8]) -> Unwrapped
-    requires { length body.now ≡ 32 }
+    requires { length body.now ≡ sealed_key_size }
     ensures { result ≡ unsealed wrap_key.now body.now }
 {
     let (front, back) = body.split_at(16);

@@ -1,6 +1,7 @@
 pub mod Counts
 pub mod Cutting
 pub mod Opening
+pub mod Sizes
 pub mod Payload
 pub mod Places
 pub mod Ranges

@@ -11,6 +11,7 @@ use Rattle.age_stream.specs.declared.fault.StreamFault.TheVariants.{NonceTruncat
 use Rattle.age_stream.specs.declared.opening.Piece.{Piece}
 use Rattle.age_stream.specs.Payload.{payload_key, pieces}
 use Rattle.age_stream.specs.Reading.{Reading, after_first, first_outcome, reading_from, whole}
+use Rattle.age_stream.specs.Sizes.{nonce_size, chunk_size, sealed_chunk_size, most_chunks}
 
 -- An opener: its key and limit, the number of the next piece, the bytes of it that were read
 -- already (None after the last piece), the text that was opened last, and the fault that it keeps.
@@ -65,7 +66,7 @@ abbrev pub Keeps : (old new : OpenerState) (result : Result Bool StreamFault) �
 Keeps old new (Ok some) =
     (new.fault ≡ None) × (new.index ≡ goes_on some old.index)
     × (some ≡ true → old.index < old.max_chunks)
-    × IfSome new.held (λ ahead. (length ahead ≡ 1) × (length new.text ≡ 65536))
+    × IfSome new.held (λ ahead. (length ahead ≡ 1) × (length new.text ≡ chunk_size))
 Keeps old new (Err fault) =
     (new.fault ≡ Some fault) × (new.text ≡ []) × IsAtPiece old.max_chunks old.index fault
 
@@ -76,7 +77,7 @@ pub record Advances (old new : OpenerState) (from to : Known)
     (r : Result Bool StreamFault) : Type 0 where
   pub key : new.key ≡ old.key
   pub max_chunks : new.max_chunks ≡ old.max_chunks
-  pub small : old.max_chunks ≤ 2 ^ 88
+  pub small : old.max_chunks ≤ most_chunks
   pub keeps : Keeps old new r
   pub ahead : ahead_len old.held ≤ 1
   pub gave : GaveAtMost (65553 - ahead_len old.held) from to
@@ -90,18 +91,18 @@ abbrev pub GivesNonce : (from to : Known) (result : Result Bytes StreamFault) �
 GivesNonce from to (Ok nonce) = (d : Bytes) → MayGive to d → MayGive from (nonce ++ d)
 GivesNonce from to (Err Read) = ⊤
 GivesNonce from to (Err fault) =
-    (fault ≡ NonceTruncated) × ((c : Bytes) × MayGive from c × (length c < 16))
+    (fault ≡ NonceTruncated) × ((c : Bytes) × MayGive from c × (length c < nonce_size))
 
 -- the start of a payload was read: its nonce, under which the opener stands before piece 0; or
 -- there is no whole nonce
 abbrev pub Starts : (k : FileKey) (max : ℕ) (from to : Known)
     (result : Result OpenerState StreamFault) → Type 0
 Starts k max from to (Ok opener) =
-    (nonce : Bytes) × (length nonce ≡ 16) × (opener ≡ at_start (payload_key k nonce) max)
+    (nonce : Bytes) × (length nonce ≡ nonce_size) × (opener ≡ at_start (payload_key k nonce) max)
     × ((d : Bytes) → MayGive to d → MayGive from (nonce ++ d))
 Starts k max from to (Err Read) = ⊤
 Starts k max from to (Err fault) =
-    (fault ≡ NonceTruncated) × ((c : Bytes) × MayGive from c × (length c < 16))
+    (fault ≡ NonceTruncated) × ((c : Bytes) × MayGive from c × (length c < nonce_size))
 
 -- what is left, read from piece i on
 abbrev pub reading_left : (key : Key) (max i : ℕ) (left : Option Bytes) → Reading StreamFault
@@ -140,8 +141,8 @@ pub record EndsAt (max more : ℕ) (from to old new : Known) (fault : StreamFaul
   pub piece : ℕ
   pub text : Bytes
   pub written : Appends old new text
-  pub at : ((fault ≡ Write) × (65536 * piece ≤ length text)) ⊎ IsAtPiece max piece fault
-  pub gave : GaveAtMost (more + (65552 * (piece + 1) + 1)) from to
+  pub at : ((fault ≡ Write) × (chunk_size * piece ≤ length text)) ⊎ IsAtPiece max piece fault
+  pub gave : GaveAtMost (more + (sealed_chunk_size * (piece + 1) + 1)) from to
 
 -- a piece's outcome is returned, and its opening stands in front
 abbrev pub GivesText : (outcome : Result Bytes StreamFault) (after : Bytes)
@@ -155,5 +156,5 @@ abbrev pub Opens : (key : Key) (max i : ℕ) (c after d : Bytes) (result : Resul
     → Type 0
 Opens key max i c after d (Ok p) =
     (first_outcome key max i c ≡ Ok (take p.len after)) × (p.len ≤ length after)
-    × (left_of (held_of p.more (drop 65552 after)) d ≡ after_first c)
+    × (left_of (held_of p.more (drop sealed_chunk_size after)) d ≡ after_first c)
 Opens key max i c after d (Err fault) = first_outcome key max i c ≡ Err fault

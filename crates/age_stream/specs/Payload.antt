@@ -8,15 +8,16 @@ use Rattle.age_cipher.specs.Sealing.{sealed}
 use Rattle.age_kdf.specs.Hkdf.{hkdf}
 use Rattle.age_recipient.specs.declared.key.FileKey.{FileKey}
 use Rattle.age_stream.specs.Cutting.{cut}
+use Rattle.age_stream.specs.Sizes.{chunk_size, sealed_chunk_size}
 
 -- a plaintext's chunks: 65,536 bytes each, the last 1 to 65,536; an empty plaintext is one empty
 -- chunk
 abbrev pub chunks : Bytes → List Bytes
-chunks plain = cut 65536 plain
+chunks plain = cut chunk_size plain
 
 -- what follows the nonce, cut at every 65,552 bytes
 abbrev pub pieces : Bytes → List Bytes
-pieces rest = cut 65552 rest
+pieces rest = cut sealed_chunk_size rest
 
 -- the nonce of chunk i: its number in eleven big-endian bytes, then 1 for the last chunk and 0 for
 -- the others

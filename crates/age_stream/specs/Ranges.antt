@@ -11,6 +11,7 @@ use Rattle.age_stream.specs.declared.layout.Layout.{Layout}
 use Rattle.age_stream.specs.declared.ranges.RangeReader.{RangeReader}
 use Rattle.age_stream.specs.Payload.{payload_key}
 use Rattle.age_stream.specs.Slice.{opening, plain_len, text_len, IsSlice, last_piece, last_outcome, range_outcome}
+use Rattle.age_stream.specs.Sizes.{nonce_size, tag_size, chunk_size, sealed_chunk_size}
 
 -- the known bytes from a place on
 abbrev pub bytes_from : (told : Known) (at : ℕ) → Bytes
@@ -35,7 +36,7 @@ kept_text s i = take (text_len s.layout.plain i) s.buf
 -- the source's contents are known, and end with the last piece
 pub record IsThere (told : Known) (layout : Layout) : Type 0 where
   pub known : IsSome told
-  pub size : length (bytes_from told layout.first) ≡ layout.plain + 16 * layout.count
+  pub size : length (bytes_from told layout.first) ≡ layout.plain + tag_size * layout.count
 
 -- what holds between two calls over a source whose contents are known: the kept chunk is what its
 -- piece opens to
@@ -68,7 +69,7 @@ is_kept (Some k) i = nat_eq k i
 
 -- the first chunk of a range from `at` on that has to be opened
 abbrev pub fresh : Option ℕ → ℕ → ℕ
-fresh index at = at / 65536 + (if is_kept index (at / 65536) then 1 else 0)
+fresh index at = at / chunk_size + (if is_kept index (at / chunk_size) then 1 else 0)
 
 -- the chunks opened so far are now at least n more; the count stays at the largest u64
 abbrev pub Counts : (s : RangeState) (opened n : ℕ) → Type 0
@@ -79,19 +80,21 @@ Counts s opened n = min (s.opened + n) (2 ^ 64 - 1) ≤ opened
 pub record Stops (told : Known) (s : RangeState) (at n : ℕ) (old new : Bytes)
     (opened : ℕ) (fault : StreamFault) : Type 0 where
   pub chunk : ℕ
-  pub from : at < 65536 * (chunk + 1)
-  pub to : 65536 * chunk < at + n
-  pub filled : Fills told s at (65536 * chunk - at) old new
+  pub from : at < chunk_size * (chunk + 1)
+  pub to : chunk_size * chunk < at + n
+  pub filled : Fills told s at (chunk_size * chunk - at) old new
   pub lost : IsLost told s chunk fault
   pub counts : Counts s opened (chunk + 1 - fresh s.index at)
 
 -- how many sealed bytes the chunks from number `from` to before `end` have
 abbrev pub sealed_span : (layout : Layout) (from end : ℕ) → ℕ
-sealed_span layout from end = min (65552 * end) (layout.plain + 16 * layout.count) - 65552 * from
+sealed_span layout from end =
+    min (sealed_chunk_size * end) (layout.plain + tag_size * layout.count)
+    - sealed_chunk_size * from
 
 -- how long the last piece is, of so many bytes
 abbrev pub last_len : ℕ → ℕ
-last_len sealed = sealed - 65552 * ((sealed - 1) / 65552)
+last_len sealed = sealed - sealed_chunk_size * ((sealed - 1) / sealed_chunk_size)
 
 -- what the last piece gives was found, where so many known bytes stand from place `first` on: its
 -- text is in front, or its fault
@@ -100,7 +103,7 @@ abbrev pub JudgesLast : (key : Key) (max first sealed : ℕ) (told : Known) (aft
 JudgesLast key max first sealed told after r =
     MatchResult r
     (λ layout. (layout.key ≡ key) × (layout.first ≡ first)
-    × (layout.plain + 16 * layout.count ≡ sealed)
+    × (layout.plain + tag_size * layout.count ≡ sealed)
     × IfSome told (λ bytes. length bytes ≡ first + sealed
     → last_outcome key max (drop first bytes)
     ≡ Ok (take (text_len layout.plain (layout.count - 1)) after)))
@@ -113,9 +116,9 @@ JudgesLast key max first sealed told after r =
 pub record IsOpened (k : FileKey) (max : ℕ) (told : Known) (at : ℕ) (s : RangeState)
     : Type 0 where
   pub opens : range_outcome k max (bytes_from told at) ≡ Ok (kept_text s (s.layout.count - 1))
-  pub key : s.layout.key ≡ payload_key k (take 16 (bytes_from told at))
-  pub first : s.layout.first ≡ at + 16
-  pub plain : s.layout.plain ≡ plain_len (bytes_from told (at + 16))
+  pub key : s.layout.key ≡ payload_key k (take nonce_size (bytes_from told at))
+  pub first : s.layout.first ≡ at + nonce_size
+  pub plain : s.layout.plain ≡ plain_len (bytes_from told (at + nonce_size))
   pub sound : IsSound told s
 
 -- A reader was opened, which keeps the last chunk. Or the fault is a failed read, out of memory, or
@@ -138,9 +141,9 @@ IsOpenFault _ = ⊤
 -- piece
 pub record Probes (told told2 : Known) (at given given2 : ℕ) : Type 0 where
   pub stay : told2 ≡ told
-  pub most : given2 ≤ given + 65568
+  pub most : given2 ≤ given + (nonce_size + sealed_chunk_size)
   pub last : IfSome told
-      (λ bytes. given2 ≤ given + (16 + length (last_piece (drop (at + 16) bytes))))
+      (λ bytes. given2 ≤ given + (nonce_size + length (last_piece (drop (at + nonce_size) bytes))))
 
 -- the source of a reader, and its chunks
 abbrev pub source_at_of : {D B : Type 0} → RangeReader D B → MutBor D

@@ -8,6 +8,7 @@ use Rattle.age_stream.specs.declared.fault.StreamFault.TheVariants.{Read}
 use Rattle.age_stream.specs.declared.reader.StreamReader.{StreamReader}
 use Rattle.age_stream.specs.Counts.{CountsRead, CountsReadFault}
 use Rattle.age_stream.specs.Opening.{Advances, OpenerState, Starts}
+use Rattle.age_stream.specs.Sizes.{nonce_size}
 
 -- the nonce was not read: the source gave fewer than 16 bytes, or failed, and then one failure more
 -- was counted
@@ -15,7 +16,7 @@ abbrev pub MissesNonce : (key : FileKey) (max : ℕ) (from to : Known) (before a
     (fault : StreamFault) → Type 0
 MissesNonce key max from to before after fault =
     Starts key max from to (Err fault) × CountsReadFault before after fault
-    × ((fault ≡ Read) ⊎ GaveAtMost 16 from to)
+    × ((fault ≡ Read) ⊎ GaveAtMost nonce_size from to)
 
 -- whether a piece was lent, or the fault
 abbrev pub lent : {A : Type 0} → Result (Option A) StreamFault → Result Bool StreamFault

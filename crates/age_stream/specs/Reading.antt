@@ -8,6 +8,7 @@ use Rattle.age_recipient.specs.declared.key.FileKey.{FileKey}
 use Rattle.age_stream.specs.declared.fault.StreamFault.{StreamFault}
 use Rattle.age_stream.specs.declared.fault.StreamFault.TheVariants.{NonceTruncated, ChunkShort, EmptyFinal, BadChunk, TooManyChunks}
 use Rattle.age_stream.specs.Payload.{pieces, chunk_nonce, is_end, payload_key}
+use Rattle.age_stream.specs.Sizes.{nonce_size, tag_size, sealed_chunk_size}
 
 -- what piece i opens to at its place
 abbrev pub opened_at : (key : Key) (i : ℕ) (last : Bool) (piece : Bytes) → Option Bytes
@@ -18,8 +19,8 @@ unfoldable pub outcome : (key : Key) (max i : ℕ) (last : Bool) (piece : Bytes)
     → Result Bytes StreamFault
 outcome key max i last piece =
     if nat_le max i then Err TooManyChunks
-    else if nat_lt (length piece) 16 then Err (ChunkShort i)
-    else if last && nat_lt 0 i && nat_eq (length piece) 16 then Err (EmptyFinal i)
+    else if nat_lt (length piece) tag_size then Err (ChunkShort i)
+    else if last && nat_lt 0 i && nat_eq (length piece) tag_size then Err (EmptyFinal i)
     else ok_or (opened_at key i last piece) (BadChunk i)
 
 -- what each piece gives, numbered from i on
@@ -64,13 +65,15 @@ reading_from key max i rest = record {
 -- a payload read under a file key: its nonce, then its pieces
 abbrev pub payload_reading : (k : FileKey) (max : ℕ) (text : Bytes) → Reading StreamFault
 payload_reading k max text =
-    if nat_lt (length text) 16 then stops NonceTruncated
-    else reading_from (payload_key k (take 16 text)) max 0 (drop 16 text)
+    if nat_lt (length text) nonce_size then stops NonceTruncated
+    else reading_from (payload_key k (take nonce_size text)) max 0 (drop nonce_size text)
 
 -- what the first piece of c gives as piece i; it is the last where no byte follows it
 abbrev pub first_outcome : (key : Key) (max i : ℕ) (c : Bytes) → Result Bytes StreamFault
-first_outcome key max i c = outcome key max i (nat_le (length c) 65552) (take 65552 c)
+first_outcome key max i c =
+    outcome key max i (nat_le (length c) sealed_chunk_size) (take sealed_chunk_size c)
 
 -- what follows the first piece of c, where anything does
 abbrev pub after_first : Bytes → Option Bytes
-after_first c = if nat_le (length c) 65552 then None else Some (drop 65552 c)
+after_first c =
+    if nat_le (length c) sealed_chunk_size then None else Some (drop sealed_chunk_size c)

@@ -11,6 +11,7 @@ use Rattle.age_stream.specs.declared.fault.StreamFault.{StreamFault}
 use Rattle.age_stream.specs.declared.fault.StreamFault.TheVariants.{Read, Write, TooManyChunks}
 use Rattle.age_stream.specs.Cutting.{cut_into}
 use Rattle.age_stream.specs.Payload.{chunk_nonce, sealed_from}
+use Rattle.age_stream.specs.Sizes.{chunk_size, sealed_chunk_size}
 
 -- a sealer: its key and limit, the number of the next chunk, the text that it holds of it, and the
 -- fault that it keeps
@@ -27,7 +28,7 @@ at_start key max = record { key = key; max_chunks = max; index = 0; held = []; f
 
 -- the sealed chunks from number i on, where `held` is held and `text` still comes
 abbrev pub sealed_after : (key : Key) (i : ℕ) (held text : Bytes) → List Bytes
-sealed_after key i held text = sealed_from key i (cut_into 65536 held text)
+sealed_after key i held text = sealed_from key i (cut_into chunk_size held text)
 
 -- what a sealer writes if `text` still comes
 abbrev pub answer : SealerState → Bytes → Bytes
@@ -39,8 +40,8 @@ pub record Fed (key : Key) (i j : ℕ) (held text now : Bytes) (old new : Known)
     : Type 0 where
   pub gone : List Bytes
   pub count : j ≡ i + length gone
-  pub size : length (concat gone) ≡ 65552 * length gone
-  pub bytes : length held + length text ≡ 65536 * length gone + length now
+  pub size : length (concat gone) ≡ sealed_chunk_size * length gone
+  pub bytes : length held + length text ≡ chunk_size * length gone + length now
   pub written : Appends old new (concat gone)
   pub chunks : (more : Bytes)
       → sealed_after key i held (text ++ more) ≡ gone ++ sealed_after key j now more
@@ -57,7 +58,8 @@ StopsIn key max i held text old new Read =
     WritesPart old new (concat (sealed_after key i held text))
 StopsIn key max i held text old new Write =
     WritesPart old new (concat (sealed_after key i held text))
-StopsIn key max i held text old new TooManyChunks = (max < i + length (cut_into 65536 held text))
+StopsIn key max i held text old new TooManyChunks =
+    (max < i + length (cut_into chunk_size held text))
     × Appends old new (concat (take (max - 1 - i) (sealed_after key i held text)))
 StopsIn key max i held text old new _ = ⊥
 
@@ -76,8 +78,8 @@ pub record Stopped (key : Key) (max i j : ℕ) (held : Bytes) (from to old new :
   pub text : Bytes
   pub may : MayGive from text
   pub stops : StopsIn key max i held text old new fault
-  pub wrote : WroteAtLeast (65552 * (j - i)) old new
-  pub gave : (fault ≡ Read) ⊎ GaveAtMost (65536 * (j + 1 - i) + 1) from to
+  pub wrote : WroteAtLeast (sealed_chunk_size * (j - i)) old new
+  pub gave : (fault ≡ Read) ⊎ GaveAtMost (chunk_size * (j + 1 - i) + 1) from to
 
 -- all that a source gives was taken by a sealer that keeps no fault
 abbrev pub TakesAll : {A : Type 0} (s t : SealerState) (from to old new : Known)
@@ -85,7 +87,7 @@ abbrev pub TakesAll : {A : Type 0} (s t : SealerState) (from to old new : Known)
 TakesAll s t from to old new r =
     (t.key ≡ s.key) × (t.max_chunks ≡ s.max_chunks)
     × MatchResult r
-    (λ _. (t.fault ≡ None) × (length t.held ≤ 65536) × (t.index < t.max_chunks)
+    (λ _. (t.fault ≡ None) × (length t.held ≤ chunk_size) × (t.index < t.max_chunks)
     × IsFed s.key s.index t.index s.held t.held from to old new × IsAtEnd to)
     (λ fault. (t.fault ≡ Some fault)
     × Stopped s.key s.max_chunks s.index t.index s.held from to old new fault)
@@ -94,7 +96,7 @@ TakesAll s t from to old new r =
 abbrev pub FinishesBy : (s : SealerState) (old new : Known) (result : Result Done StreamFault)
     → Type 0
 FinishesBy s old new (Ok done) =
-    Appends old new (answer s []) × (done.bytes ≡ 65536 * s.index + length s.held)
+    Appends old new (answer s []) × (done.bytes ≡ chunk_size * s.index + length s.held)
     × (done.chunks ≡ s.index + 1)
 FinishesBy s old new (Err fault) = (fault ≡ Write) × WritesPart old new (answer s [])
 
@@ -104,9 +106,9 @@ abbrev pub SealsAll : (s : SealerState) (from to old new : Known) (result : Resu
     → Type 0
 SealsAll s from to old new (Ok done) =
     (text : Bytes) × MayGive from text × Appends old new (answer s text)
-    × (s.index + length (cut_into 65536 s.held text) ≤ s.max_chunks)
-    × (done.bytes ≡ 65536 * s.index + length s.held + length text)
-    × (done.chunks ≡ s.index + length (cut_into 65536 s.held text))
+    × (s.index + length (cut_into chunk_size s.held text) ≤ s.max_chunks)
+    × (done.bytes ≡ chunk_size * s.index + length s.held + length text)
+    × (done.chunks ≡ s.index + length (cut_into chunk_size s.held text))
 SealsAll s from to old new (Err fault) =
     (chunk : ℕ) × Stopped s.key s.max_chunks s.index chunk s.held from to old new fault
 
@@ -116,9 +118,11 @@ abbrev pub PutsFull : {A : Type 0} (key : Key) (max i j : ℕ) (bytes after : By
     (r : Result A StreamFault) → Type 0
 PutsFull key max i j bytes after old new r =
     MatchResult r
-    (λ _. (j ≡ i + 1) × Appends old new (sealed key (chunk_nonce i false) [] (take 65536 bytes))
-    × (take 1 after ≡ take 1 (drop 65536 bytes)))
+    (λ _. (j ≡ i + 1)
+    × Appends old new (sealed key (chunk_nonce i false) [] (take chunk_size bytes))
+    × (take 1 after ≡ take 1 (drop chunk_size bytes)))
     (λ fault. (j ≡ i)
     × (((fault ≡ Write)
-    × WritesPart old new (sealed key (chunk_nonce i false) [] (take 65536 bytes)))
+    × WritesPart old new
+    (sealed key (chunk_nonce i false) [] (take chunk_size bytes)))
     ⊎ ((fault ≡ TooManyChunks) × (max ≤ i + 1) × Appends old new [])))

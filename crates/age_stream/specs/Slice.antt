@@ -9,6 +9,7 @@ use Rattle.age_stream.specs.declared.fault.StreamFault.{StreamFault}
 use Rattle.age_stream.specs.declared.fault.StreamFault.TheVariants.{NonceTruncated}
 use Rattle.age_stream.specs.Payload.{pieces, is_end, payload_key}
 use Rattle.age_stream.specs.Reading.{opened_at, outcome}
+use Rattle.age_stream.specs.Sizes.{nonce_size, tag_size, chunk_size}
 
 -- what each piece opens to at its place, numbered from i on
 abbrev pub openings : (key : Key) (i : ℕ) (pieces : List Bytes) → List (Option Bytes)
@@ -21,19 +22,19 @@ opening key rest i = get_or (openings key 0 (pieces rest)) i None
 
 -- how long the plaintext is: each chunk has as many bytes as its piece, less the tag's
 abbrev pub plain_len : Bytes → ℕ
-plain_len rest = sum_by (λ piece. length piece - 16) (pieces rest)
+plain_len rest = sum_by (λ piece. length piece - tag_size) (pieces rest)
 
 -- how long chunk i of a plaintext of so many bytes is
 abbrev pub text_len : (plain i : ℕ) → ℕ
-text_len plain i = min 65536 (plain - 65536 * i)
+text_len plain i = min chunk_size (plain - chunk_size * i)
 
 -- xs are the plaintext's bytes from place `at` on: at place x there is byte x - 65536 * i of what
 -- piece i opens to, i being the chunk in which x lies
 abbrev pub IsSlice : (key : Key) (rest : Bytes) (at : ℕ) (xs : Bytes) → Type 0
 IsSlice key rest at xs =
     (k : ℕ) → k < length xs
-    → (text : Bytes) × (opening key rest ((at + k) / 65536) ≡ Some text)
-    × (slice_get text ((at + k) % 65536) ≡ Some (slice_index xs k))
+    → (text : Bytes) × (opening key rest ((at + k) / chunk_size) ≡ Some text)
+    × (slice_get text ((at + k) % chunk_size) ≡ Some (slice_index xs k))
 
 -- the last piece
 abbrev pub last_piece : Bytes → Bytes
@@ -46,5 +47,5 @@ last_outcome key max rest = outcome key max (length (pieces rest) - 1) true (las
 -- what opening a payload for ranges finds: a nonce, and what the last piece gives
 abbrev pub range_outcome : (k : FileKey) (max : ℕ) (text : Bytes) → Result Bytes StreamFault
 range_outcome k max text =
-    if nat_lt (length text) 16 then Err NonceTruncated
-    else last_outcome (payload_key k (take 16 text)) max (drop 16 text)
+    if nat_lt (length text) nonce_size then Err NonceTruncated
+    else last_outcome (payload_key k (take nonce_size text)) max (drop nonce_size text)

@@ -9,6 +9,7 @@ use Rattle.age_stream.specs.Counts.{CountsWriteFault}
 use Rattle.age_stream.specs.declared.writer.StreamWriter.{StreamWriter}
 use Rattle.age_stream.specs.declared.refused.Refused.{Refused}
 use Rattle.age_stream.specs.Sealing.{Fed, SealerState, StopsIn}
+use Rattle.age_stream.specs.Sizes.{chunk_size}
 
 -- A piece was taken by a sealer that keeps no fault: whatever still comes, what is written is as
 -- before. Or a fault was met: of the sink, or too many chunks.
@@ -17,7 +18,7 @@ abbrev pub TakesPiece : {A : Type 0} (s t : SealerState) (piece : Bytes) (old ne
 TakesPiece s t piece old new r =
     (t.key ≡ s.key) × (t.max_chunks ≡ s.max_chunks)
     × MatchResult r
-    (λ _. (t.fault ≡ None) × (length t.held ≤ 65536) × (t.index < t.max_chunks)
+    (λ _. (t.fault ≡ None) × (length t.held ≤ chunk_size) × (t.index < t.max_chunks)
     × Fed s.key s.index t.index s.held piece t.held old new)
     (λ fault. (t.fault ≡ Some fault) × (fault ≢ Read)
     × StopsIn s.key s.max_chunks s.index s.held piece old new fault)

@@ -1,6 +1,7 @@
 //! The keys and nonces of a payload's chunks.
 ghost use Rattle.std.specs.Prelude.{◌≡◌, ◌^◌, ◌<◌};
 ghost use Rattle.age_stream.specs.Payload.{payload_key, chunk_nonce};
+ghost use Rattle.age_stream.specs.Sizes.{most_chunks};
 
 use age_kdf::hkdf;
 use age_recipient::FileKey;
@@ -8,7 +9,7 @@ use age_recipient::FileKey;
 /// The nonce of chunk i: its number in eleven big-endian bytes, then 1 for the last chunk and 0 for
 /// the others (C2SP `age.md`, "Payload"). Eleven bytes hold the numbers below 2^88.
 pub fn chunk_nonce(i: u128, last: bool) -> [u8; 12]
-    requires { i < 2 ^ 88 }
+    requires { i < most_chunks }
     ensures { result ≡ chunk_nonce i last }
 {
     let [_, _, _, _, _, a, b, c, d, e, f, g, h, j, k, l] = i.to_be_bytes();

@@ -3,6 +3,7 @@ ghost use Rattle.std.specs.Prelude.{◌≡◌, ◌+◌, ◌-◌, ◌*◌, ◌/�
 ghost use Rattle.age_stream.specs.Counts.{CountsRead};
 ghost use Rattle.age_stream.specs.Ranges.{Counts, Fills, IsLost, IsOpenFault, IsSound, OpensRanges, Probes, Stops, fresh, is_kept, kept_text, range_len, sealed_span};
 ghost use Rattle.age_stream.specs.Slice.{text_len};
+ghost use Rattle.age_stream.specs.Sizes.{chunk_size, tag_size};
 
 use crate::buffer::ChunkBuf;
 use crate::chunk_keys::payload_key;
@@ -135,7 +136,8 @@ impl Chunks {
             ≤ self.old.opened + 1 }
         ensures given { D.given dev.new
             ≤ D.given dev.old
-            + (if is_kept self.old.index i then 0 else text_len self.old.layout.plain i + 16) }
+            + (if is_kept self.old.index i then 0
+            else text_len self.old.layout.plain i + tag_size) }
         ensures count { CountsRead (D.failed dev.old) (D.failed dev.new) result }
     {
         if self.index == Some(i) {
@@ -173,15 +175,16 @@ impl Chunks {
         ensures stop { IfErr result (Stops (D.bytes dev.old) self.old at
             (range_len self.old at (length buf.old)) buf.old buf.new self.new.opened) }
         ensures count { CountsRead (D.failed dev.old) (D.failed dev.new) result }
-        ensures kept { IfOk result (λ n. 0 < n → self.new.index ≡ Some ((at + n - 1) / 65536)) }
+        ensures kept { IfOk result
+            (λ n. 0 < n → self.new.index ≡ Some ((at + n - 1) / chunk_size)) }
         ensures none { OnErr result (self.new.index ≡ None) }
         ensures rises { self.old.opened ≤ self.new.opened }
         ensures counts { IfOk result (λ n. 0 < n
             → Counts self.old self.new.opened
-            ((at + n - 1) / 65536 + 1 - fresh self.old.index at)) }
-        ensures opened { (end : ℕ) → at + range_len self.old at (length buf.old) ≤ 65536 * end
+            ((at + n - 1) / chunk_size + 1 - fresh self.old.index at)) }
+        ensures opened { (end : ℕ) → at + range_len self.old at (length buf.old) ≤ chunk_size * end
             → self.new.opened ≤ self.old.opened + (end - fresh self.old.index at) }
-        ensures given { (end : ℕ) → at + range_len self.old at (length buf.old) ≤ 65536 * end
+        ensures given { (end : ℕ) → at + range_len self.old at (length buf.old) ≤ chunk_size * end
             → D.given dev.new
             ≤ D.given dev.old + sealed_span self.old.layout (fresh self.old.index at) end }
         ensures empty { range_len self.old at (length buf.old) ≡ 0

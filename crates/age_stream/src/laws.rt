@@ -7,6 +7,7 @@ ghost use Rattle.age_stream.specs.Cutting.{cut, IsCut};
 ghost use Rattle.age_stream.specs.Payload.{chunks, payload, payload_key, pieces};
 ghost use Rattle.age_stream.specs.Reading.{payload_reading, whole};
 ghost use Rattle.age_stream.specs.Slice.{IsSlice, plain_len, range_outcome};
+ghost use Rattle.age_stream.specs.Sizes.{nonce_size};
 
 /// There is one cut of a text, and it is the computed one.
 pub fn one_cut()
@@ -18,11 +19,12 @@ pub fn one_cut()
 /// has few enough chunks. It then has as many pieces as the plaintext has chunks.
 pub fn ok_is_payload()
     ensures ok { (k : FileKey) (text plain : Bytes) (max : ℕ)
-        → (payload_reading k max text ≡ whole plain) ↔ ((nonce : Bytes) × (length nonce ≡ 16)
-        × (text ≡ payload k nonce plain) × (length (chunks plain) ≤ max)) }
+        → (payload_reading k max text ≡ whole plain) ↔ ((nonce : Bytes)
+        × (length nonce ≡ nonce_size) × (text ≡ payload k nonce plain)
+        × (length (chunks plain) ≤ max)) }
     ensures count { (k : FileKey) (text plain : Bytes) (max : ℕ)
         → payload_reading k max text ≡ whole plain
-        → length (pieces (drop 16 text)) ≡ length (chunks plain) }
+        → length (pieces (drop nonce_size text)) ≡ length (chunks plain) }
 {}
 
 /// A payload that reads whole opens for ranges. Its length for ranges is that of the plaintext, and
@@ -32,9 +34,10 @@ pub fn whole_is_sliced()
         → payload_reading k max text ≡ whole plain
         → (last : Bytes) × (range_outcome k max text ≡ Ok last) }
     ensures len { (k : FileKey) (text plain : Bytes) (max : ℕ)
-        → payload_reading k max text ≡ whole plain → plain_len (drop 16 text) ≡ length plain }
+        → payload_reading k max text ≡ whole plain
+        → plain_len (drop nonce_size text) ≡ length plain }
     ensures slice { (k : FileKey) (text plain xs : Bytes) (max at : ℕ)
         → payload_reading k max text ≡ whole plain
-        → IsSlice (payload_key k (take 16 text)) (drop 16 text) at xs
+        → IsSlice (payload_key k (take nonce_size text)) (drop nonce_size text) at xs
         → xs ≡ take (length xs) (drop at plain) }
 {}

@@ -6,6 +6,7 @@ ghost use Rattle.age_stream.specs.Counts.{CountsRead};
 ghost use Rattle.age_stream.specs.Places.{EndsBefore, HasAt, IsPast};
 ghost use Rattle.age_stream.specs.Ranges.{IsOpenFault, IsThere, JudgesLast, last_len, opens_to};
 ghost use Rattle.age_stream.specs.Slice.{text_len};
+ghost use Rattle.age_stream.specs.Sizes.{nonce_size, tag_size};
 
 use crate::chunk_keys::chunk_nonce;
 use crate::fault::StreamFault;
@@ -99,7 +100,7 @@ pub(crate) fn load<D: ReadAt>(
         ⊎ ((fault ≡ StreamFault.BadChunk i)
         × (IsThere (D.bytes dev.old) layout
         → opens_to (D.bytes dev.old) layout i ≡ None))) }
-    ensures given { D.given dev.new ≤ D.given dev.old + (text_len layout.plain i + 16) }
+    ensures given { D.given dev.new ≤ D.given dev.old + (text_len layout.plain i + tag_size) }
     ensures count { CountsRead (D.failed dev.old) (D.failed dev.new) result }
 {
     let nonce = chunk_nonce(i as u128, i + 1 == layout.count);
@@ -120,12 +121,13 @@ pub(crate) fn load<D: ReadAt>(
 /// Reads the nonce at this place.
 pub(crate) fn nonce_at<D: ReadAt>(dev: &mut D, at: u64) -> Result<Nonce, StreamFault>
     ensures stay { D.bytes dev.new ≡ D.bytes dev.old }
-    ensures fits { IfOk result (λ nonce. at + 16 + nonce.rest < 2 ^ 64) }
-    ensures ok { IfOk result (λ nonce. IfSome (D.bytes dev.old) (λ bytes.
-        (nonce.bytes ≡ take 16 (drop at bytes)) × (length bytes ≡ at + 16 + nonce.rest))) }
+    ensures fits { IfOk result (λ nonce. at + nonce_size + nonce.rest < 2 ^ 64) }
+    ensures ok { IfOk result (λ nonce. IfSome (D.bytes dev.old) (λ bytes. (nonce.bytes
+        ≡ take nonce_size (drop at bytes))
+        × (length bytes ≡ at + nonce_size + nonce.rest))) }
     ensures err { IfErr result (λ fault. (fault ≡ StreamFault.Read)
-        ⊎ ((fault ≡ StreamFault.NonceTruncated) × EndsBefore (D.bytes dev.old) (at + 16))) }
-    ensures given { D.given dev.new ≤ D.given dev.old + 16 }
+        ⊎ ((fault ≡ StreamFault.NonceTruncated) × EndsBefore (D.bytes dev.old) (at + nonce_size))) }
+    ensures given { D.given dev.new ≤ D.given dev.old + nonce_size }
     ensures count { CountsRead (D.failed dev.old) (D.failed dev.new) result }
 {
     let Ok(size) = dev.size() else {

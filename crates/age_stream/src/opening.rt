@@ -7,6 +7,7 @@ ghost use Rattle.age_header.specs.Device.{GaveAtMost, MayGive};
 ghost use Rattle.age_stream.specs.Counts.{CountsRead, CountsWrite};
 ghost use Rattle.age_stream.specs.Opening.{Advances, EndsAt, GivesNonce, GivesText, IsAtPiece, Opens, Starts, WritesAll};
 ghost use Rattle.age_stream.specs.Reading.{outcome};
+ghost use Rattle.age_stream.specs.Sizes.{chunk_size, sealed_chunk_size, most_chunks, nonce_size, tag_size};
 
 use crate::buffer::ChunkBuf;
 use crate::chunk_keys::{chunk_nonce, payload_key};
@@ -63,11 +64,11 @@ impl ChunkOpener {
         max_chunks: u128,
         buf: ChunkBuf,
     ) -> Result<ChunkOpener, StreamFault>
-        requires { max_chunks ≤ 2 ^ 88 }
+        requires { max_chunks ≤ most_chunks }
         ensures starts { Starts key.now max_chunks (S.to_come source.old) (S.to_come source.new)
             result }
         ensures gave { IsErrOf result StreamFault.Read
-            ⊎ GaveAtMost 16 (S.to_come source.old) (S.to_come source.new) }
+            ⊎ GaveAtMost nonce_size (S.to_come source.old) (S.to_come source.new) }
         ensures count { CountsRead (S.failed source.old) (S.failed source.new) result }
     {
         let nonce = match read_nonce(source) {
@@ -89,7 +90,7 @@ impl ChunkOpener {
     /// The text of the piece that was opened last; empty before the first, and after a fault.
     pub fn text(&self) -> &[u8]
         ensures text { result.now ≡ self.now.text }
-        ensures len { length result.now ≤ 65536 }
+        ensures len { length result.now ≤ chunk_size }
     {
         &self.buf.as_slice()[..self.len]
     }
@@ -195,19 +196,19 @@ fn next_piece<S: Source>(
     requires size { length bytes.old ≡ 65553 }
     requires ahead { ahead ≤ 1 }
     requires index { i ≤ max }
-    requires small { max ≤ 2 ^ 88 }
+    requires small { max ≤ most_chunks }
     ensures len { length bytes.new ≡ 65553 }
     ensures count { CountsRead (S.failed source.old) (S.failed source.new) result }
     ensures opens { IsErrOf result StreamFault.Read
         ⊎ ((d : Bytes) → MayGive (S.to_come source.new) d
         → (c : Bytes) × MayGive (S.to_come source.old) c
-        × Opens key.now max i (take ahead (drop 65552 bytes.old) ++ c) bytes.new d
+        × Opens key.now max i (take ahead (drop sealed_chunk_size bytes.old) ++ c) bytes.new d
         result) }
     ensures gave { IsErrOf result StreamFault.Read
         ⊎ GaveAtMost (65553 - ahead) (S.to_come source.old) (S.to_come source.new) }
     ensures at { IfErr result (λ f. (f ≡ StreamFault.Read) ⊎ IsAtPiece max i f) }
     ensures size { IfOk result
-        (λ piece. (piece.len ≤ 65536) × (piece.more ≡ true → piece.len ≡ 65536)) }
+        (λ piece. (piece.len ≤ chunk_size) × (piece.more ≡ true → piece.len ≡ chunk_size)) }
     ensures within { OnOk result (i < max) }
 {
     carry(bytes, ahead);
@@ -231,7 +232,7 @@ fn next_piece<S: Source>(
 fn read_nonce<S: Source>(source: &mut S) -> Result<[u8; 16], StreamFault>
     ensures nonce { GivesNonce (S.to_come source.old) (S.to_come source.new) result }
     ensures gave { IsErrOf result StreamFault.Read
-        ⊎ GaveAtMost 16 (S.to_come source.old) (S.to_come source.new) }
+        ⊎ GaveAtMost nonce_size (S.to_come source.old) (S.to_come source.new) }
     ensures count { CountsRead (S.failed source.old) (S.failed source.new) result }
 {
     let mut nonce = [0; 16];
@@ -247,7 +248,7 @@ fn carry(bytes: &mut [u8], ahead: usize)
     requires size { length bytes.old ≡ 65553 }
     requires ahead { ahead ≤ 1 }
     ensures len { length bytes.new ≡ 65553 }
-    ensures front { take ahead bytes.new ≡ take ahead (drop 65552 bytes.old) }
+    ensures front { take ahead bytes.new ≡ take ahead (drop sealed_chunk_size bytes.old) }
 {
     let (front, end) = bytes.split_at_mut(65_552);
     let (first, _) = front.split_at_mut(ahead);
@@ -273,12 +274,12 @@ pub fn open_chunk(
     end: usize,
 ) -> Result<usize, StreamFault>
     requires high { end ≤ length bytes.old }
-    requires size { end ≤ 65552 }
+    requires size { end ≤ sealed_chunk_size }
     requires index { i ≤ max }
-    requires small { i < max → i < 2 ^ 88 }
+    requires small { i < max → i < most_chunks }
     ensures len { length bytes.new ≡ length bytes.old }
-    ensures rest { drop (end - 16) bytes.new ≡ drop (end - 16) bytes.old }
-    ensures size { IfOk result (λ n. n ≡ end - 16) }
+    ensures rest { drop (end - tag_size) bytes.new ≡ drop (end - tag_size) bytes.old }
+    ensures size { IfOk result (λ n. n ≡ end - tag_size) }
     ensures text { GivesText (outcome key.now max i last (take end bytes.old)) bytes.new result }
     ensures kept { OnErr result (bytes.new ≡ bytes.old) }
     ensures within { OnOk result (i < max) }
@@ -302,21 +303,21 @@ pub fn open_chunk(
 
 /// Whether the piece is the last, not the first, and a tag alone.
 fn is_empty_final(last: bool, i: u128, len: usize) -> bool
-    ensures { result ≡ (last && nat_lt 0 i && nat_eq len 16) }
+    ensures { result ≡ (last && nat_lt 0 i && nat_eq len tag_size) }
 {
     last && i > 0 && len == 16
 }
 
 /// Opens the first `end` bytes where they stand; where they don't open, all is as it was.
 pub(crate) fn open_front(key: &[u8; 32], nonce: &[u8; 12], bytes: &mut [u8], end: usize) -> bool
-    requires low { 16 ≤ end }
+    requires low { tag_size ≤ end }
     requires high { end ≤ length bytes.old }
-    requires size { end ≤ 65552 }
+    requires size { end ≤ sealed_chunk_size }
     ensures len { length bytes.new ≡ length bytes.old }
-    ensures rest { drop (end - 16) bytes.new ≡ drop (end - 16) bytes.old }
+    ensures rest { drop (end - tag_size) bytes.new ≡ drop (end - tag_size) bytes.old }
     ensures kept { OnFalse result (bytes.new ≡ bytes.old) }
-    ensures opened { OnTrue result
-        (opened key.now nonce.now [] (take end bytes.old) ≡ Some (take (end - 16) bytes.new)) }
+    ensures opened { OnTrue result (opened key.now nonce.now [] (take end bytes.old)
+        ≡ Some (take (end - tag_size) bytes.new)) }
     ensures refused { OnFalse result (opened key.now nonce.now [] (take end bytes.old) ≡ None) }
 {
     let (front, _) = bytes.split_at_mut(end);

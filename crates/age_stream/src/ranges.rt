@@ -2,6 +2,7 @@
 ghost use Rattle.std.specs.Prelude.{◌≡◌, ◌+◌, ◌-◌, ◌*◌, ◌/◌, ◌<◌, ◌≤◌, ℕ, length, Ok, Err, Some, None, IfOk, IfErr, OnErr};
 ghost use Rattle.age_stream.specs.Counts.{CountsRead, CountsReadFault};
 ghost use Rattle.age_stream.specs.Ranges.{Counts, Fills, IsOpenFault, IsSound, OpensRanges, Probes, Stops, fresh, range_len, sealed_span};
+ghost use Rattle.age_stream.specs.Sizes.{chunk_size};
 
 use crate::chunks::Chunks;
 use crate::fault::StreamFault;
@@ -139,16 +140,17 @@ impl<'a, D: ReadAt> RangeReader<'a, D> {
             self.new.chunks.opened) }
         ensures count { CountsRead (D.failed self.old.dev.now) (D.failed self.new.dev.now) result }
         ensures kept { IfOk result
-            (λ n. 0 < n → self.new.chunks.index ≡ Some ((at + n - 1) / 65536)) }
+            (λ n. 0 < n → self.new.chunks.index ≡ Some ((at + n - 1) / chunk_size)) }
         ensures none { OnErr result (self.new.chunks.index ≡ None) }
         ensures rises { self.old.chunks.opened ≤ self.new.chunks.opened }
         ensures counts { IfOk result (λ n. 0 < n → Counts self.old.chunks self.new.chunks.opened
-            ((at + n - 1) / 65536 + 1 - fresh self.old.chunks.index at)) }
+            ((at + n - 1) / chunk_size + 1 - fresh self.old.chunks.index at)) }
         ensures opened { (end : ℕ)
-            → at + range_len self.old.chunks at (length buf.old) ≤ 65536 * end
+            → at + range_len self.old.chunks at (length buf.old) ≤ chunk_size * end
             → self.new.chunks.opened
             ≤ self.old.chunks.opened + (end - fresh self.old.chunks.index at) }
-        ensures given { (end : ℕ) → at + range_len self.old.chunks at (length buf.old) ≤ 65536 * end
+        ensures given { (end : ℕ)
+            → at + range_len self.old.chunks at (length buf.old) ≤ chunk_size * end
             → D.given self.new.dev.now
             ≤ D.given self.old.dev.now
             + sealed_span self.old.chunks.layout (fresh self.old.chunks.index at) end }

@@ -7,6 +7,7 @@ ghost use Rattle.age_stream.specs.Opening.{Advances, EndsAt, Starts, WritesAll};
 ghost use Rattle.age_stream.specs.Reader.{Lends, MissesNonce, lent};
 ghost use mathlib.Core.Option.{none};
 ghost use mir.Syntax.{named};
+ghost use Rattle.age_stream.specs.Sizes.{most_chunks, nonce_size};
 
 use crate::buffer::ChunkBuf;
 use crate::done::Done;
@@ -49,13 +50,13 @@ impl<'a, S: Source> StreamReader<'a, S> {
         input: &'a mut S,
         max_chunks: u128,
     ) -> Result<StreamReader<'a, S>, Refused<'a, S, StreamFault>>
-        requires { max_chunks ≤ 2 ^ 88 }
+        requires { max_chunks ≤ most_chunks }
         ensures same_reference { IfOk result
             (λ reader. reader.input.ghost_name ≡ input.entry.ghost_name) }
         ensures starts { IfOk result (λ reader. Starts key.now max_chunks (S.to_come input.old)
             (S.to_come reader.input.now) (Ok reader.opener)) }
         ensures gave { IfOk result
-            (λ reader. GaveAtMost 16 (S.to_come input.old) (S.to_come reader.input.now)) }
+            (λ reader. GaveAtMost nonce_size (S.to_come input.old) (S.to_come reader.input.now)) }
         ensures uncounted { IfOk result (λ reader. S.failed reader.input.now ≡ S.failed input.old) }
         ensures handed_back { IfErr result
             (λ refused. refused.device.ghost_name ≡ input.entry.ghost_name) }
@@ -85,13 +86,13 @@ impl<'a, S: Source> StreamReader<'a, S> {
         input: &'a mut S,
         max_chunks: u128,
     ) -> Result<StreamReader<'a, S>, StreamFault>
-        requires { max_chunks ≤ 2 ^ 88 }
+        requires { max_chunks ≤ most_chunks }
         ensures same_reference { IfOk result
             (λ reader. reader.input.ghost_name ≡ input.entry.ghost_name) }
         ensures starts { IfOk result (λ reader. Starts key.now max_chunks (S.to_come input.old)
             (S.to_come reader.input.now) (Ok reader.opener)) }
         ensures gave { IfOk result
-            (λ reader. GaveAtMost 16 (S.to_come input.old) (S.to_come reader.input.now)) }
+            (λ reader. GaveAtMost nonce_size (S.to_come input.old) (S.to_come reader.input.now)) }
         ensures uncounted { IfOk result (λ reader. S.failed reader.input.now ≡ S.failed input.old) }
         ensures misses { IfErr result (λ fault. (last : S)
             × (((fault ≡ StreamFault.Memory) × (last ≡ input.old))

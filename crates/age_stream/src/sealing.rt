@@ -7,6 +7,7 @@ ghost use Rattle.age_header.specs.Filling.{Filled};
 ghost use Rattle.age_stream.specs.Counts.{CountsRead, CountsWrite};
 ghost use Rattle.age_stream.specs.Sealing.{IsFed, PutsFull, Stopped, TakesAll, FinishesBy};
 ghost use Rattle.age_stream.specs.Payload.{payload_key, chunk_nonce};
+ghost use Rattle.age_stream.specs.Sizes.{chunk_size, sealed_chunk_size, most_chunks, tag_size};
 
 use crate::buffer::ChunkBuf;
 use crate::chunk_keys::{chunk_nonce, payload_key};
@@ -54,7 +55,7 @@ impl ChunkSealer {
     /// A sealer of the payload with this nonce under this file key, before chunk 0.
     pub fn new(key: &FileKey, nonce: &[u8; 16], max_chunks: u128, buf: ChunkBuf) -> ChunkSealer
         requires low { 1 ≤ max_chunks }
-        requires high { max_chunks ≤ 2 ^ 88 }
+        requires high { max_chunks ≤ most_chunks }
         ensures { result ≡ at_start (payload_key key.now nonce.now) max_chunks }
     {
         ChunkSealer {
@@ -147,12 +148,12 @@ fn feed<S: Source, W: Sink>(
     len: usize,
 ) -> Result<usize, StreamFault>
     requires size { length bytes.old ≡ 65553 }
-    requires held { len ≤ 65536 }
+    requires held { len ≤ chunk_size }
     requires within { index.old < max }
-    requires small { max ≤ 2 ^ 88 }
+    requires small { max ≤ most_chunks }
     ensures size { length bytes.new ≡ 65553 }
     ensures within { index.new < max }
-    ensures len { IfOk result (λ n. n ≤ 65536) }
+    ensures len { IfOk result (λ n. n ≤ chunk_size) }
     ensures fed { MatchResult result
         (λ n. IsFed key.now index.old index.new (take len bytes.old) (take n bytes.new)
         (S.to_come plain.old) (S.to_come plain.new) (W.taken out.old) (W.taken out.new)
@@ -182,11 +183,11 @@ fn feed<S: Source, W: Sink>(
 /// at its end.
 fn fill_chunk<S: Source>(plain: &mut S, bytes: &mut [u8], held: usize) -> Result<usize, DeviceFault>
     requires size { length bytes.old ≡ 65553 }
-    requires held { held ≤ 65536 }
+    requires held { held ≤ chunk_size }
     ensures size { length bytes.new ≡ 65553 }
     ensures bytes { IfOk result (λ n. (n ≤ 65537)
         × Filled held n bytes.old bytes.new (S.to_come plain.old) (S.to_come plain.new)) }
-    ensures end { IfOk result (λ n. n ≤ 65536 → IsAtEnd (S.to_come plain.new)) }
+    ensures end { IfOk result (λ n. n ≤ chunk_size → IsAtEnd (S.to_come plain.new)) }
     ensures count { Counts (S.failed plain.old) (S.failed plain.new) result }
 {
     let (front, _) = bytes.split_at_mut(65_537);
@@ -204,7 +205,7 @@ fn put_full<W: Sink>(
 ) -> Result<(), StreamFault>
     requires size { length bytes.old ≡ 65553 }
     requires within { index.old < max }
-    requires small { max ≤ 2 ^ 88 }
+    requires small { max ≤ most_chunks }
     ensures size { length bytes.new ≡ 65553 }
     ensures within { index.new < max }
     ensures puts { PutsFull key.now max index.old index.new bytes.old bytes.new (W.taken out.old)
@@ -235,8 +236,8 @@ fn put_sealed<W: Sink>(
     len: usize,
 ) -> Result<(), DeviceFault>
     requires size { length bytes.old ≡ 65553 }
-    requires len { len ≤ 65536 }
-    requires small { i < 2 ^ 88 }
+    requires len { len ≤ chunk_size }
+    requires small { i < most_chunks }
     ensures size { length bytes.new ≡ 65553 }
     ensures text { Writes (W.taken out.old) (W.taken out.new) result
         (sealed key.now (chunk_nonce i last) [] (take len bytes.old)) }
@@ -250,12 +251,12 @@ fn put_sealed<W: Sink>(
 /// Seals all but the last 16 bytes where they stand, as chunk i; the last 16 become the tag. `last`
 /// says whether the chunk ends its payload.
 pub fn seal_chunk(key: &[u8; 32], i: u128, last: bool, chunk: &mut [u8])
-    requires low { 16 ≤ length chunk.old }
-    requires high { length chunk.old ≤ 65552 }
-    requires small { i < 2 ^ 88 }
+    requires low { tag_size ≤ length chunk.old }
+    requires high { length chunk.old ≤ sealed_chunk_size }
+    requires small { i < most_chunks }
     ensures len { length chunk.new ≡ length chunk.old }
     ensures sealed { chunk.new
-        ≡ sealed key.now (chunk_nonce i last) [] (take (length chunk.old - 16) chunk.old) }
+        ≡ sealed key.now (chunk_nonce i last) [] (take (length chunk.old - tag_size) chunk.old) }
 {
     let len = chunk.len() - 16;
     let (text, end) = chunk.split_at_mut(len);

@@ -6,6 +6,7 @@ ghost use Rattle.age_stream.specs.Counts.{CountsRead, CountsWrite};
 ghost use Rattle.age_stream.specs.Payload.{payload_key};
 ghost use Rattle.age_stream.specs.Sealing.{at_start, FinishesBy, SealsAll};
 ghost use Rattle.age_stream.specs.Writer.{LosesNonce, TakesPiece};
+ghost use Rattle.age_stream.specs.Sizes.{most_chunks};
 
 use crate::buffer::ChunkBuf;
 use crate::done::Done;
@@ -46,7 +47,7 @@ impl<'a, W: Sink> StreamWriter<'a, W> {
         buf: ChunkBuf,
     ) -> Result<StreamWriter<'a, W>, Refused<'a, W, StreamFault>>
         requires low { 1 ≤ max_chunks }
-        requires high { max_chunks ≤ 2 ^ 88 }
+        requires high { max_chunks ≤ most_chunks }
         ensures same_reference { IfOk result
             (λ writer. writer.out.ghost_name ≡ out.entry.ghost_name) }
         ensures written { IfOk result
@@ -79,7 +80,7 @@ impl<'a, W: Sink> StreamWriter<'a, W> {
         max_chunks: u128,
     ) -> Result<StreamWriter<'a, W>, Refused<'a, W, StreamFault>>
         requires low { 1 ≤ max_chunks }
-        requires high { max_chunks ≤ 2 ^ 88 }
+        requires high { max_chunks ≤ most_chunks }
         ensures same_reference { IfOk result
             (λ writer. writer.out.ghost_name ≡ out.entry.ghost_name) }
         ensures written { IfOk result
@@ -116,7 +117,7 @@ impl<'a, W: Sink> StreamWriter<'a, W> {
         buf: ChunkBuf,
     ) -> Result<StreamWriter<'a, W>, StreamFault>
         requires low { 1 ≤ max_chunks }
-        requires high { max_chunks ≤ 2 ^ 88 }
+        requires high { max_chunks ≤ most_chunks }
         ensures same_reference { IfOk result
             (λ writer. writer.out.ghost_name ≡ out.entry.ghost_name) }
         ensures written { IfOk result
@@ -148,7 +149,7 @@ impl<'a, W: Sink> StreamWriter<'a, W> {
         max_chunks: u128,
     ) -> Result<StreamWriter<'a, W>, StreamFault>
         requires low { 1 ≤ max_chunks }
-        requires high { max_chunks ≤ 2 ^ 88 }
+        requires high { max_chunks ≤ most_chunks }
         ensures same_reference { IfOk result
             (λ writer. writer.out.ghost_name ≡ out.entry.ghost_name) }
         ensures written { IfOk result

@@ -1,5 +1,5 @@
 -- What holds of a job that the words gave.
-use Rattle.std.specs.Prelude.{◌≤◌, ℕ, IsSome, ⊤}
+use Rattle.std.specs.Prelude.{◌≤◌, ◌^◌, ◌-◌, ℕ, IsSome, ⊤}
 use Rattle.std.specs.declared.option.Option.{Option}
 use Rattle.age_words.specs.declared.job.Command.{Command}
 use Rattle.age_words.specs.declared.job.Command.TheVariants.{Range}
@@ -14,12 +14,26 @@ abbrev pub NamesInput : {A : Type 0} → Command → Option A → Type 0
 NamesInput Range input = IsSome input
 NamesInput _ input = ⊤
 
--- each number lies in its range: a work factor is 1 to 30, the limit of a header 1 KiB to 16 MiB, a
--- place below 2^63
+-- the greatest work factor
+abbrev pub most_work : ℕ
+most_work = 30
+
+-- the bounds of the limit of a header, 1 KiB and 16 MiB
+abbrev pub least_header : ℕ
+least_header = 1024
+
+abbrev pub most_header : ℕ
+most_header = 16777216
+
+-- the greatest offset or length
+abbrev pub most_place : ℕ
+most_place = 2 ^ 63 - 1
+
+-- each number lies in its range
 pub record IsInRange (job : Job) : Type 0 where
-  pub work : Lies 1 30 job.work
-  pub max_work : Lies 1 30 job.max_work
-  pub max_header : Lies 1024 16777216 job.max_header
-  pub at : job.at ≤ 9223372036854775807
-  pub len : job.len ≤ 9223372036854775807
+  pub work : Lies 1 most_work job.work
+  pub max_work : Lies 1 most_work job.max_work
+  pub max_header : Lies least_header most_header job.max_header
+  pub at : job.at ≤ most_place
+  pub len : job.len ≤ most_place
   pub input : NamesInput job.command job.input

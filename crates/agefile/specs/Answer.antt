@@ -10,7 +10,7 @@ use Rattle.age_file.specs.declared.limits.Fresh.{Fresh}
 use Rattle.age_file.specs.NewFile.{CutFile, IsRefusal, NewFile}
 use Rattle.age_file.specs.Verdict.{Answering, IsVerdict}
 use Rattle.agefile.specs.declared.report.Report.{Report}
-use Rattle.agefile.specs.Codes.{code_of}
+use Rattle.agefile.specs.Codes.{code_of, out_of_memory, too_small}
 use Rattle.agefile.specs.Limits.{limits}
 use Rattle.agefile.specs.Report.{report_of}
 
@@ -31,7 +31,7 @@ pub record Fits (text : Bytes) (fault : Option Fault) (old new : Bytes) (told : 
 -- the text is longer than the buffer, which is as it was; its length alone is reported
 pub record Exceeds (text old new : Bytes) (told : Report) (result : ℕ) : Type 0 where
   pub exceeds : length old < length text
-  pub code : result ≡ 21
+  pub code : result ≡ too_small
   pub report : told ≡ report_of (length text) None
   pub buffer : new ≡ old
 
@@ -49,7 +49,7 @@ alone meaning = λ stanzas. meaning stanzas ∷ []
 abbrev pub GivesPlain : (answers : Answering) (b old new : Bytes) (told : Report) (result : ℕ)
     → Type 0
 GivesPlain answers b old new told result =
-    GivesUp 17 old new told result
+    GivesUp out_of_memory old new told result
     ⊎ ((verdict : Reading Fault) × IsVerdict limits answers b verdict
     × Gives verdict.front verdict.fault old new told result)
 
@@ -74,7 +74,7 @@ only stanza given = given ≡ Ok (stanza ∷ [])
 abbrev pub GivesFile : (seed : Bytes) (stanza : (FileKey → StanzaParts)) (plain old new : Bytes)
     (told : Report) (result : ℕ) → Type 0
 GivesFile seed stanza plain old new told result =
-    GivesUp 17 old new told result
+    GivesUp out_of_memory old new told result
     ⊎ ((file : Bytes)
     × NewFile limits (fresh_of seed) (only (stanza (fresh_of seed).file_key)) plain file
     × Gives file None old new told result)
@@ -84,7 +84,7 @@ GivesFile seed stanza plain old new told result =
 abbrev pub GivesGathered : (seed : Bytes) (given : (Result (List StanzaParts) Fault → Type 0))
     (plain old new : Bytes) (told : Report) (result : ℕ) → Type 0
 GivesGathered seed given plain old new told result =
-    GivesUp 17 old new told result
+    GivesUp out_of_memory old new told result
     ⊎ (((fault : Fault) × IsRefusal limits (fresh_of seed).file_key given fault)
     ⊎ (((begun : Bytes) × CutFile limits (fresh_of seed) given plain begun)
     ⊎ ((file : Bytes) × NewFile limits (fresh_of seed) given plain file

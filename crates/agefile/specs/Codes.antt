@@ -5,6 +5,30 @@ use Rattle.age_recipient.specs.declared.unwrapped.StanzaFault.TheVariants.{ArgCo
 use Rattle.age_file.specs.declared.fault.Fault.{Fault}
 use Rattle.age_file.specs.declared.fault.Fault.TheVariants.{NotAge, BadLine, HeaderTruncated, HeaderTooLarge, MixedPassphrase, NoMatch, WrongKey, Malformed, BadMac, NonceTruncated, ChunkShort, EmptyFinal, BadChunk, TooManyChunks, Read, Write, OutOfMemory, NoRecipients, Refused, IncompatibleRecipients}
 
+-- no fault
+abbrev pub ok : ℕ
+ok = 0
+
+-- an allocation was refused
+abbrev pub out_of_memory : ℕ
+out_of_memory = 17
+
+-- the plaintext has more chunks than the limit
+abbrev pub too_many_chunks : ℕ
+too_many_chunks = 14
+
+-- the buffer has no room for what it was to get
+abbrev pub too_small : ℕ
+too_small = 21
+
+-- a work factor, or its maximum, is out of its range
+abbrev pub bad_work_factor : ℕ
+bad_work_factor = 22
+
+-- there is no such stanza or place, or the call does not fit the state
+abbrev pub out_of_order : ℕ
+out_of_order = 23
+
 -- a fault's number
 abbrev pub fault_code : Fault → ℕ
 fault_code NotAge = 1
@@ -20,10 +44,10 @@ fault_code NonceTruncated = 10
 fault_code (ChunkShort i) = 11
 fault_code (EmptyFinal i) = 12
 fault_code (BadChunk i) = 13
-fault_code TooManyChunks = 14
+fault_code TooManyChunks = too_many_chunks
 fault_code Read = 15
 fault_code Write = 16
-fault_code OutOfMemory = 17
+fault_code OutOfMemory = out_of_memory
 fault_code NoRecipients = 18
 fault_code (Refused i reason) = 19
 fault_code (IncompatibleRecipients i) = 20
@@ -53,7 +77,7 @@ fault_detail _ = 0
 
 -- the number of a fault, or 0 where there is none
 abbrev pub code_of : Option Fault → ℕ
-code_of None = 0
+code_of None = ok
 code_of (Some fault) = fault_code fault
 
 -- an allocation was refused; a sink in memory fails for no other reason

@@ -12,7 +12,7 @@ use Rattle.agefile.specs.declared.inspecting.StanzaSummary.{StanzaSummary}
 use Rattle.agefile.specs.declared.inspecting.Summary.{Summary}
 use Rattle.agefile.specs.declared.report.Report.{Report}
 use Rattle.agefile.specs.Answer.{Gives, GivesUp}
-use Rattle.agefile.specs.Codes.{fault_code}
+use Rattle.agefile.specs.Codes.{fault_code, ok, out_of_memory, out_of_order}
 use Rattle.agefile.specs.Limits.{limits}
 use Rattle.agefile.specs.Report.{report_of}
 
@@ -41,13 +41,13 @@ summary_of found =
 abbrev pub SumsUp : (result' : Result Found HeaderFault) (old new : Summary) (told : Report)
     (result : ℕ) → Type 0
 SumsUp (Ok found) old new told result =
-    (result ≡ 0) × (told ≡ report_of 0 None) × (new ≡ summary_of found)
+    (result ≡ ok) × (told ≡ report_of 0 None) × (new ≡ summary_of found)
 SumsUp (Err reason) old new told result = TellsFault reason told result × (new ≡ old)
 
 -- what inspecting b gives, by its header verdict; or out of memory, with the summary as it was
 abbrev pub Inspected : (b : Bytes) (old new : Summary) (told : Report) (result : ℕ) → Type 0
 Inspected b old new told result =
-    ((result ≡ 17) × (told ≡ report_of 0 None) × (new ≡ old))
+    ((result ≡ out_of_memory) × (told ≡ report_of 0 None) × (new ≡ old))
     ⊎ ((verdict : Result Found HeaderFault) × HeaderVerdict b limits.max_header verdict
     × SumsUp verdict old new told result)
 
@@ -67,7 +67,7 @@ abbrev pub GivesStanza : (found : Option StanzaParts) (old new : Bytes)
 GivesStanza (Some s) old new before after told result =
     Gives (joined s.args) None old new told result × (after ≡ stanza_summary s)
 GivesStanza None old new before after told result =
-    GivesUp 23 old new told result × (after ≡ before)
+    GivesUp out_of_order old new told result × (after ≡ before)
 
 -- the same of a place in a header; or the header's fault is returned, and nothing is given
 abbrev pub StanzaOf : (result' : Result Found HeaderFault) (index : ℕ) (old new : Bytes)
@@ -81,6 +81,6 @@ StanzaOf (Err reason) index old new before after told result =
 abbrev pub AnswersStanza : (b : Bytes) (index : ℕ) (old new : Bytes) (before after : StanzaSummary)
     (told : Report) (result : ℕ) → Type 0
 AnswersStanza b index old new before after told result =
-    (GivesUp 17 old new told result × (after ≡ before))
+    (GivesUp out_of_memory old new told result × (after ≡ before))
     ⊎ ((verdict : Result Found HeaderFault) × HeaderVerdict b limits.max_header verdict
     × StanzaOf verdict index old new before after told result)

@@ -8,5 +8,6 @@ pub mod Report
 pub mod Runs
 pub mod Sizes
 pub mod Start
+pub mod State
 pub mod Steps
 pub mod Writer

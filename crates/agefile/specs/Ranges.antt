@@ -9,35 +9,43 @@ use Rattle.age_file.specs.Verdict.{Answering, of_stream}
 use Rattle.agefile.specs.declared.ranges.Ranges.{Ranges}
 use Rattle.agefile.specs.declared.report.Report.{Report}
 use Rattle.agefile.specs.declared.start.Start.{Start}
-use Rattle.agefile.specs.Codes.{fault_code}
+use Rattle.agefile.specs.Codes.{fault_code, ok, out_of_order}
 use Rattle.agefile.specs.Limits.{limits}
 use Rattle.agefile.specs.Report.{report_of}
 use Rattle.agefile.specs.Start.{FindsStart}
+use Rattle.age_stream.specs.Sizes.{tag_size, chunk_size, sealed_chunk_size}
+use Rattle.agefile.specs.State.{state_closed, state_open, state_verified}
 
 -- the number of the last of the pieces that so many bytes are
 abbrev pub last_index : ℕ → ℕ
-last_index sealed = (sealed - 1) / 65552
+last_index sealed = (sealed - 1) / sealed_chunk_size
 
 -- how long piece i of so many bytes is
 abbrev pub piece_len : (sealed i : ℕ) → ℕ
-piece_len sealed i = min 65552 (sealed - 65552 * i)
+piece_len sealed i = min sealed_chunk_size (sealed - sealed_chunk_size * i)
 
 -- the plaintext's length: each piece has a tag
 abbrev pub plain_of : ℕ → ℕ
-plain_of sealed = sealed - 16 * (last_index sealed + 1)
+plain_of sealed = sealed - tag_size * (last_index sealed + 1)
 
 -- no payload
 abbrev pub closed : Ranges
-closed = record { key = replicate 32 0; first = 0; sealed_len = 0; state = 0 }
+closed = record { key = replicate 32 0; first = 0; sealed_len = 0; state = state_closed }
 
 -- the payload from its start to the end of a file of so many bytes
 abbrev pub opened : Start → ℕ → Ranges
 opened start file_len =
-    record { key = start.key; first = start.first; sealed_len = file_len - start.first; state = 1 }
+    record {
+      key = start.key;
+      first = start.first;
+      sealed_len = file_len - start.first;
+      state = state_open;
+    }
 
 -- where piece i stands in the file, and how long it is
 abbrev pub place_of : Ranges → ℕ → Report
-place_of r i = record { len = piece_len r.sealed_len i; place = r.first + 65552 * i; detail = 0 }
+place_of r i =
+    record { len = piece_len r.sealed_len i; place = r.first + sealed_chunk_size * i; detail = 0 }
 
 -- the call returns this code alone, and no payload is open
 pub record StaysClosed (number : ℕ) (new : Ranges) (told : Report) (result : ℕ) : Type 0 where
@@ -50,8 +58,8 @@ pub record StaysClosed (number : ℕ) (new : Ranges) (told : Report) (result : �
 abbrev pub OpensAt : (file_len : ℕ) (result' : Result Start Fault) (new : Ranges) (told : Report)
     (result : ℕ) → Type 0
 OpensAt file_len (Ok start) new told result =
-    ((file_len < start.first) × StaysClosed 23 new told result)
-    ⊎ ((start.first ≤ file_len) × (result ≡ 0) × (new ≡ opened start file_len)
+    ((file_len < start.first) × StaysClosed out_of_order new told result)
+    ⊎ ((start.first ≤ file_len) × (result ≡ ok) × (new ≡ opened start file_len)
     × (told ≡ place_of (opened start file_len) (last_index (file_len - start.first))))
 OpensAt file_len (Err fault) new told result =
     (result ≡ fault_code fault) × (told ≡ report_of 0 (Some fault)) × (new ≡ closed)
@@ -65,48 +73,63 @@ OpensRanges answers front file_len new told result =
 
 -- the bytes of piece i in a file
 abbrev pub piece_at : (r : Ranges) (b : Bytes) (i : ℕ) → Bytes
-piece_at r b i = take (piece_len r.sealed_len i) (drop (r.first + 65552 * i) b)
+piece_at r b i = take (piece_len r.sealed_len i) (drop (r.first + sealed_chunk_size * i) b)
 
 -- what these bytes give as piece i
 abbrev pub gives : (r : Ranges) (i : ℕ) (piece : Bytes) → Result Bytes StreamFault
-gives r i piece = outcome r.key limits.max_chunks i (nat_le r.sealed_len (65552 * (i + 1))) piece
+gives r i piece =
+    outcome r.key limits.max_chunks i (nat_le r.sealed_len (sealed_chunk_size * (i + 1))) piece
 
 -- what the last piece gives, verified: on its text the plaintext's length is known
 abbrev pub Verified : (old new : Ranges) (chunk chunk2 : Bytes) (report : Report) (result : ℕ)
     (result' : Result Bytes StreamFault) → Type 0
 Verified old new chunk chunk2 report result (Ok text) =
-    (result ≡ 0)
-    × (new ≡ record { key = old.key; first = old.first; sealed_len = old.sealed_len; state = 2 })
+    (result ≡ ok)
+    × (new
+    ≡ record {
+      key = old.key;
+      first = old.first;
+      sealed_len = old.sealed_len;
+      state = state_verified;
+    })
     × (chunk2 ≡ text ++ drop (length text) chunk)
     × (report ≡ report_of (plain_of old.sealed_len) None)
 Verified old new chunk chunk2 report result (Err fault) =
     (result ≡ fault_code (of_stream fault))
-    × (new ≡ record { key = old.key; first = old.first; sealed_len = old.sealed_len; state = 1 })
+    × (new
+    ≡ record {
+      key = old.key;
+      first = old.first;
+      sealed_len = old.sealed_len;
+      state = state_open;
+    })
     × (chunk2 ≡ chunk) × (report ≡ report_of 0 (Some (of_stream fault)))
 
 -- the payload was opened, and these are as many bytes as the last piece has
 abbrev pub may_verify : Ranges → Bytes → Bool
 may_verify r chunk =
-    nat_lt 0 r.state && nat_eq (length chunk) (piece_len r.sealed_len (last_index r.sealed_len))
+    nat_lt state_closed r.state
+    && nat_eq (length chunk) (piece_len r.sealed_len (last_index r.sealed_len))
 
 -- the last piece was verified, places in the file fit 64 bits, and the plaintext has a byte at this
 -- place
 abbrev pub has_byte : Ranges → ℕ → Bool
 has_byte r at =
-    nat_eq r.state 2 && nat_lt (r.first + r.sealed_len) (2 ^ 64)
+    nat_eq r.state state_verified && nat_lt (r.first + r.sealed_len) (2 ^ 64)
     && nat_lt at (plain_of r.sealed_len)
 
 -- there is such a byte, and these are as many bytes as the piece that holds it
 abbrev pub may_open : (r : Ranges) (at : ℕ) (chunk : Bytes) → Bool
-may_open r at chunk = has_byte r at && nat_eq (length chunk) (piece_len r.sealed_len (at / 65536))
+may_open r at chunk =
+    has_byte r at && nat_eq (length chunk) (piece_len r.sealed_len (at / chunk_size))
 
 -- what the piece that holds byte `at` gives: its text in front, from which the plaintext goes on at
 -- `at`
 abbrev pub GivesFrom : (at : ℕ) (chunk chunk2 : Bytes) (report : Report) (result : ℕ)
     (result' : Result Bytes StreamFault) → Type 0
 GivesFrom at chunk chunk2 report result (Ok text) =
-    (result ≡ 0) × (chunk2 ≡ text ++ drop (length text) chunk)
-    × (report ≡ record { len = length text - at % 65536; place = at % 65536; detail = 0 })
+    (result ≡ ok) × (chunk2 ≡ text ++ drop (length text) chunk)
+    × (report ≡ record { len = length text - at % chunk_size; place = at % chunk_size; detail = 0 })
 GivesFrom at chunk chunk2 report result (Err fault) =
     (result ≡ fault_code (of_stream fault)) × (chunk2 ≡ chunk)
     × (report ≡ report_of 0 (Some (of_stream fault)))

@@ -8,27 +8,30 @@ use Rattle.age_file.specs.Verdict.{Answering, of_stream}
 use Rattle.agefile.specs.declared.reader.Reader.{Reader}
 use Rattle.agefile.specs.declared.report.Report.{Report}
 use Rattle.agefile.specs.declared.start.Start.{Start}
-use Rattle.agefile.specs.Codes.{fault_code}
+use Rattle.agefile.specs.Codes.{fault_code, ok}
 use Rattle.agefile.specs.Limits.{limits}
 use Rattle.agefile.specs.Report.{report_of}
 use Rattle.agefile.specs.Start.{FindsStart}
 use Rattle.agefile.specs.Steps.{IsOutOfOrder}
+use Rattle.age_stream.specs.Sizes.{sealed_chunk_size}
+use Rattle.agefile.specs.State.{state_closed, state_open, state_ended, state_failed}
 
 -- not open
 abbrev pub closed : Reader
-closed = record { key = replicate 32 0; number = 0; state = 0 }
+closed = record { key = replicate 32 0; number = 0; state = state_closed }
 
 -- before chunk 0
 abbrev pub before_first : Bytes → Reader
-before_first key = record { key = key; number = 0; state = 1 }
+before_first key = record { key = key; number = 0; state = state_open }
 
 -- after a chunk that opened
 abbrev pub after_chunk : Reader → Bool → Reader
-after_chunk r last = record { key = r.key; number = r.number + 1; state = if last then 2 else 1 }
+after_chunk r last =
+    record { key = r.key; number = r.number + 1; state = if last then state_ended else state_open }
 
 -- after a chunk with a fault
 abbrev pub failed : Reader → Reader
-failed r = record { key = r.key; number = r.number; state = 3 }
+failed r = record { key = r.key; number = r.number; state = state_failed }
 
 -- the call returns this code alone, and the reader is not open
 pub record StaysClosed (number : ℕ) (new : Reader) (told : Report) (result : ℕ) : Type 0 where
@@ -40,7 +43,7 @@ pub record StaysClosed (number : ℕ) (new : Reader) (told : Report) (result : �
 abbrev pub OpensAt : (result' : Result Start Fault) (new : Reader) (told : Report) (result : ℕ)
     → Type 0
 OpensAt (Ok start) new told result =
-    (result ≡ 0) × (told ≡ report_of start.first None) × (new ≡ before_first start.key)
+    (result ≡ ok) × (told ≡ report_of start.first None) × (new ≡ before_first start.key)
 OpensAt (Err fault) new told result =
     (result ≡ fault_code fault) × (told ≡ report_of 0 (Some fault)) × (new ≡ closed)
 
@@ -53,14 +56,16 @@ OpensReader answers front new told result =
 -- whether a reader takes a chunk of so many bytes: it is open, and the chunk is full, or the last
 -- and no longer
 abbrev pub takes : (r : Reader) (len : ℕ) (last : Bool) → Bool
-takes r len last = nat_eq r.state 1 && (if last then nat_le len 65552 else nat_eq len 65552)
+takes r len last =
+    nat_eq r.state state_open
+    && (if last then nat_le len sealed_chunk_size else nat_eq len sealed_chunk_size)
 
 -- the text stands in front of the chunk, of which the rest is as it was; or its fault is returned,
 -- and all of it is as it was
 abbrev pub Reads : (old new : Reader) (chunk after : Bytes) (last : Bool) (told : Report)
     (result : ℕ) (result' : Result Bytes StreamFault) → Type 0
 Reads old new chunk after last told result (Ok text) =
-    (result ≡ 0) × (told ≡ report_of (length text) None) × (new ≡ after_chunk old last)
+    (result ≡ ok) × (told ≡ report_of (length text) None) × (new ≡ after_chunk old last)
     × (after ≡ text ++ drop (length text) chunk)
 Reads old new chunk after last told result (Err fault) =
     (result ≡ fault_code (of_stream fault)) × (told ≡ report_of 0 (Some (of_stream fault)))

@@ -7,26 +7,28 @@ use Rattle.agefile.specs.declared.writer.Writer.{Writer}
 use Rattle.age_stream.specs.Payload.{is_end}
 use Rattle.agefile.specs.Reader.{ReadsStep}
 use Rattle.agefile.specs.Writer.{WritesStep}
+use Rattle.age_stream.specs.Sizes.{tag_size}
+use Rattle.agefile.specs.Codes.{ok}
 
 -- Calls of a reader on these sealed chunks in order, the last as the last, up to the first that
 -- returns a code: the texts that they gave, joined, and that code and its place; both 0 where there
 -- is none.
 abbrev pub ReadsRun : (r : Reader) (pieces : List Bytes) (text : Bytes) (code place : ℕ) → Type 0
-ReadsRun r [] text code place = (text ≡ []) × ((code ≡ 0) × (place ≡ 0))
+ReadsRun r [] text code place = (text ≡ []) × ((code ≡ ok) × (place ≡ 0))
 ReadsRun r (chunk ∷ more) text code place =
     (new : Reader) × (after : Bytes) × (told : Report) × (result : ℕ)
     × ReadsStep r new chunk after (is_end more) told result
-    × (((result ≡ 0)
+    × (((result ≡ ok)
     × ((rest : Bytes) × (text ≡ take told.len after ++ rest)
     × ReadsRun new more rest code place))
-    ⊎ ((result ≢ 0) × ((text ≡ []) × ((code ≡ result) × (place ≡ told.place)))))
+    ⊎ ((result ≢ ok) × ((text ≡ []) × ((code ≡ result) × (place ≡ told.place)))))
 
 -- Calls of a writer on these texts in order, each followed by 16 bytes, the last as the last, up to
 -- the first that returns a code: the sealed chunks that they gave, joined, and that code, or 0.
 abbrev pub WritesRun : (w : Writer) (chunks : List Bytes) (out : Bytes) (code : ℕ) → Type 0
-WritesRun w [] out code = (out ≡ []) × (code ≡ 0)
+WritesRun w [] out code = (out ≡ []) × (code ≡ ok)
 WritesRun w (text ∷ more) out code =
-    (new : Writer) × (room : Bytes) × (length room ≡ 16) × (after : Bytes) × (told : Report)
+    (new : Writer) × (room : Bytes) × (length room ≡ tag_size) × (after : Bytes) × (told : Report)
     × (result : ℕ) × WritesStep w new (text ++ room) after (is_end more) told result
-    × (((result ≡ 0) × ((rest : Bytes) × (out ≡ after ++ rest) × WritesRun new more rest code))
-    ⊎ ((result ≢ 0) × ((out ≡ []) × (code ≡ result))))
+    × (((result ≡ ok) × ((rest : Bytes) × (out ≡ after ++ rest) × WritesRun new more rest code))
+    ⊎ ((result ≢ ok) × ((out ≡ []) × (code ≡ result))))

@@ -1,21 +1,30 @@
 -- How long files and plaintexts are.
 use Rattle.std.specs.Prelude.{ℕ, ◌+◌, ◌-◌, ◌*◌, ◌/◌, ◌%◌}
+use Rattle.age_stream.specs.Sizes.{nonce_size, tag_size, chunk_size, sealed_chunk_size}
 
 -- how many chunks a plaintext of n bytes has
 abbrev pub chunk_count : ℕ → ℕ
-chunk_count n = (n - 1) / 65536 + 1
+chunk_count n = (n - 1) / chunk_size + 1
 
--- the length of the file of a plaintext of n bytes under a key: a header of 156 bytes, a nonce, and
--- a tag for each chunk
+-- the longest header that this library writes: that under a key, or under a passphrase with a work
+-- factor of two digits
+abbrev pub longest_header : ℕ
+longest_header = 156
+
+-- the shortest header that can be read
+abbrev pub shortest_header : ℕ
+shortest_header = 70
+
+-- the length of the file of a plaintext of n bytes under a key: a header, a nonce, and a tag for
+-- each chunk
 abbrev pub sealed_len : ℕ → ℕ
-sealed_len n = 156 + 16 + n + 16 * chunk_count n
+sealed_len n = longest_header + nonce_size + n + tag_size * chunk_count n
 
 -- the most that pieces of n bytes open to: 65,536 bytes of each full one, and of what is left all
 -- but a tag
 abbrev pub opened_len : ℕ → ℕ
-opened_len n = 65536 * (n / 65552) + (n % 65552 - 16)
+opened_len n = chunk_size * (n / sealed_chunk_size) + (n % sealed_chunk_size - tag_size)
 
--- the most plaintext that a file of n bytes has; no header has fewer than 70 bytes, and a nonce has
--- 16
+-- the most plaintext that a file of n bytes has
 abbrev pub plain_len_at_most : ℕ → ℕ
-plain_len_at_most n = opened_len (n - 86)
+plain_len_at_most n = opened_len (n - (shortest_header + nonce_size))

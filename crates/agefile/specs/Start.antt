@@ -11,6 +11,7 @@ use Rattle.age_file.specs.Rewrap.{parts_of}
 use Rattle.age_file.specs.Verdict.{Answering, of_header, unlocked}
 use Rattle.agefile.specs.declared.start.Start.{Start}
 use Rattle.agefile.specs.Limits.{limits}
+use Rattle.age_stream.specs.Sizes.{nonce_size}
 
 -- where the chunks begin and their key, where a header of `len` bytes is followed by `rest`, under
 -- the file key
@@ -18,8 +19,8 @@ abbrev pub start_under : (len : ℕ) (rest : Bytes) (result : Result FileKey Fau
     → Result Start Fault
 start_under len rest (Err fault) = Err fault
 start_under len rest (Ok k) =
-    if nat_lt (length rest) 16 then Err NonceTruncated
-    else Ok (record { first = len + 16; key = payload_key k (take 16 rest) })
+    if nat_lt (length rest) nonce_size then Err NonceTruncated
+    else Ok (record { first = len + nonce_size; key = payload_key k (take nonce_size rest) })
 
 -- the start of b, or the first fault before its first chunk, given its header verdict
 abbrev pub start_of : (answers : Answering) (b : Bytes) (result : Result Found HeaderFault)

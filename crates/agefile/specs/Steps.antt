@@ -3,11 +3,12 @@ use Rattle.std.specs.Prelude.{◌≡◌, ℕ, List, None}
 use Rattle.age_kdf.specs.Bytes.{Bytes}
 use Rattle.agefile.specs.declared.report.Report.{Report}
 use Rattle.agefile.specs.Report.{report_of}
+use Rattle.agefile.specs.Codes.{out_of_order}
 
 -- the call doesn't fit the state, and changes nothing
 pub record IsOutOfOrder {S : Type 0} (old new : S) (chunk after : Bytes) (told : Report)
     (result : ℕ) : Type 0 where
-  pub code : result ≡ 23
+  pub code : result ≡ out_of_order
   pub report : told ≡ report_of 0 None
   pub state : new ≡ old
   pub buffer : after ≡ chunk

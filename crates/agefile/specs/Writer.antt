@@ -15,22 +15,27 @@ use Rattle.agefile.specs.Answer.{Exceeds, Fits, GivesUp, fresh_of, only}
 use Rattle.agefile.specs.Limits.{limits}
 use Rattle.agefile.specs.Report.{report_of}
 use Rattle.agefile.specs.Steps.{IsOutOfOrder}
+use Rattle.age_stream.specs.Sizes.{tag_size, sealed_chunk_size}
+use Rattle.agefile.specs.Codes.{ok, out_of_memory, too_many_chunks}
+use Rattle.agefile.specs.State.{state_closed, state_open, state_ended, state_failed}
+use Rattle.agefile.specs.Sizes.{longest_header}
 
 -- not open
 abbrev pub closed : Writer
-closed = record { key = replicate 32 0; number = 0; state = 0 }
+closed = record { key = replicate 32 0; number = 0; state = state_closed }
 
 -- before chunk 0
 abbrev pub before_first : Bytes → Writer
-before_first key = record { key = key; number = 0; state = 1 }
+before_first key = record { key = key; number = 0; state = state_open }
 
 -- after a chunk that was sealed
 abbrev pub after_chunk : Writer → Bool → Writer
-after_chunk w last = record { key = w.key; number = w.number + 1; state = if last then 2 else 1 }
+after_chunk w last =
+    record { key = w.key; number = w.number + 1; state = if last then state_ended else state_open }
 
 -- after one chunk too many
 abbrev pub failed : Writer → Writer
-failed w = record { key = w.key; number = w.number; state = 3 }
+failed w = record { key = w.key; number = w.number; state = state_failed }
 
 -- the call returns this code alone, the buffer is as it was, and the writer is not open
 abbrev pub StaysClosed : (number : ℕ) (old new : Bytes) (writer : Writer) (told : Report)
@@ -52,8 +57,8 @@ GivesFront front fresh old new writer told result =
 abbrev pub OpensWriter : (seed : Bytes) (stanza : (FileKey → StanzaParts)) (old new : Bytes)
     (writer : Writer) (told : Report) (result : ℕ) → Type 0
 OpensWriter seed stanza old new writer told result =
-    StaysClosed 17 old new writer told result
-    ⊎ ((text : Bytes) × (length text ≤ 156)
+    StaysClosed out_of_memory old new writer told result
+    ⊎ ((text : Bytes) × (length text ≤ longest_header)
     × IsHeading limits (fresh_of seed).file_key (only (stanza (fresh_of seed).file_key))
     (stanza (fresh_of seed).file_key ∷ []) text
     × GivesFront (text ++ (fresh_of seed).nonce) (fresh_of seed) old new writer told result)
@@ -63,7 +68,7 @@ OpensWriter seed stanza old new writer told result =
 abbrev pub OpensFor : (fresh : Fresh) (given : (Result (List StanzaParts) Fault → Type 0))
     (old new : Bytes) (writer : Writer) (told : Report) (result : ℕ) → Type 0
 OpensFor fresh given old new writer told result =
-    StaysClosed 17 old new writer told result
+    StaysClosed out_of_memory old new writer told result
     ⊎ (((fault : Fault) × IsRefusal limits fresh.file_key given fault)
     ⊎ ((stanzas : List StanzaParts) × (text : Bytes)
     × IsHeading limits fresh.file_key given stanzas text
@@ -72,30 +77,31 @@ OpensFor fresh given old new writer told result =
 -- whether a last chunk of so many bytes, of which 16 are for the tag, has some text; that of an
 -- empty plaintext has none
 abbrev pub has_text : (number len : ℕ) → Bool
-has_text number len = nat_lt 16 len || (nat_eq len 16 && nat_eq number 0)
+has_text number len = nat_lt tag_size len || (nat_eq len tag_size && nat_eq number 0)
 
 -- whether a writer takes a chunk of so many bytes: it is open, and the chunk is full, or the last
 -- and no longer, with some text
 abbrev pub takes : (w : Writer) (len : ℕ) (last : Bool) → Bool
 takes w len last =
-    nat_eq w.state 1
-    && (if last then nat_le len 65552 && has_text w.number len else nat_eq len 65552)
+    nat_eq w.state state_open
+    && (if last then nat_le len sealed_chunk_size && has_text w.number len
+    else nat_eq len sealed_chunk_size)
 
 -- the chunk's text, all but the last 16 bytes, was sealed at its place
 pub record Seals (old new : Writer) (chunk after : Bytes) (last : Bool) (told : Report)
     (result : ℕ) : Type 0 where
   pub few : old.number < limits.max_chunks
-  pub code : result ≡ 0
+  pub code : result ≡ ok
   pub report : told ≡ report_of (length chunk) None
   pub writer : new ≡ after_chunk old last
   pub buffer : after
-      ≡ sealed old.key (chunk_nonce old.number last) [] (take (length chunk - 16) chunk)
+      ≡ sealed old.key (chunk_nonce old.number last) [] (take (length chunk - tag_size) chunk)
 
 -- the file has as many chunks as it may have
 pub record IsTooMany (old new : Writer) (chunk after : Bytes) (told : Report) (result : ℕ)
     : Type 0 where
   pub many : limits.max_chunks ≤ old.number
-  pub code : result ≡ 14
+  pub code : result ≡ too_many_chunks
   pub report : told ≡ report_of 0 (Some TooManyChunks)
   pub writer : new ≡ failed old
   pub buffer : after ≡ chunk

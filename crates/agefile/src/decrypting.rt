@@ -4,6 +4,7 @@ ghost use Rattle.std.specs.Prelude.{◌≡◌, map};
 ghost use Rattle.age_recipient.specs.KeyedHolders.{key_unwraps};
 ghost use Rattle.age_recipient.specs.PassphraseHolders.{WorkFits, pass_unwraps};
 ghost use Rattle.agefile.specs.Answer.{GivesPlain, GivesUp, alone};
+ghost use Rattle.agefile.specs.Codes.{bad_work_factor};
 
 use crate::bounds::limits;
 use crate::code::{OUT_OF_MEMORY, WORK_FACTOR};
@@ -30,7 +31,8 @@ pub extern "C" fn agefile_decrypt_passphrase(
     ensures answer { WorkFits max_work
         → GivesPlain (alone (pass_unwraps (record { pass = pass.now; max = max_work }))) file.now
         out.old out.new report.new result }
-    ensures unfit { (WorkFits max_work → ⊥) → GivesUp 22 out.old out.new report.new result }
+    ensures unfit { (WorkFits max_work → ⊥)
+        → GivesUp bad_work_factor out.old out.new report.new result }
 {
     let identity = match PassIdentity::new(alloc, pass, max_work) {
         Ok(identity) => identity,

@@ -6,6 +6,7 @@ ghost use Rattle.age_recipient.specs.PassphraseHolders.{WorkFits};
 ghost use Rattle.age_recipient.specs.PassphraseStanza.{pass_stanza};
 ghost use Rattle.age_file.specs.NewFile.{Gathered};
 ghost use Rattle.agefile.specs.Answer.{GivesFile, GivesUp, GivesGathered, fresh_of, salt_of};
+ghost use Rattle.agefile.specs.Codes.{bad_work_factor};
 
 use crate::bounds::limits;
 use crate::code::{OUT_OF_MEMORY, WORK_FACTOR};
@@ -35,7 +36,8 @@ pub extern "C" fn agefile_encrypt_passphrase(
     ensures answer { WorkFits work
         → GivesFile seed.now (pass_stanza pass.now work (salt_of seed.now)) plain.now out.old
         out.new report.new result }
-    ensures unfit { (WorkFits work → ⊥) → GivesUp 22 out.old out.new report.new result }
+    ensures unfit { (WorkFits work → ⊥)
+        → GivesUp bad_work_factor out.old out.new report.new result }
 {
     let recipient = match PassRecipient::new(alloc, pass, part(seed, 32), work) {
         Ok(recipient) => recipient,

@@ -5,6 +5,8 @@ ghost use Rattle.std.specs.String.{string_bytes};
 ghost use Rattle.age_kdf.specs.Bytes.{Bytes};
 ghost use Rattle.agefile.specs.Answer.{GivesUp};
 ghost use Rattle.agefile.specs.Inspect.{AnswersStanza, GivesStanza, HeaderOf, Inspected, joined, stanza_summary};
+ghost use Rattle.agefile.specs.Codes.{out_of_memory};
+ghost use Rattle.agefile.specs.Limits.{front_size};
 
 use crate::bounds::limits;
 use crate::code::{OK, OUT_OF_MEMORY, OUT_OF_ORDER, code_of};
@@ -52,7 +54,7 @@ pub extern "C" fn agefile_inspect(
     report: &mut Report,
 ) -> u32
     ensures front { Inspected front.now summary.old summary.new report.new result }
-    ensures file { (b : Bytes) → front.now ≡ take 65552 b
+    ensures file { (b : Bytes) → front.now ≡ take front_size b
         → Inspected b summary.old summary.new report.new result }
 {
     match header_of(alloc, front) {
@@ -91,7 +93,7 @@ pub extern "C" fn agefile_stanza(
 ) -> u32
     ensures front { AnswersStanza front.now index args.old args.new stanza.old stanza.new report.new
         result }
-    ensures file { (b : Bytes) → front.now ≡ take 65552 b
+    ensures file { (b : Bytes) → front.now ≡ take front_size b
         → AnswersStanza b index args.old args.new stanza.old stanza.new report.new result }
 {
     let header = match header_of(alloc, front) {
@@ -113,7 +115,8 @@ fn give_stanza(
     stanza: &mut StanzaSummary,
     report: &mut Report,
 ) -> u32
-    ensures { ((GivesUp 17 args.old args.new report.new result) × (stanza.new ≡ stanza.old))
+    ensures { ((GivesUp out_of_memory args.old args.new report.new result)
+        × (stanza.new ≡ stanza.old))
         ⊎ GivesStanza (Some found.now) args.old args.new stanza.old stanza.new report.new result }
 {
     let Ok(text) = joined(alloc, found) else {
@@ -145,7 +148,7 @@ fn joined(alloc: Global, stanza: &Stanza) -> Result<String, AllocError>
 /// The header at the front of a file.
 fn header_of(alloc: Global, front: &[u8]) -> Result<Header, Fault>
     ensures front { HeaderOf front.now result }
-    ensures file { (b : Bytes) → front.now ≡ take 65552 b → HeaderOf b result }
+    ensures file { (b : Bytes) → front.now ≡ take front_size b → HeaderOf b result }
 {
     inspect(alloc, &mut MemSource::new(front), &limits())
 }

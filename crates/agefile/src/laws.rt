@@ -13,8 +13,8 @@ ghost use Rattle.agefile.specs.declared.reader.Reader.{Reader};
 ghost use Rattle.agefile.specs.declared.report.Report.{Report};
 ghost use Rattle.agefile.specs.declared.writer.Writer.{Writer};
 ghost use Rattle.agefile.specs.Answer.{fresh_of, only};
-ghost use Rattle.agefile.specs.Codes.{code_of};
-ghost use Rattle.agefile.specs.Limits.{limits};
+ghost use Rattle.agefile.specs.Codes.{code_of, ok, out_of_memory, too_many_chunks};
+ghost use Rattle.agefile.specs.Limits.{limits, front_size};
 ghost use Rattle.agefile.specs.Reader.{OpensReader};
 ghost use Rattle.agefile.specs.Report.{report_of};
 ghost use Rattle.agefile.specs.Runs.{ReadsRun, WritesRun};
@@ -23,6 +23,7 @@ ghost use Rattle.age_stream.specs.Slice.{IsSlice, last_outcome, plain_len};
 ghost use Rattle.agefile.specs.declared.ranges.Ranges.{Ranges};
 ghost use Rattle.agefile.specs.Ranges.{OpensRanges, gives, last_index, piece_at, plain_of};
 ghost use Rattle.agefile.specs.Start.{IsStart};
+ghost use Rattle.age_stream.specs.Sizes.{chunk_size};
 
 /// Reading a file in steps gives what decrypting it does. Of bytes b the front of 65,552 is enough
 /// to open. A fault of the opening is the verdict's, before any plaintext. Else the texts of the
@@ -31,12 +32,12 @@ ghost use Rattle.agefile.specs.Start.{IsStart};
 pub fn steps_read()
     ensures refused { (answers : Answering) (b : Bytes) (reader : Reader) (told : Report)
         (result : ℕ) (v : Reading Fault)
-        → OpensReader answers (take 65552 b) reader told result → IsVerdict limits answers b v
-        → result ≢ 0 → result ≢ 17
+        → OpensReader answers (take front_size b) reader told result → IsVerdict limits answers b v
+        → result ≢ ok → result ≢ out_of_memory
         → (v.front ≡ []) × (code_of v.fault ≡ result) × (told ≡ report_of 0 v.fault) }
     ensures read { (answers : Answering) (b : Bytes) (reader : Reader) (told : Report)
         (text : Bytes) (code place : ℕ) (v : Reading Fault)
-        → OpensReader answers (take 65552 b) reader told 0
+        → OpensReader answers (take front_size b) reader told ok
         → ReadsRun reader (pieces (drop told.len b)) text code place → IsVerdict limits answers b v
         → (v.front ≡ text) × ((code_of v.fault ≡ code) × ((report_of 0 v.fault).place ≡ place)) }
 {}
@@ -47,12 +48,12 @@ pub fn steps_read()
 pub fn steps_write()
     ensures { (seed : Bytes) (stanza : FileKey → StanzaParts) (plain old new : Bytes)
         (writer : Writer) (told : Report) (out : Bytes) (code : ℕ)
-        → length seed ≡ 48 → OpensWriter seed stanza old new writer told 0
+        → length seed ≡ 48 → OpensWriter seed stanza old new writer told ok
         → WritesRun writer (chunks plain) out code
-        → ((code ≡ 0)
+        → ((code ≡ ok)
         × NewFile limits (fresh_of seed) (only (stanza (fresh_of seed).file_key)) plain
         (take told.len new ++ out))
-        ⊎ ((code ≡ 14) × (limits.max_chunks < length (chunks plain))) }
+        ⊎ ((code ≡ too_many_chunks) × (limits.max_chunks < length (chunks plain))) }
 {}
 
 /// Reading ranges in steps gives parts of the plaintext. Of a file b the front of 65,552 bytes and
@@ -64,11 +65,11 @@ pub fn steps_write()
 pub fn ranges_in_steps()
     ensures refused { (answers : Answering) (b : Bytes) (r : Ranges) (told : Report) (result : ℕ)
         (v : Reading Fault)
-        → OpensRanges answers (take 65552 b) (length b) r told result → IsVerdict limits answers b v
-        → result ≢ 0 → result ≢ 17
+        → OpensRanges answers (take front_size b) (length b) r told result
+        → IsVerdict limits answers b v → result ≢ ok → result ≢ out_of_memory
         → (v.front ≡ []) × (code_of v.fault ≡ result) × (told ≡ report_of 0 v.fault) }
     ensures opened { (answers : Answering) (b : Bytes) (r : Ranges) (told : Report)
-        → OpensRanges answers (take 65552 b) (length b) r told 0
+        → OpensRanges answers (take front_size b) (length b) r told ok
         → IsStart answers b (Ok (record { first = r.first; key = r.key }))
         × (length b ≡ r.first + r.sealed_len) }
     ensures last { (r : Ranges) (b : Bytes) → length b ≡ r.first + r.sealed_len
@@ -79,12 +80,15 @@ pub fn ranges_in_steps()
         → last_outcome r.key limits.max_chunks (drop r.first b) ≡ Ok text
         → plain_len (drop r.first b) ≡ plain_of r.sealed_len }
     ensures slice { (r : Ranges) (b text : Bytes) (at : ℕ) → length b ≡ r.first + r.sealed_len
-        → at < plain_of r.sealed_len → gives r (at / 65536) (piece_at r b (at / 65536)) ≡ Ok text
-        → (at % 65536 < length text) × IsSlice r.key (drop r.first b) at (drop (at % 65536) text) }
+        → at < plain_of r.sealed_len
+        → gives r (at / chunk_size) (piece_at r b (at / chunk_size)) ≡ Ok text
+        → (at % chunk_size < length text)
+        × IsSlice r.key (drop r.first b) at (drop (at % chunk_size) text) }
     ensures verdict { (answers : Answering) (b : Bytes) (r : Ranges) (told : Report)
         (v : Reading Fault) (at : ℕ) (text : Bytes)
-        → OpensRanges answers (take 65552 b) (length b) r told 0 → IsVerdict limits answers b v
-        → v.fault ≡ None → at < plain_of r.sealed_len
-        → gives r (at / 65536) (piece_at r b (at / 65536)) ≡ Ok text
-        → drop (at % 65536) text ≡ take (length (drop (at % 65536) text)) (drop at v.front) }
+        → OpensRanges answers (take front_size b) (length b) r told ok
+        → IsVerdict limits answers b v → v.fault ≡ None → at < plain_of r.sealed_len
+        → gives r (at / chunk_size) (piece_at r b (at / chunk_size)) ≡ Ok text
+        → drop (at % chunk_size) text
+        ≡ take (length (drop (at % chunk_size) text)) (drop at v.front) }
 {}

@@ -9,6 +9,8 @@ ghost use Rattle.agefile.specs.Answer.{alone};
 ghost use Rattle.agefile.specs.Limits.{limits};
 ghost use Rattle.agefile.specs.Ranges.{GivesFrom, OpensAt, OpensRanges, StaysClosed, Verified, closed, gives, has_byte, last_index, may_open, may_verify, piece_len, place_of, plain_of};
 ghost use Rattle.agefile.specs.Report.{report_of};
+ghost use Rattle.age_stream.specs.Sizes.{chunk_size};
+ghost use Rattle.agefile.specs.Codes.{ok, bad_work_factor, out_of_order};
 
 use crate::bounds::MAX_CHUNKS;
 use crate::code::{OK, OUT_OF_ORDER, WORK_FACTOR, code_of};
@@ -72,7 +74,8 @@ pub extern "C" fn agefile_ranges_open_passphrase(
     ensures answer { WorkFits max_work
         → OpensRanges (alone (pass_unwraps (record { pass = pass.now; max = max_work }))) front.now
         file_len ranges.new report.new result }
-    ensures unfit { (WorkFits max_work → ⊥) → StaysClosed 22 ranges.new report.new result }
+    ensures unfit { (WorkFits max_work → ⊥)
+        → StaysClosed bad_work_factor ranges.new report.new result }
 {
     match start_for_passphrase(alloc, front, pass, max_work) {
         Some(start) => open_at(start, file_len, ranges, report),
@@ -156,7 +159,7 @@ pub extern "C" fn agefile_ranges_last(
     report: &mut Report,
 ) -> u32
     ensures out_of_order { OnFalse (may_verify ranges.old chunk.old)
-        ((result ≡ 23) × (ranges.new ≡ ranges.old) × (chunk.new ≡ chunk.old)
+        ((result ≡ out_of_order) × (ranges.new ≡ ranges.old) × (chunk.new ≡ chunk.old)
         × (report.new ≡ report_of 0 None)) }
     ensures verified { OnTrue (may_verify ranges.old chunk.old)
         (Verified ranges.old ranges.new chunk.old chunk.new report.new result
@@ -190,9 +193,9 @@ pub extern "C" fn agefile_ranges_last(
 #[unsafe(no_mangle)]
 pub extern "C" fn agefile_ranges_locate(ranges: &Ranges, at: u64, report: &mut Report) -> u32
     ensures out_of_order { OnFalse (has_byte ranges.now at)
-        ((result ≡ 23) × (report.new ≡ report_of 0 None)) }
+        ((result ≡ out_of_order) × (report.new ≡ report_of 0 None)) }
     ensures located { OnTrue (has_byte ranges.now at)
-        ((result ≡ 0) × (report.new ≡ place_of ranges.now (at / 65536))) }
+        ((result ≡ ok) × (report.new ≡ place_of ranges.now (at / chunk_size))) }
 {
     *report = Report::of_len(0);
     if !has_byte(ranges, at) {
@@ -214,10 +217,10 @@ pub extern "C" fn agefile_ranges_chunk(
     report: &mut Report,
 ) -> u32
     ensures out_of_order { OnFalse (may_open ranges.now at chunk.old)
-        ((result ≡ 23) × (chunk.new ≡ chunk.old) × (report.new ≡ report_of 0 None)) }
+        ((result ≡ out_of_order) × (chunk.new ≡ chunk.old) × (report.new ≡ report_of 0 None)) }
     ensures gives { OnTrue (may_open ranges.now at chunk.old)
         (GivesFrom at chunk.old chunk.new report.new result
-        (gives ranges.now (at / 65536) chunk.old)) }
+        (gives ranges.now (at / chunk_size) chunk.old)) }
 {
     *report = Report::of_len(0);
     let len = chunk.len();

@@ -5,6 +5,7 @@ ghost use Rattle.age_recipient.specs.KeyedHolders.{key_unwraps};
 ghost use Rattle.age_recipient.specs.PassphraseHolders.{WorkFits, pass_unwraps};
 ghost use Rattle.agefile.specs.Answer.{alone};
 ghost use Rattle.agefile.specs.Reader.{OpensAt, OpensReader, ReadsStep, StaysClosed, closed, takes};
+ghost use Rattle.agefile.specs.Codes.{bad_work_factor};
 
 use crate::bounds::MAX_CHUNKS;
 use crate::code::{OK, OUT_OF_ORDER, WORK_FACTOR, code_of};
@@ -72,7 +73,8 @@ pub extern "C" fn agefile_reader_open_passphrase(
     ensures answer { WorkFits max_work
         → OpensReader (alone (pass_unwraps (record { pass = pass.now; max = max_work }))) front.now
         reader.new report.new result }
-    ensures unfit { (WorkFits max_work → ⊥) → StaysClosed 22 reader.new report.new result }
+    ensures unfit { (WorkFits max_work → ⊥)
+        → StaysClosed bad_work_factor reader.new report.new result }
 {
     match start_for_passphrase(alloc, front, pass, max_work) {
         Some(start) => open_at(start, reader, report),

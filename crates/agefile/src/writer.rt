@@ -7,6 +7,7 @@ ghost use Rattle.age_recipient.specs.PassphraseStanza.{pass_stanza};
 ghost use Rattle.age_file.specs.NewFile.{Gathered};
 ghost use Rattle.agefile.specs.Answer.{fresh_of, salt_of};
 ghost use Rattle.agefile.specs.Writer.{GivesFront, OpensFor, OpensWriter, StaysClosed, WritesStep, closed, has_text, takes};
+ghost use Rattle.agefile.specs.Codes.{bad_work_factor};
 
 use crate::bounds::{MAX_CHUNKS, limits};
 use crate::code::{OK, OUT_OF_MEMORY, OUT_OF_ORDER, WORK_FACTOR, code_of};
@@ -86,7 +87,7 @@ pub extern "C" fn agefile_writer_open_passphrase(
         → OpensWriter seed.now (pass_stanza pass.now work (salt_of seed.now)) out.old out.new
         writer.new report.new result }
     ensures unfit { (WorkFits work → ⊥)
-        → StaysClosed 22 out.old out.new writer.new report.new result }
+        → StaysClosed bad_work_factor out.old out.new writer.new report.new result }
 {
     let recipient = match PassRecipient::new(alloc, pass, part(seed, 32), work) {
         Ok(recipient) => recipient,

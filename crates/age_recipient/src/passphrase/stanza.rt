@@ -3,6 +3,8 @@
 ghost use Rattle.std.specs.Prelude.{◌≡◌, ◌≤◌, ◌++◌, Some, map, length, true, IfOk, IfErr};
 ghost use Rattle.std.specs.String.{string_bytes};
 ghost use Rattle.age_recipient.specs.PassphraseStanza.{arguments_answer, is_work_factor, number_from, pass_answer, pass_key, pass_stanza, salted_answer};
+ghost use Rattle.age_recipient.specs.PassphraseHolders.{most_work};
+ghost use Rattle.age_recipient.specs.Sealing.{sealed_key_size};
 
 use super::work::{is_work_factor, work_at_most};
 use crate::key::FileKey;
@@ -18,7 +20,7 @@ const LABEL: &[u8; 28] = b"age-encryption.org/v1/scrypt";
 /// The key that wraps the file key.
 fn pass_key(alloc: Global, pass: &[u8], salt: &[u8; 16], work: u8) -> Result<[u8; 32], AllocError>
     requires low { 1 ≤ work }
-    requires high { work ≤ 30 }
+    requires high { work ≤ most_work }
     ensures { IfOk result (λ key. key ≡ pass_key pass.now salt.now work) }
 {
     let Some(params) = ScryptParams::new(u32::from(work), 8, 1) else {
@@ -49,7 +51,7 @@ pub(crate) fn pass_stanza(
     key: &FileKey,
 ) -> Result<Stanza, AllocError>
     requires low { 1 ≤ work }
-    requires high { work ≤ 30 }
+    requires high { work ≤ most_work }
     ensures { IfOk result (λ stanza. stanza ≡ pass_stanza pass.now work salt.now key.now) }
 {
     let wrap_key = pass_key(alloc, pass, salt, work)?;
@@ -74,7 +76,7 @@ pub(crate) fn pass_answer(
     max: u8,
     stanza: &Stanza,
 ) -> Result<Unwrapped, AllocError>
-    requires { max ≤ 30 }
+    requires { max ≤ most_work }
     ensures { IfOk result (λ answer. answer ≡ pass_answer pass.now max stanza.now) }
 {
     match behind_type(stanza, "scrypt") {
@@ -91,7 +93,7 @@ fn arguments_answer(
     args: &[String],
     body: &[u8],
 ) -> Result<Unwrapped, AllocError>
-    requires { max ≤ 30 }
+    requires { max ≤ most_work }
     ensures { IfOk result
         (λ answer. answer ≡ arguments_answer pass.now max (map string_bytes args.now) body.now) }
 {
@@ -114,11 +116,11 @@ fn salted_answer(
     body: &[u8],
     salt: &[u8; 16],
 ) -> Result<Unwrapped, AllocError>
-    requires { max ≤ 30 }
+    requires { max ≤ most_work }
     ensures answer { IfOk result
         (λ answer. answer ≡ salted_answer pass.now max work.now body.now (Some salt.now)) }
     ensures memory { IfErr result (λ _. (is_work_factor work.now ≡ true)
-        × (number_from 0 work.now ≤ max) × (length body.now ≡ 32)) }
+        × (number_from 0 work.now ≤ max) × (length body.now ≡ sealed_key_size)) }
 {
     if !is_work_factor(work) {
         return Ok(Unwrapped::Malformed(StanzaFault::WorkFactorText));

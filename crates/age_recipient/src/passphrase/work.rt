@@ -3,6 +3,7 @@
 ghost use Rattle.std.specs.Prelude.{◌≡◌, ◌<◌, ◌≤◌, true, IfSome, IfNone};
 ghost use Rattle.std.specs.List.{list_all};
 ghost use Rattle.age_recipient.specs.PassphraseStanza.{is_digit, is_work_factor, number_from};
+ghost use Rattle.age_recipient.specs.PassphraseHolders.{most_work};
 
 /// Whether this is a digit 1 to 9, then any digits.
 pub(crate) fn is_work_factor(text: &[u8]) -> bool
@@ -23,7 +24,7 @@ fn are_digits(text: &[u8]) -> bool
 /// The number that such digits spell, where it is at most `max`. There may be any number of digits.
 pub(crate) fn work_at_most(text: &[u8], max: u8) -> Option<u8>
     requires digits { is_work_factor text.now ≡ true }
-    requires small { max ≤ 30 }
+    requires small { max ≤ most_work }
     ensures some { IfSome result
         (λ work. (work ≡ number_from 0 text.now) × (1 ≤ work) × (work ≤ max)) }
     ensures none { IfNone result (max < number_from 0 text.now) }

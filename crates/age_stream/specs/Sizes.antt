@@ -1,0 +1,19 @@
+-- The sizes of a payload's parts, in bytes (C2SP age.md, "Payload").
+use Rattle.std.specs.Prelude.{ℕ, ◌+◌, ◌^◌}
+pub use Rattle.age_cipher.specs.Bytes.{tag_size}
+
+-- the nonce of a payload
+abbrev pub nonce_size : ℕ
+nonce_size = 16
+
+-- the plaintext of each chunk but the last
+abbrev pub chunk_size : ℕ
+chunk_size = 65536
+
+-- such a chunk when it is sealed
+abbrev pub sealed_chunk_size : ℕ
+sealed_chunk_size = chunk_size + tag_size
+
+-- how many chunks a counter of eleven bytes can number
+abbrev pub most_chunks : ℕ
+most_chunks = 2 ^ 88
