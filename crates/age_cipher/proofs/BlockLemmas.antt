@@ -102,7 +102,7 @@ block-stream key nonce counter words e = rw e (
       rw (none, same, here) refl,
 )
 
--- a stream of m blocks, and the stream behind it
+-- a stream of m blocks, and the stream after it
 pub stream_on : (key nonce : List ℕ) (counter next m n : ℕ) (front back : List ℕ) → next ≡ counter + m
     → IsStream key nonce counter (64 * m) front → IsStream key nonce next n back → IsStream key nonce counter (64 * m + n) (front ++ back)
 stream_on key nonce counter next m n front back e one two =

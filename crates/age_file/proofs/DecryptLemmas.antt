@@ -8,9 +8,9 @@ use Rattle.age_header.specs.declared.fault.HeaderFault.{HeaderFault}
 use Rattle.age_header.specs.declared.fault.HeaderFault.TheVariants as header
 use Rattle.age_header.specs.Device.{GaveAtMost, MayGive}
 use Rattle.age_header.specs.Header.{HeaderParts}
-use Rattle.age_header.specs.Reader.{Answers, Refuses}
+use Rattle.age_header.specs.Reader.{ReadsHeader, Refuses}
 use Rattle.age_header.specs.Verdict.{HeaderVerdict}
-use Rattle.age_header.proofs.GivenLemmas.{gave-more, may-some}
+use Rattle.age_header.proofs.MayGiveLemmas.{gave-more, may-some}
 use Rattle.age_header.proofs.OneVerdict.{found_again}
 use Rattle.age_header.proofs.SomeVerdict.{some_verdict}
 use Rattle.age_recipient.specs.declared.key.FileKey.{FileKey}
@@ -94,7 +94,7 @@ header-text limits answers b old (header.BadLine n) h = stops-decrypts limits an
 header-text limits answers b old header.Truncated h = stops-decrypts limits answers b old HeaderTruncated (record { header = Err header.Truncated; header_verdict = h; is = refl })
 header-text limits answers b old header.TooLarge h = stops-decrypts limits answers b old HeaderTooLarge (record { header = Err header.TooLarge; header_verdict = h; is = refl })
 
-header-decrypts : (limits : Bounds) (answers : Answering) (come mid old : Option (List ℕ)) (g : HeaderFault) → Answers come mid limits.max_header (Err g) → Decrypts limits answers come old old (Err (of_header g))
+header-decrypts : (limits : Bounds) (answers : Answering) (come mid old : Option (List ℕ)) (g : HeaderFault) → ReadsHeader come mid limits.max_header (Err g) → Decrypts limits answers come old old (Err (of_header g))
 header-decrypts limits answers None mid old g h = (h.0, header-text limits answers h.0 old g h.1)
 header-decrypts limits answers (Some b) mid old g h = header-text limits answers b old g h
 
@@ -110,7 +110,7 @@ pub record IsHeaded (limits : Bounds) (come mid : Option (List ℕ)) (h : Header
   pub may : (rest : List ℕ) → MayGive mid rest → MayGive come (text ++ rest)
   pub verdict : (rest : List ℕ) → MayGive mid rest → HeaderVerdict (text ++ rest) limits.max_header (Ok (record { stanzas = h.stanzas; mac = h.mac; text = text }))
 
-parts-headed : (limits : Bounds) (come mid : Option (List ℕ)) (h : HeaderParts) → Answers come mid limits.max_header (Ok h) → IsHeaded limits come mid h
+parts-headed : (limits : Bounds) (come mid : Option (List ℕ)) (h : HeaderParts) → ReadsHeader come mid limits.max_header (Ok h) → IsHeaded limits come mid h
 parts-headed limits None mid h (b, (text, verdict, took)) = record {
   text = text;
   took = (text, tt, omega arith);

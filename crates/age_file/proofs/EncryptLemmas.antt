@@ -7,7 +7,7 @@ use Rattle.std.proofs.KnownBytes.{Appends-nil, Appends-trans, Consumes-nil}
 use Rattle.age_header.specs.Device.{GaveAtMost, MayGive, WritesPart}
 use Rattle.age_header.specs.Header.{StanzaParts, Head}
 use Rattle.age_header.specs.Mac.{header_mac}
-use Rattle.age_header.proofs.GivenLemmas.{may-some}
+use Rattle.age_header.proofs.MayGiveLemmas.{may-some}
 use Rattle.age_header.proofs.OneText.{one_text}
 use Rattle.age_header.proofs.WriteLemmas.{done_part}
 use Rattle.age_recipient.specs.declared.key.FileKey.{FileKey}
@@ -62,7 +62,7 @@ encrypts_begun limits fresh given text from old new m part =
       part = done_part old old new (text ++ payload fresh.file_key fresh.nonce plain.0) (front ++ rest) front rest (record { front = []; took = Appends-nil old; is = is }) refl part;
     })
 
--- a beginning of the payload was written behind them
+-- a beginning of the payload was written after them
 begun : (limits : Bounds) (fresh : Fresh) (given : Result (List StanzaParts) Fault → Type 0) (text plain : List ℕ) (a b c : Option (List ℕ)) → Made limits fresh.file_key given text → Appends a b (text ++ fresh.nonce)
     → WritesPart b c (concat (sealed_chunks fresh.file_key fresh.nonce plain)) → BegunFile limits fresh given plain a c
 begun limits fresh given text plain a b c m front part =
@@ -122,7 +122,7 @@ from_start s key m max from to b c r is same h = subst (λ n. SealsAll (at_start
 pub just_made : (P : Type 0) (s : SealerState) (key : List ℕ) (m : ℕ) → s ≡ at_start key m → IfNone s.fault P → P
 just_made P s key m is h = subst (λ (x : SealerState). IfNone x.fault P) is h
 
--- the payload behind the header and the nonce
+-- the payload after the header and the nonce
 pub encrypts_payload : (limits : Bounds) (fresh : Fresh) (given : Result (List StanzaParts) Fault → Type 0) (text : List ℕ) (from to a b c : Option (List ℕ)) (r : Result Done StreamFault) → length fresh.nonce ≡ 16
     → Made limits fresh.file_key given text → Appends a b (text ++ fresh.nonce) → SealsAll (at_start (payload_key fresh.file_key fresh.nonce) limits.max_chunks) from to b c r
     → EncryptsGiven limits fresh given from a c (file_result r)

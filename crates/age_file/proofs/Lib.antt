@@ -1,11 +1,11 @@
-mod ApartLemmas
-mod AtLemmas
-mod CopyLemmas
+mod IsApartLemmas
+mod AtStateLemmas
+mod CopiesLemmas
 mod DecryptLemmas
 mod EncryptLemmas
 pub mod FileLemmas
-mod GatherLemmas
-mod OwnLemmas
+mod GatheredLemmas
+mod OwnLabels
 mod PayloadLemmas
 mod RangeLemmas
 mod RewrapLemmas

@@ -9,9 +9,9 @@ use Rattle.age_header.specs.declared.fault.HeaderFault.TheVariants as header
 use Rattle.age_header.specs.Device.{MayGive, WritesPart}
 use Rattle.age_header.specs.Header.{StanzaParts, HeaderParts}
 use Rattle.age_header.specs.Mac.{header_mac}
-use Rattle.age_header.specs.Reader.{Answers, Refuses}
+use Rattle.age_header.specs.Reader.{ReadsHeader, Refuses}
 use Rattle.age_header.specs.Verdict.{BeginsWith, Found}
-use Rattle.age_header.proofs.GivenLemmas.{may-some}
+use Rattle.age_header.proofs.MayGiveLemmas.{may-some}
 use Rattle.age_header.proofs.OneVerdict as headers
 use Rattle.age_header.proofs.WriteLemmas.{done_part}
 use Rattle.age_recipient.specs.declared.choice.UnlockFault.{UnlockFault}
@@ -85,7 +85,7 @@ no_header limits answers given b old header.Truncated h = (Err header.Truncated,
 no_header limits answers given b old header.TooLarge h = (Err header.TooLarge, h, refl)
 
 none_read : (limits : Bounds) (answers : Answering) (given : FileKey → Result (List StanzaParts) Fault → Type 0) (come mid old : Option (List ℕ)) (g : HeaderFault)
-    → Answers come mid limits.max_header (Err g) → Rewraps limits answers given come old old (Err (of_header g))
+    → ReadsHeader come mid limits.max_header (Err g) → Rewraps limits answers given come old old (Err (of_header g))
 none_read limits answers given None mid old g h = (h.0, no_header limits answers given h.0 old g h.1)
 none_read limits answers given (Some b) mid old g h = no_header limits answers given b old g h
 
@@ -194,7 +194,7 @@ begun_rewraps limits answers given come mid old new h key text i chosen made par
       done_part old old new (text ++ rest.0) (text ++ rest.0) text rest.0 (record { front = []; took = Appends-nil old; is = refl }) refl part,
     )
 
--- a beginning of the rest was written behind it
+-- a beginning of the rest was written after it
 copied_part : (limits : Bounds) (answers : Answering) (given : FileKey → Result (List StanzaParts) Fault → Type 0) (come mid old put new : Option (List ℕ)) (h : HeaderParts) (key : FileKey) (text bytes : List ℕ)
     → (i : IsHeaded limits come mid h) → unlocked answers h ≡ Ok key → Made limits key (given key) text → Appends old put text → MayGive mid bytes → WritesPart put new bytes
     → BeginsRewrapped limits answers given (i.text ++ bytes) old new

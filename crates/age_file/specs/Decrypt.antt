@@ -1,4 +1,4 @@
--- What decrypting a file answers and writes.
+-- What decrypting a file returns and writes.
 use Rattle.std.specs.Prelude.{◌≡◌, ℕ, ◌+◌, ◌*◌, ◌/◌, List, [], ⊤, length, drop, Option, Some, None, Result, Ok, Err}
 use Rattle.std.specs.Io.KnownBytes.{Appends}
 use Rattle.age_header.specs.declared.fault.HeaderFault.{HeaderFault}
@@ -48,7 +48,7 @@ DecryptsText limits answers b old new (Err Write) = BeginsVerdict limits answers
 DecryptsText limits answers b old new (Err OutOfMemory) = ⊤
 DecryptsText limits answers b old new r = GivesVerdict limits answers b old new r
 
--- The same of a source that may leave its bytes untold: then of some bytes.
+-- The same of a source whose bytes may be unknown: then of some bytes.
 abbrev pub Decrypts : (limits : Bounds) (answers : Answering) (from old new : Known)
     (r : Result Done Fault) → Type 0
 Decrypts limits answers None old new r = (b : Bytes) × DecryptsText limits answers b old new r
@@ -64,7 +64,7 @@ pub record TookThrough (limits : Bounds) (i : ℕ) (come rest : Known) : Type 0 
   pub gave : GaveAtMost (length found.text + (nonce_size + (sealed_chunk_size * (i + 1) + 1))) come
       rest
 
--- How much of the source was taken where decrypting ended at a piece, or at a write behind so many
+-- How much of the source was taken where decrypting ended at a piece, or at a write after so many
 -- written bytes.
 abbrev pub Takes : (limits : Bounds) (come rest old new : Known) (fault : Fault) → Type 0
 Takes limits come rest old new (ChunkShort i) = TookThrough limits i come rest

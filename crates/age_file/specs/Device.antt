@@ -1,14 +1,14 @@
--- What answers say of devices: of their counts of failures, and of what was written.
+-- What a result says of the devices: of their counts of failures, and of what was written.
 use Rattle.std.specs.Prelude.{◌≡◌, ℕ, ◌+◌, ◌-◌, ◌^◌, ⊤, min, Result, Err}
 use Rattle.age_file.specs.declared.fault.Fault.{Fault}
 use Rattle.age_file.specs.declared.fault.Fault.TheVariants.{ChunkShort, EmptyFinal, BadChunk, TooManyChunks, Read, Write}
 
--- the count of failed reads rises by one where the answer is Read, and else stays
+-- the count of failed reads rises by one where the result is Read, and else stays
 abbrev pub CountsRead : {A : Type 0} (old new : ℕ) (result : Result A Fault) → Type 0
 CountsRead old new (Err Read) = new ≡ min (old + 1) (2 ^ 64 - 1)
 CountsRead old new _ = new ≡ old
 
--- the count of failed writes rises by one where the answer is Write, and else stays
+-- the count of failed writes rises by one where the result is Write, and else stays
 abbrev pub CountsWrite : {A : Type 0} (old new : ℕ) (result : Result A Fault) → Type 0
 CountsWrite old new (Err Write) = new ≡ min (old + 1) (2 ^ 64 - 1)
 CountsWrite old new _ = new ≡ old

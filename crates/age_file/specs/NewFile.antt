@@ -17,7 +17,7 @@ use Rattle.age_file.specs.declared.limits.Fresh.{Fresh}
 use Rattle.age_file.specs.AgeFile.{AgeFile, Bounds, is_mixed}
 use Rattle.age_stream.specs.Sizes.{nonce_size, chunk_size, sealed_chunk_size}
 
--- these stanzas, then those that come behind them
+-- these stanzas, then those that follow
 abbrev pub before : List StanzaParts → Result (List StanzaParts) Fault
     → Result (List StanzaParts) Fault
 before stanzas (Ok more) = Ok (stanzas ++ more)
@@ -29,25 +29,25 @@ gathered_from i [] = Ok []
 gathered_from i (Ok stanzas ∷ more) = before stanzas (gathered_from (i + 1) more)
 gathered_from i (Err code ∷ more) = Err (Refused i code)
 
--- the stanzas, unless there is a place at which the labels do not go together with those of place 0
+-- the stanzas, unless a recipient's labels do not go together with those of recipient 0
 abbrev pub together : Result (List StanzaParts) Fault → Option ℕ → Result (List StanzaParts) Fault
 together (Err fault) place = Err fault
 together (Ok stanzas) (Some i) = Err (IncompatibleRecipients i)
 together (Ok stanzas) None = Ok stanzas
 
--- of labels that recipients with these meanings may return, the least place that does not go
--- together with place 0
+-- of labels that recipients with these meanings may return, the first recipient that does not go
+-- together with recipient 0
 abbrev pub IsApart : List Labels → Option ℕ → Type 0
 IsApart meant place =
     (labels : List Labels) × AllZip MayLabel meant labels × (place ≡ incompatible labels)
 
--- the same, of which the labels of place 0 are known
+-- the same, of which the labels of recipient 0 are known
 abbrev pub IsApartFrom : (first : Labels) (meant : List Labels) (place : Option ℕ) → Type 0
 IsApartFrom first meant place =
     (labels : List Labels) × AllZip MayLabel meant labels × (place ≡ incompatible (first ∷ labels))
 
 -- what recipients with these meanings may give: all their stanzas, the first refusal, or the first
--- place that is apart
+-- recipient that does not go together with recipient 0
 abbrev pub Gathered : (wrapped : List (Result (List StanzaParts) ℕ)) (meant : List Labels)
     (given : Result (List StanzaParts) Fault) → Type 0
 Gathered wrapped meant given =
@@ -86,7 +86,7 @@ IsRefusal limits k given HeaderTooLarge = IsTooLarge limits k given
 IsRefusal limits k given _ = ⊥
 
 -- the file that was written: that of these stanzas, this plaintext, and the file key and nonce that
--- were handed in
+-- were passed
 pub record NewFile (limits : Bounds) (fresh : Fresh)
     (given : Result (List StanzaParts) Fault → Type 0) (plain : Bytes) (gained : Bytes)
     : Type 0 where
@@ -120,7 +120,7 @@ pub record BegunFile (limits : Bounds) (fresh : Fresh)
   pub heading : IsHeading limits fresh.file_key given stanzas text
   pub part : WritesPart old new (text ++ payload fresh.file_key fresh.nonce plain)
 
--- What `encrypt` answers and writes, `given` being what the recipients give, and the source giving
+-- What `encrypt` returns and writes, `given` being what the recipients give, and the source giving
 -- `plain`.
 abbrev pub EncryptsText : (limits : Bounds) (fresh : Fresh)
     (given : (Result (List StanzaParts) Fault → Type 0)) (plain : Bytes) (old new : Known)
@@ -136,7 +136,7 @@ EncryptsText limits fresh given plain old new (Err Write) =
     BegunFile limits fresh given plain old new
 EncryptsText limits fresh given plain old new (Err fault) = ⊤
 
--- The same of a source that may leave its bytes untold: then of some bytes.
+-- The same of a source whose bytes may be unknown: then of some bytes.
 abbrev pub EncryptsGiven : (limits : Bounds) (fresh : Fresh)
     (given : (Result (List StanzaParts) Fault → Type 0)) (from old new : Known)
     (r : Result Done Fault) → Type 0
@@ -145,8 +145,7 @@ EncryptsGiven limits fresh given None old new r =
 EncryptsGiven limits fresh given (Some plain) old new r =
     EncryptsText limits fresh given plain old new r
 
--- a fault with which no header was made names the first reason; what else is answered says nothing
--- of it
+-- a fault with which no header was made names the first reason; any other result says nothing of it
 abbrev pub RefusesFirst : (limits : Bounds) (k : FileKey)
     (given : (Result (List StanzaParts) Fault → Type 0)) (fault : Fault) → Type 0
 RefusesFirst limits k given TooManyChunks = ⊤
@@ -185,7 +184,7 @@ FailsHeading limits k given fault =
     ⊎ ((fault ≡ HeaderTooLarge)
     × IsRefusal limits k given HeaderTooLarge)))))
 
--- Of the source at most so much was taken: with n full sealed chunks written behind the header and
+-- Of the source at most so much was taken: with n full sealed chunks written after the header and
 -- the nonce, n + 2 chunks of text.
 pub record TookChunks (limits : Bounds) (fresh : Fresh)
     (given : Result (List StanzaParts) Fault → Type 0) (from to old new : Known)

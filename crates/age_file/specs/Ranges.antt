@@ -14,14 +14,14 @@ use Rattle.age_file.specs.AgeFile.{Bounds}
 use Rattle.age_file.specs.Verdict.{Answering, of_header, of_stream, unlocked}
 use Rattle.age_stream.specs.Sizes.{nonce_size}
 
--- a source with places that is read from its first byte on: its contents, the next place, and how
--- many reads have failed
+-- a source that is read at offsets, here read from its first byte on: its contents, the next
+-- offset, and how many reads have failed
 pub record AtState : Type 0 where
   pub told : Known
   pub at : ℕ
   pub failed : ℕ
 
--- the place is not past the end of the known bytes
+-- the offset is not past the end of the known bytes
 abbrev pub IsWithin : (told : Known) (at : ℕ) → Type 0
 IsWithin told at = IfSome told (λ bytes. at ≤ length bytes)
 
@@ -71,7 +71,7 @@ MissesRanges limits answers told fault =
     × HeaderVerdict b limits.max_header header
     × IsRangeFault limits answers b header fault))
 
--- A reader of the ranges of b: behind b's header, under the key that was chosen. At most the
+-- A reader of the ranges of b: after b's header, under the key that was chosen. At most the
 -- header, the nonce and the last piece were given.
 pub record IsRangesOf (limits : Bounds) (answers : Answering) (b : Bytes) (chunks : RangeState)
     (given given2 : ℕ) : Type 0 where

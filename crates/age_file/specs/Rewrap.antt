@@ -78,7 +78,7 @@ RewrapsText limits answers given b old new (Err TooManyChunks) =
 RewrapsText limits answers given b old new (Err OutOfMemory) = ⊤
 RewrapsText limits answers given b old new (Err fault) = RefusesRewrap limits answers given b fault
 
--- The same of a source that may leave its bytes untold: then of some bytes.
+-- The same of a source whose bytes may be unknown: then of some bytes.
 abbrev pub Rewraps : (limits : Bounds) (answers : Answering)
     (given : (FileKey → Result (List StanzaParts) Fault → Type 0)) (from old new : Known)
     (r : Result (Unit {0}) Fault) → Type 0

@@ -47,7 +47,7 @@ of_stream stream.Read = Read
 of_stream stream.Write = Write
 of_stream stream.Memory = OutOfMemory
 
--- what identities answer to each list of stanzas: one answer for each identity, in order
+-- what identities make of each list of stanzas: one answer for each identity, in order
 abbrev pub Answering : Type 0
 Answering = List StanzaParts → List Unwrapped
 

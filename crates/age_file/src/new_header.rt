@@ -36,7 +36,7 @@ pub fn header_for(
         (Gathered (map (λ r. wraps r key.now) recipients.now)
         (map (λ r. the_labels r) recipients.now))) }
 {
-    let stanzas = match gather(alloc, recipients, key) {
+    let stanzas = match gather_stanzas(alloc, recipients, key) {
         Ok(stanzas) => stanzas,
         Err(fault) => return Err(fault),
     };
@@ -59,7 +59,7 @@ pub fn header_for(
 }
 
 /// The stanzas of the recipients, in order, where the recipients go together.
-fn gather(
+fn gather_stanzas(
     alloc: Global,
     recipients: &[Box<dyn Recipient>],
     key: &FileKey,

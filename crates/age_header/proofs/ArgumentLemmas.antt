@@ -12,7 +12,7 @@ visible_ascii [] h i = omega arith
 visible_ascii (c ∷ a) h zero = let top : c ≤ 126 = h.0.1 in omega arith
 visible_ascii (c ∷ a) h (suc i) = visible_ascii a h.1 i
 
--- the text of arguments, each behind a space
+-- the text of arguments, each after a space
 abbrev pub spaced : List (List ℕ) → List ℕ
 spaced args = flat_map (λ a. 32 ∷ a) args
 

@@ -6,13 +6,13 @@ use Rattle.std.proofs.lemmas.Slice.Eq.{bytes_eq-Decides}
 use Rattle.base64.specs.Rfc4648.{encode_symbols}
 use Rattle.age_header.specs.Base64.{B64, StandsFor, alphabet, value_of, candidate, decoded, base64_of}
 use Rattle.age_header.proofs.Base64Lemmas.{B64-only, B64-encode}
-use Rattle.age_header.proofs.OneWay.{value_back}
+use Rattle.age_header.proofs.OneStep.{value_back}
 
 value_is : (c v : ℕ) → StandsFor c v → value_of c ≡ v
 value_is c v h = ap value_of h.1 ∙ value_back v h.0
 
 -- the candidate of characters is the bytes that they stand for
-candidate_is : (bytes signs : List ℕ) → B64 bytes signs → candidate signs ≡ bytes
+candidate_is : (bytes characters : List ℕ) → B64 bytes characters → candidate characters ≡ bytes
 unfolding B64 candidate
 candidate_is [] [] h = refl
 candidate_is (a ∷ []) (p ∷ q ∷ []) h =
@@ -30,7 +30,7 @@ candidate_is (a ∷ b ∷ []) (p ∷ q ∷ r ∷ []) h =
     let ea : (h.0 * 4 + h.1 / 16) % 256 ≡ a = omega arith in
     let eb : (h.1 * 16 + h.2 / 4) % 256 ≡ b = omega arith in
     rw (value_is p h.0 h.3, value_is q h.1 h.4, value_is r h.2 h.5, ea, eb) refl
-candidate_is (a ∷ b ∷ c ∷ bytes) (p ∷ q ∷ r ∷ s ∷ signs) h =
+candidate_is (a ∷ b ∷ c ∷ bytes) (p ∷ q ∷ r ∷ s ∷ characters) h =
     let t = h.0 in
     let bits : (a * 256 + b) * 256 + c ≡ ((t.0 * 64 + t.1) * 64 + t.2) * 64 + t.3 = t.11 in
     let la : a < 256 = t.8 in
@@ -43,11 +43,11 @@ candidate_is (a ∷ b ∷ c ∷ bytes) (p ∷ q ∷ r ∷ s ∷ signs) h =
     let ea : (t.0 * 4 + t.1 / 16) % 256 ≡ a = omega arith in
     let eb : (t.1 * 16 + t.2 / 4) % 256 ≡ b = omega arith in
     let ec : (t.2 * 64 + t.3) % 256 ≡ c = omega arith in
-    rw (value_is p t.0 t.4, value_is q t.1 t.5, value_is r t.2 t.6, value_is s t.3 t.7, ea, eb, ec, candidate_is bytes signs h.1) refl
+    rw (value_is p t.0 t.4, value_is q t.1 t.5, value_is r t.2 t.6, value_is s t.3 t.7, ea, eb, ec, candidate_is bytes characters h.1) refl
 candidate_is _ _ h = absurd h
 
 -- a candidate has bytes alone
-candidate_bytes : (signs : List ℕ) (i : ℕ) → slice_index (candidate signs) i < 256
+candidate_bytes : (characters : List ℕ) (i : ℕ) → slice_index (candidate characters) i < 256
 unfolding candidate
 candidate_bytes [] i = omega arith
 candidate_bytes (p ∷ []) i = omega arith
@@ -56,41 +56,41 @@ candidate_bytes (p ∷ q ∷ []) (suc i) = omega arith
 candidate_bytes (p ∷ q ∷ r ∷ []) zero = omega arith
 candidate_bytes (p ∷ q ∷ r ∷ []) (suc zero) = omega arith
 candidate_bytes (p ∷ q ∷ r ∷ []) (suc (suc i)) = omega arith
-candidate_bytes (p ∷ q ∷ r ∷ s ∷ signs) zero = omega arith
-candidate_bytes (p ∷ q ∷ r ∷ s ∷ signs) (suc zero) = omega arith
-candidate_bytes (p ∷ q ∷ r ∷ s ∷ signs) (suc (suc zero)) = omega arith
-candidate_bytes (p ∷ q ∷ r ∷ s ∷ signs) (suc (suc (suc i))) = candidate_bytes signs i
+candidate_bytes (p ∷ q ∷ r ∷ s ∷ characters) zero = omega arith
+candidate_bytes (p ∷ q ∷ r ∷ s ∷ characters) (suc zero) = omega arith
+candidate_bytes (p ∷ q ∷ r ∷ s ∷ characters) (suc (suc zero)) = omega arith
+candidate_bytes (p ∷ q ∷ r ∷ s ∷ characters) (suc (suc (suc i))) = candidate_bytes characters i
 
 -- what is decoded are the bytes that the characters stand for
-pub decoded_b64 : (signs bytes : List ℕ) → decoded signs ≡ Some bytes → B64 bytes signs
+pub decoded_b64 : (characters bytes : List ℕ) → decoded characters ≡ Some bytes → B64 bytes characters
 unfolding decoded base64_of
-decoded_b64 signs bytes h =
-    let c : List ℕ = candidate signs in
-    let found : B64 c (encode_symbols alphabet c) = B64-encode c (candidate_bytes signs) in
-    let both : (encode_symbols alphabet c ≡ signs) × (c ≡ bytes) =
-    elim (bytes_eq (encode_symbols alphabet c) signs) as (λ b. bytes_eq (encode_symbols alphabet c) signs ≡ b → (if b then Some c else None) ≡ Some bytes
-    → (encode_symbols alphabet c ≡ signs) × (c ≡ bytes)) [
-      | true ↦ λ test e. ((bytes_eq-Decides (encode_symbols alphabet c) signs).0 test, cc)
+decoded_b64 characters bytes h =
+    let c : List ℕ = candidate characters in
+    let found : B64 c (encode_symbols alphabet c) = B64-encode c (candidate_bytes characters) in
+    let both : (encode_symbols alphabet c ≡ characters) × (c ≡ bytes) =
+    elim (bytes_eq (encode_symbols alphabet c) characters) as (λ b. bytes_eq (encode_symbols alphabet c) characters ≡ b → (if b then Some c else None) ≡ Some bytes
+    → (encode_symbols alphabet c ≡ characters) × (c ≡ bytes)) [
+      | true ↦ λ test e. ((bytes_eq-Decides (encode_symbols alphabet c) characters).0 test, cc)
       | false ↦ λ test e. cc
     ] refl h in
-    subst (λ (z : List ℕ). B64 z signs) both.1 (subst (λ (z : List ℕ). B64 c z) both.0 found)
+    subst (λ (z : List ℕ). B64 z characters) both.1 (subst (λ (z : List ℕ). B64 c z) both.0 found)
 
 -- and these are decoded
-pub b64_decoded : (signs bytes : List ℕ) → B64 bytes signs → decoded signs ≡ Some bytes
+pub b64_decoded : (characters bytes : List ℕ) → B64 bytes characters → decoded characters ≡ Some bytes
 unfolding decoded base64_of
-b64_decoded signs bytes h =
-    let is : candidate signs ≡ bytes = candidate_is bytes signs h in
-    let spelled : signs ≡ encode_symbols alphabet (candidate signs) = B64-only bytes signs h ∙ ap (λ (z : List ℕ). encode_symbols alphabet z) (sym is) in
-    let same : bytes_eq (encode_symbols alphabet (candidate signs)) signs ≡ true = (bytes_eq-Decides (encode_symbols alphabet (candidate signs)) signs).1 (sym spelled) in
+b64_decoded characters bytes h =
+    let is : candidate characters ≡ bytes = candidate_is bytes characters h in
+    let spelled : characters ≡ encode_symbols alphabet (candidate characters) = B64-only bytes characters h ∙ ap (λ (z : List ℕ). encode_symbols alphabet z) (sym is) in
+    let same : bytes_eq (encode_symbols alphabet (candidate characters)) characters ≡ true = (bytes_eq-Decides (encode_symbols alphabet (candidate characters)) characters).1 (sym spelled) in
     rw (same, is) refl
 
 -- characters that stand for no bytes are not decoded
-pub none_decoded : (signs : List ℕ) → ((bytes : List ℕ) → B64 bytes signs → ⊥) → decoded signs ≡ None
-none_decoded signs none = here (decoded signs) refl
+pub none_decoded : (characters : List ℕ) → ((bytes : List ℕ) → B64 bytes characters → ⊥) → decoded characters ≡ None
+none_decoded characters none = here (decoded characters) refl
   where
-    here : (o : Option (List ℕ)) → decoded signs ≡ o → decoded signs ≡ None
+    here : (o : Option (List ℕ)) → decoded characters ≡ o → decoded characters ≡ None
     here None e = e
-    here (Some bytes) e = absurd (none bytes (decoded_b64 signs bytes e))
+    here (Some bytes) e = absurd (none bytes (decoded_b64 characters bytes e))
 
 -- what bytes are encoded to is decoded to them
 pub decoded-base64_of : (bytes : List ℕ) → ((i : ℕ) → slice_index bytes i < 256) → decoded (base64_of bytes) ≡ Some bytes

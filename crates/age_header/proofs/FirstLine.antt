@@ -11,7 +11,7 @@ use Rattle.age_header.specs.declared.lines.LineEnd.{LineEnd}
 use Rattle.age_header.specs.declared.lines.LineEnd.TheVariants.{Lf, Input, Room}
 use Rattle.age_header.specs.Lines.{taken, IsEnd}
 use Rattle.age_header.specs.Header.{version_line}
-use Rattle.age_header.specs.Reader.{Answers}
+use Rattle.age_header.specs.Reader.{ReadsHeader}
 use Rattle.age_header.specs.Verdict.{IsLineText, BeginsAsAge, IsUndecided, IsFault}
 use Rattle.age_header.proofs.PathLemmas.{version_text}
 use Rattle.age_header.proofs.LineLemmas.{line_split}
@@ -88,7 +88,7 @@ no_front_told b n first end max took text ends none age =
 
 -- not the front of the version line's text
 pub no_front : (a new : Option (List ℕ)) (first : List ℕ) (end : LineEnd) (max : ℕ) → Consumes a new (taken first end) → IsLineText first
-    → IsEnd end (length first) (min max 22) new → ((x : List ℕ) → version_text ≢ first ++ x) → Answers a new max (Err NotAge)
+    → IsEnd end (length first) (min max 22) new → ((x : List ℕ) → version_text ≢ first ++ x) → ReadsHeader a new max (Err NotAge)
 no_front a new first Lf max took text ends none =
     answered a new (first ++ 10 ∷ []) max NotAge took (λ b n is. no_front_told b n first Lf max is text ends none)
 no_front a new first Input max took text ends none =
@@ -99,7 +99,7 @@ no_front a new first Room max took text ends none =
 
 -- a line that ends too early
 pub short_line : (a new : Option (List ℕ)) (first rest : List ℕ) (max : ℕ) → Consumes a new (first ++ 10 ∷ []) → IsLineText first
-    → length first < min max 22 → version_text ≡ first ++ rest → rest ≢ [] → Answers a new max (Err NotAge)
+    → length first < min max 22 → version_text ≡ first ++ rest → rest ≢ [] → ReadsHeader a new max (Err NotAge)
 short_line a new first rest max took text ends is more = answered a new (first ++ 10 ∷ []) max NotAge took told
   where
     told : (b n : List ℕ) → b ≡ (first ++ 10 ∷ []) ++ n → BeginsAsAge (take max b) → ⊥
@@ -128,7 +128,7 @@ front_size first rest is = omega (arith, ap length is, version_text_size, length
 
 -- a first line that goes on, at the end of the input or under the limit
 pub short_input : (a new : Option (List ℕ)) (first rest : List ℕ) (max : ℕ) → Consumes a new first → IsLineText first
-    → (length first < min max 22) × IsAtEnd new → version_text ≡ first ++ rest → Answers a new max (Err Truncated)
+    → (length first < min max 22) × IsAtEnd new → version_text ≡ first ++ rest → ReadsHeader a new max (Err Truncated)
 short_input a new first rest max took text ends is = answered_at_end a new first max Truncated took ends.1 told
   where
     told : (b : List ℕ) → b ≡ first → IsFault b max Truncated
@@ -141,7 +141,7 @@ short_input a new first rest max took text ends is = answered_at_end a new first
         (subst (λ (z : List ℕ). BeginsAsAge z) (sym cap) age, subst (λ (z : List ℕ). IsUndecided z) (sym cap) (line_open first text), omega arith)
 
 pub short_room : (a new : Option (List ℕ)) (first rest : List ℕ) (max : ℕ) → Consumes a new first → IsLineText first
-    → length first ≡ min max 22 → version_text ≡ first ++ rest → Answers a new max (Err TooLarge)
+    → length first ≡ min max 22 → version_text ≡ first ++ rest → ReadsHeader a new max (Err TooLarge)
 short_room a new first rest max took text ends is = answered a new first max TooLarge took told
   where
     told : (b n : List ℕ) → b ≡ first ++ n → IsFault b max TooLarge

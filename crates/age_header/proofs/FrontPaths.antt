@@ -35,14 +35,14 @@ no_lf_sign v lt e =
 no_lf : (c v : ℕ) → StandsFor c v → c ≢ 10
 no_lf c v h e = no_lf_sign v h.0 (sym h.1 ∙ e)
 
-pub signs_text : (bytes signs : List ℕ) → B64 bytes signs → IsLineText signs
+pub signs_text : (bytes characters : List ℕ) → B64 bytes characters → IsLineText characters
 unfolding B64
 signs_text [] [] h = tt
 signs_text (a ∷ []) (p ∷ q ∷ []) h = (no_lf p h.0 h.2, (no_lf q h.1 h.3, tt))
 signs_text (a ∷ b ∷ []) (p ∷ q ∷ r ∷ []) h = (no_lf p h.0 h.3, (no_lf q h.1 h.4, (no_lf r h.2 h.5, tt)))
-signs_text (a ∷ b ∷ c ∷ bytes) (p ∷ q ∷ r ∷ s ∷ signs) h =
+signs_text (a ∷ b ∷ c ∷ bytes) (p ∷ q ∷ r ∷ s ∷ characters) h =
     let t = h.0 in
-    (no_lf p t.0 t.4, (no_lf q t.1 t.5, (no_lf r t.2 t.6, (no_lf s t.3 t.7, signs_text bytes signs h.1))))
+    (no_lf p t.0 t.4, (no_lf q t.1 t.5, (no_lf r t.2 t.6, (no_lf s t.3 t.7, signs_text bytes characters h.1))))
 signs_text _ _ h = absurd h
 
 -- the lines whose join has no LF
@@ -71,8 +71,8 @@ pub stanza_lead : (ss : List StanzaParts) (s : StanzaParts) (text : List ℕ) �
 stanza_lead ss s text h =
     let first : List ℕ = argument_text s.args in
     let run = full_lead ss s.args [] s.body h.full h.last h.cut.0 h.body in
-    let signs = signs_text s.body (concat h.full ++ h.last) h.body in
-    let parts = All-split (λ c. c ≢ 10) (concat h.full) h.last signs in
+    let characters = signs_text s.body (concat h.full ++ h.last) h.body in
+    let parts = All-split (λ c. c ≢ 10) (concat h.full) h.last characters in
     let ends : Leads (within ss s.args run.0) (h.last ∷ []) (between (ss ++ s ∷ [])) =
     (between (ss ++ s ∷ []), (run.1, h.cut.1, run.4, ap (λ (b : List ℕ). ss ++ (record { args = s.args; body = b }) ∷ []) run.2), refl) in
     let lead = Leads-append (within ss s.args []) (within ss s.args run.0) (between (ss ++ s ∷ [])) h.full (h.last ∷ []) run.5 ends in
@@ -84,7 +84,7 @@ stanza_lead ss s text h =
       (within ss s.args [], (refl, refl, h.arguments, refl), lead),
     )
 
--- the lines of stanzas, one behind the other
+-- the lines of stanzas, one after the other
 pub stanzas_lead : (pre ss : List StanzaParts) (text : List ℕ) → AreStanzas ss text
     → (ls : List (List ℕ)) × (text ≡ lines_text ls) × AllByRecursion IsLineText ls × Leads (between pre) ls (between (pre ++ ss))
 stanzas_lead pre [] text h = ([], h, tt, ap between (sym (append-nil pre)))

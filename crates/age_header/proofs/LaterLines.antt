@@ -11,11 +11,11 @@ use Rattle.age_header.specs.declared.fault.HeaderFault.TheVariants.{BadLine, Tru
 use Rattle.age_header.specs.Base64.{B64}
 use Rattle.age_header.specs.Header.{StanzaParts, Head, line, version_line}
 use Rattle.age_header.specs.Steps.{State, between, Step, Leads}
-use Rattle.age_header.specs.Reader.{Answers}
+use Rattle.age_header.specs.Reader.{ReadsHeader}
 use Rattle.age_header.specs.Verdict.{IsLineText, lines_text, IsViable, IsHeader, Decides, BeginsAsAge, IsUndecided, Finds, IsFault}
 use Rattle.age_header.proofs.PathLemmas.{leads_spell, same_lines, version_text}
 use Rattle.age_header.proofs.OneReading.{head_path, end_text}
-use Rattle.age_header.proofs.OneWay.{Leads-once}
+use Rattle.age_header.proofs.OneStep.{Leads-once}
 use Rattle.age_header.proofs.StepRuns.{Leads-split, Leads-append}
 use Rattle.age_header.proofs.FrontPaths.{front_path, Lines-append}
 use Rattle.age_header.proofs.VerdictPaths.{Reached, version_is_text, whole_lines, path_first, path_open, version_size, take_past, begins}
@@ -23,7 +23,7 @@ use Rattle.age_header.proofs.SourceVerdicts.{answered, answered_at_end, answered
 
 -- what a line at the end of the input, or under the limit, says of a path
 pub path_truncated : (a mid new : Option (List ℕ)) (max room count : ℕ) (s : State) (text : List ℕ) → Reached a mid max room count s
-    → Consumes mid new text → IsLineText text → (length text < room) × IsAtEnd new → Answers a new max (Err Truncated)
+    → Consumes mid new text → IsLineText text → (length text < room) × IsAtEnd new → ReadsHeader a new max (Err Truncated)
 path_truncated a mid new max room count s text p took is ends =
     answered_at_end a new (front ++ text) max Truncated (Consumes-trans a mid new front text p.taken took) ends.1 told
   where
@@ -44,7 +44,7 @@ path_truncated a mid new max room count s text p took is ends =
         (subst (λ (z : List ℕ). BeginsAsAge z) (sym begun) (begins (lines_text p.ls ++ text) max wide), subst (λ (z : List ℕ). IsUndecided z) (sym cap) open', low)
 
 pub path_too_large : (a mid new : Option (List ℕ)) (max room count : ℕ) (s : State) (text : List ℕ) → Reached a mid max room count s
-    → Consumes mid new text → IsLineText text → length text ≡ room → Answers a new max (Err TooLarge)
+    → Consumes mid new text → IsLineText text → length text ≡ room → ReadsHeader a new max (Err TooLarge)
 path_too_large a mid new max room count s text p took is ends =
     answered a new (front ++ text) max TooLarge (Consumes-trans a mid new front text p.taken took) told
   where
@@ -126,11 +126,11 @@ age b n max ls text f =
     subst (λ (z : List ℕ). BeginsAsAge (take max z)) (sym is) (begins (lines_text (ls ++ text ∷ []) ++ n) max f.wide)
 
 -- an end line
-pub path_header : (a mid new : Option (List ℕ)) (max room count : ℕ) (s : State) (text : List ℕ) (ss : List StanzaParts) (mac signs : List ℕ)
+pub path_header : (a mid new : Option (List ℕ)) (max room count : ℕ) (s : State) (text : List ℕ) (ss : List StanzaParts) (mac characters : List ℕ)
     → Reached a mid max room count s → Consumes mid new (text ++ 10 ∷ []) → IsLineText text → length text < room
-    → s ≡ between ss → ss ≢ [] → text ≡ codes "--- " ++ signs → B64 mac signs → length mac ≡ 32
-    → Answers a new max (Ok (record { stanzas = ss; mac = mac }))
-path_header a mid new max room count s text ss mac signs p took is low at some end h size =
+    → s ≡ between ss → ss ≢ [] → text ≡ codes "--- " ++ characters → B64 mac characters → length mac ≡ 32
+    → ReadsHeader a new max (Ok (record { stanzas = ss; mac = mac }))
+path_header a mid new max room count s text ss mac characters p took is low at some end h size =
     answered_header a new (lines_text whole) max (record { stanzas = ss; mac = mac }) (took_line a mid new max room count s text p took) told
   where
     whole : List (List ℕ)
@@ -139,13 +139,13 @@ path_header a mid new max room count s text ss mac signs p took is low at some e
     head : Head ss mac (version_line ++ lines_text (p.ls ++ text ∷ []))
     head = record {
       body = lines_text p.ls;
-      signs = signs;
+      characters = characters;
       some = some;
       stanza_text = leads_spell (between []) (between ss) p.ls [] (subst (λ (z : State). Leads (between []) p.ls z) at p.leads) refl;
       mac_len = size;
       mac_text = h;
       spelled = ap (λ (z : List ℕ). version_line ++ z) (lines_push p.ls text ∙ ap (λ (z : List ℕ). lines_text p.ls ++ line z) end)
-          ∙ sym (append_assoc version_line (lines_text p.ls) (line (codes "--- " ++ signs)));
+          ∙ sym (append_assoc version_line (lines_text p.ls) (line (codes "--- " ++ characters)));
     }
 
     told : (b n : List ℕ) → b ≡ lines_text whole ++ n → Finds b max (record { stanzas = ss; mac = mac; text = lines_text whole })
@@ -162,9 +162,9 @@ path_header a mid new max room count s text ss mac signs p took is low at some e
 -- a line that leads nowhere and is no end line
 pub path_bad : (a mid new : Option (List ℕ)) (max room count : ℕ) (s : State) (text : List ℕ)
     → Reached a mid max room count s → Consumes mid new (text ++ 10 ∷ []) → IsLineText text → length text < room
-    → ((ss : List StanzaParts) (mac signs : List ℕ) → ss ≢ [] → s ≡ between ss → length mac ≡ 32 → text ≡ codes "--- " ++ signs → B64 mac signs → ⊥)
+    → ((ss : List StanzaParts) (mac characters : List ℕ) → ss ≢ [] → s ≡ between ss → length mac ≡ 32 → text ≡ codes "--- " ++ characters → B64 mac characters → ⊥)
     → ((t : State) → Step s text t → ⊥)
-    → Answers a new max (Err (BadLine (count + 1)))
+    → ReadsHeader a new max (Err (BadLine (count + 1)))
 path_bad a mid new max room count s text p took is low end none =
     answered a new (lines_text (version_text ∷ ls)) max (BadLine (count + 1)) (took_line a mid new max room count s text p took) told
   where
@@ -177,11 +177,11 @@ path_bad a mid new max room count s text p took is low end none =
     not_header : IsHeader (version_line ++ lines_text ls) → ⊥
     not_header g =
         let q = head_path g.0 g.1 _ g.2 in
-        let e : lines_text ls ≡ lines_text (q.lines ++ end_text q.signs ∷ []) = append_cancel_left version_line _ _ q.is in
-        let same = same_lines ls (q.lines ++ end_text q.signs ∷ []) each q.each e in
-        let cut = same_from_push p.ls q.lines text (end_text q.signs) same in
+        let e : lines_text ls ≡ lines_text (q.lines ++ end_text q.characters ∷ []) = append_cancel_left version_line _ _ q.is in
+        let same = same_lines ls (q.lines ++ end_text q.characters ∷ []) each q.each e in
+        let cut = same_from_push p.ls q.lines text (end_text q.characters) same in
         let there : Leads (between []) p.ls (between g.0) = subst (λ (z : List (List ℕ)). Leads (between []) z (between g.0)) (sym cut.0) q.leads in
-        end g.0 g.1 q.signs g.2.some (Leads-once (between []) s (between g.0) p.ls p.leads there) g.2.mac_len cut.1 q.mac_text
+        end g.0 g.1 q.characters g.2.some (Leads-once (between []) s (between g.0) p.ls p.leads there) g.2.mac_len cut.1 q.mac_text
 
     not_viable : IsViable (version_line ++ lines_text ls) → ⊥
     not_viable (inl e) = no_nil _ e

@@ -22,7 +22,7 @@ lines_size (suc n) b low =
     let more : length (body_lines n back) ≡ 65 * n + ((4 * (length b - 48 * suc n) + 2) / 3 + 1) = rw (← left) rest in
     let sum = length-append (line (base64_of (take 48 b))) (body_lines n back) in
     let one = line_size (base64_of (take 48 b)) in
-    let signs = signs_size (take 48 b) in
+    let characters = signs_size (take 48 b) in
     omega arith
 
 pub body_size : (b : List ℕ) → length (body_text b) ≡ 65 * (length b / 48) + ((length b % 48 * 4 + 2) / 3 + 1)

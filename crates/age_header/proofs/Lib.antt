@@ -3,12 +3,12 @@ mod Base64Joined
 mod Base64Lemmas
 mod FillLemmas
 mod FrontPaths
-pub mod GivenLemmas
+pub mod MayGiveLemmas
 mod LengthLemmas
 mod LineLemmas
 mod OneReading
 pub mod OneText
-mod OneWay
+mod OneStep
 mod PathLemmas
 mod Spelled
 mod StepRuns
@@ -20,6 +20,6 @@ mod FirstLine
 mod LaterLines
 pub mod WriteLemmas
 pub mod OneVerdict
-mod HeadFacts
+mod HeadLemmas
 pub mod Decoding
 pub mod SomeVerdict

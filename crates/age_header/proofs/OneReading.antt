@@ -9,36 +9,36 @@ use Rattle.age_header.specs.Header.{StanzaParts, Head, line, version_line}
 use Rattle.age_header.specs.Steps.{State, between, within, Step, Leads}
 use Rattle.age_header.specs.Verdict.{IsLineText, lines_text}
 use Rattle.age_header.proofs.LineLemmas.{lines_front}
-use Rattle.age_header.proofs.OneWay.{Leads-once, B64-injective}
+use Rattle.age_header.proofs.OneStep.{Leads-once, B64-injective}
 use Rattle.age_header.proofs.StepRuns.{Leads-split}
 use Rattle.age_header.proofs.FrontPaths.{stanzas_lead, Lines-append, signs_text}
 
 abbrev pub end_text : List ℕ → List ℕ
-end_text signs = codes "--- " ++ signs
+end_text characters = codes "--- " ++ characters
 
 pub record HeadPath (ss : List StanzaParts) (mac h : List ℕ) : Type 0 where
   pub lines : List (List ℕ)
-  pub signs : List ℕ
-  pub is : h ≡ version_line ++ lines_text (lines ++ end_text signs ∷ [])
-  pub each : AllByRecursion IsLineText (lines ++ end_text signs ∷ [])
+  pub characters : List ℕ
+  pub is : h ≡ version_line ++ lines_text (lines ++ end_text characters ∷ [])
+  pub each : AllByRecursion IsLineText (lines ++ end_text characters ∷ [])
   pub leads : Leads (between []) lines (between ss)
-  pub mac_text : B64 mac signs
+  pub mac_text : B64 mac characters
 
 regroup : (v w e : List ℕ) (ls : List (List ℕ)) → w ≡ lines_text ls → v ++ w ++ line e ≡ v ++ lines_text (ls ++ e ∷ [])
 regroup v w e ls is = rw (is, flat_map-append line ls (e ∷ []), append-nil (line e)) (append_assoc v (lines_text ls) (line e))
 
-end_is_text : (mac signs : List ℕ) → B64 mac signs → IsLineText (end_text signs)
-end_is_text mac signs h =
-    ((λ e. absurd (omega arith)), ((λ e. absurd (omega arith)), ((λ e. absurd (omega arith)), ((λ e. absurd (omega arith)), signs_text mac signs h))))
+end_is_text : (mac characters : List ℕ) → B64 mac characters → IsLineText (end_text characters)
+end_is_text mac characters h =
+    ((λ e. absurd (omega arith)), ((λ e. absurd (omega arith)), ((λ e. absurd (omega arith)), ((λ e. absurd (omega arith)), signs_text mac characters h))))
 
 pub head_path : (ss : List StanzaParts) (mac h : List ℕ) → Head ss mac h → HeadPath ss mac h
 head_path ss mac h k =
     let whole = stanzas_lead [] ss k.body k.stanza_text in
     record {
       lines = whole.0;
-      signs = k.signs;
-      is = k.spelled ∙ regroup version_line k.body (end_text k.signs) whole.0 whole.1;
-      each = Lines-append whole.0 (end_text k.signs ∷ []) whole.2 (end_is_text mac k.signs k.mac_text, tt);
+      characters = k.characters;
+      is = k.spelled ∙ regroup version_line k.body (end_text k.characters) whole.0 whole.1;
+      each = Lines-append whole.0 (end_text k.characters ∷ []) whole.2 (end_is_text mac k.characters k.mac_text, tt);
       leads = whole.3;
       mac_text = k.mac_text;
     }
@@ -47,11 +47,11 @@ apart : (a b : ℕ) → a ≡ b → a ≡ 45 → b ≡ 62 → ⊥
 apart a b e f g = omega arith
 
 -- an end line leads nowhere
-pub no_step : (ss : List StanzaParts) (signs : List ℕ) (s : State) → Step (between ss) (end_text signs) s → ⊥
-no_step ss signs (between ts) h = h
-no_step ss signs (within ts args body) h = apart _ _ (ap (λ (x : List ℕ). slice_index x 1) h.3) refl refl
+pub no_step : (ss : List StanzaParts) (characters : List ℕ) (s : State) → Step (between ss) (end_text characters) s → ⊥
+no_step ss characters (between ts) h = h
+no_step ss characters (within ts args body) h = apart _ _ (ap (λ (x : List ℕ). slice_index x 1) h.3) refl refl
 
--- a path that goes on behind an end line is none
+-- a path that goes on after an end line is none
 pub past_end : (ls more : List (List ℕ)) (ss : List StanzaParts) (p : List ℕ) (t : State)
     → Leads (between []) ls (between ss) → Leads (between []) (ls ++ end_text p ∷ more) t → ⊥
 past_end ls more ss p t h k =
@@ -89,8 +89,8 @@ pub reading : (ss ts : List StanzaParts) (m n h x : List ℕ) → Head ss m h �
 reading ss ts m n h x a b =
     let p = head_path ss m h a in
     let q = head_path ts n (h ++ x) b in
-    let ls : List (List ℕ) = p.lines ++ end_text p.signs ∷ [] in
-    let ms : List (List ℕ) = q.lines ++ end_text q.signs ∷ [] in
+    let ls : List (List ℕ) = p.lines ++ end_text p.characters ∷ [] in
+    let ms : List (List ℕ) = q.lines ++ end_text q.characters ∷ [] in
     let e0 : (version_line ++ lines_text ls) ++ x ≡ version_line ++ lines_text ms = ap (λ (z : List ℕ). z ++ x) (sym p.is) ∙ q.is in
     let e1 : lines_text ls ++ x ≡ lines_text ms ++ [] = append_cancel_left version_line _ _ (sym (append_assoc version_line (lines_text ls) x) ∙ e0) ∙ sym (append-nil (lines_text ms)) in
     elim (cases_lt (length ms) (length ls)) [
@@ -102,16 +102,16 @@ reading ss ts m n h x a b =
           absurd (omega arith)
       | inr enough ↦
           let r = lines_front ls ms x [] p.each q.each e1 enough in
-          elim (last_one q.lines (end_text q.signs) p.lines (end_text p.signs) r.0 r.1) [
+          elim (last_one q.lines (end_text q.characters) p.lines (end_text p.characters) r.0 r.1) [
             | inl w ↦
                 let none : x ≡ [] = r.2 ∙ ap (λ (z : List (List ℕ)). lines_text z ++ []) w.0 in
                 let lead : Leads (between []) p.lines (between ts) = subst (λ (z : List (List ℕ)). Leads (between []) z (between ts)) w.1 q.leads in
                 let states : between ss ≡ between ts = Leads-once (between []) (between ss) (between ts) p.lines p.leads lead in
-                let signs : q.signs ≡ p.signs = append_cancel_left (codes "--- ") q.signs p.signs w.2 in
+                let characters : q.characters ≡ p.characters = append_cancel_left (codes "--- ") q.characters p.characters w.2 in
                 let same : ss ≡ ts = cc states in
-                (none, same, B64-injective m n p.signs p.mac_text (subst (λ (z : List ℕ). B64 n z) signs q.mac_text))
+                (none, same, B64-injective m n p.characters p.mac_text (subst (λ (z : List ℕ). B64 n z) characters q.mac_text))
             | inr w ↦
-                let lead : Leads (between []) (p.lines ++ end_text p.signs ∷ w.0) (between ts) = subst (λ (z : List (List ℕ)). Leads (between []) z (between ts)) w.1 q.leads in
-                absurd (past_end p.lines w.0 ss p.signs (between ts) p.leads lead)
+                let lead : Leads (between []) (p.lines ++ end_text p.characters ∷ w.0) (between ts) = subst (λ (z : List (List ℕ)). Leads (between []) z (between ts)) w.1 q.leads in
+                absurd (past_end p.lines w.0 ss p.characters (between ts) p.leads lead)
           ]
     ]

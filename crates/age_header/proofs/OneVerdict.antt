@@ -117,7 +117,7 @@ lines_split (l ∷ ls) e h = (h.0, lines_split ls e h.1)
 pub found_begins : (b : List ℕ) (max : ℕ) (x : Found) → BeginsWith b max x → Finds b max x
 found_begins b max x h =
     let p = head_path x.stanzas x.mac x.text h.head in
-    let end : List ℕ = end_text p.signs in
+    let end : List ℕ = end_text p.characters in
     let ls : List (List ℕ) = p.lines ++ end ∷ [] in
     let whole : List (List ℕ) = version_text ∷ ls in
     let text : x.text ≡ lines_text whole = p.is ∙ sym (whole_lines ls) in

@@ -42,7 +42,7 @@ pub leads_no_header : (ls : List (List ℕ)) (s : State) → AllByRecursion IsLi
     → IsHeader (version_line ++ lines_text ls) → ⊥
 leads_no_header ls s each h k =
     let p = head_path k.0 k.1 (version_line ++ lines_text ls) k.2 in
-    let ends : List (List ℕ) = p.lines ++ end_text p.signs ∷ [] in
+    let ends : List (List ℕ) = p.lines ++ end_text p.characters ∷ [] in
     let e : lines_text ls ≡ lines_text ends = append_cancel_left version_line (lines_text ls) (lines_text ends) p.is in
     let same : ls ≡ ends = same_lines ls ends each p.each e in
-    past_end p.lines [] k.0 p.signs s p.leads (subst (λ (x : List (List ℕ)). Leads (between []) x s) same h)
+    past_end p.lines [] k.0 p.characters s p.leads (subst (λ (x : List (List ℕ)). Leads (between []) x s) same h)

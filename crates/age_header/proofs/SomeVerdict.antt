@@ -17,7 +17,7 @@ use Rattle.age_header.specs.Steps.{State, between, within, Step}
 use Rattle.age_header.specs.Verdict.{IsLineText, Found, HeaderVerdict}
 use Rattle.age_header.proofs.ArgumentLemmas.{Parsed, no_arrow, parsed_none, parsed_more, parsed_all, parsed_nothing, stuck_space, stuck_empty}
 use Rattle.age_header.proofs.Decoding.{decoded_b64, b64_decoded}
-use Rattle.age_header.proofs.OneWay.{B64-injective}
+use Rattle.age_header.proofs.OneStep.{B64-injective}
 use Rattle.age_header.proofs.PathLemmas.{version_text}
 use Rattle.age_header.proofs.StepRuns.{no_arguments, no_base64}
 use Rattle.age_header.proofs.VerdictPaths.{Reached}
@@ -128,33 +128,33 @@ step_of (within ss args body) l = here (decoded l) refl
 record IsEndLine (s : State) (l : List ℕ) : Type 0 where
   stanzas : List StanzaParts
   mac : List ℕ
-  signs : List ℕ
+  characters : List ℕ
   some : stanzas ≢ []
   at : s ≡ between stanzas
   size : length mac ≡ 32
-  spelled : l ≡ codes "--- " ++ signs
-  is : B64 mac signs
+  spelled : l ≡ codes "--- " ++ characters
+  is : B64 mac characters
 
 end_of : (s : State) (l : List ℕ) → IsEndLine s l ⊎ (IsEndLine s l → ⊥)
 end_of (within ss args body) l = inr (λ e. let at = e.at in cc)
 end_of (between []) l = inr (λ e. let at = e.at in e.some cc)
 end_of (between (s ∷ ss)) l = elim (front_of (codes "--- ") l) [
-  | inr none ↦ inr (λ e. none e.signs e.spelled)
+  | inr none ↦ inr (λ e. none e.characters e.spelled)
   | inl w ↦ here w.0 w.1 (decoded w.0) refl
 ]
   where
-    here : (signs : List ℕ) → l ≡ codes "--- " ++ signs → (o : Option (List ℕ)) → decoded signs ≡ o → IsEndLine (between (s ∷ ss)) l ⊎ (IsEndLine (between (s ∷ ss)) l → ⊥)
-    here signs spelled None o = inr (λ e.
-        let same : e.signs ≡ signs = append_cancel_left (codes "--- ") e.signs signs (sym e.spelled ∙ spelled) in
-        let some : decoded signs ≡ Some e.mac = b64_decoded signs e.mac (subst (λ (z : List ℕ). B64 e.mac z) same e.is) in
+    here : (characters : List ℕ) → l ≡ codes "--- " ++ characters → (o : Option (List ℕ)) → decoded characters ≡ o → IsEndLine (between (s ∷ ss)) l ⊎ (IsEndLine (between (s ∷ ss)) l → ⊥)
+    here characters spelled None o = inr (λ e.
+        let same : e.characters ≡ characters = append_cancel_left (codes "--- ") e.characters characters (sym e.spelled ∙ spelled) in
+        let some : decoded characters ≡ Some e.mac = b64_decoded characters e.mac (subst (λ (z : List ℕ). B64 e.mac z) same e.is) in
         cc)
-    here signs spelled (Some mac) o =
-        let is = decoded_b64 signs mac o in
+    here characters spelled (Some mac) o =
+        let is = decoded_b64 characters mac o in
         elim (cases_eq (length mac) 32) [
-          | inl size ↦ inl (record { stanzas = s ∷ ss; mac = mac; signs = signs; some = λ e. cc; at = refl; size = size; spelled = spelled; is = is })
+          | inl size ↦ inl (record { stanzas = s ∷ ss; mac = mac; characters = characters; some = λ e. cc; at = refl; size = size; spelled = spelled; is = is })
           | inr other ↦ inr (λ e.
-              let same : e.signs ≡ signs = append_cancel_left (codes "--- ") e.signs signs (sym e.spelled ∙ spelled) in
-              let bytes : e.mac ≡ mac = B64-injective e.mac mac signs (subst (λ (z : List ℕ). B64 e.mac z) same e.is) is in
+              let same : e.characters ≡ characters = append_cancel_left (codes "--- ") e.characters characters (sym e.spelled ∙ spelled) in
+              let bytes : e.mac ≡ mac = B64-injective e.mac mac characters (subst (λ (z : List ℕ). B64 e.mac z) same e.is) is in
               other (sym (ap length bytes) ∙ e.size))
         ]
 
@@ -200,14 +200,14 @@ line_verdict b m max room count s p next text Room rest is took ends =
     (Err TooLarge, path_too_large (Some b) (Some m) (Some rest) max room count s text p took is ends)
 line_verdict b m max room count s p next text Lf rest is took ends = elim (end_of s text) [
   | inl e ↦
-      let h = path_header (Some b) (Some m) (Some rest) max room count s text e.stanzas e.mac e.signs p took is ends e.at e.some e.spelled e.is e.size in
+      let h = path_header (Some b) (Some m) (Some rest) max room count s text e.stanzas e.mac e.characters p took is ends e.at e.some e.spelled e.is e.size in
       (Ok (record { stanzas = e.stanzas; mac = e.mac; text = h.0 }), h.1)
   | inr other ↦ elim (step_of s text) [
     | inl w ↦ next rest (room - (length text + 1)) (count + 1) w.0 (omega arith) (path_more (Some b) (Some m) (Some rest) max room count s w.0 text p took is ends w.1)
     | inr none ↦ (
       Err (BadLine (count + 1)),
       path_bad (Some b) (Some m) (Some rest) max room count s text p took is ends
-          (λ ss mac signs some at size spelled h. other (record { stanzas = ss; mac = mac; signs = signs; some = some; at = at; size = size; spelled = spelled; is = h })) none,
+          (λ ss mac characters some at size spelled h. other (record { stanzas = ss; mac = mac; characters = characters; some = some; at = at; size = size; spelled = spelled; is = h })) none,
     )
   ]
 ]

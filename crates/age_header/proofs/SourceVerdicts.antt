@@ -8,19 +8,19 @@ use Rattle.age_header.specs.declared.fault.HeaderFault.TheVariants.{NotAge, BadL
 use Rattle.age_header.specs.declared.fault.HeaderFault.{HeaderFault}
 use Rattle.age_header.specs.Lines.{IsOutside}
 use Rattle.age_header.specs.Header.{HeaderParts}
-use Rattle.age_header.specs.Reader.{Refuses, Answers}
+use Rattle.age_header.specs.Reader.{Refuses, ReadsHeader}
 use Rattle.age_header.specs.Verdict.{HeaderVerdict}
 
 -- a fault after these bytes
 pub answered : (a new : Option (List ℕ)) (x : List ℕ) (max : ℕ) (e : HeaderFault) → Consumes a new x
-    → ((b n : List ℕ) → b ≡ x ++ n → Refuses b max e) → Answers a new max (Err e)
+    → ((b n : List ℕ) → b ≡ x ++ n → Refuses b max e) → ReadsHeader a new max (Err e)
 answered None new x max e took told = (x, told x [] (sym (append-nil x)))
 answered (Some b) None x max e took told = absurd took
 answered (Some b) (Some n) x max e took told = told b n took
 
 -- a fault at the end of the input
 pub answered_at_end : (a new : Option (List ℕ)) (x : List ℕ) (max : ℕ) (e : HeaderFault) → Consumes a new x → IsAtEnd new
-    → ((b : List ℕ) → b ≡ x → Refuses b max e) → Answers a new max (Err e)
+    → ((b : List ℕ) → b ≡ x → Refuses b max e) → ReadsHeader a new max (Err e)
 answered_at_end None new x max e took end told = (x, told x refl)
 answered_at_end (Some b) None x max e took end told = absurd took
 answered_at_end (Some b) (Some n) x max e took end told = told b (took ∙ ap (λ (z : List ℕ). x ++ z) end ∙ append-nil x)
@@ -28,7 +28,7 @@ answered_at_end (Some b) (Some n) x max e took end told = told b (took ∙ ap (�
 -- a header
 pub answered_header : (a new : Option (List ℕ)) (x : List ℕ) (max : ℕ) (h : HeaderParts) → Consumes a new x
     → ((b n : List ℕ) → b ≡ x ++ n → HeaderVerdict b max (Ok (record { stanzas = h.stanzas; mac = h.mac; text = x })))
-    → Answers a new max (Ok h)
+    → ReadsHeader a new max (Ok h)
 answered_header None new x max h took told = (x, (x, told x [] (sym (append-nil x)), tt))
 answered_header (Some b) None x max h took told = absurd took
 answered_header (Some b) (Some n) x max h took told = (x, told b n took, took)
@@ -42,6 +42,6 @@ refused b max Truncated h = absurd h
 refused b max TooLarge h = absurd h
 
 -- what a line's own fault says
-pub outside : (a new : Option (List ℕ)) (max : ℕ) (e : HeaderFault) → IsOutside e → Answers a new max (Err e)
+pub outside : (a new : Option (List ℕ)) (max : ℕ) (e : HeaderFault) → IsOutside e → ReadsHeader a new max (Err e)
 outside None new max e h = ([], refused [] max e h)
 outside (Some b) new max e h = refused b max e h

@@ -18,7 +18,7 @@ pub encoded : (e : GeneralPurpose) (m old new : List ℕ) (len : ℕ) → IsPlai
     → take len new ≡ base64_of m
 unfolding base64_of
 encoded e m old new len p over is =
-    let plain : encode_of e m ≡ encode_symbols alphabet m = encode_of-unpadded e m p.unpadded p.signs in
+    let plain : encode_of e m ≡ encode_symbols alphabet m = encode_of-unpadded e m p.unpadded p.characters in
     let size : encoded_size_of e (length m) ≡ unpadded_len (length m) = rw p.unpadded refl in
     let fits : length (encode_symbols alphabet m) ≡ len = length-encode_symbols alphabet m ∙ sym size ∙ sym is in
     ap (λ (z : List ℕ). take len z) (over ∙ ap (λ (z : List ℕ). z ++ drop (encoded_size_of e (length m)) old) plain) ∙ take_at (encode_symbols alphabet m) _ len fits
@@ -140,7 +140,7 @@ pub header_text_is : (ss : List StanzaParts) (mac : List ℕ) → IsHeaderValue 
 unfolding signed mac_end
 header_text_is ss mac h = record {
   body = flat_map stanza_text ss;
-  signs = base64_of mac;
+  characters = base64_of mac;
   some = h.some;
   stanza_text = stanzas_text_is ss h.each;
   mac_len = h.mac_len;

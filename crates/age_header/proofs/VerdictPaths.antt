@@ -12,7 +12,7 @@ use Rattle.age_header.proofs.PathLemmas.{leads_viable, leads_no_header, version_
 use Rattle.age_header.proofs.LineLemmas.{lines_front}
 use Rattle.age_header.proofs.StepRuns.{Leads-split}
 
--- The lines behind the version line that were taken, where they lead, and the room that is left under the limit.
+-- The lines after the version line that were taken, where they lead, and the room that is left under the limit.
 pub record Reached (a mid : Option (List ℕ)) (max room count : ℕ) (s : State) : Type 0 where
   pub ls : List (List ℕ)
   pub each : AllByRecursion IsLineText ls
@@ -38,7 +38,7 @@ version_is_text = clear_text version_text refl
 -- no text is no header
 pub no_empty : IsHeader [] → ⊥
 unfolding version_line
-no_empty h = here h.2.body h.2.signs h.2.spelled
+no_empty h = here h.2.body h.2.characters h.2.spelled
   where
     here : (b s : List ℕ) → [] ≡ version_line ++ b ++ line (codes "--- " ++ s) → ⊥
     here b s e = cc

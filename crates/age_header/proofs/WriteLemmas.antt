@@ -10,7 +10,7 @@ use Rattle.std.specs.declared.result.Result.{Result}
 use Rattle.std.specs.declared.result.Result.TheVariants.{Ok, Err}
 use Rattle.age_header.specs.Device.{Writes, WritesPart}
 
--- of the whole text a front was written, and what is left stands behind it
+-- of the whole text a front was written, and what is left stands after it
 pub record Done (a b : Option (List ℕ)) (whole left : List ℕ) : Type 0 where
   pub front : List ℕ
   pub took : Appends a b front

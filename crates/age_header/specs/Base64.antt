@@ -39,7 +39,7 @@ unfoldable pub B64 : (bytes characters : Bytes) → Type 0
 B64 [] [] = Unit {0}
 B64 (a ∷ []) (p ∷ q ∷ []) = IsOne a p q
 B64 (a ∷ b ∷ []) (p ∷ q ∷ r ∷ []) = IsTwo a b p q r
-B64 (a ∷ b ∷ c ∷ bytes) (p ∷ q ∷ r ∷ s ∷ signs) = IsThree a b c p q r s × B64 bytes signs
+B64 (a ∷ b ∷ c ∷ bytes) (p ∷ q ∷ r ∷ s ∷ characters) = IsThree a b c p q r s × B64 bytes characters
 B64 _ _ = ⊥
 
 -- the base64 of bytes, as a function
@@ -55,13 +55,14 @@ unfoldable pub candidate : Bytes → Bytes
 candidate (p ∷ q ∷ []) = (value_of p * 4 + value_of q / 16) % 256 ∷ []
 candidate (p ∷ q ∷ r ∷ []) =
     (value_of p * 4 + value_of q / 16) % 256 ∷ (value_of q * 16 + value_of r / 4) % 256 ∷ []
-candidate (p ∷ q ∷ r ∷ s ∷ signs) =
+candidate (p ∷ q ∷ r ∷ s ∷ characters) =
     (value_of p * 4 + value_of q / 16) % 256 ∷ (value_of q * 16 + value_of r / 4) % 256
-    ∷ (value_of r * 64 + value_of s) % 256 ∷ candidate signs
+    ∷ (value_of r * 64 + value_of s) % 256 ∷ candidate characters
 candidate _ = []
 
 -- the bytes whose base64 these characters are, where there are such bytes: the only candidate is
 -- tried
 unfoldable pub decoded : Bytes → Option Bytes
-decoded signs =
-    if bytes_eq (base64_of (candidate signs)) signs then Some (candidate signs) else None
+decoded characters =
+    if bytes_eq (base64_of (candidate characters)) characters then Some (candidate characters)
+    else None

@@ -1,4 +1,4 @@
--- What a read or a write does to the bytes that a device tells, and to its count of failures.
+-- What a read or a write does to the known bytes of a device, and to its count of failures.
 use Rattle.std.specs.Prelude.{◌≡◌, ℕ, ◌+◌, ◌-◌, ◌^◌, ◌<◌, ◌≤◌, min, List, length, take, ⊤, MatchResult}
 use Rattle.std.specs.declared.option.Option.{Option}
 use Rattle.std.specs.declared.option.Option.TheVariants.{None, Some}
@@ -6,8 +6,7 @@ use Rattle.std.specs.declared.result.Result.{Result}
 use Rattle.std.specs.Io.KnownBytes.{Consumes, Appends, Keeps, IsAtEnd}
 pub use Rattle.age_kdf.specs.Bytes.{Bytes}
 
--- the bytes that a source still gives, or that a sink has taken, where the device tells them; None
--- where it does not
+-- the bytes that a source still gives, or that a sink has taken, where they are known; else None
 abbrev pub Known : Type 0
 Known = Option Bytes
 
@@ -36,7 +35,7 @@ WritesPart old new text = (n : ℕ) × Appends old new (take n text)
 abbrev pub Writes : {A E : Type 0} (old new : Known) (r : Result A E) (text : Bytes) → Type 0
 Writes old new r text = MatchResult r (λ _. Appends old new text) (λ _. WritesPart old new text)
 
--- A source may still give these bytes: just those that it tells, or any where it tells none.
+-- A source may still give these bytes: the known ones alone, or any where none are known.
 abbrev pub MayGive : (left : Known) (bytes : Bytes) → Type 0
 MayGive None bytes = ⊤
 MayGive (Some told) bytes = told ≡ bytes

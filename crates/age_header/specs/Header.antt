@@ -46,13 +46,13 @@ IsArgument a = (a ≢ []) × AllByRecursion IsVisible a
 abbrev pub AreArguments : List Bytes → Type 0
 AreArguments args = (args ≢ []) × AllByRecursion IsArgument args
 
--- `->`, and each argument behind a space
+-- `->`, and each argument after a space
 abbrev pub argument_line : List Bytes → Bytes
 argument_line args = line (codes "->" ++ flat_map (λ a. 32 ∷ a) args)
 
 -- a body line of 64 characters
 abbrev pub IsFullLine : Bytes → Type 0
-IsFullLine signs = length signs ≡ line_size
+IsFullLine characters = length characters ≡ line_size
 
 -- The text of a stanza: its argument line, full lines, and a last line of fewer than 64 characters.
 -- The characters of these lines, joined, are the base64 of the body.
@@ -64,7 +64,7 @@ pub record IsStanza (s : StanzaParts) (text : Bytes) : Type 0 where
   pub body : B64 s.body (concat full ++ last)
   pub spelled : text ≡ argument_line s.args ++ flat_map line full ++ line last
 
--- the texts of stanzas, one behind the other
+-- the texts of stanzas, one after the other
 abbrev pub AreStanzas : List StanzaParts → Bytes → Type 0
 AreStanzas [] text = text ≡ []
 AreStanzas (s ∷ ss) text =
@@ -74,12 +74,12 @@ AreStanzas (s ∷ ss) text =
 -- stanzas, and the end line.
 pub record Head (stanzas : List StanzaParts) (mac : Bytes) (h : Bytes) : Type 0 where
   pub body : Bytes
-  pub signs : Bytes
+  pub characters : Bytes
   pub some : stanzas ≢ []
   pub stanza_text : AreStanzas stanzas body
   pub mac_len : length mac ≡ mac_size
-  pub mac_text : B64 mac signs
-  pub spelled : h ≡ version_line ++ body ++ line (codes "--- " ++ signs)
+  pub mac_text : B64 mac characters
+  pub spelled : h ≡ version_line ++ body ++ line (codes "--- " ++ characters)
 
 -- a header as a value: its stanzas and its MAC
 pub record HeaderParts : Type 0 where

@@ -1,4 +1,4 @@
--- What a reader of headers answers.
+-- What a reader of headers returns.
 use Rattle.std.specs.Prelude.{◌≡◌, ℕ, ◌+◌, ◌-◌, ◌^◌, min, ⊤, List}
 use Rattle.std.specs.declared.option.Option.{Option}
 use Rattle.std.specs.declared.option.Option.TheVariants.{None, Some}
@@ -12,29 +12,29 @@ use Rattle.age_header.specs.declared.fault.HeaderFault.TheVariants.{Read, Memory
 use Rattle.age_header.specs.Header.{HeaderParts}
 use Rattle.age_header.specs.Verdict.{HeaderVerdict, IsFault}
 
--- b is refused with its fault, or for want of memory or a failed read, which say nothing of b
+-- b is refused with its fault, or because memory was refused or a read failed, which say nothing of
+-- b
 abbrev pub Refuses : (b : Bytes) (max : ℕ) (fault : HeaderFault) → Type 0
 Refuses b max Read = ⊤
 Refuses b max Memory = ⊤
 Refuses b max fault = IsFault b max fault
 
--- What a reader under a limit of max bytes answers of b: its verdict. On a header just the header's
--- bytes are taken.
-abbrev pub AnswersOf : (b : Bytes) (old new : Known) (max : ℕ)
+-- What a reader under a limit of max bytes returns where b comes: its verdict. Where that is a
+-- header, just the header's bytes are taken.
+abbrev pub ReadsHeaderOf : (b : Bytes) (old new : Known) (max : ℕ)
     (result : Result HeaderParts HeaderFault) → Type 0
-AnswersOf b old new max (Ok h) =
+ReadsHeaderOf b old new max (Ok h) =
     (text : Bytes)
     × HeaderVerdict b max (Ok (record { stanzas = h.stanzas; mac = h.mac; text = text }))
     × Consumes old new text
-AnswersOf b old new max (Err fault) = Refuses b max fault
+ReadsHeaderOf b old new max (Err fault) = Refuses b max fault
 
--- What it answers of a source: of the bytes that were to come, or of some bytes where the source
--- doesn't tell them.
-abbrev pub Answers : (old new : Known) (max : ℕ) (r : Result HeaderParts HeaderFault) → Type 0
-Answers None new max r = (b : Bytes) × AnswersOf b None new max r
-Answers (Some b) new max r = AnswersOf b (Some b) new max r
+-- The same of a source: of the bytes that were to come, or of some bytes where they are unknown.
+abbrev pub ReadsHeader : (old new : Known) (max : ℕ) (r : Result HeaderParts HeaderFault) → Type 0
+ReadsHeader None new max r = (b : Bytes) × ReadsHeaderOf b None new max r
+ReadsHeader (Some b) new max r = ReadsHeaderOf b (Some b) new max r
 
--- the count of failures rises by one where the answer is Read, and else stays
+-- the count of failures rises by one where the result is Read, and else stays
 abbrev pub CountsRead : {A : Type 0} (old new : ℕ) (result : Result A HeaderFault) → Type 0
 CountsRead old new (Err Read) = new ≡ min (old + 1) (2 ^ 64 - 1)
 CountsRead old new _ = new ≡ old
@@ -44,7 +44,7 @@ pub record ReaderState : Type 0 where
   pub max : ℕ
   pub fault : Option HeaderFault
 
--- the fault that an answer leaves kept
+-- the fault that is kept after a result
 abbrev pub fault_of : Result HeaderParts HeaderFault → Option HeaderFault
 fault_of (Ok h) = None
 fault_of (Err fault) = Some fault

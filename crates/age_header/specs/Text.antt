@@ -11,7 +11,7 @@ use Rattle.age_header.specs.Header.{StanzaParts, AreArguments, argument_line, li
 pub record IsPlain (e : GeneralPurpose) : Type 0 where
   pub strict : IsStrict e
   pub unpadded : config_padding (engine_config e) ≡ false
-  pub signs : engine_symbols e ≡ alphabet
+  pub characters : engine_symbols e ≡ alphabet
 
 -- n full lines, and a last line
 unfoldable pub body_lines : ℕ → Bytes → Bytes

@@ -50,13 +50,13 @@ impl Arguments {
         ensures none { IfOk result (λ o. IfNone o
             ((args : List Bytes) → AreArguments args → line text.now ≡ argument_line args → ⊥)) }
     {
-        let Some(mut rest) = behind(text, b"->") else {
+        let Some(mut rest) = strip_prefix(text, b"->") else {
             return Ok(None);
         };
         let spaces = rest.iter().filter(|byte| **byte == b' ').count();
         let mut texts = Vec::with_capacity(alloc, spaces)?;
         while !rest.is_empty() {
-            let Some(tail) = behind(rest, b" ") else {
+            let Some(tail) = strip_prefix(rest, b" ") else {
                 return Ok(None);
             };
             let len = visible_len(tail);
@@ -82,7 +82,7 @@ impl Arguments {
 }
 
 /// What follows this front, where the text begins with it.
-pub(crate) fn behind<'a>(text: &'a [u8], front: &[u8]) -> Option<&'a [u8]>
+pub(crate) fn strip_prefix<'a>(text: &'a [u8], front: &[u8]) -> Option<&'a [u8]>
     ensures { MatchOption result ((x : Bytes) → text.now ≢ front.now ++ x)
         (λ x. text.now ≡ front.now ++ x.now) }
 {

@@ -66,11 +66,11 @@ impl Header {
     pub fn mac_signs(&self) -> [u8; 43]
         ensures { B64 self.now.mac result }
     {
-        let mut signs = [0u8; 43];
-        let Ok(_) = base64_no_pad::engine().encode_slice(&self.mac, &mut signs) else {
+        let mut characters = [0u8; 43];
+        let Ok(_) = base64_no_pad::engine().encode_slice(&self.mac, &mut characters) else {
             unreachable!();
         };
-        signs
+        characters
     }
 
     /// The length in bytes of the header's text, or the largest `u64` where it is longer.

@@ -14,7 +14,7 @@ ghost use Rattle.age_header.specs.Verdict.{Found, HeaderVerdict, BeginsWith};
 /// Characters are decoded to just the bytes whose base64 they are, and what bytes are encoded to is
 /// their base64.
 pub fn one_base64()
-    ensures decoded { (signs bytes : Bytes) → (decoded signs ≡ Some bytes) ↔ B64 bytes signs }
+    ensures decoded { (characters bytes : Bytes) → (decoded characters ≡ Some bytes) ↔ B64 bytes characters }
     ensures encoded { (bytes : Bytes) → IsBytes bytes → B64 bytes (base64_of bytes) }
 {}
 

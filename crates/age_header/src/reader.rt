@@ -5,10 +5,10 @@ ghost use Rattle.std.specs.Io.KnownBytes.{Consumes};
 ghost use Rattle.age_kdf.specs.Bytes.{Bytes};
 ghost use Rattle.age_header.specs.Base64.{B64};
 ghost use Rattle.age_header.specs.Header.{version_line};
-ghost use Rattle.age_header.specs.Reader.{Answers, CountsRead};
+ghost use Rattle.age_header.specs.Reader.{ReadsHeader, CountsRead};
 ghost use Rattle.age_header.specs.Text.{IsPlain};
 
-use crate::arguments::behind;
+use crate::arguments::strip_prefix;
 use crate::base64_no_pad;
 use crate::device::Source;
 use crate::fault::HeaderFault;
@@ -66,7 +66,7 @@ impl HeaderReader {
         ensures count { IfNone self.old.fault
             (CountsRead (S.failed input.old) (S.failed input.new) result) }
         ensures verdict { IfNone self.old.fault
-            (Answers (S.to_come input.old) (S.to_come input.new) self.old.max result) }
+            (ReadsHeader (S.to_come input.old) (S.to_come input.new) self.old.max result) }
     {
         if let Some(fault) = self.fault {
             return Err(fault);
@@ -82,7 +82,7 @@ impl HeaderReader {
 /// The header at the front of the input.
 fn read_header<S: Source>(alloc: Global, input: &mut S, max: usize) -> Result<Header, HeaderFault>
     ensures count { CountsRead (S.failed input.old) (S.failed input.new) result }
-    ensures verdict { Answers (S.to_come input.old) (S.to_come input.new) max result }
+    ensures verdict { ReadsHeader (S.to_come input.old) (S.to_come input.new) max result }
 {
     read_version(alloc, input, max)?;
     let engine = base64_no_pad::engine();
@@ -119,10 +119,10 @@ fn read_version<S: Source>(alloc: Global, input: &mut S, max: usize) -> Result<(
     ensures ok { OnOk result
         ((22 ≤ max) × Consumes (S.to_come input.old) (S.to_come input.new) version_line) }
     ensures err { IfErr result
-        (λ e. Answers (S.to_come input.old) (S.to_come input.new) max (Err e)) }
+        (λ e. ReadsHeader (S.to_come input.old) (S.to_come input.new) max (Err e)) }
 {
     let (first, end) = read_line(alloc, input, max.min(22))?;
-    let Some(rest) = behind(VERSION, first.as_slice()) else {
+    let Some(rest) = strip_prefix(VERSION, first.as_slice()) else {
         return Err(HeaderFault::NotAge);
     };
     match end {
@@ -144,15 +144,15 @@ fn end_mac(
     text: &[u8],
 ) -> Result<Option<[u8; 32]>, AllocError>
     requires { IsPlain engine.now }
-    ensures some { IfOk result (λ o. IfSome o (λ mac. (signs : Bytes)
-        × (length mac ≡ 32) × (text.now ≡ codes "--- " ++ signs) × B64 mac signs)) }
-    ensures none { IfOk result (λ o. IfNone o ((mac signs : Bytes) → length mac ≡ 32
-        → text.now ≡ codes "--- " ++ signs → B64 mac signs → ⊥)) }
+    ensures some { IfOk result (λ o. IfSome o (λ mac. (characters : Bytes)
+        × (length mac ≡ 32) × (text.now ≡ codes "--- " ++ characters) × B64 mac characters)) }
+    ensures none { IfOk result (λ o. IfNone o ((mac characters : Bytes) → length mac ≡ 32
+        → text.now ≡ codes "--- " ++ characters → B64 mac characters → ⊥)) }
 {
-    let Some(signs) = behind(text, b"--- ") else {
+    let Some(characters) = strip_prefix(text, b"--- ") else {
         return Ok(None);
     };
-    let Some(mac) = base64_no_pad::decode(alloc, engine, signs)? else {
+    let Some(mac) = base64_no_pad::decode(alloc, engine, characters)? else {
         return Ok(None);
     };
     match <[u8; 32]>::try_from(mac.as_slice()) {

@@ -54,7 +54,7 @@ fn write_mac<W: Sink>(
     ensures count { Counts (W.failed out.old) (W.failed out.new) result }
 {
     write_all(out, b" ")?;
-    write_signs(mac, engine, out)?;
+    write_base64(mac, engine, out)?;
     write_all(out, b"\n")
 }
 
@@ -81,16 +81,16 @@ fn write_body<W: Sink>(body: &[u8], engine: &GeneralPurpose, out: &mut W) -> Res
     let mut rest = body;
     while rest.len() >= 48 {
         let (piece, after) = rest.split_at(48);
-        write_signs(piece, engine, out)?;
+        write_base64(piece, engine, out)?;
         write_all(out, b"\n")?;
         rest = after;
     }
-    write_signs(rest, engine, out)?;
+    write_base64(rest, engine, out)?;
     write_all(out, b"\n")
 }
 
 /// Writes the base64 of at most 48 bytes.
-fn write_signs<W: Sink>(
+fn write_base64<W: Sink>(
     bytes: &[u8],
     engine: &GeneralPurpose,
     out: &mut W,
@@ -100,9 +100,9 @@ fn write_signs<W: Sink>(
     ensures text { Writes (W.taken out.old) (W.taken out.new) result (base64_of bytes.now) }
     ensures count { Counts (W.failed out.old) (W.failed out.new) result }
 {
-    let mut signs = [0u8; 64];
-    let Ok(len) = engine.encode_slice(bytes, &mut signs) else {
+    let mut characters = [0u8; 64];
+    let Ok(len) = engine.encode_slice(bytes, &mut characters) else {
         unreachable!();
     };
-    write_all(out, &signs[..len])
+    write_all(out, &characters[..len])
 }

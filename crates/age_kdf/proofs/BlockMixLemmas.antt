@@ -13,7 +13,7 @@ unfolding mixed
 mixed_next r b x out i at next is place after made =
     made ∙ ap₂ (λ y a. salsa8 (zip2 bit_xor y (take 16 (drop a b)))) is place ∙ ap (mixed r b) (sym after)
 
--- a block written behind those that were written before
+-- a block written after those that were written before
 pub block_written : (out front x : List ℕ) (at k next : ℕ) → take at out ≡ front → length x ≡ 16 → next ≡ at + 16
     → at + 16 ≤ length out → take next (put_mid at k out x) ≡ front ++ x
 block_written out front x at k next is len after room =

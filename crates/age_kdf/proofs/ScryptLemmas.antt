@@ -21,7 +21,7 @@ words-front xs ys (suc n) room =
       words-front xs ys n (omega arith),
     ) refl
 
--- a word that lies behind the front bytes
+-- a word that lies after the front bytes
 word_behind : (xs ys : List ℕ) (k : ℕ) → word_at (xs ++ ys) (length xs + k) ≡ word_at ys k
 word_behind xs ys k =
     let at : (i : ℕ) → get_or (xs ++ ys) (length xs + k + i) 0 ≡ get_or ys (k + i) 0 = λ i.
@@ -42,7 +42,7 @@ words-joined xs ys m (suc n) len =
     ∙ ap₂ (λ p q. p ++ q ∷ []) (words-joined xs ys m n len) (ap (word_at (xs ++ ys)) place ∙ word_behind xs ys (4 * n))
     ∙ append_assoc (words_of xs m) (words_of ys n) _
 
--- a block of eight words written behind those that were written before
+-- a block of eight words written after those that were written before
 pub block_loaded : (words ws front block : List ℕ) (i k : ℕ) → take (8 * i) words ≡ words_of front (8 * i)
     → ws ≡ words_of block 8 → length ws ≡ 8 → length front ≡ 32 * i → 8 * i + 8 ≤ length words
     → take (8 * (i + 1)) (put_mid (8 * i) k words ws) ≡ words_of (front ++ block) (8 * (i + 1))
@@ -53,7 +53,7 @@ block_loaded words ws front block i k before is len long room =
     ∙ sym (words-joined front block (8 * i) 8 (omega arith))
     ∙ ap (words_of (front ++ block)) next
 
--- a part mixed in place behind those that were mixed before
+-- a part mixed in place after those that were mixed before
 pub part_mixed : (r n size i k next : ℕ) (b parts x : List ℕ) → size ≡ 32 * r → k ≡ size → next ≡ size * i + size
     → take (size * i) parts ≡ parts_mixed r n b i → drop (size * i) parts ≡ drop (size * i) b
     → x ≡ romix r n (take k (drop (size * i) parts)) → length x ≡ size → next ≤ length parts

@@ -7,7 +7,7 @@ use Rattle.sha2.specs.Sha256.{sha256}
 abbrev pub short_key : Bytes → Bytes
 short_key key = if nat_le (length key) 64 then key else sha256 key
 
--- K: the short key with zeros behind it, 64 bytes in all
+-- K: the short key followed by zeros, 64 bytes in all
 abbrev pub block_key : Bytes → Bytes
 block_key key = short_key key ++ replicate (64 - length (short_key key)) 0
 

@@ -1,4 +1,4 @@
--- The first answer that decides, one answer after the other; a salt; a stanza of two parts.
+-- The first answer that decides, one answer after the other.
 use Rattle.std.proofs.Common.{◌≡◌, ℕ, ◌+◌, ◌<◌, List, ◌∷◌, map, drop, length, get_or, refl, sym, ◌∙◌, ap, true, false, Some, None, nat_eq, if◌then◌else◌}
 use Rattle.std.proofs.lemmas.Bool.{eqb-true}
 use Rattle.std.proofs.lemmas.List.{drop_more, drop-map}
@@ -15,17 +15,3 @@ decided_step f xs i x rest a low is answer =
     ap (decided_from rest)
     (drop-map f i xs ∙ ap (map f) (drop_more xs i x low) ∙ ap (λ y. f y ∷ map f (drop (i + 1) xs)) (sym is)
     ∙ ap (λ y. y ∷ map f (drop (i + 1) xs)) (sym answer) ∙ ap (λ t. a ∷ t) (sym (drop-map f (i + 1) xs)))
-
--- a decoded text of another length is no salt
-pub no_salt : (o : Option (List ℕ)) (bytes : List ℕ) → Some bytes ≡ o → (length bytes ≡ 16 → ⊥) → None ≡ salt_of o
-no_salt None bytes is other = cc
-no_salt (Some found) bytes is other =
-    let same : bytes ≡ found = cc in
-    elim (nat_eq (length found) 16) as (λ t. nat_eq (length found) 16 ≡ t → None ≡ (if t then Some found else None)) [
-      | true ↦ λ e. absurd (other (ap length same ∙ eqb-true (length found) 16 e))
-      | false ↦ λ e. refl
-    ] refl
-
--- a stanza is its arguments and its body
-pub of_parts : (s : StanzaParts) (args : List (List ℕ)) (body : List ℕ) → s.args ≡ args → s.body ≡ body → s ≡ record { args = args; body = body }
-of_parts s args body a b = rw (sym a, sym b) refl

@@ -2,3 +2,5 @@ mod AnswerLemmas
 mod LabelLemmas
 mod PassphraseLemmas
 mod SealingLemmas
+mod SaltLemmas
+mod StanzaLemmas

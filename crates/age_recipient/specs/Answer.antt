@@ -21,12 +21,12 @@ decided_from rest (NotMine ∷ more) = decided_from rest more
 abbrev pub decided : List Unwrapped → Unwrapped
 decided answers = decided_from NotMine answers
 
--- of the arguments of a stanza of this type those behind the type
+-- of the arguments of a stanza of this type those after the type
 abbrev pub behind_type : Bytes → List Bytes → Option (List Bytes)
 behind_type kind [] = None
 behind_type kind (first ∷ rest) = if bytes_eq first kind then Some rest else None
 
--- what a stanza gives by its arguments behind the type; one of another type is not this identity's
+-- what a stanza gives by its arguments after the type; one of another type is not this identity's
 abbrev pub typed_answer : (List Bytes → Unwrapped) → Option (List Bytes) → Unwrapped
 typed_answer answer None = NotMine
 typed_answer answer (Some args) = answer args

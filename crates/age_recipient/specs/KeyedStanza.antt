@@ -32,7 +32,7 @@ salted_answer key body (Some salt) =
     if nat_eq (length body) sealed_key_size then unsealed (wrap_key key salt) body
     else Malformed BodyLength
 
--- what a stanza of this type gives, whose arguments behind the type are these
+-- what a stanza of this type gives, whose arguments after the type are these
 abbrev pub arguments_answer : (key : Bytes) (args : List Bytes) (body : Bytes) → Unwrapped
 arguments_answer key (salt ∷ []) body = salted_answer key body (salt_of (decoded salt))
 arguments_answer key _ body = Malformed ArgCount

@@ -21,7 +21,7 @@ abbrev pub go_together : Labels → Labels → Bool
 go_together (Names a) (Names b) = pointwise bytes_eq a b
 go_together _ _ = false
 
--- the least place from 1 up whose labels do not go together with those of place 0
+-- the first recipient from number 1 on whose labels do not go together with those of recipient 0
 abbrev pub incompatible : List Labels → Option ℕ
 incompatible [] = None
 incompatible (first ∷ others) = position_from (λ other. not (go_together first other)) 1 others

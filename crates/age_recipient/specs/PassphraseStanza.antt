@@ -37,7 +37,7 @@ abbrev pub is_work_factor : Bytes → Bool
 is_work_factor [] = false
 is_work_factor (c ∷ digits) = nat_le 49 c && nat_le c 57 && list_all is_digit digits
 
--- the number that decimal digits spell behind n
+-- the number that decimal digits spell after n
 abbrev pub number_from : ℕ → Bytes → ℕ
 number_from n [] = n
 number_from n (c ∷ digits) = number_from (n * 10 + (c - 48)) digits
@@ -53,7 +53,7 @@ salted_answer pass max work body (Some salt) =
     then unsealed (pass_key pass salt (number_from 0 work)) body else Malformed BodyLength
     else Malformed WorkFactorTooHigh else Malformed WorkFactorText
 
--- what a stanza of this type gives, whose arguments behind the type are these
+-- what a stanza of this type gives, whose arguments after the type are these
 abbrev pub arguments_answer : (pass : Bytes) (max : ℕ) (args : List Bytes) (body : Bytes)
     → Unwrapped
 arguments_answer pass max (salt ∷ work ∷ []) body =

@@ -8,7 +8,7 @@ use Rattle.age_header.specs.Header.{StanzaParts}
 use Rattle.age_recipient.specs.declared.recipient.WrapFault.{WrapFault}
 use Rattle.age_recipient.specs.declared.recipient.WrapFault.TheVariants.{Refused, Memory}
 
--- the answer is the meaning, or memory was wanting
+-- the result is the meaning, or memory was refused
 abbrev pub WrapsAs : Result (List StanzaParts) ℕ → Result (Vec StanzaParts Global) WrapFault
     → Type 0
 WrapsAs meaning (Ok stanzas) = meaning ≡ Ok stanzas.items

@@ -1,5 +1,5 @@
-pub mod CutLemmas
-pub mod JudgingLemmas
+pub mod CuttingLemmas
+pub mod JudgesLastLemmas
 pub mod LoadLemmas
 pub mod OpeningLemmas
 pub mod OutcomeLemmas
@@ -11,5 +11,5 @@ pub mod ReadingLemmas
 pub mod SealingLemmas
 pub mod SliceLemmas
 pub mod TailLemmas
-pub mod WholeLemmas
+pub mod WholeSlices
 pub mod WritingLemmas

@@ -11,7 +11,7 @@ use Rattle.age_stream.specs.Cutting.{IsCut, IsFilled}
 use Rattle.age_cipher.specs.Sealing.{sealed, opened}
 use Rattle.age_stream.specs.Payload.{chunks, pieces, chunk_nonce, is_end, sealed_from, payload_key, payload}
 use Rattle.age_stream.specs.Reading.{Reading, outcome, outcomes, first_fault, front, stops, reading_from, payload_reading, whole}
-use Rattle.age_stream.proofs.CutLemmas.{is_cut, one-cut, filled-cut, AtMost, cut-at_most}
+use Rattle.age_stream.proofs.CuttingLemmas.{is_cut, one-cut, filled-cut, AtMost, cut-at_most}
 use Rattle.age_cipher.proofs.OpeningLemmas.{length-sealed, opened_is}
 use Rattle.age_recipient.specs.declared.key.FileKey.{FileKey}
 

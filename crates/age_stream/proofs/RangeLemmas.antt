@@ -7,7 +7,7 @@ use Rattle.age_stream.specs.Ranges.{opens_to, fresh, is_kept, sealed_span}
 use Rattle.age_stream.specs.Slice.{opening, text_len, IsSlice}
 use Rattle.age_stream.proofs.SliceLemmas.{slice-on}
 
--- the text that is put behind the first `done` bytes
+-- the text that is put after the first `done` bytes
 pub put-front : (old mid new : List ℕ) (done n : ℕ) → done ≤ length old → length mid ≡ n → new ≡ take done old ++ mid ++ drop (done + n) old → take (done + n) new ≡ take done old ++ mid
 put-front old mid new done n le sized is =
     let l : length (take done old) ≡ done = length-take-le done old le in

@@ -4,7 +4,7 @@ use Rattle.std.proofs.lemmas.List.{length-take-le, length-drop, drop-drop}
 use Rattle.std.proofs.Math.Seq.{take-add}
 use Rattle.age_stream.specs.Places.{HasAt}
 
--- further bytes behind those that were read
+-- further bytes after those that were read
 pub has-on : (told : Option (List ℕ)) (at got n : ℕ) (old new : List ℕ) → got + n ≤ length new → length new ≡ length old → take got new ≡ take got old
     → HasAt told at (take got old) → HasAt told (at + got) (take n (drop got new)) → HasAt told at (take (got + n) new)
 has-on None at got n old new le len same so_far more = tt

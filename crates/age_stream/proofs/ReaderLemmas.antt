@@ -1,3 +1,4 @@
+-- What an opener that was given says of reads.
 use Rattle.std.proofs.Common.{◌⊎◌, inl, inr, Ok}
 use Rattle.std.specs.Prelude.{IsErrOf}
 use Rattle.age_stream.specs.declared.fault.StreamFault.TheVariants.{Read}

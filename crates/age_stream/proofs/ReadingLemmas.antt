@@ -6,7 +6,7 @@ use Rattle.age_stream.specs.declared.fault.StreamFault.{StreamFault}
 use Rattle.age_stream.specs.Cutting.{cut, cut_into}
 use Rattle.age_stream.specs.Payload.{pieces, is_end}
 use Rattle.age_stream.specs.Reading.{Reading, outcome, outcomes, first_fault, front, reading_from, stops}
-use Rattle.age_stream.proofs.CutLemmas.{cut-first, cut-last}
+use Rattle.age_stream.proofs.CuttingLemmas.{cut-first, cut-last}
 
 -- nothing more to read
 abbrev pub ends : Reading StreamFault
@@ -52,7 +52,7 @@ reading-last key max i c le =
     ap (λ cs. record { front = front (outcomes key max i cs); fault = first_fault (outcomes key max i cs) }) (cut-last 65552 c le)
     ∙ reading_first (outcome key max i true c) []
 
--- a piece with more behind it
+-- a piece with more after it
 pub reading-more : (key : List ℕ) (max i : ℕ) (c : List ℕ) → 65552 < length c
     → reading_from key max i c ≡ then_read (outcome key max i false (take 65552 c)) (reading_from key max (i + 1) (drop 65552 c))
 reading-more key max i c lt =

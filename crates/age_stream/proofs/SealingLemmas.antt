@@ -9,7 +9,7 @@ use Rattle.age_cipher.specs.Sealing.{sealed}
 use Rattle.age_cipher.proofs.OpeningLemmas.{length-sealed}
 use Rattle.age_header.specs.Device.{GaveAtMost, WritesPart}
 use Rattle.age_header.specs.Filling.{Filled}
-use Rattle.age_header.proofs.GivenLemmas.{may-end, may-more, may-some}
+use Rattle.age_header.proofs.MayGiveLemmas.{may-end, may-more, may-some}
 use Rattle.age_header.proofs.WriteLemmas.{Done, done_part}
 use Rattle.age_stream.specs.declared.fault.StreamFault.{StreamFault}
 use Rattle.age_stream.specs.declared.fault.StreamFault.TheVariants.{Read, Write, TooManyChunks}
@@ -18,7 +18,7 @@ use Rattle.age_stream.specs.Payload.{chunk_nonce, sealed_from}
 use Rattle.std.specs.Prelude.{IfNone}
 use Rattle.age_stream.specs.declared.done.Done.{Done as StreamDone}
 use Rattle.age_stream.specs.Sealing.{FinishesBy, SealerState, SealsAll, TakesAll, Fed, IsFed, Stopped, WroteAtLeast, sealed_after}
-use Rattle.age_stream.proofs.CutLemmas.{concat-append, cut-fits, cut-full}
+use Rattle.age_stream.proofs.CuttingLemmas.{concat-append, cut-fits, cut-full}
 use Rattle.age_stream.proofs.PayloadLemmas.{length-each}
 use Rattle.age_stream.proofs.ReadingLemmas.{is_end-cut, cut-some}
 

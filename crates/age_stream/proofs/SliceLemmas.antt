@@ -8,7 +8,7 @@ use Rattle.std.proofs.lemmas.Option.{slice_get-get_or}
 use Rattle.age_stream.specs.Cutting.{cut}
 use Rattle.age_stream.specs.Payload.{pieces, is_end}
 use Rattle.age_stream.specs.Reading.{opened_at}
-use Rattle.age_stream.proofs.CutLemmas.{cut-last}
+use Rattle.age_stream.proofs.CuttingLemmas.{cut-last}
 use Rattle.age_stream.proofs.ReadingLemmas.{cut-step, is_end-cut}
 use Rattle.age_stream.specs.Slice.{openings, opening, plain_len, IsSlice}
 

@@ -7,7 +7,7 @@ use Rattle.std.proofs.KnownBytes.{Appends-trans, Appends-nil, Consumes-nil}
 use Rattle.std.proofs.lemmas.Bool.{le-leb, lt-leb, cases_lt}
 use Rattle.std.proofs.lemmas.List.{take_all}
 use Rattle.age_header.specs.Device.{GaveAtMost, MayGive, WritesPart}
-use Rattle.age_header.proofs.GivenLemmas.{gave-more, may-some}
+use Rattle.age_header.proofs.MayGiveLemmas.{gave-more, may-some}
 use Rattle.age_header.proofs.WriteLemmas.{done_part}
 use Rattle.age_stream.specs.declared.done.Done.{Done}
 use Rattle.age_stream.specs.declared.fault.StreamFault.{StreamFault}

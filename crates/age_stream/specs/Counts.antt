@@ -1,4 +1,4 @@
--- What answers say of a device's count of failures.
+-- What a result says of a device's count of failures.
 use Rattle.std.specs.Prelude.{◌≡◌, ℕ, ◌+◌, ◌-◌, ◌^◌, min, MatchResult, Result}
 use Rattle.age_stream.specs.declared.fault.StreamFault.{StreamFault}
 use Rattle.age_stream.specs.declared.fault.StreamFault.TheVariants.{Read, Write}

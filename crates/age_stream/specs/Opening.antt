@@ -114,8 +114,8 @@ abbrev pub pieces_left : Option Bytes → List Bytes
 pieces_left None = []
 pieces_left (Some c) = pieces c
 
--- A reading's fault was returned, or the length of its front and the number of its pieces, and its
--- front was written; a beginning of its front where a device failed.
+-- A reading's fault was returned, or the length of its plaintext and the number of its pieces, and
+-- its plaintext was written; a beginning of it where a device failed.
 abbrev pub WritesReading : (reading : Reading StreamFault) (n : ℕ) (old new : Known)
     (result : Result Done StreamFault) → Type 0
 WritesReading reading n old new (Ok done) =
@@ -144,14 +144,14 @@ pub record EndsAt (max more : ℕ) (from to old new : Known) (fault : StreamFaul
   pub at : ((fault ≡ Write) × (chunk_size * piece ≤ length text)) ⊎ IsAtPiece max piece fault
   pub gave : GaveAtMost (more + (sealed_chunk_size * (piece + 1) + 1)) from to
 
--- a piece's outcome is returned, and its opening stands in front
+-- a piece's outcome is returned, and its text is at the start of the buffer
 abbrev pub GivesText : (outcome : Result Bytes StreamFault) (after : Bytes)
     (result : Result ℕ StreamFault) → Type 0
 GivesText outcome after (Ok n) = (outcome ≡ Ok (take n after)) × (n ≤ length after)
 GivesText outcome after (Err fault) = outcome ≡ Err fault
 
--- the first piece of c, as piece i, opens to the text in front, and what follows it is left; or its
--- fault is returned
+-- the first piece of c, as piece i, opens to the text at the start of the buffer, and what follows
+-- it is left; or its fault is returned
 abbrev pub Opens : (key : Key) (max i : ℕ) (c after d : Bytes) (result : Result Piece StreamFault)
     → Type 0
 Opens key max i c after d (Ok p) =

@@ -24,12 +24,12 @@ pieces rest = cut sealed_chunk_size rest
 unfoldable pub chunk_nonce : ℕ → Bool → Bytes
 chunk_nonce i last = bytes_high_first 11 i ++ (if last then 1 else 0) ∷ []
 
--- nothing comes behind
+-- nothing follows
 abbrev pub is_end : List Bytes → Bool
 is_end [] = true
 is_end (_ ∷ _) = false
 
--- chunks, each sealed at its place, from number i on
+-- chunks, each sealed under its number, from number i on
 abbrev pub sealed_from : (key : Key) (i : ℕ) (chunks : List Bytes) → List Bytes
 sealed_from key i [] = []
 sealed_from key i (chunk ∷ more) =

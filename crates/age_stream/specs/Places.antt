@@ -1,23 +1,23 @@
--- What a read at a place gives of the contents of a source, and what it does to the source's
+-- What a read at an offset gives of the contents of a source, and what it does to the source's
 -- counts.
 use Rattle.std.specs.Prelude.{◌≡◌, ℕ, ◌+◌, ◌-◌, ◌^◌, ◌<◌, ◌≤◌, min, List, length, take, drop, ⊤, IfSome, IfOk, MatchResult, Option, Some, None, Result}
 use Rattle.age_header.specs.Device.{Known}
 use Rattle.age_kdf.specs.Bytes.{Bytes}
 
--- xs are the known bytes from place `at` on
+-- xs are the known bytes from offset `at` on
 abbrev pub HasAt : (told : Known) (at : ℕ) (xs : Bytes) → Type 0
 HasAt None at xs = ⊤
 HasAt (Some bytes) at xs = xs ≡ take (length xs) (drop at bytes)
 
--- no known byte has this place
+-- no known byte has this offset
 abbrev pub IsPast : (told : Known) (at : ℕ) → Type 0
 IsPast told at = IfSome told (λ bytes. length bytes ≤ at)
 
--- the known bytes end before this place
+-- the known bytes end before this offset
 abbrev pub EndsBefore : (told : Known) (at : ℕ) → Type 0
 EndsBefore told end = IfSome told (λ bytes. length bytes < end)
 
--- Ok(n) gives the n bytes from place `at` on, and none of them with room only past the end of the
+-- Ok(n) gives the n bytes from offset `at` on, and none of them with room only past the end of the
 -- known bytes, and of the known size
 abbrev pub GivesAt : {E : Type 0} (told : Known) (size : Option ℕ) (at : ℕ) (r : Result ℕ E)
     (buf : Bytes) → Type 0

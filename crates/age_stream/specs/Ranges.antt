@@ -13,12 +13,12 @@ use Rattle.age_stream.specs.Payload.{payload_key}
 use Rattle.age_stream.specs.Slice.{opening, plain_len, text_len, IsSlice, last_piece, last_outcome, range_outcome}
 use Rattle.age_stream.specs.Sizes.{nonce_size, tag_size, chunk_size, sealed_chunk_size}
 
--- the known bytes from a place on
+-- the known bytes from an offset on
 abbrev pub bytes_from : (told : Known) (at : ℕ) → Bytes
 bytes_from told at = drop at (unwrap_or told [])
 
--- a reader between two calls: where the chunks lie, which one is kept, the buffer with its text in
--- front, and how many chunks were opened so far
+-- a reader between two calls: where the chunks lie, which one is kept, the buffer that begins with
+-- its text, and how many chunks were opened so far
 pub record RangeState : Type 0 where
   pub layout : Layout
   pub index : Option ℕ
@@ -48,11 +48,11 @@ pub record IsSound (told : Known) (s : RangeState) : Type 0 where
 abbrev pub range_len : (s : RangeState) (at n : ℕ) → ℕ
 range_len s at n = min n (s.layout.plain - at)
 
--- xs are the plaintext's bytes from place `at` on
+-- xs are the plaintext's bytes from offset `at` on
 abbrev pub HasPlain : (told : Known) (layout : Layout) (at : ℕ) (xs : Bytes) → Type 0
 HasPlain told layout at xs = IsSlice layout.key (bytes_from told layout.first) at xs
 
--- the front of the buffer has n bytes of the plaintext from `at` on, and its rest is as it was
+-- the buffer begins with n bytes of the plaintext from `at` on, and its rest is as it was
 abbrev pub Fills : (told : Known) (s : RangeState) (at n : ℕ) (old new : Bytes) → Type 0
 Fills told s at n old new =
     (drop n new ≡ drop n old) × (IsSound told s → HasPlain told s.layout at (take n new))
@@ -75,7 +75,7 @@ fresh index at = at / chunk_size + (if is_kept index (at / chunk_size) then 1 el
 abbrev pub Counts : (s : RangeState) (opened n : ℕ) → Type 0
 Counts s opened n = min (s.opened + n) (2 ^ 64 - 1) ≤ opened
 
--- a range of n bytes from `at` on stops at chunk i, in which a place of it lies: the bytes before
+-- a range of n bytes from `at` on stops at chunk i, which has bytes of it: the bytes before
 -- that chunk are filled in, and each chunk up to this one is counted that was not kept
 pub record Stops (told : Known) (s : RangeState) (at n : ℕ) (old new : Bytes)
     (opened : ℕ) (fault : StreamFault) : Type 0 where
@@ -96,8 +96,8 @@ sealed_span layout from end =
 abbrev pub last_len : ℕ → ℕ
 last_len sealed = sealed - sealed_chunk_size * ((sealed - 1) / sealed_chunk_size)
 
--- what the last piece gives was found, where so many known bytes stand from place `first` on: its
--- text is in front, or its fault
+-- what the last piece gives was found, where so many known bytes follow from offset `first` on: its
+-- text is at the start of the buffer, or its fault
 abbrev pub JudgesLast : (key : Key) (max first sealed : ℕ) (told : Known) (after : Bytes)
     (r : Result Layout StreamFault) → Type 0
 JudgesLast key max first sealed told after r =
@@ -111,7 +111,7 @@ JudgesLast key max first sealed told after r =
     ⊎ IfSome told (λ bytes.
     length bytes ≡ first + sealed → last_outcome key max (drop first bytes) ≡ Err fault))
 
--- a reader that was just opened on the payload at this place, over a source whose contents are
+-- a reader that was just opened on the payload at this offset, over a source whose contents are
 -- known
 pub record IsOpened (k : FileKey) (max : ℕ) (told : Known) (at : ℕ) (s : RangeState)
     : Type 0 where

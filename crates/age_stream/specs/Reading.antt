@@ -10,7 +10,7 @@ use Rattle.age_stream.specs.declared.fault.StreamFault.TheVariants.{NonceTruncat
 use Rattle.age_stream.specs.Payload.{pieces, chunk_nonce, is_end, payload_key}
 use Rattle.age_stream.specs.Sizes.{nonce_size, tag_size, sealed_chunk_size}
 
--- what piece i opens to at its place
+-- what piece i opens to under its number
 abbrev pub opened_at : (key : Key) (i : ℕ) (last : Bool) (piece : Bytes) → Option Bytes
 opened_at key i last piece = opened key (chunk_nonce i last) [] piece
 

@@ -31,8 +31,8 @@ abbrev pub sealed_after : (key : Key) (i : ℕ) (held text : Bytes) → List Byt
 sealed_after key i held text = sealed_from key i (cut_into chunk_size held text)
 
 -- what a sealer writes if `text` still comes
-abbrev pub answer : SealerState → Bytes → Bytes
-answer s text = concat (sealed_after s.key s.index s.held text)
+abbrev pub sealed_rest : SealerState → Bytes → Bytes
+sealed_rest s text = concat (sealed_after s.key s.index s.held text)
 
 -- `text` came, `now` is held: the chunks `gone` went out, and whatever still comes the chunks that
 -- follow are as before
@@ -96,24 +96,24 @@ TakesAll s t from to old new r =
 abbrev pub FinishesBy : (s : SealerState) (old new : Known) (result : Result Done StreamFault)
     → Type 0
 FinishesBy s old new (Ok done) =
-    Appends old new (answer s []) × (done.bytes ≡ chunk_size * s.index + length s.held)
+    Appends old new (sealed_rest s []) × (done.bytes ≡ chunk_size * s.index + length s.held)
     × (done.chunks ≡ s.index + 1)
-FinishesBy s old new (Err fault) = (fault ≡ Write) × WritesPart old new (answer s [])
+FinishesBy s old new (Err fault) = (fault ≡ Write) × WritesPart old new (sealed_rest s [])
 
 -- all that a source gives was sealed and written by a sealer that keeps no fault; or a fault was
 -- met
 abbrev pub SealsAll : (s : SealerState) (from to old new : Known) (result : Result Done StreamFault)
     → Type 0
 SealsAll s from to old new (Ok done) =
-    (text : Bytes) × MayGive from text × Appends old new (answer s text)
+    (text : Bytes) × MayGive from text × Appends old new (sealed_rest s text)
     × (s.index + length (cut_into chunk_size s.held text) ≤ s.max_chunks)
     × (done.bytes ≡ chunk_size * s.index + length s.held + length text)
     × (done.chunks ≡ s.index + length (cut_into chunk_size s.held text))
 SealsAll s from to old new (Err fault) =
     (chunk : ℕ) × Stopped s.key s.max_chunks s.index chunk s.held from to old new fault
 
--- the full chunk in front was written as chunk i, and the byte that followed it is in front; or a
--- write of it failed, or there is no room for one more
+-- the full chunk at the start of the buffer was written as chunk i, and the byte after it was moved
+-- to the start; or a write of it failed, or there is no room for one more
 abbrev pub PutsFull : {A : Type 0} (key : Key) (max i j : ℕ) (bytes after : Bytes) (old new : Known)
     (r : Result A StreamFault) → Type 0
 PutsFull key max i j bytes after old new r =

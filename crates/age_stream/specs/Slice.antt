@@ -11,7 +11,7 @@ use Rattle.age_stream.specs.Payload.{pieces, is_end, payload_key}
 use Rattle.age_stream.specs.Reading.{opened_at, outcome}
 use Rattle.age_stream.specs.Sizes.{nonce_size, tag_size, chunk_size}
 
--- what each piece opens to at its place, numbered from i on
+-- what each piece opens to, numbered from i on
 abbrev pub openings : (key : Key) (i : ℕ) (pieces : List Bytes) → List (Option Bytes)
 openings key i [] = []
 openings key i (piece ∷ more) = opened_at key i (is_end more) piece ∷ openings key (i + 1) more
@@ -28,7 +28,7 @@ plain_len rest = sum_by (λ piece. length piece - tag_size) (pieces rest)
 abbrev pub text_len : (plain i : ℕ) → ℕ
 text_len plain i = min chunk_size (plain - chunk_size * i)
 
--- xs are the plaintext's bytes from place `at` on: at place x there is byte x - 65536 * i of what
+-- xs are the plaintext's bytes from offset `at` on: at offset x there is byte x - 65536 * i of what
 -- piece i opens to, i being the chunk in which x lies
 abbrev pub IsSlice : (key : Key) (rest : Bytes) (at : ℕ) (xs : Bytes) → Type 0
 IsSlice key rest at xs =

@@ -10,13 +10,13 @@ use Rattle.age_header.specs.declared.fault.HeaderFault.{HeaderFault}
 use Rattle.age_header.specs.declared.fault.HeaderFault.TheVariants as header
 use Rattle.age_header.specs.Header.{Head, HeaderParts, StanzaParts}
 use Rattle.age_header.specs.Verdict.{BeginsAsAge, Decides, Found, HeaderVerdict, IsUndecided}
-use Rattle.age_header.specs.Reader.{AnswersOf}
+use Rattle.age_header.specs.Reader.{ReadsHeaderOf}
 use Rattle.age_header.proofs.OneText.{one_text}
 use Rattle.age_header.proofs.OneVerdict.{begins_found}
 use Rattle.age_file.specs.declared.fault.Fault.{Fault}
 use Rattle.age_file.specs.AgeFile.{Bounds}
 use Rattle.age_file.specs.Device.{CountsRead}
-use Rattle.age_file.specs.Inspect.{Inspects, file_answer}
+use Rattle.age_file.specs.Inspect.{Inspects, file_result}
 use Rattle.agefile.specs.declared.inspecting.StanzaSummary.{StanzaSummary}
 use Rattle.agefile.specs.declared.inspecting.Summary.{Summary}
 use Rattle.agefile.specs.declared.report.Report.{Report}
@@ -27,8 +27,8 @@ use Rattle.agefile.specs.Inspect.{AnswersStanza, GivesStanza, HeaderOf, Inspecte
 use Rattle.agefile.specs.Limits.{limits}
 
 -- what a reader answered
-of_answer : (b : List ℕ) (after : Option (List ℕ)) (r : Result HeaderParts Fault) (answer : Result HeaderParts HeaderFault) → r ≡ file_answer answer
-    → CountsRead 0 0 r → AnswersOf b (Some b) after limits.max_header answer → HeaderOf b r
+of_answer : (b : List ℕ) (after : Option (List ℕ)) (r : Result HeaderParts Fault) (answer : Result HeaderParts HeaderFault) → r ≡ file_result answer
+    → CountsRead 0 0 r → ReadsHeaderOf b (Some b) after limits.max_header answer → HeaderOf b r
 of_answer b after r (Ok h) same count (text, verdict, taken) = subst (HeaderOf b) (sym same) (text, verdict)
 of_answer b after r (Err header.Memory) same count h = subst (HeaderOf b) (sym same) (inl refl)
 of_answer b after r (Err header.Read) same count h = let rises = subst (CountsRead 0 0) same count in absurd (omega arith)

@@ -10,7 +10,7 @@ use Rattle.age_stream.specs.declared.fault.StreamFault.{StreamFault}
 use Rattle.age_stream.specs.declared.fault.StreamFault.TheVariants.{NonceTruncated}
 use Rattle.age_stream.specs.Payload.{is_end, payload_key, pieces, chunk_nonce}
 use Rattle.age_stream.specs.Reading.{Reading, front, outcome, outcomes, payload_reading, reading_from, stops}
-use Rattle.age_stream.proofs.CutLemmas.{AtMost, cut-at_most, concat-cut_into}
+use Rattle.age_stream.proofs.CuttingLemmas.{AtMost, cut-at_most, concat-cut_into}
 use Rattle.age_stream.proofs.PayloadLemmas.{outcome-opens, result_cases}
 use Rattle.age_file.specs.declared.fault.Fault.{Fault}
 use Rattle.age_file.specs.Verdict.{Answering, IsVerdict, judged, read_under}

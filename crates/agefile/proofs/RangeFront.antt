@@ -8,7 +8,7 @@ use Rattle.age_stream.specs.declared.fault.StreamFault.{StreamFault}
 use Rattle.age_stream.specs.Payload.{payload_key}
 use Rattle.age_stream.specs.Reading.{Reading, payload_reading, whole}
 use Rattle.age_stream.specs.Slice.{IsSlice}
-use Rattle.age_stream.proofs.WholeLemmas.{whole-slice}
+use Rattle.age_stream.proofs.WholeSlices.{whole-slice}
 use Rattle.age_file.specs.declared.fault.Fault.{Fault}
 use Rattle.age_file.specs.declared.fault.Fault.TheVariants.{NonceTruncated, OutOfMemory}
 use Rattle.age_file.specs.Rewrap.{parts_of}

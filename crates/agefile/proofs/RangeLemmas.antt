@@ -5,7 +5,7 @@ use Rattle.age_cipher.proofs.OpeningLemmas.{length-sealed, opened-sealed}
 use Rattle.age_stream.specs.Payload.{pieces, chunk_nonce}
 use Rattle.age_stream.specs.Reading.{opened_at, outcome}
 use Rattle.age_stream.specs.Slice.{IsSlice, last_outcome, opening, plain_len}
-use Rattle.age_stream.proofs.JudgingLemmas.{last-is, piece-count, some-or-none}
+use Rattle.age_stream.proofs.JudgesLastLemmas.{last-is, piece-count, some-or-none}
 use Rattle.age_stream.proofs.PayloadLemmas.{outcome-opens}
 use Rattle.age_stream.proofs.SliceLemmas.{opening-at, plain-count, slice-on}
 use Rattle.agefile.specs.declared.ranges.Ranges.{Ranges}

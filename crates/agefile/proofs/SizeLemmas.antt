@@ -11,7 +11,7 @@ use Rattle.age_recipient.specs.declared.key.FileKey.{FileKey}
 use Rattle.age_recipient.specs.KeyedStanza.{keyed_stanza, wrap_key}
 use Rattle.age_recipient.specs.PassphraseStanza.{pass_key, pass_stanza}
 use Rattle.age_recipient.specs.Sealing.{zero_nonce}
-use Rattle.age_stream.proofs.CutLemmas.{filled-some, is_cut}
+use Rattle.age_stream.proofs.CuttingLemmas.{filled-some, is_cut}
 use Rattle.age_stream.specs.Cutting.{IsFilled}
 use Rattle.age_cipher.specs.Sealing.{sealed}
 use Rattle.age_header.specs.Mac.{header_mac}
@@ -23,12 +23,12 @@ use Rattle.age_stream.specs.Payload.{chunks, is_end, payload, payload_key, chunk
 
 -- ---- headers
 
-b64_size : (bytes signs : List ℕ) → B64 bytes signs → length signs ≡ (4 * length bytes + 2) / 3
+b64_size : (bytes characters : List ℕ) → B64 bytes characters → length characters ≡ (4 * length bytes + 2) / 3
 unfolding B64
 b64_size [] [] h = refl
 b64_size (a ∷ []) (p ∷ q ∷ []) h = refl
 b64_size (a ∷ b ∷ []) (p ∷ q ∷ r ∷ []) h = refl
-b64_size (a ∷ b ∷ c ∷ bytes) (p ∷ q ∷ r ∷ s ∷ signs) h = let rest = b64_size bytes signs h.1 in omega arith
+b64_size (a ∷ b ∷ c ∷ bytes) (p ∷ q ∷ r ∷ s ∷ characters) h = let rest = b64_size bytes characters h.1 in omega arith
 b64_size _ _ h = absurd h
 
 signs_size : (b : List ℕ) → length (base64_of b) ≡ (4 * length b + 2) / 3
@@ -55,17 +55,17 @@ body_lines_size (f ∷ full) last all size =
 
 stanza_size : (s : StanzaParts) (text : List ℕ) → length s.body ≡ 32 → IsStanza s text → length text ≡ length (argument_line s.args) + 44
 stanza_size s text size is =
-    let signs : length (concat is.full ++ is.last) ≡ 43 = omega (arith, b64_size s.body (concat is.full ++ is.last) is.body) in
-    let lines = body_lines_size is.full is.last is.cut.0 signs in
+    let characters : length (concat is.full ++ is.last) ≡ 43 = omega (arith, b64_size s.body (concat is.full ++ is.last) is.body) in
+    let lines = body_lines_size is.full is.last is.cut.0 characters in
     ap length is.spelled ∙ omega (arith, length-append (argument_line s.args ++ flat_map line is.full) (line is.last), length-append (argument_line s.args) (flat_map line is.full), length-append (flat_map line is.full) (line is.last))
 
 -- every header has its first line and its last
 pub least_header : (ss : List StanzaParts) (mac text : List ℕ) → Head ss mac text → 70 ≤ length text
 least_header ss mac text h =
-    let signs : length h.signs ≡ 43 = omega (arith, b64_size mac h.signs h.mac_text, h.mac_len) in
-    let end = line_size (codes "--- " ++ h.signs) in
-    let all : length text ≡ length (version_line ++ h.body ++ line (codes "--- " ++ h.signs)) = ap length h.spelled in
-    omega (arith, version_size, length-append (codes "--- ") h.signs, length-append (version_line ++ h.body) (line (codes "--- " ++ h.signs)), length-append version_line h.body)
+    let characters : length h.characters ≡ 43 = omega (arith, b64_size mac h.characters h.mac_text, h.mac_len) in
+    let end = line_size (codes "--- " ++ h.characters) in
+    let all : length text ≡ length (version_line ++ h.body ++ line (codes "--- " ++ h.characters)) = ap length h.spelled in
+    omega (arith, version_size, length-append (codes "--- ") h.characters, length-append (version_line ++ h.body) (line (codes "--- " ++ h.characters)), length-append version_line h.body)
 
 -- a header of one stanza with a body of 32 bytes
 pub header_size : (s : StanzaParts) (mac text : List ℕ) → length s.body ≡ 32 → Head (s ∷ []) mac text → length text ≡ length (argument_line s.args) + 114
@@ -73,14 +73,14 @@ header_size s mac text size h =
     let stanza : length h.stanza_text.0 ≡ length (argument_line s.args) + 44 = stanza_size s h.stanza_text.0 size h.stanza_text.2 in
     let none : length h.stanza_text.1 ≡ 0 = ap length h.stanza_text.3 in
     let body : length h.body ≡ length (h.stanza_text.0 ++ h.stanza_text.1) = ap length h.stanza_text.4 in
-    let signs : length h.signs ≡ 43 = omega (arith, b64_size mac h.signs h.mac_text, h.mac_len) in
-    let end = line_size (codes "--- " ++ h.signs) in
+    let characters : length h.characters ≡ 43 = omega (arith, b64_size mac h.characters h.mac_text, h.mac_len) in
+    let end = line_size (codes "--- " ++ h.characters) in
     ap length h.spelled ∙ omega (
       arith,
       version_size,
       length-append h.stanza_text.0 h.stanza_text.1,
-      length-append (codes "--- ") h.signs,
-      length-append (version_line ++ h.body) (line (codes "--- " ++ h.signs)),
+      length-append (codes "--- ") h.characters,
+      length-append (version_line ++ h.body) (line (codes "--- " ++ h.characters)),
       length-append version_line h.body,
     )
 
@@ -97,7 +97,7 @@ pass_header pass salt work k mac text salted keyed high h =
     let body : length (pass_stanza pass work salt k).body ≡ 32 = length-sealed (pass_key pass salt work) zero_nonce [] k.0 ∙ omega arith in
     let all = header_size (pass_stanza pass work salt k) mac text body h in
     let digits : length (decimal work) ≤ 2 = length-decimal-le 2 work (omega arith) (omega arith) (omega arith) in
-    let signs : length (base64_of salt) ≡ 22 = omega (arith, signs_size salt) in
+    let characters : length (base64_of salt) ≡ 22 = omega (arith, signs_size salt) in
     let args : length (argument_line (pass_stanza pass work salt k).args) ≡ 6 + (6 + length (base64_of salt) + length (decimal work)) = three_args (codes "scrypt") (base64_of salt) (decimal work) in
     omega arith
 
@@ -107,7 +107,7 @@ unfolding keyed_stanza
 key_header key salt k mac text salted keyed h =
     let body : length (keyed_stanza key salt k).body ≡ 32 = length-sealed (wrap_key key salt) zero_nonce [] k.0 ∙ omega arith in
     let all = header_size (keyed_stanza key salt k) mac text body h in
-    let signs : length (base64_of salt) ≡ 22 = omega (arith, signs_size salt) in
+    let characters : length (base64_of salt) ≡ 22 = omega (arith, signs_size salt) in
     let args : length (argument_line (keyed_stanza key salt k).args) ≡ 5 + (15 + length (base64_of salt)) = two_args (codes "example.org/key") (base64_of salt) in
     omega arith
 

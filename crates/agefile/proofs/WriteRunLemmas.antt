@@ -9,7 +9,7 @@ use Rattle.age_header.specs.Header.{StanzaParts}
 use Rattle.age_recipient.specs.declared.key.FileKey.{FileKey}
 use Rattle.age_stream.specs.Cutting.{IsFilled}
 use Rattle.age_stream.specs.Payload.{chunks, is_end, payload, payload_key, chunk_nonce, sealed_from}
-use Rattle.age_stream.proofs.CutLemmas.{is_cut}
+use Rattle.age_stream.proofs.CuttingLemmas.{is_cut}
 use Rattle.age_file.specs.NewFile.{NewFile}
 use Rattle.agefile.specs.declared.report.Report.{Report}
 use Rattle.agefile.specs.declared.writer.Writer.{Writer}

@@ -20,7 +20,7 @@ pub record GivesUp (number : ℕ) (old new : Bytes) (told : Report) (result : �
   pub report : told ≡ report_of 0 None
   pub buffer : new ≡ old
 
--- the text stands in front of the buffer, the rest of which is as it was, and its fault is reported
+-- the buffer begins with the text, and its rest is as it was, and its fault is reported
 pub record Fits (text : Bytes) (fault : Option Fault) (old new : Bytes) (told : Report)
     (result : ℕ) : Type 0 where
   pub fits : length text ≤ length old

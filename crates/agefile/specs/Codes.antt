@@ -25,7 +25,7 @@ too_small = 21
 abbrev pub bad_work_factor : ℕ
 bad_work_factor = 22
 
--- there is no such stanza or place, or the call does not fit the state
+-- there is no such stanza or offset, or the call does not fit the state
 abbrev pub out_of_order : ℕ
 out_of_order = 23
 

@@ -16,7 +16,7 @@ use Rattle.agefile.specs.Codes.{fault_code, ok, out_of_memory, out_of_order}
 use Rattle.agefile.specs.Limits.{limits}
 use Rattle.agefile.specs.Report.{report_of}
 
--- the header in front of b, or its fault, or out of memory
+-- the header at the start of b, or its fault, or out of memory
 abbrev pub HeaderOf : Bytes → Result HeaderParts Fault → Type 0
 HeaderOf b (Ok h) =
     (text : Bytes)
@@ -60,8 +60,8 @@ abbrev pub stanza_summary : StanzaParts → StanzaSummary
 stanza_summary s =
     record { args = length s.args; args_len = length (joined s.args); body_len = length s.body }
 
--- the stanza at a place is summed up and its arguments are given, where the buffer has room for
--- them; or there is none
+-- the stanza with this index is summed up and its arguments are given, where the buffer has room
+-- for them; or there is none
 abbrev pub GivesStanza : (found : Option StanzaParts) (old new : Bytes)
     (before after : StanzaSummary) (told : Report) (result : ℕ) → Type 0
 GivesStanza (Some s) old new before after told result =
@@ -69,7 +69,7 @@ GivesStanza (Some s) old new before after told result =
 GivesStanza None old new before after told result =
     GivesUp out_of_order old new told result × (after ≡ before)
 
--- the same of a place in a header; or the header's fault is returned, and nothing is given
+-- the same of an index in a header; or the header's fault is returned, and nothing is given
 abbrev pub StanzaOf : (result' : Result Found HeaderFault) (index : ℕ) (old new : Bytes)
     (before after : StanzaSummary) (told : Report) (result : ℕ) → Type 0
 StanzaOf (Ok found) index old new before after told result =
@@ -77,7 +77,7 @@ StanzaOf (Ok found) index old new before after told result =
 StanzaOf (Err reason) index old new before after told result =
     TellsFault reason told result × (new ≡ old) × (after ≡ before)
 
--- what asking for the stanza at a place of b's header gives; or out of memory, and nothing is given
+-- what asking for a stanza of b's header gives; or out of memory, and nothing is given
 abbrev pub AnswersStanza : (b : Bytes) (index : ℕ) (old new : Bytes) (before after : StanzaSummary)
     (told : Report) (result : ℕ) → Type 0
 AnswersStanza b index old new before after told result =

@@ -60,7 +60,7 @@ takes r len last =
     nat_eq r.state state_open
     && (if last then nat_le len sealed_chunk_size else nat_eq len sealed_chunk_size)
 
--- the text stands in front of the chunk, of which the rest is as it was; or its fault is returned,
+-- the chunk's buffer begins with the text, and its rest is as it was; or its fault is returned,
 -- and all of it is as it was
 abbrev pub Reads : (old new : Reader) (chunk after : Bytes) (last : Bool) (told : Report)
     (result : ℕ) (result' : Result Bytes StreamFault) → Type 0

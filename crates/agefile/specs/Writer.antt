@@ -43,8 +43,8 @@ abbrev pub StaysClosed : (number : ℕ) (old new : Bytes) (writer : Writer) (tol
 StaysClosed number old new writer told result =
     GivesUp number old new told result × (writer ≡ closed)
 
--- a file's front, its header and its nonce, stands in front of the buffer, and the writer before
--- chunk 0; or the buffer is too small for it
+-- a file's front, its header and its nonce, stands at the start of the buffer, and the writer
+-- before chunk 0; or the buffer is too small for it
 abbrev pub GivesFront : (front : Bytes) (fresh : Fresh) (old new : Bytes) (writer : Writer)
     (told : Report) (result : ℕ) → Type 0
 GivesFront front fresh old new writer told result =
@@ -87,7 +87,7 @@ takes w len last =
     && (if last then nat_le len sealed_chunk_size && has_text w.number len
     else nat_eq len sealed_chunk_size)
 
--- the chunk's text, all but the last 16 bytes, was sealed at its place
+-- the chunk's text, all but the last 16 bytes, was sealed under its number
 pub record Seals (old new : Writer) (chunk after : Bytes) (last : Bool) (told : Report)
     (result : ℕ) : Type 0 where
   pub few : old.number < limits.max_chunks

@@ -5,7 +5,7 @@ use Rattle.age_file.specs.declared.fault.Fault.TheVariants.{OutOfMemory, Write}
 use Rattle.round_trip.specs.declared.pairs.Lost.{Lost}
 use Rattle.round_trip.specs.declared.pairs.Lost.TheVariants.{Unpaired, Memory, Encrypting, Decrypting}
 
--- an allocation was refused; where it was one of the sink, the answer is `Write`
+-- an allocation was refused; where it was one of the sink, the result is `Write`
 abbrev pub IsMemoryFault : Fault → Type 0
 IsMemoryFault OutOfMemory = ⊤
 IsMemoryFault Write = ⊤

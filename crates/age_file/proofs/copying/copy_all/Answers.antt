@@ -1,5 +1,5 @@
 use Rattle.std.proofs.Common.{length}
-use Rattle.age_file.proofs.CopyLemmas.{copied_after, copied_failed, copied_none}
+use Rattle.age_file.proofs.CopiesLemmas.{copied_after, copied_failed, copied_none}
 use Rattle.age_file.proofs.copying.copy_all.Goals as goal
 
 pub returns-in-Ok-true-clause-copies : goal.returns-in-Ok-true-clause-copies

@@ -1,5 +1,5 @@
 use Rattle.std.proofs.Common.{◌∙◌, length}
-use Rattle.age_file.proofs.CopyLemmas.{copied_all, copied_beyond, copied_failed, copied_more}
+use Rattle.age_file.proofs.CopiesLemmas.{copied_all, copied_beyond, copied_failed, copied_more}
 use Rattle.age_file.proofs.copying.copy_pieces.Goals as goal
 
 pub loop-copied-preserved : goal.loop-copied-preserved

@@ -1,5 +1,5 @@
 use Rattle.std.proofs.Common.{◌≡◌, ◌-◌, ◌^◌, length}
-use Rattle.age_file.proofs.CopyLemmas.{Copied}
+use Rattle.age_file.proofs.CopiesLemmas.{Copied}
 use Rattle.age_file.proofs.copying.copy_pieces.Given as goal
 
 abbrev pub invariant-loop-copied : goal.invariant-loop-copied

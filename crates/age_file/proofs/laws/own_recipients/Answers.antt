@@ -1,5 +1,5 @@
 use Rattle.std.proofs.Common.{refl}
-use Rattle.age_file.proofs.OwnLemmas.{alone_after, keyed_place, one_place}
+use Rattle.age_file.proofs.OwnLabels.{alone_after, keyed_place, one_place}
 use Rattle.age_file.proofs.laws.own_recipients.Goals as goal
 
 pub returns-clause-one : goal.returns-clause-one

@@ -1,5 +1,5 @@
 use Rattle.std.proofs.Common.{◌∙◌, sym}
-use Rattle.age_file.proofs.ApartLemmas.{apart_at, apart_none, meant_at, seen_more}
+use Rattle.age_file.proofs.IsApartLemmas.{apart_at, apart_none, meant_at, seen_more}
 use Rattle.age_file.proofs.new_header.apart_from.Goals as goal
 
 pub returns-then-not-go_together : goal.returns-then-not-go_together

@@ -1,5 +1,5 @@
 use Rattle.std.proofs.Common.{map}
-use Rattle.age_file.proofs.ApartLemmas.{Seen}
+use Rattle.age_file.proofs.IsApartLemmas.{Seen}
 use Rattle.age_file.proofs.new_header.apart_from.Given as goal
 
 -- those before place i go together with the first

@@ -1,4 +1,4 @@
-use Rattle.age_file.proofs.ApartLemmas.{apart_with}
+use Rattle.age_file.proofs.IsApartLemmas.{apart_with}
 use Rattle.age_file.proofs.new_header.first_apart.Goals as goal
 
 pub returns-in_ok-labels_of-in-Some : goal.returns-in_ok-labels_of-in-Some

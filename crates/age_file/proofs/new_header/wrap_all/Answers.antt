@@ -1,7 +1,7 @@
 use Rattle.std.proofs.Common.{sym, ◌∙◌, ap, inr, Err, ◌++◌, ◌≡◌, rules}
 use Rattle.age_file.specs.declared.fault.Fault.TheVariants.{Refused}
 use Rattle.age_file.specs.NewFile.{before}
-use Rattle.age_file.proofs.GatherLemmas.{gathered_step, gathered_more, refusal}
+use Rattle.age_file.proofs.GatheredLemmas.{gathered_step, gathered_more, refusal}
 use Rattle.age_file.proofs.new_header.wrap_all.Goals as goal
 
 pub returns-in-Err-Refused : goal.returns-in-Err-Refused

@@ -7,5 +7,5 @@ use Rattle.age_header.proofs.base64_no_pad.encode.Goals as goal
 pub returns : goal.returns
 unfolding base64_of
 returns c =
-    let plain = encode_of-unpadded c.args.engine.now c.args.bytes.now c.requires.unpadded c.requires.signs in
+    let plain = encode_of-unpadded c.args.engine.now c.args.bytes.now c.requires.unpadded c.requires.characters in
     IfOk-weaker c.encode.result _ _ (λ text is. is ∙ plain) c.encode.ensures.text

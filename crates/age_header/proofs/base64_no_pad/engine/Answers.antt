@@ -7,5 +7,5 @@ unfolding alphabet
 returns c = record {
   strict = search rules;
   unpadded = search rules;
-  signs = c.new-2.ensures.symbols ∙ c.in-Ok.ensures.ok.0;
+  characters = c.new-2.ensures.symbols ∙ c.in-Ok.ensures.ok.0;
 }

@@ -4,7 +4,7 @@ use Rattle.age_header.proofs.Decoding.{decoded_b64, b64_decoded}
 use Rattle.age_header.proofs.laws.one_base64.Goals as goal
 
 pub returns-clause-decoded : goal.returns-clause-decoded
-returns-clause-decoded c signs bytes = (decoded_b64 signs bytes, b64_decoded signs bytes)
+returns-clause-decoded c characters bytes = (decoded_b64 characters bytes, b64_decoded characters bytes)
 
 pub returns-clause-encoded : goal.returns-clause-encoded
 unfolding base64_of

@@ -46,10 +46,10 @@ returns-in-Ok-None-step-clause-verdict g c =
     let none = rw c.in-Ok-None-step.field-0-is at c.in-Ok-None-step.ensures.none in
     path_bad _ _ _ c.args.max c.lines.room c.lines.lines c.lines.progress text
     c.lines.invariant.path bytes c.in_ok-text.ensures.text low
-    (λ ss mac signs some at n is h. elim c.if-is_whole.branch [
+    (λ ss mac characters some at n is h. elim c.if-is_whole.branch [
       | then-is_whole+in-Ok-None w ↦
           let end = rw w.in-Ok-None.field-0-is at w.in-Ok-None.ensures.none in
-          end mac signs n (w.as_slice.ensures.value ∙ is) h
+          end mac characters n (w.as_slice.ensures.value ∙ is) h
       | else-is_whole w ↦ iff_false c.is_whole.ensures w.if-is_whole.false (ss, some, at)
     ])
     (λ t step. none t (subst (λ (x : List ℕ). Step c.lines.progress x t) (sym c.as_slice-in-lines.ensures.value) step))

@@ -1,6 +1,6 @@
 use Rattle.std.proofs.Common.{◌∙◌, ap, length}
 use Rattle.age_header.specs.Base64.{decoded}
-use Rattle.age_recipient.proofs.AnswerLemmas.{no_salt}
+use Rattle.age_recipient.proofs.SaltLemmas.{no_salt}
 use Rattle.age_recipient.proofs.stanza_list.salt_of.Goals as goal
 
 pub returns : goal.returns

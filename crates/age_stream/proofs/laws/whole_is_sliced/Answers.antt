@@ -1,4 +1,4 @@
-use Rattle.age_stream.proofs.WholeLemmas.{whole-opens, whole-len, whole-slice}
+use Rattle.age_stream.proofs.WholeSlices.{whole-opens, whole-len, whole-slice}
 use Rattle.age_stream.proofs.laws.whole_is_sliced.Goals as goal
 
 pub returns : goal.returns

@@ -2,7 +2,7 @@ use Rattle.std.proofs.Common.{rules, arith, ◌≡◌, ◌+◌, ◌-◌, ◌*◌
 use Rattle.std.proofs.lemmas.Bool.{OnTrue_at, OnFalse_at}
 use Rattle.age_stream.specs.Slice.{text_len}
 use Rattle.age_stream.specs.declared.fault.StreamFault.TheVariants.{BadChunk}
-use Rattle.age_stream.proofs.JudgingLemmas.{last-many, last-gone, last-read, open-len, piece-named}
+use Rattle.age_stream.proofs.JudgesLastLemmas.{last-many, last-gone, last-read, open-len, piece-named}
 use Rattle.age_stream.proofs.loading.load_last.Goals as goal
 
 pub returns-then-last-max-clause-judges : goal.returns-then-last-max-clause-judges

@@ -1,6 +1,6 @@
 use Rattle.std.proofs.Common.{rules, arith, ◌≡◌, ◌∙◌, ◌++◌, ap, sym, length, take, drop, ℕ, List, inr}
 use Rattle.std.proofs.lemmas.List.{drop-drop, length-take-le, take_all}
-use Rattle.age_header.proofs.GivenLemmas.{may-end, may-more}
+use Rattle.age_header.proofs.MayGiveLemmas.{may-end, may-more}
 use Rattle.age_stream.proofs.OpeningLemmas.{counts-piece, outcome-last, after-last, outcome-more, after-more}
 use Rattle.age_stream.proofs.opening.next_piece.Goals as goal
 

@@ -1,7 +1,7 @@
 use Rattle.std.proofs.Common.{rules, ◌≡◌, ◌+◌, ◌-◌, ◌^◌, ◌≤◌, drop, length, min, option_map, subst, sym}
 use Rattle.age_header.specs.Device.{Gives}
 use Rattle.age_file.specs.Ranges.{AtState}
-use Rattle.age_file.proofs.AtLemmas.{gives-on}
+use Rattle.age_file.proofs.AtStateLemmas.{gives-on}
 use Rattle.age_file.proofs.at_source.AtSourceSource.read.Goals as goal
 
 pub returns-in-Ok-clause-bytes : goal.returns-in-Ok-clause-bytes

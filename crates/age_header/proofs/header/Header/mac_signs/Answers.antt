@@ -12,10 +12,10 @@ returns c =
     let e = c.engine.result in
     let m : List ℕ = c.self.inside.mac in
     let size = encoded_size_plain e (length m) c.engine.ensures in
-    let plain = encode_of-unpadded e m c.engine.ensures.unpadded c.engine.ensures.signs in
+    let plain = encode_of-unpadded e m c.engine.ensures.unpadded c.engine.ensures.characters in
     let long : length m ≡ 32 = search rules in
     let rest : drop (encoded_size_of e (length m)) _ ≡ [] = drop_all (encoded_size_of e (length m)) _ (omega arith) in
     let is = c.in-Ok.ensures.written ∙ ap (λ (z : List ℕ). encode_of e m ++ z) rest ∙ append-nil (encode_of e m) ∙ plain in
-    let signs : List ℕ = c.encode_slice.new.output in
-    let here : B64 m signs = subst (λ (z : List ℕ). B64 m z) (sym is) (B64-encode m (search rules)) in
-    subst (λ (z : HeaderParts). B64 z.mac signs) c.self.view_is here
+    let characters : List ℕ = c.encode_slice.new.output in
+    let here : B64 m characters = subst (λ (z : List ℕ). B64 m z) (sym is) (B64-encode m (search rules)) in
+    subst (λ (z : HeaderParts). B64 z.mac characters) c.self.view_is here

@@ -1,7 +1,7 @@
 use Rattle.std.proofs.Common.{arith, rules, ◌≡◌, ◌-◌, ◌∙◌, sym, length, subst, Some, Ok}
 use Rattle.age_stream.specs.Ranges.{OpensRanges}
 use Rattle.age_stream.proofs.TailLemmas.{written-all}
-use Rattle.age_stream.proofs.JudgingLemmas.{given-last, judged-err, judged-ok}
+use Rattle.age_stream.proofs.JudgesLastLemmas.{given-last, judged-err, judged-ok}
 use Rattle.age_stream.proofs.chunks.Chunks.open.Goals as goal
 
 pub returns-in-Ok-load_last-clause-probes : goal.returns-in-Ok-load_last-clause-probes

@@ -13,7 +13,7 @@ use Rattle.age_stream.specs.declared.fault.StreamFault.{StreamFault}
 use Rattle.age_stream.specs.declared.fault.StreamFault.TheVariants.{TooManyChunks}
 use Rattle.age_stream.specs.Payload.{chunks, pieces, chunk_nonce, is_end, sealed_from, payload_key}
 use Rattle.age_stream.specs.Reading.{opened_at, outcome, outcomes, payload_reading, whole}
-use Rattle.age_stream.proofs.CutLemmas.{is_cut, cut-at_most}
+use Rattle.age_stream.proofs.CuttingLemmas.{is_cut, cut-at_most}
 use Rattle.age_stream.proofs.PayloadLemmas.{ok-payload, pieces-each, each-opens, is_end-each, length-each, at_most-chunks}
 use Rattle.age_stream.proofs.ReadingLemmas.{cut-some}
 use Rattle.age_stream.specs.Slice.{openings, opening, plain_len, IsSlice, last_piece, range_outcome}

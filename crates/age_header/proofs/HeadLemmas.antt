@@ -19,7 +19,7 @@ head_value ss mac h k = record {
   some = k.some;
   each = whole_stanzas ss k.body k.stanza_text;
   mac_len = k.mac_len;
-  mac_bytes = B64-bytes mac k.signs k.mac_text;
+  mac_bytes = B64-bytes mac k.characters k.mac_text;
 }
 
 -- the header without its last 45 bytes

@@ -104,11 +104,11 @@ last-opens key max rest t last is h =
     opening-at key rest last (omega arith) ∙ ap (λ b. opened_at key last b (take 65552 piece)) (le-leb (length rest) (65552 * (last + 1)) (omega arith))
     ∙ ap (opened_at key last true) (take_all 65552 piece (omega arith)) ∙ ap (opened_at key last true) o.sealed_so ∙ opened-sealed key (chunk_nonce last true) [] t
 
--- what is known of a nonce that was read, and of the n bytes behind it
+-- what is known of a nonce that was read, and of the n bytes after it
 abbrev pub IsNonce : Option (List ℕ) → ℕ → List ℕ → ℕ → Type 0
 IsNonce told at nonce n = IfSome told (λ bytes. (nonce ≡ take 16 (drop at bytes)) × (length bytes ≡ at + 16 + n))
 
--- what is behind a nonce decides
+-- what is after a nonce decides
 behind-nonce : (k : FileKey) (max at : ℕ) (bytes nonce : List ℕ) (n : ℕ) → nonce ≡ take 16 (drop at bytes) → length bytes ≡ at + 16 + n
     → range_outcome k max (drop at bytes) ≡ last_outcome (payload_key k nonce) max (drop (at + 16) bytes)
 behind-nonce k max at bytes nonce n is size =

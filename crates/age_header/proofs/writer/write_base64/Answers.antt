@@ -1,7 +1,7 @@
 use Rattle.std.proofs.Common.{◌≡◌, length, arith}
 use Rattle.base64.specs.GeneralPurpose.{encoded_size_of}
 use Rattle.age_header.proofs.TextLemmas.{encoded, encoded_size_plain}
-use Rattle.age_header.proofs.writer.write_signs.Goals as goal
+use Rattle.age_header.proofs.writer.write_base64.Goals as goal
 
 pub returns-clause-text : goal.returns-clause-text
 returns-clause-text g c =

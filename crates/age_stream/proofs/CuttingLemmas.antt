@@ -1,3 +1,4 @@
+-- A list that is cut in pieces of one size, the last one open.
 use Rattle.std.proofs.Common.{◌≡◌, ◌↔◌, ℕ, List, [], ◌∷◌, ◌++◌, ◌+◌, ◌<◌, ◌≤◌, length, sym, ◌∙◌, ap, arith, nat_lt, cond, true, false, refl, append_assoc, length-append, subst, inl, inr}
 use Rattle.std.specs.List.{concat}
 use Rattle.std.proofs.lemmas.Bool.{le-ltb, lt-ltb, cases_lt}
@@ -23,7 +24,7 @@ cut-full size held (b ∷ r) pos some full =
     ap (λ t. cond t (cut_into size (held ++ b ∷ []) r) (held ∷ cut_into size (b ∷ []) r)) ge
     ∙ ap (λ t. held ∷ cond t (cut_into size (b ∷ []) r) ([] ∷ cut_into size (b ∷ []) r)) (sym lt)
 
--- a full list with more behind it is the first of the cut
+-- a full list with more after it is the first of the cut
 pub cut-first : (size : ℕ) (x r : List ℕ) → 0 < size → 0 < length r → length x ≡ size → cut size (x ++ r) ≡ x ∷ cut size r
 cut-first size x r pos some full = cut-fits size [] x r (omega arith) ∙ cut-full size x r pos some full
 

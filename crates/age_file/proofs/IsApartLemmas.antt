@@ -33,7 +33,7 @@ pub record Seen (first : Labels) (meant : List Labels) (i : ℕ) : Type 0 where
 pub seen_none : (first : Labels) (meant : List Labels) → Seen first meant 0
 seen_none first meant = record { seen = []; may = tt; passes = λ rest. refl }
 
--- what is meant at place i, and behind it
+-- what is meant at place i, and after it
 pub meant_at : {A : Type 0} (f : A → Labels) (xs : List A) (i : ℕ) (x : A) → i < length xs → x ≡ get_or xs i x
     → drop i (map f xs) ≡ f x ∷ drop (i + 1) (map f xs)
 meant_at f xs i x low is =

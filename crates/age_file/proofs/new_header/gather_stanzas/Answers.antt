@@ -1,6 +1,6 @@
 use Rattle.std.proofs.Common.{map}
-use Rattle.age_file.proofs.ApartLemmas.{refused_first}
-use Rattle.age_file.proofs.new_header.gather.Goals as goal
+use Rattle.age_file.proofs.IsApartLemmas.{refused_first}
+use Rattle.age_file.proofs.new_header.gather_stanzas.Goals as goal
 
 pub returns-in-Err : goal.returns-in-Err
 returns-in-Err g c =
