@@ -114,7 +114,7 @@ fn sevens(alloc: Global, len: usize) -> Result<Vec<u8>, AllocError> {
 
 /// A byte at a time in both directions, the last chunk being full.
 #[test]
-fn byte_by_byte(rt: HostRuntime) -> Result<(), Fail> {
+fn encrypt_and_decrypt_work_byte_by_byte(rt: HostRuntime) -> Result<(), Fail> {
     let alloc = rt.alloc();
     let limits = Limits::default();
     let plain = sevens(alloc, 65_536)?;
@@ -152,7 +152,7 @@ fn byte_by_byte(rt: HostRuntime) -> Result<(), Fail> {
 
 /// The numbers of chunks that `Limits` may hold, at the ends of their range.
 #[test]
-fn chunk_limits(rt: HostRuntime) -> Result<(), Fail> {
+fn chunk_limit_is_checked_at_the_ends_of_its_range(rt: HostRuntime) -> Result<(), Fail> {
     for (max_chunks, is_allowed) in [
         (0, false),
         (1, true),
@@ -166,7 +166,7 @@ fn chunk_limits(rt: HostRuntime) -> Result<(), Fail> {
 
 /// More chunks than are allowed, in both directions.
 #[test]
-fn too_many_chunks(rt: HostRuntime) -> Result<(), Fail> {
+fn too_many_chunks_are_refused_in_both_directions(rt: HostRuntime) -> Result<(), Fail> {
     let alloc = rt.alloc();
     let Some(one) = Limits::new(65_536, 1) else {
         unreachable!();
@@ -187,7 +187,7 @@ fn too_many_chunks(rt: HostRuntime) -> Result<(), Fail> {
 /// A damaged first chunk: nothing is written, and the source is read no further than one byte into
 /// the second.
 #[test]
-fn damaged_first_chunk(rt: HostRuntime) -> Result<(), Fail> {
+fn damaged_first_chunk_writes_nothing(rt: HostRuntime) -> Result<(), Fail> {
     let alloc = rt.alloc();
     let limits = Limits::default();
     let plain = sevens(alloc, 131_073)?;
@@ -207,7 +207,7 @@ fn damaged_first_chunk(rt: HostRuntime) -> Result<(), Fail> {
 
 /// Several keyed recipients, and identities with and without one of their keys.
 #[test]
-fn several_recipients(rt: HostRuntime) -> Result<(), Fail> {
+fn each_of_several_recipients_decrypts(rt: HostRuntime) -> Result<(), Fail> {
     let alloc = rt.alloc();
     let limits = Limits::default();
     let done = done(0);
@@ -227,7 +227,7 @@ fn several_recipients(rt: HostRuntime) -> Result<(), Fail> {
 
 /// Stanzas of a caller's types go through both directions as they are.
 #[test]
-fn foreign_stanzas(rt: HostRuntime) -> Result<(), Fail> {
+fn foreign_stanzas_are_written_and_skipped(rt: HostRuntime) -> Result<(), Fail> {
     let alloc = rt.alloc();
     let limits = Limits::default();
     let done = done(0);

@@ -67,7 +67,7 @@ fn expect_verdicts(
 }
 
 #[test]
-fn headers_and_bad_lines(rt: HostRuntime) -> Result<(), Fail> {
+fn reader_accepts_headers_and_numbers_bad_lines(rt: HostRuntime) -> Result<(), Fail> {
     let bad = |n| Err(HeaderFault::BadLine(n));
     expect_verdicts(
         &rt,
@@ -100,7 +100,7 @@ fn headers_and_bad_lines(rt: HostRuntime) -> Result<(), Fail> {
 }
 
 #[test]
-fn limits(rt: HostRuntime) -> Result<(), Fail> {
+fn reader_keeps_to_the_header_limit(rt: HostRuntime) -> Result<(), Fail> {
     let alloc = rt.alloc();
     let cut = Err(HeaderFault::Truncated);
     let large = Err(HeaderFault::TooLarge);
@@ -131,7 +131,7 @@ fn limits(rt: HostRuntime) -> Result<(), Fail> {
 }
 
 #[test]
-fn many_arguments(rt: HostRuntime) -> Result<(), Fail> {
+fn stanza_of_30000_arguments_is_read(rt: HostRuntime) -> Result<(), Fail> {
     let alloc = rt.alloc();
     let mut text = joined(alloc, &[VERSION, b"->"])?;
     for _ in 0..30_000 {
@@ -186,7 +186,7 @@ fn expect_size(
 }
 
 #[test]
-fn written_headers(rt: HostRuntime) -> Result<(), Fail> {
+fn written_headers_are_read_back(rt: HostRuntime) -> Result<(), Fail> {
     let alloc = rt.alloc();
     expect_size(&rt, alloc, &[(&["a"], 0)], 76)?;
     expect_size(&rt, alloc, &[(&["scrypt", SALT, "9"], 32)], 149)?;
@@ -201,7 +201,7 @@ fn written_headers(rt: HostRuntime) -> Result<(), Fail> {
 }
 
 #[test]
-fn signed_text_and_mac(rt: HostRuntime) -> Result<(), Fail> {
+fn mac_matches_another_implementation(rt: HostRuntime) -> Result<(), Fail> {
     let alloc = rt.alloc();
     let mut stanzas = Vec::new(alloc);
     let Ok(stanza) = Stanza::new(alloc, &["scrypt", "AAAAAAAAAAAAAAAAAAAAAA", "18"], &[0; 32])
@@ -229,7 +229,7 @@ fn signed_text_and_mac(rt: HostRuntime) -> Result<(), Fail> {
 }
 
 #[test]
-fn refused_stanzas(rt: HostRuntime) -> Result<(), Fail> {
+fn invalid_stanzas_are_refused(rt: HostRuntime) -> Result<(), Fail> {
     let alloc = rt.alloc();
     let rows: [(&[&str], StanzaError); 4] = [
         (&[], StanzaError::NoArgs),
@@ -245,7 +245,7 @@ fn refused_stanzas(rt: HostRuntime) -> Result<(), Fail> {
 }
 
 #[test]
-fn devices_that_fail(rt: HostRuntime) -> Result<(), Fail> {
+fn devices_count_their_failures(rt: HostRuntime) -> Result<(), Fail> {
     let alloc = rt.alloc();
     let mut room = [0u8; 100];
     let mut sink = WriteSink::new(room.as_mut_slice());

@@ -48,7 +48,7 @@ fn answer(
 /// The checks, in their order: each stanza is wrong in what is named, and often in what is looked
 /// at later too.
 #[test]
-fn malformed_stanzas(rt: HostRuntime) -> Result<(), Fail> {
+fn scrypt_stanza_is_checked_in_order(rt: HostRuntime) -> Result<(), Fail> {
     let short = &BODY[..31];
     let padded = "ICEiIyQlJicoKSorLC0uLw==";
     let cut = "ICEiIyQlJicoKSorLC0uL";
@@ -113,7 +113,7 @@ fn malformed_stanzas(rt: HostRuntime) -> Result<(), Fail> {
 }
 
 #[test]
-fn long_work_factors(rt: HostRuntime) -> Result<(), Fail> {
+fn long_work_factors_are_malformed(rt: HostRuntime) -> Result<(), Fail> {
     let alloc = rt.alloc();
     for (first, fault) in [
         ("1", StanzaFault::WorkFactorTooHigh),
@@ -131,7 +131,7 @@ fn long_work_factors(rt: HostRuntime) -> Result<(), Fail> {
 }
 
 #[test]
-fn wrapped_and_unwrapped(rt: HostRuntime) -> Result<(), Fail> {
+fn passphrase_wraps_and_unwraps_the_known_stanza(rt: HostRuntime) -> Result<(), Fail> {
     let alloc = rt.alloc();
     let recipient = PassRecipient::new(alloc, b"correct horse", SALT, 10)?;
     let stanzas = recipient.wrap(alloc, &KEY)?;
@@ -156,7 +156,7 @@ fn wrapped_and_unwrapped(rt: HostRuntime) -> Result<(), Fail> {
 
 /// A stanza that `age -p` made, with the file key that Python found in it.
 #[test]
-fn stanza_of_another_tool(rt: HostRuntime) -> Result<(), Fail> {
+fn passphrase_unwraps_a_stanza_of_age(rt: HostRuntime) -> Result<(), Fail> {
     let body = [
         0xfa, 0x87, 0x1f, 0x34, 0xa3, 0x2c, 0x47, 0x83, 0xa0, 0x21, 0xe3, 0x61, 0x4e, 0x6d, 0xdc,
         0x97, 0xec, 0x05, 0xc0, 0x20, 0xb0, 0xd5, 0x88, 0xaa, 0x4d, 0x0d, 0xb2, 0xd7, 0xa5, 0x43,
@@ -179,7 +179,7 @@ fn gives_back<M: Matched>(alloc: Global, pair: &M) -> Result<bool, Fail> {
 }
 
 #[test]
-fn pairs(rt: HostRuntime) -> Result<(), Fail> {
+fn passphrase_pair_unwraps_what_it_wraps(rt: HostRuntime) -> Result<(), Fail> {
     let alloc = rt.alloc();
     let long = vec![in alloc; 7u8; 65_536]?;
     assert!(rt;
@@ -200,7 +200,7 @@ fn pairs(rt: HostRuntime) -> Result<(), Fail> {
 }
 
 #[test]
-fn texts_of_faults(rt: HostRuntime) -> Result<(), Fail> {
+fn each_stanza_fault_has_its_text(rt: HostRuntime) -> Result<(), Fail> {
     for (fault, text) in [
         (StanzaFault::ArgCount, "argument count"),
         (StanzaFault::Salt, "salt"),

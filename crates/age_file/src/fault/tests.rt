@@ -5,7 +5,7 @@ use age_recipient::StanzaFault;
 use std::test::Fail;
 
 #[test]
-fn says_each_fault(rt: HostRuntime) -> Result<(), Fail> {
+fn each_fault_has_its_text(rt: HostRuntime) -> Result<(), Fail> {
     for (fault, text) in [
         (Fault::NotAge, "not an age file"),
         (Fault::BadLine(2), "bad header line 2"),

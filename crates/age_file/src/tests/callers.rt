@@ -27,7 +27,7 @@ const END: &[u8] = b"--- AAAAAAAAAAAAAAAAAAAAAAAAAAAAAAAAAAAAAAAAAAA\n";
 /// What a caller's identity makes of the stanzas, with the right identity behind it: what
 /// decrypting returns, and what it writes.
 #[test]
-fn identities_of_a_caller(rt: HostRuntime) -> Result<(), Fail> {
+fn callers_identity_decides_before_the_next(rt: HostRuntime) -> Result<(), Fail> {
     let alloc = rt.alloc();
     let limits = Limits::default();
     let (_, file) = encrypted(alloc, b"abc", &with_passphrase(alloc)?, &limits);
@@ -72,7 +72,7 @@ fn with_letters(alloc: Global, count: usize) -> Result<Recipients, Fail> {
 
 /// What is refused before the first byte, and the greatest header.
 #[test]
-fn refused_recipients(rt: HostRuntime) -> Result<(), Fail> {
+fn refused_recipients_write_nothing(rt: HostRuntime) -> Result<(), Fail> {
     let alloc = rt.alloc();
     let Some(limits) = Limits::new(1_024, 1) else {
         unreachable!();
@@ -126,7 +126,7 @@ fn labelled(alloc: Global, all: &[Option<&[&str]>]) -> Result<Recipients, Fail> 
 
 /// Recipients go together where their labels are the same set of names.
 #[test]
-fn labels_of_a_caller(rt: HostRuntime) -> Result<(), Fail> {
+fn recipients_with_equal_labels_go_together(rt: HostRuntime) -> Result<(), Fail> {
     let alloc = rt.alloc();
     let limits = Limits::default();
     let apart = |i| Err(Fault::IncompatibleRecipients(i));
@@ -147,7 +147,7 @@ fn labels_of_a_caller(rt: HostRuntime) -> Result<(), Fail> {
 
 /// A file of the usual tool's shape: the passphrase's identity finds nothing of its own.
 #[test]
-fn foreign_shape(rt: HostRuntime) -> Result<(), Fail> {
+fn x25519_file_has_no_match_for_a_passphrase(rt: HostRuntime) -> Result<(), Fail> {
     let alloc = rt.alloc();
     let limits = Limits::default();
     let mut recipients: Recipients = Vec::new(alloc);

@@ -17,7 +17,7 @@ use std::test::Fail;
 /// A sink over a slice of each length: it gets a beginning of the passphrase's file, as much as it
 /// has room for.
 #[test]
-fn failing_sinks(rt: HostRuntime) -> Result<(), Fail> {
+fn failing_sink_gets_a_beginning_of_the_file(rt: HostRuntime) -> Result<(), Fail> {
     let alloc = rt.alloc();
     let limits = Limits::default();
     let recipients = with_passphrase(alloc)?;
@@ -65,7 +65,7 @@ fn reads_until(
 /// Decrypting two chunks, with each read failed in turn: a beginning of the plaintext is written,
 /// and nothing more is read.
 #[test]
-fn failing_reads(rt: HostRuntime) -> Result<(), Fail> {
+fn failing_read_leaves_a_beginning_of_the_plaintext(rt: HostRuntime) -> Result<(), Fail> {
     let alloc = rt.alloc();
     let plain = sevens(alloc, 65_537)?;
     let (_, file) = encrypted(
@@ -86,7 +86,7 @@ fn failing_reads(rt: HostRuntime) -> Result<(), Fail> {
 
 /// A source of a plaintext that fails leaves a beginning of the file.
 #[test]
-fn failing_plaintext(rt: HostRuntime) -> Result<(), Fail> {
+fn failing_plaintext_leaves_a_beginning_of_the_file(rt: HostRuntime) -> Result<(), Fail> {
     let alloc = rt.alloc();
     let limits = Limits::default();
     let recipients = with_key(alloc, 3)?;
@@ -108,7 +108,7 @@ fn failing_plaintext(rt: HostRuntime) -> Result<(), Fail> {
 
 /// A reader's failed read is returned again, and the source isn't asked again.
 #[test]
-fn kept_read_fault(rt: HostRuntime) -> Result<(), Fail> {
+fn reader_returns_a_failed_read_again(rt: HostRuntime) -> Result<(), Fail> {
     let alloc = rt.alloc();
     let limits = Limits::default();
     let plain = sevens(alloc, 65_537)?;
@@ -128,7 +128,7 @@ fn kept_read_fault(rt: HostRuntime) -> Result<(), Fail> {
 
 /// A writer that takes nothing of a piece, and devices whose count of failures can't rise any more.
 #[test]
-fn devices_at_their_limits(rt: HostRuntime) -> Result<(), Fail> {
+fn devices_at_their_limits_return_their_fault(rt: HostRuntime) -> Result<(), Fail> {
     let alloc = rt.alloc();
     let limits = Limits::default();
     let recipients = with_key(alloc, 3)?;

@@ -42,7 +42,7 @@ fn range<T: Abort>(
 
 /// Three chunks, of which the middle one is damaged.
 #[test]
-fn damaged_middle_chunk(rt: HostRuntime) -> Result<(), Fail> {
+fn damaged_middle_chunk_leaves_the_others_readable(rt: HostRuntime) -> Result<(), Fail> {
     let alloc = rt.alloc();
     let mut file = file_of(alloc, 140_000)?;
     assert_eq!(rt; file.len(), 140_214);
@@ -79,7 +79,7 @@ fn refused<T: Abort>(
 
 /// Files that don't open, with the first fault that applies.
 #[test]
-fn files_that_do_not_open(rt: HostRuntime) -> Result<(), Fail> {
+fn open_ranges_returns_the_first_fault(rt: HostRuntime) -> Result<(), Fail> {
     let alloc = rt.alloc();
     let file = file_of(alloc, 65_537)?;
     assert_eq!(rt; file.len(), 65_735);

@@ -32,7 +32,7 @@ fn rewrapped(
 
 /// From one passphrase to another, with another work factor.
 #[test]
-fn to_another_passphrase(rt: HostRuntime) -> Result<(), Fail> {
+fn rewrapped_file_needs_the_new_passphrase(rt: HostRuntime) -> Result<(), Fail> {
     let alloc = rt.alloc();
     let limits = Limits::default();
     let (_, file) = encrypted(alloc, b"", &with_passphrase(alloc)?, &limits);
@@ -62,7 +62,7 @@ fn is_kept(alloc: Global, file: &[u8], len: usize, fault: Option<Fault>) -> Resu
 
 /// To a key: a file, a file whose last chunk is cut away, and one that ends in its nonce.
 #[test]
-fn to_a_key(rt: HostRuntime) -> Result<(), Fail> {
+fn rewrap_to_a_key_keeps_the_verdict(rt: HostRuntime) -> Result<(), Fail> {
     let alloc = rt.alloc();
     let limits = Limits::default();
     let recipients = with_passphrase(alloc)?;
@@ -91,7 +91,7 @@ fn is_refused(
 
 /// What is refused before the first byte: by the old header, then by the new one.
 #[test]
-fn refused_before_the_first_byte(rt: HostRuntime) -> Result<(), Fail> {
+fn refused_rewrap_writes_nothing(rt: HostRuntime) -> Result<(), Fail> {
     let alloc = rt.alloc();
     let (_, file) = encrypted(alloc, b"abc", &with_key(alloc, 1)?, &Limits::default());
     let file = file.as_slice();
@@ -106,7 +106,7 @@ fn refused_before_the_first_byte(rt: HostRuntime) -> Result<(), Fail> {
 
 /// Each read and each write fails in turn: what was written is a beginning of the new file.
 #[test]
-fn failing_devices(rt: HostRuntime) -> Result<(), Fail> {
+fn failing_devices_leave_a_beginning_of_the_rewrapped_file(rt: HostRuntime) -> Result<(), Fail> {
     let alloc = rt.alloc();
     let (_, file) = encrypted(alloc, b"abc", &with_key(alloc, 1)?, &Limits::default());
     let (identities, recipients) = (key_of(alloc, 1)?, with_key(alloc, 3)?);

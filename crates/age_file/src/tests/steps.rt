@@ -7,7 +7,7 @@ use std::test::Fail;
 
 /// The file that `encrypt` writes, and its plaintext again.
 #[test]
-fn in_steps(rt: HostRuntime) -> Result<(), Fail> {
+fn steps_write_and_read_the_same_file(rt: HostRuntime) -> Result<(), Fail> {
     let alloc = rt.alloc();
     let limits = Limits::default();
     let recipients = with_key(alloc, 3)?;

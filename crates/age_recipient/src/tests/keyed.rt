@@ -39,7 +39,7 @@ fn answer(
 }
 
 #[test]
-fn wrapped(rt: HostRuntime) -> Result<(), Fail> {
+fn key_pair_unwraps_what_it_wraps(rt: HostRuntime) -> Result<(), Fail> {
     let alloc = rt.alloc();
     let stanzas = KeyRecipient::new(SECRET, SALT).wrap(alloc, &KEY)?;
     assert_eq!(rt; stanzas.len(), 1);
@@ -54,7 +54,7 @@ fn wrapped(rt: HostRuntime) -> Result<(), Fail> {
 }
 
 #[test]
-fn unwrapped(rt: HostRuntime) -> Result<(), Fail> {
+fn keyed_stanza_is_checked_in_order(rt: HostRuntime) -> Result<(), Fail> {
     let own: &[&str] = &["example.org/key", SALT_TEXT];
     let cut: &[&str] = &["example.org/key", "ICEiIyQlJicoKSorLC0uL"];
     let three: &[&str] = &["example.org/key", "ICEiIyQlJicoKSorLC0uL", "x"];
@@ -87,7 +87,7 @@ fn unwrapped(rt: HostRuntime) -> Result<(), Fail> {
 }
 
 #[test]
-fn several_identities(rt: HostRuntime) -> Result<(), Fail> {
+fn each_of_several_identities_is_tried(rt: HostRuntime) -> Result<(), Fail> {
     let alloc = rt.alloc();
     let stanzas = KeyRecipient::new(SECRET, SALT).wrap(alloc, &KEY)?;
     let mut identities: Vec<Box<dyn Identity>> = Vec::new(alloc);

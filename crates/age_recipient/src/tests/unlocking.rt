@@ -43,7 +43,7 @@ fn choice_of(
 
 /// The last identities of some lists want memory, which shows that they are not asked.
 #[test]
-fn first_that_decides(rt: HostRuntime) -> Result<(), Fail> {
+fn first_deciding_identity_ends_the_search(rt: HostRuntime) -> Result<(), Fail> {
     let not_mine = Some(Unwrapped::NotMine);
     let failed = Some(Unwrapped::Failed);
     let key = Some(Unwrapped::Key(KEY));

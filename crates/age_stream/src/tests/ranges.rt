@@ -68,7 +68,7 @@ fn rows<T: Abort, D: ReadAt>(rt: &T, alloc: Global, dev: &mut D) -> Result<(), F
 }
 
 #[test]
-fn ranges_of_memory(rt: HostRuntime) -> Result<(), Fail> {
+fn ranges_of_memory_are_slices(rt: HostRuntime) -> Result<(), Fail> {
     let bytes = payload_of(rt.alloc(), 140_000)?;
     let mut dev = MemAt::new(bytes.as_slice());
     rows(&rt, rt.alloc(), &mut dev)?;
@@ -78,7 +78,7 @@ fn ranges_of_memory(rt: HostRuntime) -> Result<(), Fail> {
 
 /// A file, and a file that is read one byte at a time.
 #[test]
-fn ranges_of_a_file(rt: HostRuntime) -> Result<(), Fail> {
+fn ranges_of_a_file_are_slices(rt: HostRuntime) -> Result<(), Fail> {
     let bytes = payload_of(rt.alloc(), 140_000)?;
     fs::write(&rt, "ranges.tmp", bytes.as_slice())?;
     let mut whole = FileAt::new(File::open(&rt, "ranges.tmp")?);
@@ -93,7 +93,7 @@ fn ranges_of_a_file(rt: HostRuntime) -> Result<(), Fail> {
 /// Each chunk that is opened costs one read of a source that gives all it is asked for, and the
 /// nonce one.
 #[test]
-fn reads_are_counted(rt: HostRuntime) -> Result<(), Fail> {
+fn each_opened_chunk_costs_one_read(rt: HostRuntime) -> Result<(), Fail> {
     let alloc = rt.alloc();
     let bytes = payload_of(alloc, 140_000)?;
     let reads = Cell::new(0);
@@ -109,7 +109,7 @@ fn reads_are_counted(rt: HostRuntime) -> Result<(), Fail> {
 /// Each read failed in turn: a failed read leaves the bytes of the chunks before it, and the same
 /// call again works.
 #[test]
-fn failed_reads(rt: HostRuntime) -> Result<(), Fail> {
+fn failed_read_leaves_the_chunks_before_it(rt: HostRuntime) -> Result<(), Fail> {
     let alloc = rt.alloc();
     let bytes = payload_of(alloc, 140_000)?;
     for failing in 1..6 {
@@ -143,7 +143,7 @@ fn failed_reads(rt: HostRuntime) -> Result<(), Fail> {
 /// Each chunk damaged in turn, by its first byte: the ranges that do not touch it are right, also
 /// after a call that met it.
 #[test]
-fn damaged_chunks(rt: HostRuntime) -> Result<(), Fail> {
+fn damaged_chunk_leaves_the_others_readable(rt: HostRuntime) -> Result<(), Fail> {
     let alloc = rt.alloc();
     for (damaged, place, touching, other) in [
         (0, 25, (0, 10), (65_536, 65_536)),
@@ -174,7 +174,7 @@ fn damaged_chunks(rt: HostRuntime) -> Result<(), Fail> {
 /// A file that was cut after it was opened: a range that needs a lost byte is a failed read. The
 /// kept chunk is at hand still.
 #[test]
-fn file_cut_after_opening(rt: HostRuntime) -> Result<(), Fail> {
+fn truncated_file_is_a_failed_read(rt: HostRuntime) -> Result<(), Fail> {
     let alloc = rt.alloc();
     let bytes = payload_of(alloc, 140_000)?;
     fs::write(&rt, "cut.tmp", bytes.as_slice())?;
@@ -214,7 +214,7 @@ fn file_cut_after_opening(rt: HostRuntime) -> Result<(), Fail> {
 }
 
 #[test]
-fn ranges_of_an_empty_plaintext(rt: HostRuntime) -> Result<(), Fail> {
+fn ranges_of_an_empty_plaintext_are_empty(rt: HostRuntime) -> Result<(), Fail> {
     let mut dev = MemAt::new(&EMPTY);
     let mut reader = RangeReader::open(rt.alloc(), &KEY, &mut dev, 0, 1)?;
     assert_eq!(rt; reader.plain_len(), 0);
@@ -226,7 +226,7 @@ fn ranges_of_an_empty_plaintext(rt: HostRuntime) -> Result<(), Fail> {
 }
 
 #[test]
-fn payloads_that_do_not_open(rt: HostRuntime) -> Result<(), Fail> {
+fn open_returns_the_first_fault(rt: HostRuntime) -> Result<(), Fail> {
     let alloc = rt.alloc();
     let mut bytes = payload_of(alloc, 131_073)?;
     if let Some(last) = bytes.as_mut_slice().last_mut() {
