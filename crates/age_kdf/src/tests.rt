@@ -380,10 +380,10 @@ fn scrypt_params_are_checked_at_their_bounds(rt: HostRuntime) {
         let (log_n, r, p) = given;
         match ScryptParams::new(log_n, r, p) {
             Some(params) => {
-                assert_eq!(rt; Some(params.work_len()), work_len);
+                assert_eq!(rt; Some(params.work_len()), work_len, "{log_n}, {r}, {p}");
                 assert_eq!(rt; (params.log_n(), params.r(), params.p()), given);
             }
-            None => assert_eq!(rt; None, work_len),
+            None => assert_eq!(rt; None, work_len, "{log_n}, {r}, {p}"),
         }
     }
 }
@@ -402,7 +402,8 @@ fn scrypt_overwrites_its_work_space(rt: HostRuntime) -> Result<(), AllocError> {
                 0x23, 0x42, 0xe3, 0xa7, 0x1f, 0x54, 0x0c, 0x3e, 0x90, 0xbf, 0xb3, 0x2d, 0x81, 0x7d,
                 0x47, 0xb0, 0x46, 0xc3, 0x66, 0x19, 0xad, 0xf9, 0xec, 0x09, 0x42, 0x14, 0x55, 0x49,
                 0xed, 0x5f, 0xc0, 0x83, 0xfa
-            ]
+            ],
+            "work space of {held}"
         );
     }
     Ok(())

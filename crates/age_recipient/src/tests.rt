@@ -53,61 +53,95 @@ fn scrypt_stanza_is_checked_in_order(rt: HostRuntime) -> Result<(), Fail> {
     let padded = "ICEiIyQlJicoKSorLC0uLw==";
     let cut = "ICEiIyQlJicoKSorLC0uL";
     let forty = "1000000000000000000000000000000000000000";
-    let malformed: [(&[&str], &[u8], StanzaFault); 14] = [
-        (&["scrypt", cut], &BODY, StanzaFault::ArgCount),
-        (&["scrypt", cut, "015", "x"], short, StanzaFault::ArgCount),
-        (&["scrypt", cut, "015"], short, StanzaFault::Salt),
-        (&["scrypt", padded, "10"], &BODY, StanzaFault::Salt),
+    let malformed: [(&str, &[&str], &[u8], StanzaFault); 14] = [
         (
+            "two arguments",
+            &["scrypt", cut],
+            &BODY,
+            StanzaFault::ArgCount,
+        ),
+        (
+            "four arguments",
+            &["scrypt", cut, "015", "x"],
+            short,
+            StanzaFault::ArgCount,
+        ),
+        (
+            "salt of 15 bytes and 6 bits",
+            &["scrypt", cut, "015"],
+            short,
+            StanzaFault::Salt,
+        ),
+        (
+            "padded salt",
+            &["scrypt", padded, "10"],
+            &BODY,
+            StanzaFault::Salt,
+        ),
+        (
+            "salt of 15 bytes",
             &["scrypt", "AAAAAAAAAAAAAAAAAAAA", "10"],
             &BODY,
             StanzaFault::Salt,
         ),
         (
+            "leading zero",
             &["scrypt", SALT_TEXT, "015"],
             short,
             StanzaFault::WorkFactorText,
         ),
         (
+            "zero",
             &["scrypt", SALT_TEXT, "0"],
             &BODY,
             StanzaFault::WorkFactorText,
         ),
         (
+            "sign",
             &["scrypt", SALT_TEXT, "+9"],
             &BODY,
             StanzaFault::WorkFactorText,
         ),
         (
+            "letter",
             &["scrypt", SALT_TEXT, "1a"],
             &BODY,
             StanzaFault::WorkFactorText,
         ),
         (
+            "23",
             &["scrypt", SALT_TEXT, "23"],
             short,
             StanzaFault::WorkFactorTooHigh,
         ),
         (
+            "2^8 + 2",
             &["scrypt", SALT_TEXT, "258"],
             short,
             StanzaFault::WorkFactorTooHigh,
         ),
         (
+            "2^64 + 2",
             &["scrypt", SALT_TEXT, "18446744073709551618"],
             &BODY,
             StanzaFault::WorkFactorTooHigh,
         ),
         (
+            "40 digits",
             &["scrypt", SALT_TEXT, forty],
             &BODY,
             StanzaFault::WorkFactorTooHigh,
         ),
-        (&["scrypt", SALT_TEXT, "10"], short, StanzaFault::BodyLength),
+        (
+            "short body",
+            &["scrypt", SALT_TEXT, "10"],
+            short,
+            StanzaFault::BodyLength,
+        ),
     ];
-    for (args, body, fault) in malformed {
+    for (name, args, body, fault) in malformed {
         let found = answer(&rt, rt.alloc(), b"correct horse", args, body)?;
-        assert!(rt; found == Unwrapped::Malformed(fault));
+        assert!(rt; found == Unwrapped::Malformed(fault), "{name}");
     }
     Ok(())
 }
@@ -125,7 +159,7 @@ fn long_work_factors_are_malformed(rt: HostRuntime) -> Result<(), Fail> {
         }
         let args = ["scrypt", SALT_TEXT, text.as_str()];
         let found = answer(&rt, alloc, b"", &args, &BODY)?;
-        assert!(rt; found == Unwrapped::Malformed(fault));
+        assert!(rt; found == Unwrapped::Malformed(fault), "first digit {first}");
     }
     Ok(())
 }
@@ -209,7 +243,7 @@ fn each_stanza_fault_has_its_text(rt: HostRuntime) -> Result<(), Fail> {
         (StanzaFault::BodyLength, "body length"),
         (StanzaFault::Other(7), "code 7"),
     ] {
-        assert_eq!(rt; format!(in rt.alloc(); "{fault}")?.as_str(), text);
+        assert_eq!(rt; format!(in rt.alloc(); "{fault}")?.as_str(), text, "{text}");
     }
     Ok(())
 }

@@ -156,8 +156,8 @@ fn pieces_of_any_size_read_back(rt: HostRuntime) -> Result<(), Fail> {
     for size in [1_000, 65_537] {
         let (_, payload) = written(alloc, plain.as_slice(), size)?;
         let (text, chunks) = read(alloc, payload.as_slice(), 65_551)?;
-        assert!(rt; text == plain);
-        assert_eq!(rt; chunks, 3);
+        assert!(rt; text == plain, "pieces of {size} bytes");
+        assert_eq!(rt; chunks, 3, "pieces of {size} bytes");
     }
     Ok(())
 }
@@ -176,8 +176,12 @@ fn chunks_are_counted_at_their_ends(rt: HostRuntime) -> Result<(), Fail> {
         let plain = sevens(alloc, len)?;
         let (done, payload) = written(alloc, plain.as_slice(), len)?;
         let bytes = len as u128;
-        assert!(rt; done == Ok(Done { bytes, chunks }));
-        assert_eq!(rt; payload.len() as u128, 16 + bytes + 16 * chunks);
+        assert!(rt; done == Ok(Done { bytes, chunks }), "{len} bytes");
+        assert_eq!(rt;
+            payload.len() as u128,
+            16 + bytes + 16 * chunks,
+            "{len} bytes"
+        );
         assert!(rt; len < 131_073 || payload.as_slice().ends_with(&THIRD_CHUNK));
     }
     Ok(())

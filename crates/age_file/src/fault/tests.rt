@@ -65,7 +65,7 @@ fn each_fault_has_its_text(rt: HostRuntime) -> Result<(), Fail> {
         ),
     ] {
         let said = format!(in rt.alloc(); "{fault}")?;
-        assert_eq!(rt; said.as_str(), text);
+        assert_eq!(rt; said.as_str(), text, "{text}");
     }
     Ok(())
 }

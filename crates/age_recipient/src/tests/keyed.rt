@@ -64,24 +64,40 @@ fn keyed_stanza_is_checked_in_order(rt: HostRuntime) -> Result<(), Fail> {
     let arg_count = Unwrapped::Malformed(StanzaFault::ArgCount);
     let salt = Unwrapped::Malformed(StanzaFault::Salt);
     let body_length = Unwrapped::Malformed(StanzaFault::BodyLength);
-    let found: [(&[(&[&str], &[u8])], Unwrapped); 11] = [
-        (&[], Unwrapped::NotMine),
-        (&[(foreign, short)], Unwrapped::NotMine),
-        (&[(own, &BODY)], Unwrapped::Key(KEY)),
-        (&[(own, &[0; 32])], Unwrapped::Failed),
-        (&[(three, short)], arg_count),
-        (&[(one, &BODY)], arg_count),
-        (&[(cut, short)], salt),
-        (&[(own, short)], body_length),
-        (&[(own, short), (own, &BODY)], body_length),
-        (&[(own, &BODY), (own, short)], Unwrapped::Key(KEY)),
+    let found: [(&str, &[(&[&str], &[u8])], Unwrapped); 11] = [
+        ("no stanza", &[], Unwrapped::NotMine),
+        ("foreign stanza", &[(foreign, short)], Unwrapped::NotMine),
+        ("own stanza", &[(own, &BODY)], Unwrapped::Key(KEY)),
         (
+            "stanza of another key",
+            &[(own, &[0; 32])],
+            Unwrapped::Failed,
+        ),
+        ("three arguments", &[(three, short)], arg_count),
+        ("one argument", &[(one, &BODY)], arg_count),
+        ("short salt", &[(cut, short)], salt),
+        ("short body", &[(own, short)], body_length),
+        (
+            "short body before the own stanza",
+            &[(own, short), (own, &BODY)],
+            body_length,
+        ),
+        (
+            "short body after the own stanza",
+            &[(own, &BODY), (own, short)],
+            Unwrapped::Key(KEY),
+        ),
+        (
+            "own stanza after two others",
             &[(foreign, short), (own, &[0; 32]), (own, &BODY)],
             Unwrapped::Key(KEY),
         ),
     ];
-    for (stanzas, expected) in found {
-        assert!(rt; answer(&rt, rt.alloc(), SECRET, stanzas)? == expected);
+    for (name, stanzas, expected) in found {
+        assert!(rt;
+            answer(&rt, rt.alloc(), SECRET, stanzas)? == expected,
+            "{name}"
+        );
     }
     Ok(())
 }

@@ -30,14 +30,18 @@ fn range<T: Abort, D: ReadAt>(
     filled: usize,
 ) -> Result<(), Fail> {
     let mut buf = vec![in alloc; 255u8; len]?;
-    assert_eq!(rt; reader.read_range(at, buf.as_mut_slice()), answer);
+    assert_eq!(rt;
+        reader.read_range(at, buf.as_mut_slice()),
+        answer,
+        "{len} bytes at {at}"
+    );
     for i in 0..buf.len() {
         let byte = if i < filled {
             (at.wrapping_add(i as u64) % 251) as u8
         } else {
             255
         };
-        assert_eq!(rt; buf[i], byte);
+        assert_eq!(rt; buf[i], byte, "byte {i} of {len} at {at}");
     }
     Ok(())
 }
@@ -62,7 +66,8 @@ fn rows<T: Abort, D: ReadAt>(rt: &T, alloc: Global, dev: &mut D) -> Result<(), F
     assert_eq!(rt; reader.opened(), 1);
     for (place, n, opened) in ROWS {
         range(rt, alloc, &mut reader, place, Ok(n), n)?;
-        assert_eq!(rt; reader.opened(), opened);
+        let (at, len) = place;
+        assert_eq!(rt; reader.opened(), opened, "{len} bytes at {at}");
     }
     Ok(())
 }
@@ -101,7 +106,8 @@ fn each_opened_chunk_costs_one_read(rt: HostRuntime) -> Result<(), Fail> {
     let mut reader = RangeReader::open(alloc, &KEY, &mut dev, 9, 3)?;
     for (place, n, opened) in ROWS {
         range(&rt, alloc, &mut reader, place, Ok(n), n)?;
-        assert_eq!(rt; reads.get(), opened + 1);
+        let (at, len) = place;
+        assert_eq!(rt; reads.get(), opened + 1, "{len} bytes at {at}");
     }
     Ok(())
 }
@@ -133,9 +139,9 @@ fn failed_read_leaves_the_chunks_before_it(rt: HostRuntime) -> Result<(), Fail> 
                 )?;
                 range(&rt, alloc, &mut reader, whole, Ok(140_000), 140_000)?;
             }
-            Err(fault) => assert!(rt; failing < 3 && fault == StreamFault::Read),
+            Err(fault) => assert!(rt; failing < 3 && fault == StreamFault::Read, "read {failing}"),
         }
-        assert_eq!(rt; dev.failures(), 1);
+        assert_eq!(rt; dev.failures(), 1, "read {failing}");
     }
     Ok(())
 }
@@ -158,14 +164,14 @@ fn damaged_chunk_leaves_the_others_readable(rt: HostRuntime) -> Result<(), Fail>
         let mut dev = MemAt::new(bytes.as_slice());
         match RangeReader::open(alloc, &KEY, &mut dev, 9, 3) {
             Ok(mut reader) => {
-                assert!(rt; damaged < 2);
+                assert!(rt; damaged < 2, "chunk {damaged}");
                 for _ in 0..2 {
                     range(&rt, alloc, &mut reader, touching, Err(fault), 0)?;
                     range(&rt, alloc, &mut reader, other, Ok(65_536), 65_536)?;
                     range(&rt, alloc, &mut reader, (131_072, 8_928), Ok(8_928), 8_928)?;
                 }
             }
-            Err(met) => assert!(rt; damaged == 2 && met == fault),
+            Err(met) => assert!(rt; damaged == 2 && met == fault, "chunk {damaged}"),
         }
     }
     Ok(())
@@ -240,8 +246,8 @@ fn open_returns_the_first_fault(rt: HostRuntime) -> Result<(), Fail> {
     ] {
         let mut dev = MemAt::new(bytes.as_slice());
         match RangeReader::open(alloc, &KEY, &mut dev, from, max) {
-            Ok(_) => assert!(rt; false),
-            Err(met) => assert_eq!(rt; met, fault),
+            Ok(_) => assert!(rt; false, "{max} chunks from {from} on"),
+            Err(met) => assert_eq!(rt; met, fault, "{max} chunks from {from} on"),
         }
     }
     Ok(())
