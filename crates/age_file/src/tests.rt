@@ -13,8 +13,8 @@ use age_header::{MemSink, MemSource};
 use age_recipient::{
     FileKey, Identity, KeyIdentity, KeyRecipient, PassIdentity, PassRecipient, Recipient,
 };
-use devices::{Drops, Holds};
-use objects::Plug;
+use devices::{FailingSource, LimitedSink};
+use objects::ForeignRecipient;
 use std::alloc::{AllocError, Global};
 use std::test::Fail;
 
@@ -37,28 +37,28 @@ type Recipients = Vec<Box<dyn Recipient>>;
 type Identities = Vec<Box<dyn Identity>>;
 
 /// The passphrase's recipient, with work factor 10.
-fn with_passphrase(alloc: Global) -> Result<Recipients, Fail> {
+fn passphrase_recipients(alloc: Global) -> Result<Recipients, Fail> {
     let mut recipients: Recipients = Vec::new(alloc);
     recipients.push(Box::new(alloc, PassRecipient::new(alloc, PASS, SALT, 10)?)?)?;
     Ok(recipients)
 }
 
 /// The passphrase's identity.
-fn passphrase(alloc: Global) -> Result<Identities, Fail> {
+fn passphrase_identities(alloc: Global) -> Result<Identities, Fail> {
     let mut identities: Identities = Vec::new(alloc);
     identities.push(Box::new(alloc, PassIdentity::new(alloc, PASS, 22)?)?)?;
     Ok(identities)
 }
 
 /// A recipient of the key of 32 such bytes.
-fn with_key(alloc: Global, byte: u8) -> Result<Recipients, Fail> {
+fn key_recipients(alloc: Global, byte: u8) -> Result<Recipients, Fail> {
     let mut recipients: Recipients = Vec::new(alloc);
     recipients.push(Box::new(alloc, KeyRecipient::new([byte; 32], SALT))?)?;
     Ok(recipients)
 }
 
 /// The identity of the key of 32 such bytes.
-fn key_of(alloc: Global, byte: u8) -> Result<Identities, Fail> {
+fn key_identities(alloc: Global, byte: u8) -> Result<Identities, Fail> {
     let mut identities: Identities = Vec::new(alloc);
     identities.push(Box::new(alloc, KeyIdentity::new([byte; 32]))?)?;
     Ok(identities)
@@ -114,17 +114,17 @@ fn sevens(alloc: Global, len: usize) -> Result<Vec<u8>, AllocError> {
 
 /// A byte at a time in both directions, the last chunk being full.
 #[test]
-fn byte_by_byte(rt: HostRuntime) -> Result<(), Fail> {
+fn encrypt_and_decrypt_work_byte_by_byte(rt: HostRuntime) -> Result<(), Fail> {
     let alloc = rt.alloc();
     let limits = Limits::default();
     let plain = sevens(alloc, 65_536)?;
-    let recipients = with_passphrase(alloc)?;
+    let recipients = passphrase_recipients(alloc)?;
     let done = done(65_536);
     let (answer, file) = encrypted(alloc, plain.as_slice(), &recipients, &limits);
     assert!(rt; answer == done);
     assert_eq!(rt; file.len(), 65_718);
-    let mut source = Drops::new(plain.as_slice(), 1, 0);
-    let mut sink = Holds::new(Vec::new(alloc), 100_000);
+    let mut source = FailingSource::new(plain.as_slice(), 1, 0);
+    let mut sink = LimitedSink::new(Vec::new(alloc), 100_000);
     let answer = encrypt(
         alloc,
         &mut source,
@@ -135,9 +135,9 @@ fn byte_by_byte(rt: HostRuntime) -> Result<(), Fail> {
     );
     assert!(rt; answer == done);
     assert!(rt; sink.bytes == file);
-    let identities = passphrase(alloc)?;
-    let mut source = Drops::new(file.as_slice(), 1, 0);
-    let mut sink = Holds::new(Vec::new(alloc), 100_000);
+    let identities = passphrase_identities(alloc)?;
+    let mut source = FailingSource::new(file.as_slice(), 1, 0);
+    let mut sink = LimitedSink::new(Vec::new(alloc), 100_000);
     let answer = decrypt(
         alloc,
         &mut source,
@@ -152,33 +152,34 @@ fn byte_by_byte(rt: HostRuntime) -> Result<(), Fail> {
 
 /// The numbers of chunks that `Limits` may hold, at the ends of their range.
 #[test]
-fn chunk_limits(rt: HostRuntime) -> Result<(), Fail> {
+fn chunk_limit_is_checked_at_the_ends_of_its_range(rt: HostRuntime) -> Result<(), Fail> {
     for (max_chunks, is_allowed) in [
         (0, false),
         (1, true),
         (309_485_009_821_345_068_724_781_056, true),
         (309_485_009_821_345_068_724_781_057, false),
     ] {
-        assert_eq!(rt; Limits::new(65_536, max_chunks).is_some(), is_allowed);
+        let limits = Limits::new(65_536, max_chunks);
+        assert_eq!(rt; limits.is_some(), is_allowed, "{max_chunks} chunks");
     }
     Ok(())
 }
 
 /// More chunks than are allowed, in both directions.
 #[test]
-fn too_many_chunks(rt: HostRuntime) -> Result<(), Fail> {
+fn too_many_chunks_are_refused_in_both_directions(rt: HostRuntime) -> Result<(), Fail> {
     let alloc = rt.alloc();
     let Some(one) = Limits::new(65_536, 1) else {
         unreachable!();
     };
     let plain = sevens(alloc, 65_537)?;
-    let recipients = with_key(alloc, 3)?;
+    let recipients = key_recipients(alloc, 3)?;
     let (answer, begun) = encrypted(alloc, plain.as_slice(), &recipients, &one);
     assert!(rt; answer == Err(Fault::TooManyChunks));
     assert_eq!(rt; begun.len(), 172);
     let (_, file) = encrypted(alloc, plain.as_slice(), &recipients, &Limits::default());
     assert!(rt; file.as_slice().starts_with(begun.as_slice()));
-    let (answer, front) = decrypted(alloc, file.as_slice(), &key_of(alloc, 3)?, &one);
+    let (answer, front) = decrypted(alloc, file.as_slice(), &key_identities(alloc, 3)?, &one);
     assert!(rt; answer == Err(Fault::TooManyChunks));
     assert_eq!(rt; front.len(), 65_536);
     Ok(())
@@ -187,15 +188,20 @@ fn too_many_chunks(rt: HostRuntime) -> Result<(), Fail> {
 /// A damaged first chunk: nothing is written, and the source is read no further than one byte into
 /// the second.
 #[test]
-fn damaged_first_chunk(rt: HostRuntime) -> Result<(), Fail> {
+fn damaged_first_chunk_writes_nothing(rt: HostRuntime) -> Result<(), Fail> {
     let alloc = rt.alloc();
     let limits = Limits::default();
     let plain = sevens(alloc, 131_073)?;
-    let (_, file) = encrypted(alloc, plain.as_slice(), &with_passphrase(alloc)?, &limits);
+    let (_, file) = encrypted(
+        alloc,
+        plain.as_slice(),
+        &passphrase_recipients(alloc)?,
+        &limits,
+    );
     assert_eq!(rt; file.len(), 131_287);
     let mut file = file;
     file.as_mut_slice()[166] ^= 1;
-    let identities = passphrase(alloc)?;
+    let identities = passphrase_identities(alloc)?;
     let mut source = MemSource::new(file.as_slice());
     let mut out = MemSink::new(Vec::new(alloc));
     let answer = decrypt(alloc, &mut source, &mut out, identities.as_slice(), &limits);
@@ -207,18 +213,23 @@ fn damaged_first_chunk(rt: HostRuntime) -> Result<(), Fail> {
 
 /// Several keyed recipients, and identities with and without one of their keys.
 #[test]
-fn several_recipients(rt: HostRuntime) -> Result<(), Fail> {
+fn each_of_several_recipients_decrypts(rt: HostRuntime) -> Result<(), Fail> {
     let alloc = rt.alloc();
     let limits = Limits::default();
     let done = done(0);
-    let mut two = with_key(alloc, 3)?;
+    let mut two = key_recipients(alloc, 3)?;
     two.push(Box::new(alloc, KeyRecipient::new([4; 32], SALT))?)?;
     let (answer, file) = encrypted(alloc, b"", &two, &limits);
     assert!(rt; answer == done);
     assert_eq!(rt; file.len(), 274);
     for (byte, expected) in [(3, done), (4, done), (5, Err(Fault::WrongKey))] {
-        let (answer, _) = decrypted(alloc, file.as_slice(), &key_of(alloc, byte)?, &limits);
-        assert!(rt; answer == expected);
+        let (answer, _) = decrypted(
+            alloc,
+            file.as_slice(),
+            &key_identities(alloc, byte)?,
+            &limits,
+        );
+        assert!(rt; answer == expected, "key of bytes {byte}");
     }
     let (answer, _) = decrypted(alloc, file.as_slice(), &Vec::new(alloc), &limits);
     assert!(rt; answer == Err(Fault::NoMatch));
@@ -227,12 +238,12 @@ fn several_recipients(rt: HostRuntime) -> Result<(), Fail> {
 
 /// Stanzas of a caller's types go through both directions as they are.
 #[test]
-fn foreign_stanzas(rt: HostRuntime) -> Result<(), Fail> {
+fn foreign_stanzas_are_written_and_skipped(rt: HostRuntime) -> Result<(), Fail> {
     let alloc = rt.alloc();
     let limits = Limits::default();
     let done = done(0);
     let mut recipients: Recipients = Vec::new(alloc);
-    recipients.push(Box::new(alloc, Plug)?)?;
+    recipients.push(Box::new(alloc, ForeignRecipient)?)?;
     recipients.push(Box::new(alloc, KeyRecipient::new([3; 32], SALT))?)?;
     let (answer, file) = encrypted(alloc, b"", &recipients, &limits);
     assert!(rt; answer == done);
@@ -240,13 +251,13 @@ fn foreign_stanzas(rt: HostRuntime) -> Result<(), Fail> {
     let plug =
         b"age-encryption.org/v1\n-> plug\nAAAAAAAAAAAAAAAAAAAAAAAAAAAAAAAAAAAAAAAAAAAAAAAAAAAAAAAAAAAAAAAA\n\n-> ";
     assert!(rt; file.as_slice().starts_with(plug));
-    let (answer, _) = decrypted(alloc, file.as_slice(), &key_of(alloc, 3)?, &limits);
+    let (answer, _) = decrypted(alloc, file.as_slice(), &key_identities(alloc, 3)?, &limits);
     assert!(rt; answer == done);
     // without the three lines of the first stanza
     let mut cut = Vec::from_slice(alloc, b"age-encryption.org/v1\n-> ")?;
     let (_, rest) = file.as_slice().split_at(plug.len().min(file.len()));
     cut.extend_from_slice(rest)?;
-    let (answer, _) = decrypted(alloc, cut.as_slice(), &key_of(alloc, 3)?, &limits);
+    let (answer, _) = decrypted(alloc, cut.as_slice(), &key_identities(alloc, 3)?, &limits);
     assert!(rt; answer == Err(Fault::BadMac));
     Ok(())
 }

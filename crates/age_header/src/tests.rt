@@ -57,50 +57,95 @@ fn read(alloc: Global, text: &[u8], max: usize) -> Result<(usize, usize), Header
 fn expect_verdicts(
     rt: &impl Abort,
     alloc: Global,
-    rows: &[(&[&[u8]], Result<(usize, usize), HeaderFault>)],
+    rows: &[(&str, &[&[u8]], Result<(usize, usize), HeaderFault>)],
 ) -> Result<(), Fail> {
-    for (pieces, wanted) in rows {
+    for (name, pieces, wanted) in rows {
         let text = joined(alloc, pieces)?;
-        assert!(rt; read(alloc, text.as_slice(), 65536) == *wanted);
+        assert!(rt; read(alloc, text.as_slice(), 65536) == *wanted, "{name}");
     }
     Ok(())
 }
 
 #[test]
-fn headers_and_bad_lines(rt: HostRuntime) -> Result<(), Fail> {
+fn reader_accepts_headers_and_numbers_bad_lines(rt: HostRuntime) -> Result<(), Fail> {
     let bad = |n| Err(HeaderFault::BadLine(n));
     expect_verdicts(
         &rt,
         rt.alloc(),
         &[
-            (&[VERSION, b"-> a\n\n", END], Ok((1, 0))),
-            (&[VERSION, b"-> a\n\n", END, b"xyz"], Ok((1, 3))),
-            (&[VERSION, b"-> a\nAA\n", END], Ok((1, 0))),
-            (&[VERSION, b"-> a\n", FULL, b"\n\n", END], Ok((1, 0))),
+            ("one stanza", &[VERSION, b"-> a\n\n", END], Ok((1, 0))),
             (
+                "bytes after the header",
+                &[VERSION, b"-> a\n\n", END, b"xyz"],
+                Ok((1, 3)),
+            ),
+            (
+                "body of one byte",
+                &[VERSION, b"-> a\nAA\n", END],
+                Ok((1, 0)),
+            ),
+            (
+                "full body line",
+                &[VERSION, b"-> a\n", FULL, b"\n\n", END],
+                Ok((1, 0)),
+            ),
+            (
+                "two scrypt stanzas",
                 &[VERSION, b"-> scrypt A\n\n-> scrypt B\n\n", END],
                 Ok((2, 0)),
             ),
-            (&[VERSION, b"-> a\nAB\n", END], bad(3)),
-            (&[VERSION, b"-> a\nA\n", END], bad(3)),
-            (&[VERSION, b"->  a\n\n", END], bad(2)),
-            (&[VERSION, b"-> a \n\n", END], bad(2)),
-            (&[VERSION, b"->\n\n", END], bad(2)),
-            (&[VERSION, b"-> a\r\n\n", END], bad(2)),
-            (&[VERSION, b"-> a\n", FULL, b"A\n", END], bad(3)),
-            (&[VERSION, b"-> a\n", FULL, b"\n", END], bad(4)),
-            (&[VERSION, b"-> a\n\n", BAD_END], bad(4)),
-            (&[VERSION, END], bad(2)),
-            (&[b""], Err(HeaderFault::Truncated)),
-            (&[b"age-enc"], Err(HeaderFault::Truncated)),
-            (&[b"age-encryption.org/v2\n"], Err(HeaderFault::NotAge)),
-            (&[b"age-encryption.org/v1\r\n"], Err(HeaderFault::NotAge)),
+            (
+                "trailing bits in a body",
+                &[VERSION, b"-> a\nAB\n", END],
+                bad(3),
+            ),
+            (
+                "one base64 character",
+                &[VERSION, b"-> a\nA\n", END],
+                bad(3),
+            ),
+            ("two spaces", &[VERSION, b"->  a\n\n", END], bad(2)),
+            ("space at the end", &[VERSION, b"-> a \n\n", END], bad(2)),
+            ("no argument", &[VERSION, b"->\n\n", END], bad(2)),
+            ("carriage return", &[VERSION, b"-> a\r\n\n", END], bad(2)),
+            (
+                "body line of 65",
+                &[VERSION, b"-> a\n", FULL, b"A\n", END],
+                bad(3),
+            ),
+            (
+                "no last body line",
+                &[VERSION, b"-> a\n", FULL, b"\n", END],
+                bad(4),
+            ),
+            (
+                "trailing bits in the MAC",
+                &[VERSION, b"-> a\n\n", BAD_END],
+                bad(4),
+            ),
+            ("no stanza", &[VERSION, END], bad(2)),
+            ("empty", &[b""], Err(HeaderFault::Truncated)),
+            (
+                "truncated version line",
+                &[b"age-enc"],
+                Err(HeaderFault::Truncated),
+            ),
+            (
+                "another version",
+                &[b"age-encryption.org/v2\n"],
+                Err(HeaderFault::NotAge),
+            ),
+            (
+                "carriage return in the version line",
+                &[b"age-encryption.org/v1\r\n"],
+                Err(HeaderFault::NotAge),
+            ),
         ],
     )
 }
 
 #[test]
-fn limits(rt: HostRuntime) -> Result<(), Fail> {
+fn reader_keeps_to_the_header_limit(rt: HostRuntime) -> Result<(), Fail> {
     let alloc = rt.alloc();
     let cut = Err(HeaderFault::Truncated);
     let large = Err(HeaderFault::TooLarge);
@@ -131,7 +176,7 @@ fn limits(rt: HostRuntime) -> Result<(), Fail> {
 }
 
 #[test]
-fn many_arguments(rt: HostRuntime) -> Result<(), Fail> {
+fn stanza_of_30000_arguments_is_read(rt: HostRuntime) -> Result<(), Fail> {
     let alloc = rt.alloc();
     let mut text = joined(alloc, &[VERSION, b"->"])?;
     for _ in 0..30_000 {
@@ -180,13 +225,16 @@ fn expect_size(
     size: usize,
 ) -> Result<(), Fail> {
     let text = written(rt, alloc, stanzas)?;
-    assert_eq!(rt; text.len(), size);
-    assert!(rt; read(alloc, text.as_slice(), size) == Ok((stanzas.len(), 0)));
+    assert_eq!(rt; text.len(), size, "header of {size} bytes");
+    assert!(rt;
+        read(alloc, text.as_slice(), size) == Ok((stanzas.len(), 0)),
+        "header of {size} bytes"
+    );
     Ok(())
 }
 
 #[test]
-fn written_headers(rt: HostRuntime) -> Result<(), Fail> {
+fn written_headers_are_read_back(rt: HostRuntime) -> Result<(), Fail> {
     let alloc = rt.alloc();
     expect_size(&rt, alloc, &[(&["a"], 0)], 76)?;
     expect_size(&rt, alloc, &[(&["scrypt", SALT, "9"], 32)], 149)?;
@@ -201,7 +249,7 @@ fn written_headers(rt: HostRuntime) -> Result<(), Fail> {
 }
 
 #[test]
-fn signed_text_and_mac(rt: HostRuntime) -> Result<(), Fail> {
+fn mac_matches_another_implementation(rt: HostRuntime) -> Result<(), Fail> {
     let alloc = rt.alloc();
     let mut stanzas = Vec::new(alloc);
     let Ok(stanza) = Stanza::new(alloc, &["scrypt", "AAAAAAAAAAAAAAAAAAAAAA", "18"], &[0; 32])
@@ -229,23 +277,32 @@ fn signed_text_and_mac(rt: HostRuntime) -> Result<(), Fail> {
 }
 
 #[test]
-fn refused_stanzas(rt: HostRuntime) -> Result<(), Fail> {
+fn invalid_stanzas_are_refused(rt: HostRuntime) -> Result<(), Fail> {
     let alloc = rt.alloc();
-    let rows: [(&[&str], StanzaError); 4] = [
-        (&[], StanzaError::NoArgs),
-        (&["a", "", "b c"], StanzaError::EmptyArg(1)),
-        (&["a", "b c", ""], StanzaError::BadByte(1)),
-        (&["é"], StanzaError::BadByte(0)),
+    let rows: [(&str, &[&str], StanzaError); 4] = [
+        ("no argument", &[], StanzaError::NoArgs),
+        (
+            "empty argument",
+            &["a", "", "b c"],
+            StanzaError::EmptyArg(1),
+        ),
+        (
+            "space in an argument",
+            &["a", "b c", ""],
+            StanzaError::BadByte(1),
+        ),
+        ("letter beyond ASCII", &["é"], StanzaError::BadByte(0)),
     ];
-    for (args, wanted) in rows {
-        assert!(rt; matches!(Stanza::new(alloc, args, b""), Err(error) if error == wanted));
+    for (name, args, wanted) in rows {
+        let error = Stanza::new(alloc, args, b"").err();
+        assert!(rt; error == Some(wanted), "{name}");
     }
     assert!(rt; Header::new(Vec::new(alloc), [0; 32]).is_none());
     Ok(())
 }
 
 #[test]
-fn devices_that_fail(rt: HostRuntime) -> Result<(), Fail> {
+fn devices_count_their_failures(rt: HostRuntime) -> Result<(), Fail> {
     let alloc = rt.alloc();
     let mut room = [0u8; 100];
     let mut sink = WriteSink::new(room.as_mut_slice());

@@ -11,7 +11,7 @@ use std::alloc::{AllocError, Global};
 
 // RFC 4231, test cases 1 and 2.
 #[test]
-fn hmac_vectors(rt: HostRuntime) {
+fn hmac_matches_rfc_4231(rt: HostRuntime) {
     assert_eq!(rt;
         hmac(&[0x0b; 20], &[b"Hi ", b"", b"There"]),
         [
@@ -44,7 +44,7 @@ fn mac_by_formula(block_key: &[u8; 64], text: &[u8]) -> [u8; 32] {
 }
 
 #[test]
-fn hmac_of_keys_about_one_block(rt: HostRuntime) {
+fn hmac_hashes_keys_longer_than_a_block(rt: HostRuntime) {
     let key = [0x61; 65];
     let mut block_key = [0x61; 64];
     assert_eq!(rt;
@@ -66,7 +66,7 @@ fn case_1(out: &mut [u8])
 }
 
 #[test]
-fn hkdf_vector(rt: HostRuntime) {
+fn hkdf_matches_rfc_5869(rt: HostRuntime) {
     let mut out = [0u8; 42];
     case_1(&mut out);
     assert_eq!(rt;
@@ -80,7 +80,7 @@ fn hkdf_vector(rt: HostRuntime) {
 }
 
 #[test]
-fn hkdf_outputs_begin_alike(rt: HostRuntime) {
+fn shorter_hkdf_outputs_are_prefixes(rt: HostRuntime) {
     let mut longest = [0u8; 8160];
     case_1(&mut longest);
     assert_eq!(rt;
@@ -100,7 +100,7 @@ fn hkdf_outputs_begin_alike(rt: HostRuntime) {
 
 // RFC 7914, section 11, and hashlib.
 #[test]
-fn pbkdf2_vectors(rt: HostRuntime) {
+fn pbkdf2_matches_rfc_7914(rt: HostRuntime) {
     let mut out = [0u8; 64];
     pbkdf2(b"passwd", b"salt", 1, &mut out);
     assert_eq!(rt;
@@ -127,7 +127,7 @@ fn pbkdf2_vectors(rt: HostRuntime) {
 
 // RFC 7914, section 8.
 #[test]
-fn salsa8_vector(rt: HostRuntime) {
+fn salsa8_matches_rfc_7914(rt: HostRuntime) {
     let mut words = [
         0x219a_877e,
         0x86c9_3e4f,
@@ -208,7 +208,7 @@ const BLOCKS: [u32; 32] = [
 
 // RFC 7914, section 9.
 #[test]
-fn block_mix_vector(rt: HostRuntime) {
+fn block_mix_matches_rfc_7914(rt: HostRuntime) {
     let mut mixed = [0u32; 32];
     block_mix(&BLOCKS, &mut mixed, 1);
     assert_eq!(rt;
@@ -252,7 +252,7 @@ fn block_mix_vector(rt: HostRuntime) {
 
 // RFC 7914, section 10, with N = 16.
 #[test]
-fn romix_vector(rt: HostRuntime) {
+fn romix_matches_rfc_7914(rt: HostRuntime) {
     let mut table = [0u32; 512];
     let mut x = BLOCKS;
     romix(&mut table, &mut x, &mut [0u32; 32], 1, 4);
@@ -312,7 +312,7 @@ fn derived(
 
 // The largest r and p, which hashlib takes too.
 #[test]
-fn scrypt_of_large_blocks(rt: HostRuntime) -> Result<(), AllocError> {
+fn scrypt_matches_hashlib_at_the_largest_r_and_p(rt: HostRuntime) -> Result<(), AllocError> {
     assert_eq!(rt;
         derived(rt.alloc(), b"password", b"NaCl", (1, 32, 32))?,
         Some([
@@ -328,7 +328,7 @@ fn scrypt_of_large_blocks(rt: HostRuntime) -> Result<(), AllocError> {
 
 // RFC 7914, section 12, but for the vector that takes 1 GiB.
 #[test]
-fn scrypt_vectors(rt: HostRuntime) -> Result<(), AllocError> {
+fn scrypt_matches_rfc_7914(rt: HostRuntime) -> Result<(), AllocError> {
     let alloc = rt.alloc();
     assert_eq!(rt;
         derived(alloc, b"", b"", (4, 1, 1))?,
@@ -364,7 +364,7 @@ fn scrypt_vectors(rt: HostRuntime) -> Result<(), AllocError> {
 }
 
 #[test]
-fn scrypt_params(rt: HostRuntime) {
+fn scrypt_params_are_checked_at_their_bounds(rt: HostRuntime) {
     for (given, work_len) in [
         ((4, 1, 1), Some(608)),
         ((14, 8, 1), Some(4_195_072)),
@@ -380,17 +380,17 @@ fn scrypt_params(rt: HostRuntime) {
         let (log_n, r, p) = given;
         match ScryptParams::new(log_n, r, p) {
             Some(params) => {
-                assert_eq!(rt; Some(params.work_len()), work_len);
+                assert_eq!(rt; Some(params.work_len()), work_len, "{log_n}, {r}, {p}");
                 assert_eq!(rt; (params.log_n(), params.r(), params.p()), given);
             }
-            None => assert_eq!(rt; None, work_len),
+            None => assert_eq!(rt; None, work_len, "{log_n}, {r}, {p}"),
         }
     }
 }
 
 // What the work space held does not matter; the value is by hashlib.
 #[test]
-fn scrypt_with_any_work_space(rt: HostRuntime) -> Result<(), AllocError> {
+fn scrypt_overwrites_its_work_space(rt: HostRuntime) -> Result<(), AllocError> {
     let params = ScryptParams::new(3, 2, 3).expect(&rt, "in range");
     for held in [0, u32::MAX] {
         let mut work = vec![in rt.alloc(); held; params.work_len()]?;
@@ -402,7 +402,8 @@ fn scrypt_with_any_work_space(rt: HostRuntime) -> Result<(), AllocError> {
                 0x23, 0x42, 0xe3, 0xa7, 0x1f, 0x54, 0x0c, 0x3e, 0x90, 0xbf, 0xb3, 0x2d, 0x81, 0x7d,
                 0x47, 0xb0, 0x46, 0xc3, 0x66, 0x19, 0xad, 0xf9, 0xec, 0x09, 0x42, 0x14, 0x55, 0x49,
                 0xed, 0x5f, 0xc0, 0x83, 0xfa
-            ]
+            ],
+            "work space of {held}"
         );
     }
     Ok(())

@@ -48,72 +48,106 @@ fn answer(
 /// The checks, in their order: each stanza is wrong in what is named, and often in what is looked
 /// at later too.
 #[test]
-fn malformed_stanzas(rt: HostRuntime) -> Result<(), Fail> {
+fn scrypt_stanza_is_checked_in_order(rt: HostRuntime) -> Result<(), Fail> {
     let short = &BODY[..31];
     let padded = "ICEiIyQlJicoKSorLC0uLw==";
     let cut = "ICEiIyQlJicoKSorLC0uL";
     let forty = "1000000000000000000000000000000000000000";
-    let malformed: [(&[&str], &[u8], StanzaFault); 14] = [
-        (&["scrypt", cut], &BODY, StanzaFault::ArgCount),
-        (&["scrypt", cut, "015", "x"], short, StanzaFault::ArgCount),
-        (&["scrypt", cut, "015"], short, StanzaFault::Salt),
-        (&["scrypt", padded, "10"], &BODY, StanzaFault::Salt),
+    let malformed: [(&str, &[&str], &[u8], StanzaFault); 14] = [
         (
+            "two arguments",
+            &["scrypt", cut],
+            &BODY,
+            StanzaFault::ArgCount,
+        ),
+        (
+            "four arguments",
+            &["scrypt", cut, "015", "x"],
+            short,
+            StanzaFault::ArgCount,
+        ),
+        (
+            "salt of 15 bytes and 6 bits",
+            &["scrypt", cut, "015"],
+            short,
+            StanzaFault::Salt,
+        ),
+        (
+            "padded salt",
+            &["scrypt", padded, "10"],
+            &BODY,
+            StanzaFault::Salt,
+        ),
+        (
+            "salt of 15 bytes",
             &["scrypt", "AAAAAAAAAAAAAAAAAAAA", "10"],
             &BODY,
             StanzaFault::Salt,
         ),
         (
+            "leading zero",
             &["scrypt", SALT_TEXT, "015"],
             short,
             StanzaFault::WorkFactorText,
         ),
         (
+            "zero",
             &["scrypt", SALT_TEXT, "0"],
             &BODY,
             StanzaFault::WorkFactorText,
         ),
         (
+            "sign",
             &["scrypt", SALT_TEXT, "+9"],
             &BODY,
             StanzaFault::WorkFactorText,
         ),
         (
+            "letter",
             &["scrypt", SALT_TEXT, "1a"],
             &BODY,
             StanzaFault::WorkFactorText,
         ),
         (
+            "23",
             &["scrypt", SALT_TEXT, "23"],
             short,
             StanzaFault::WorkFactorTooHigh,
         ),
         (
+            "2^8 + 2",
             &["scrypt", SALT_TEXT, "258"],
             short,
             StanzaFault::WorkFactorTooHigh,
         ),
         (
+            "2^64 + 2",
             &["scrypt", SALT_TEXT, "18446744073709551618"],
             &BODY,
             StanzaFault::WorkFactorTooHigh,
         ),
         (
+            "40 digits",
             &["scrypt", SALT_TEXT, forty],
             &BODY,
             StanzaFault::WorkFactorTooHigh,
         ),
-        (&["scrypt", SALT_TEXT, "10"], short, StanzaFault::BodyLength),
+        (
+            "short body",
+            &["scrypt", SALT_TEXT, "10"],
+            short,
+            StanzaFault::BodyLength,
+        ),
     ];
-    for (args, body, fault) in malformed {
+    for (name, args, body, fault) in malformed {
         let found = answer(&rt, rt.alloc(), b"correct horse", args, body)?;
-        assert!(rt; found == Unwrapped::Malformed(fault));
+        assert!(rt; found == Unwrapped::Malformed(fault), "{name}");
     }
     Ok(())
 }
 
 #[test]
-fn long_work_factors(rt: HostRuntime) -> Result<(), Fail> {
+fn long_work_factors_are_malformed(rt: HostRuntime) -> Result<(), Fail> {
     let alloc = rt.alloc();
     for (first, fault) in [
         ("1", StanzaFault::WorkFactorTooHigh),
@@ -125,13 +159,13 @@ fn long_work_factors(rt: HostRuntime) -> Result<(), Fail> {
         }
         let args = ["scrypt", SALT_TEXT, text.as_str()];
         let found = answer(&rt, alloc, b"", &args, &BODY)?;
-        assert!(rt; found == Unwrapped::Malformed(fault));
+        assert!(rt; found == Unwrapped::Malformed(fault), "first digit {first}");
     }
     Ok(())
 }
 
 #[test]
-fn wrapped_and_unwrapped(rt: HostRuntime) -> Result<(), Fail> {
+fn passphrase_wraps_and_unwraps_the_known_stanza(rt: HostRuntime) -> Result<(), Fail> {
     let alloc = rt.alloc();
     let recipient = PassRecipient::new(alloc, b"correct horse", SALT, 10)?;
     let stanzas = recipient.wrap(alloc, &KEY)?;
@@ -156,7 +190,7 @@ fn wrapped_and_unwrapped(rt: HostRuntime) -> Result<(), Fail> {
 
 /// A stanza that `age -p` made, with the file key that Python found in it.
 #[test]
-fn stanza_of_another_tool(rt: HostRuntime) -> Result<(), Fail> {
+fn passphrase_unwraps_a_stanza_of_age(rt: HostRuntime) -> Result<(), Fail> {
     let body = [
         0xfa, 0x87, 0x1f, 0x34, 0xa3, 0x2c, 0x47, 0x83, 0xa0, 0x21, 0xe3, 0x61, 0x4e, 0x6d, 0xdc,
         0x97, 0xec, 0x05, 0xc0, 0x20, 0xb0, 0xd5, 0x88, 0xaa, 0x4d, 0x0d, 0xb2, 0xd7, 0xa5, 0x43,
@@ -179,7 +213,7 @@ fn gives_back<M: Matched>(alloc: Global, pair: &M) -> Result<bool, Fail> {
 }
 
 #[test]
-fn pairs(rt: HostRuntime) -> Result<(), Fail> {
+fn passphrase_pair_unwraps_what_it_wraps(rt: HostRuntime) -> Result<(), Fail> {
     let alloc = rt.alloc();
     let long = vec![in alloc; 7u8; 65_536]?;
     assert!(rt;
@@ -200,7 +234,7 @@ fn pairs(rt: HostRuntime) -> Result<(), Fail> {
 }
 
 #[test]
-fn texts_of_faults(rt: HostRuntime) -> Result<(), Fail> {
+fn each_stanza_fault_has_its_text(rt: HostRuntime) -> Result<(), Fail> {
     for (fault, text) in [
         (StanzaFault::ArgCount, "argument count"),
         (StanzaFault::Salt, "salt"),
@@ -209,7 +243,7 @@ fn texts_of_faults(rt: HostRuntime) -> Result<(), Fail> {
         (StanzaFault::BodyLength, "body length"),
         (StanzaFault::Other(7), "code 7"),
     ] {
-        assert_eq!(rt; format!(in rt.alloc(); "{fault}")?.as_str(), text);
+        assert_eq!(rt; format!(in rt.alloc(); "{fault}")?.as_str(), text, "{text}");
     }
     Ok(())
 }

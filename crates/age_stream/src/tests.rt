@@ -84,7 +84,7 @@ fn read(alloc: Global, payload: &[u8], most: usize) -> Result<(Vec<u8>, u64), Fa
 
 /// The nonces of numbers about the ends of 32, 64 and 88 bits.
 #[test]
-fn nonces(rt: HostRuntime) -> Result<(), Fail> {
+fn chunk_nonce_is_the_index_and_the_last_flag(rt: HostRuntime) -> Result<(), Fail> {
     assert_eq!(rt; chunk_nonce(0, true), [0, 0, 0, 0, 0, 0, 0, 0, 0, 0, 0, 1]);
     assert_eq!(rt;
         chunk_nonce(1 << 32, false),
@@ -104,7 +104,7 @@ fn nonces(rt: HostRuntime) -> Result<(), Fail> {
 
 /// The empty payload, by both constructors; an empty piece writes nothing.
 #[test]
-fn empty_payloads(rt: HostRuntime) -> Result<(), Fail> {
+fn empty_plaintext_is_one_empty_chunk(rt: HostRuntime) -> Result<(), Fail> {
     let alloc = rt.alloc();
     let done = Ok(Done {
         bytes: 0,
@@ -126,7 +126,7 @@ fn empty_payloads(rt: HostRuntime) -> Result<(), Fail> {
 
 /// A writer that is abandoned after an empty piece has written the nonce alone.
 #[test]
-fn abandoned_writer(rt: HostRuntime) -> Result<(), Fail> {
+fn abandoned_writer_has_written_only_the_nonce(rt: HostRuntime) -> Result<(), Fail> {
     let alloc = rt.alloc();
     let mut sink = MemSink::new(Vec::new(alloc));
     let mut writer = StreamWriter::new(alloc, &KEY, &NONCE, &mut sink, MOST)?;
@@ -139,7 +139,7 @@ fn abandoned_writer(rt: HostRuntime) -> Result<(), Fail> {
 
 /// Of the empty payload one empty chunk is lent, and then none.
 #[test]
-fn empty_chunk(rt: HostRuntime) -> Result<(), Fail> {
+fn empty_payload_has_one_empty_chunk(rt: HostRuntime) -> Result<(), Fail> {
     let mut source = MemSource::new(&EMPTY);
     let mut reader = StreamReader::new(rt.alloc(), &KEY, &mut source, 1)?;
     assert!(rt; reader.next_chunk()?.is_some_and(|chunk| chunk.is_empty()));
@@ -150,21 +150,21 @@ fn empty_chunk(rt: HostRuntime) -> Result<(), Fail> {
 
 /// A plaintext of three chunks, written in pieces of other sizes, and read back from short reads.
 #[test]
-fn pieces_of_other_sizes(rt: HostRuntime) -> Result<(), Fail> {
+fn pieces_of_any_size_read_back(rt: HostRuntime) -> Result<(), Fail> {
     let alloc = rt.alloc();
     let plain = plain_of(alloc, 131_073)?;
     for size in [1_000, 65_537] {
         let (_, payload) = written(alloc, plain.as_slice(), size)?;
         let (text, chunks) = read(alloc, payload.as_slice(), 65_551)?;
-        assert!(rt; text == plain);
-        assert_eq!(rt; chunks, 3);
+        assert!(rt; text == plain, "pieces of {size} bytes");
+        assert_eq!(rt; chunks, 3, "pieces of {size} bytes");
     }
     Ok(())
 }
 
 /// How many chunks a plaintext has about a chunk's end, and how long its payload is.
 #[test]
-fn chunk_counts(rt: HostRuntime) -> Result<(), Fail> {
+fn chunks_are_counted_at_their_ends(rt: HostRuntime) -> Result<(), Fail> {
     let alloc = rt.alloc();
     for (len, chunks) in [
         (65_535, 1),
@@ -176,8 +176,12 @@ fn chunk_counts(rt: HostRuntime) -> Result<(), Fail> {
         let plain = sevens(alloc, len)?;
         let (done, payload) = written(alloc, plain.as_slice(), len)?;
         let bytes = len as u128;
-        assert!(rt; done == Ok(Done { bytes, chunks }));
-        assert_eq!(rt; payload.len() as u128, 16 + bytes + 16 * chunks);
+        assert!(rt; done == Ok(Done { bytes, chunks }), "{len} bytes");
+        assert_eq!(rt;
+            payload.len() as u128,
+            16 + bytes + 16 * chunks,
+            "{len} bytes"
+        );
         assert!(rt; len < 131_073 || payload.as_slice().ends_with(&THIRD_CHUNK));
     }
     Ok(())
@@ -185,7 +189,7 @@ fn chunk_counts(rt: HostRuntime) -> Result<(), Fail> {
 
 /// A failed write is returned again, and the sink isn't asked again.
 #[test]
-fn kept_write_fault(rt: HostRuntime) -> Result<(), Fail> {
+fn writer_returns_a_failed_write_again(rt: HostRuntime) -> Result<(), Fail> {
     let alloc = rt.alloc();
     let plain = sevens(alloc, 65_537)?;
     let mut sink = Full::new(16);

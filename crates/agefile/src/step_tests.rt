@@ -53,7 +53,7 @@ fn is_answer(code: u32, report: &Report, wanted: u32, len: u64) -> bool {
 }
 
 #[test]
-fn written_in_steps(rt: HostRuntime) -> Result<(), Fail> {
+fn writer_writes_the_file_of_encrypt(rt: HostRuntime) -> Result<(), Fail> {
     let (mut report, mut writer) = (Report::default(), writer());
     let (mut file, mut whole) = ([0; 193], [0; 193]);
     let (head, chunk) = file.split_at_mut(172);
@@ -75,7 +75,7 @@ fn written_in_steps(rt: HostRuntime) -> Result<(), Fail> {
 }
 
 #[test]
-fn read_in_steps(rt: HostRuntime) -> Result<(), Fail> {
+fn reader_reads_the_text_of_decrypt(rt: HostRuntime) -> Result<(), Fail> {
     let (mut report, mut reader) = (Report::default(), reader());
     let (mut file, mut text) = ([0; 193], [0; 5]);
     let code = agefile_encrypt_key(rt.alloc(), b"hello", &KEY, &SEED, &mut file, &mut report);
@@ -97,7 +97,7 @@ fn read_in_steps(rt: HostRuntime) -> Result<(), Fail> {
 }
 
 #[test]
-fn passphrases_written_in_steps(rt: HostRuntime) -> Result<(), Fail> {
+fn passphrase_writer_refuses_bad_arguments(rt: HostRuntime) -> Result<(), Fail> {
     let (mut report, mut writer) = (Report::default(), writer());
     let (mut out, mut small) = ([0; 256], [0; 100]);
     let code = agefile_writer_open_passphrase(
@@ -125,7 +125,7 @@ fn passphrases_written_in_steps(rt: HostRuntime) -> Result<(), Fail> {
 }
 
 #[test]
-fn passphrases_read_in_steps(rt: HostRuntime) -> Result<(), Fail> {
+fn passphrase_reader_refuses_and_reads(rt: HostRuntime) -> Result<(), Fail> {
     let (mut report, mut reader) = (Report::default(), reader());
     let mut out = [0; 186];
     let code = agefile_encrypt_passphrase(
@@ -177,7 +177,7 @@ fn passphrases_read_in_steps(rt: HostRuntime) -> Result<(), Fail> {
 }
 
 #[test]
-fn two_chunks_in_steps(rt: HostRuntime) -> Result<(), Fail> {
+fn reader_reads_two_chunks_of_writer(rt: HostRuntime) -> Result<(), Fail> {
     let (mut report, mut writer, mut reader) = (Report::default(), writer(), reader());
     let mut head = [0; 172];
     let code = agefile_writer_open_key(

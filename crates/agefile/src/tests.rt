@@ -35,7 +35,7 @@ fn front(bytes: &[u8], len: u64) -> &[u8] {
 }
 
 #[test]
-fn keys(rt: HostRuntime) -> Result<(), Fail> {
+fn key_decrypts_what_it_encrypted(rt: HostRuntime) -> Result<(), Fail> {
     let mut file = [9; 200];
     let mut report = stale();
     let code = agefile_encrypt_key(rt.alloc(), b"hello", &KEY, &SEED, &mut file, &mut report);
@@ -62,7 +62,7 @@ fn keys(rt: HostRuntime) -> Result<(), Fail> {
 }
 
 #[test]
-fn passphrases(rt: HostRuntime) -> Result<(), Fail> {
+fn passphrase_decrypts_what_it_encrypted(rt: HostRuntime) -> Result<(), Fail> {
     let mut file = [9; 200];
     let mut report = stale();
     let code = agefile_encrypt_passphrase(
@@ -91,7 +91,7 @@ fn passphrases(rt: HostRuntime) -> Result<(), Fail> {
 }
 
 #[test]
-fn small_buffers(rt: HostRuntime) -> Result<(), Fail> {
+fn small_buffer_is_left_unchanged(rt: HostRuntime) -> Result<(), Fail> {
     let mut file = [9; 192];
     let mut report = stale();
     let code = agefile_encrypt_key(rt.alloc(), b"hello", &KEY, &SEED, &mut file, &mut report);
@@ -102,7 +102,7 @@ fn small_buffers(rt: HostRuntime) -> Result<(), Fail> {
 }
 
 #[test]
-fn headers(rt: HostRuntime) -> Result<(), Fail> {
+fn inspect_returns_the_length_and_the_stanzas(rt: HostRuntime) -> Result<(), Fail> {
     let mut file = [9; 200];
     let mut report = stale();
     let code = agefile_encrypt_key(rt.alloc(), b"", &KEY, &SEED, &mut file, &mut report);
@@ -132,7 +132,7 @@ fn headers(rt: HostRuntime) -> Result<(), Fail> {
 }
 
 #[test]
-fn stanzas(rt: HostRuntime) -> Result<(), Fail> {
+fn each_stanza_is_returned_by_its_index(rt: HostRuntime) -> Result<(), Fail> {
     let front =
         b"age-encryption.org/v1\n-> kind of one\nAAAA\n-> X\n\n--- AAAAAAAAAAAAAAAAAAAAAAAAAAAAAAAAAAAAAAAAAAA\n";
     let mut stanza = StanzaSummary {

@@ -18,7 +18,7 @@ fn is_hello(back: &Result<Vec<u8>, Lost>) -> bool {
 }
 
 #[test]
-fn passphrases(rt: HostRuntime) -> Result<(), Fail> {
+fn passphrase_round_trip_returns_the_plaintext(rt: HostRuntime) -> Result<(), Fail> {
     let limits = Limits::default();
     let back = pass_there_and_back(
         rt.alloc(),
@@ -46,7 +46,7 @@ fn passphrases(rt: HostRuntime) -> Result<(), Fail> {
 }
 
 #[test]
-fn keys(rt: HostRuntime) -> Result<(), Fail> {
+fn key_round_trip_returns_the_plaintext(rt: HostRuntime) -> Result<(), Fail> {
     let limits = Limits::default();
     let back = key_there_and_back(rt.alloc(), [4; 32], [3; 16], b"hello", &FRESH, &limits);
     assert!(rt; is_hello(&back));

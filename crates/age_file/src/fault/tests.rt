@@ -5,7 +5,7 @@ use age_recipient::StanzaFault;
 use std::test::Fail;
 
 #[test]
-fn says_each_fault(rt: HostRuntime) -> Result<(), Fail> {
+fn each_fault_has_its_text(rt: HostRuntime) -> Result<(), Fail> {
     for (fault, text) in [
         (Fault::NotAge, "not an age file"),
         (Fault::BadLine(2), "bad header line 2"),
@@ -65,7 +65,7 @@ fn says_each_fault(rt: HostRuntime) -> Result<(), Fail> {
         ),
     ] {
         let said = format!(in rt.alloc(); "{fault}")?;
-        assert_eq!(rt; said.as_str(), text);
+        assert_eq!(rt; said.as_str(), text, "{text}");
     }
     Ok(())
 }

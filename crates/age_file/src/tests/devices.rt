@@ -7,7 +7,7 @@ use std::io::Write;
 /// Gives at most so many of these bytes at a time, and fails at the read with this number, counted
 /// from 1. Its contents are not known to proofs.
 #[derive(Drop)]
-pub(super) struct Drops<'a> {
+pub(super) struct FailingSource<'a> {
     rest: &'a [u8],
     most: usize,
     pub(super) reads: u64,
@@ -15,9 +15,9 @@ pub(super) struct Drops<'a> {
     pub(super) failures: u64,
 }
 
-impl<'a> Drops<'a> {
-    pub(super) fn new(bytes: &'a [u8], most: usize, failing: u64) -> Drops<'a> {
-        Drops {
+impl<'a> FailingSource<'a> {
+    pub(super) fn new(bytes: &'a [u8], most: usize, failing: u64) -> FailingSource<'a> {
+        FailingSource {
             rest: bytes,
             most,
             reads: 0,
@@ -27,7 +27,7 @@ impl<'a> Drops<'a> {
     }
 }
 
-impl<'a> Source for Drops<'a> {
+impl<'a> Source for FailingSource<'a> {
     ghost use Rattle.std.specs.Prelude.{None};
 
     ghost failed = { λ s. s.failures };
@@ -55,15 +55,15 @@ impl<'a> Source for Drops<'a> {
 /// Takes one byte at a time, and fails where it holds so many. Its contents are not known to
 /// proofs.
 #[derive(Drop)]
-pub(super) struct Holds {
+pub(super) struct LimitedSink {
     pub(super) bytes: Vec<u8>,
     most: usize,
     pub(super) failures: u64,
 }
 
-impl Holds {
-    pub(super) fn new(bytes: Vec<u8>, most: usize) -> Holds {
-        Holds {
+impl LimitedSink {
+    pub(super) fn new(bytes: Vec<u8>, most: usize) -> LimitedSink {
+        LimitedSink {
             bytes,
             most,
             failures: 0,
@@ -71,7 +71,7 @@ impl Holds {
     }
 }
 
-impl Sink for Holds {
+impl Sink for LimitedSink {
     ghost use Rattle.std.specs.Prelude.{None};
 
     ghost failed = { λ s. s.failures };

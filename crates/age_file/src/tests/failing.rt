@@ -1,9 +1,9 @@
 //! Devices that fail, each read and each write in turn.
 
-use super::devices::{Drops, Holds, TakesNothing};
+use super::devices::{FailingSource, LimitedSink, TakesNothing};
 use super::{
-    FRESH, Identities, Recipients, SALT, encrypted, key_of, passphrase, sevens, with_key,
-    with_passphrase,
+    FRESH, Identities, Recipients, SALT, encrypted, key_identities, key_recipients,
+    passphrase_identities, passphrase_recipients, sevens,
 };
 use crate::{
     Decryptor, Encryptor, Fault, Limits, MemAt, StreamFault, WriteSink, decrypt, encrypt,
@@ -17,10 +17,10 @@ use std::test::Fail;
 /// A sink over a slice of each length: it gets a beginning of the passphrase's file, as much as it
 /// has room for.
 #[test]
-fn failing_sinks(rt: HostRuntime) -> Result<(), Fail> {
+fn failing_sink_gets_a_beginning_of_the_file(rt: HostRuntime) -> Result<(), Fail> {
     let alloc = rt.alloc();
     let limits = Limits::default();
-    let recipients = with_passphrase(alloc)?;
+    let recipients = passphrase_recipients(alloc)?;
     let (_, file) = encrypted(alloc, b"", &recipients, &limits);
     assert_eq!(rt; file.len(), 182);
     for len in 0..183 {
@@ -34,9 +34,15 @@ fn failing_sinks(rt: HostRuntime) -> Result<(), Fail> {
             &FRESH,
             &limits,
         );
-        assert!(rt; answer.is_ok() == (len == 182));
-        assert!(rt; answer.is_ok() || answer == Err(Fault::Write));
-        assert!(rt; file.as_slice().starts_with(room.as_slice()));
+        assert!(rt; answer.is_ok() == (len == 182), "room for {len} bytes");
+        assert!(rt;
+            answer.is_ok() || answer == Err(Fault::Write),
+            "room for {len} bytes"
+        );
+        assert!(rt;
+            file.as_slice().starts_with(room.as_slice()),
+            "room for {len} bytes"
+        );
     }
     Ok(())
 }
@@ -48,13 +54,13 @@ fn reads_until(
     plain: &[u8],
     failing: u64,
 ) -> Result<(u64, bool), Fail> {
-    let mut source = Drops::new(file, 1_000, failing);
-    let mut sink = Holds::new(Vec::new(alloc), 100_000);
+    let mut source = FailingSource::new(file, 1_000, failing);
+    let mut sink = LimitedSink::new(Vec::new(alloc), 100_000);
     let answer = decrypt(
         alloc,
         &mut source,
         &mut sink,
-        passphrase(alloc)?.as_slice(),
+        passphrase_identities(alloc)?.as_slice(),
         &Limits::default(),
     );
     let whole = answer.is_ok() && sink.bytes.as_slice() == plain;
@@ -65,20 +71,20 @@ fn reads_until(
 /// Decrypting two chunks, with each read failed in turn: a beginning of the plaintext is written,
 /// and nothing more is read.
 #[test]
-fn failing_reads(rt: HostRuntime) -> Result<(), Fail> {
+fn failing_read_leaves_a_beginning_of_the_plaintext(rt: HostRuntime) -> Result<(), Fail> {
     let alloc = rt.alloc();
     let plain = sevens(alloc, 65_537)?;
     let (_, file) = encrypted(
         alloc,
         plain.as_slice(),
-        &with_passphrase(alloc)?,
+        &passphrase_recipients(alloc)?,
         &Limits::default(),
     );
     let (reads, whole) = reads_until(alloc, file.as_slice(), plain.as_slice(), 0)?;
     assert!(rt; whole && reads > 150 + 65);
     for failing in 1..reads {
         let (met, failed) = reads_until(alloc, file.as_slice(), plain.as_slice(), failing)?;
-        assert!(rt; failed);
+        assert!(rt; failed, "read {failing}");
         assert_eq!(rt; met, failing);
     }
     Ok(())
@@ -86,13 +92,13 @@ fn failing_reads(rt: HostRuntime) -> Result<(), Fail> {
 
 /// A source of a plaintext that fails leaves a beginning of the file.
 #[test]
-fn failing_plaintext(rt: HostRuntime) -> Result<(), Fail> {
+fn failing_plaintext_leaves_a_beginning_of_the_file(rt: HostRuntime) -> Result<(), Fail> {
     let alloc = rt.alloc();
     let limits = Limits::default();
-    let recipients = with_key(alloc, 3)?;
+    let recipients = key_recipients(alloc, 3)?;
     let (_, whole) = encrypted(alloc, b"abc", &recipients, &limits);
-    let mut source = Drops::new(b"abc", 1, 2);
-    let mut sink = Holds::new(Vec::new(alloc), 1_000);
+    let mut source = FailingSource::new(b"abc", 1, 2);
+    let mut sink = LimitedSink::new(Vec::new(alloc), 1_000);
     let answer = encrypt(
         alloc,
         &mut source,
@@ -108,15 +114,15 @@ fn failing_plaintext(rt: HostRuntime) -> Result<(), Fail> {
 
 /// A reader's failed read is returned again, and the source isn't asked again.
 #[test]
-fn kept_read_fault(rt: HostRuntime) -> Result<(), Fail> {
+fn reader_returns_a_failed_read_again(rt: HostRuntime) -> Result<(), Fail> {
     let alloc = rt.alloc();
     let limits = Limits::default();
     let plain = sevens(alloc, 65_537)?;
-    let (_, file) = encrypted(alloc, plain.as_slice(), &with_key(alloc, 3)?, &limits);
+    let (_, file) = encrypted(alloc, plain.as_slice(), &key_recipients(alloc, 3)?, &limits);
     let failing = 156 + 1 + 10;
-    let mut source = Drops::new(file.as_slice(), 1_000, failing);
+    let mut source = FailingSource::new(file.as_slice(), 1_000, failing);
     let decryptor = Decryptor::new(alloc, &mut source, &limits)?;
-    let mut reader = decryptor.unlock(alloc, key_of(alloc, 3)?.as_slice())?;
+    let mut reader = decryptor.unlock(alloc, key_identities(alloc, 3)?.as_slice())?;
     for _ in 0..3 {
         assert!(rt; matches!(reader.next_chunk(), Err(StreamFault::Read)));
     }
@@ -128,10 +134,10 @@ fn kept_read_fault(rt: HostRuntime) -> Result<(), Fail> {
 
 /// A writer that takes nothing of a piece, and devices whose count of failures can't rise any more.
 #[test]
-fn devices_at_their_limits(rt: HostRuntime) -> Result<(), Fail> {
+fn devices_at_their_limits_return_their_fault(rt: HostRuntime) -> Result<(), Fail> {
     let alloc = rt.alloc();
     let limits = Limits::default();
-    let recipients = with_key(alloc, 3)?;
+    let recipients = key_recipients(alloc, 3)?;
     let mut nothing = WriteSink::new(TakesNothing);
     let answer = encrypt(
         alloc,
@@ -142,7 +148,7 @@ fn devices_at_their_limits(rt: HostRuntime) -> Result<(), Fail> {
         &limits,
     );
     assert!(rt; answer == Err(Fault::Write));
-    let mut sink = Holds::new(Vec::new(alloc), 0);
+    let mut sink = LimitedSink::new(Vec::new(alloc), 0);
     sink.failures = u64::MAX;
     let answer = encrypt(
         alloc,
@@ -153,14 +159,14 @@ fn devices_at_their_limits(rt: HostRuntime) -> Result<(), Fail> {
         &limits,
     );
     assert!(rt; answer == Err(Fault::Write) && sink.failures == u64::MAX);
-    let mut source = Drops::new(b"", 1, 1);
+    let mut source = FailingSource::new(b"", 1, 1);
     source.failures = u64::MAX;
-    let mut sink = Holds::new(Vec::new(alloc), 0);
+    let mut sink = LimitedSink::new(Vec::new(alloc), 0);
     let answer = decrypt(
         alloc,
         &mut source,
         &mut sink,
-        key_of(alloc, 3)?.as_slice(),
+        key_identities(alloc, 3)?.as_slice(),
         &limits,
     );
     assert!(rt; answer == Err(Fault::Read) && source.failures == u64::MAX);

@@ -8,9 +8,9 @@ use std::rc::Rc;
 
 /// Gives a stanza of a type that nobody else knows.
 #[derive(Drop)]
-pub(super) struct Plug;
+pub(super) struct ForeignRecipient;
 
-impl Recipient for Plug {
+impl Recipient for ForeignRecipient {
     ghost use Rattle.std.specs.Prelude.{Ok, [], ◌∷◌, codes, replicate};
 
     ghost wraps = { λ _ _. Ok (record { args = codes "plug" ∷ []; body = replicate 48 0 } ∷ []) };
@@ -28,11 +28,11 @@ impl Recipient for Plug {
 
 /// Gives a stanza with one argument of so many letters, so that a header has a length.
 #[derive(Drop)]
-pub(super) struct Long {
+pub(super) struct LongRecipient {
     pub(super) text: String,
 }
 
-impl Recipient for Long {
+impl Recipient for LongRecipient {
     ghost use Rattle.std.specs.Prelude.{Ok, [], ◌∷◌};
     ghost use Rattle.std.specs.String.{string_bytes};
 
@@ -51,9 +51,9 @@ impl Recipient for Long {
 
 /// Gives what the usual tool writes for an X25519 key, and a stanza of an unknown type behind it.
 #[derive(Drop)]
-pub(super) struct Curve;
+pub(super) struct X25519Shape;
 
-impl Recipient for Curve {
+impl Recipient for X25519Shape {
     ghost use Rattle.std.specs.Prelude.{Ok, [], ◌∷◌, codes, replicate};
 
     ghost wraps = { λ _ _. Ok (record {
@@ -80,11 +80,11 @@ impl Recipient for Curve {
 
 /// Gives no stanza, and refuses with a number. It would have to stand alone.
 #[derive(Drop)]
-pub(super) struct Refuses {
+pub(super) struct RefusingRecipient {
     pub(super) code: u32,
 }
 
-impl Recipient for Refuses {
+impl Recipient for RefusingRecipient {
     ghost use Rattle.std.specs.Prelude.{Err};
     ghost use Rattle.age_recipient.specs.declared.labels.Labels.TheVariants.{Alone};
 
@@ -103,11 +103,11 @@ impl Recipient for Refuses {
 
 /// Gives a stanza, and has these labels.
 #[derive(Drop)]
-pub(super) struct Labelled {
+pub(super) struct LabelledRecipient {
     pub(super) labels: Labels,
 }
 
-impl Recipient for Labelled {
+impl Recipient for LabelledRecipient {
     ghost use Rattle.std.specs.Prelude.{Ok, [], ◌∷◌, codes};
 
     ghost wraps = { λ _ _. Ok (record { args = codes "x" ∷ []; body = [] } ∷ []) };
@@ -129,13 +129,13 @@ impl Recipient for Labelled {
     }
 }
 
-/// Counts how often it is asked, and has no answer.
+/// CountingIdentity how often it is asked, and has no answer.
 #[derive(Drop)]
-pub(super) struct Counts {
+pub(super) struct CountingIdentity {
     pub(super) asked: Rc<Cell<u32>>,
 }
 
-impl Identity for Counts {
+impl Identity for CountingIdentity {
     ghost use Rattle.age_recipient.specs.declared.unwrapped.Unwrapped.TheVariants.{NotMine};
 
     ghost meaning = { λ _ _. NotMine };
@@ -146,13 +146,13 @@ impl Identity for Counts {
     }
 }
 
-/// Makes the same of any stanzas, as an agent might that holds a file key already.
+/// FixedIdentity the same of any stanzas, as an agent might that holds a file key already.
 #[derive(Drop)]
-pub(super) struct Makes {
+pub(super) struct FixedIdentity {
     pub(super) answer: Unwrapped,
 }
 
-impl Identity for Makes {
+impl Identity for FixedIdentity {
     ghost meaning = { λ makes _. makes.answer };
 
     fn unwrap(&self, _alloc: Global, _stanzas: &[Stanza]) -> Result<Unwrapped, AllocError> {
@@ -162,9 +162,9 @@ impl Identity for Makes {
 
 /// Always runs out of memory.
 #[derive(Drop)]
-pub(super) struct Starved;
+pub(super) struct OutOfMemoryIdentity;
 
-impl Identity for Starved {
+impl Identity for OutOfMemoryIdentity {
     ghost use Rattle.age_recipient.specs.declared.unwrapped.Unwrapped.TheVariants.{NotMine};
 
     ghost meaning = { λ _ _. NotMine };
@@ -177,9 +177,9 @@ impl Identity for Starved {
 
 /// Gives no stanza, and does not refuse.
 #[derive(Drop)]
-pub(super) struct Silent;
+pub(super) struct NoStanza;
 
-impl Recipient for Silent {
+impl Recipient for NoStanza {
     ghost use Rattle.std.specs.Prelude.{Ok, []};
 
     ghost wraps = { λ _ _. Ok [] };
@@ -191,9 +191,9 @@ impl Recipient for Silent {
 
 /// Gives a stanza of a passphrase's type behind another.
 #[derive(Drop)]
-pub(super) struct Pair;
+pub(super) struct ScryptBesideAnother;
 
-impl Recipient for Pair {
+impl Recipient for ScryptBesideAnother {
     ghost use Rattle.std.specs.Prelude.{Ok, [], ◌∷◌, codes};
 
     ghost wraps = { λ _ _. Ok (record { args = codes "x" ∷ []; body = [] }

@@ -1,6 +1,6 @@
 //! Ranges of a file's plaintext.
 
-use super::{Identities, encrypted, key_of, passphrase, with_passphrase};
+use super::{Identities, encrypted, key_identities, passphrase_identities, passphrase_recipients};
 use crate::{Fault, Limits, MemAt, RangeReader, ReadAt, StreamFault, open_ranges};
 use std::alloc::Global;
 use std::process::Abort;
@@ -12,7 +12,7 @@ fn file_of(alloc: Global, len: usize) -> Result<Vec<u8>, Fail> {
     for at in 0..len {
         plain.push((at % 251) as u8)?;
     }
-    let recipients = with_passphrase(alloc)?;
+    let recipients = passphrase_recipients(alloc)?;
     let (_, file) = encrypted(alloc, plain.as_slice(), &recipients, &Limits::default());
     Ok(file)
 }
@@ -28,26 +28,30 @@ fn range<T: Abort>(
     filled: usize,
 ) -> Result<(), Fail> {
     let mut buf = vec![in alloc; 255u8; len]?;
-    assert_eq!(rt; reader.read_range(at, buf.as_mut_slice()), answer);
+    assert_eq!(rt;
+        reader.read_range(at, buf.as_mut_slice()),
+        answer,
+        "{len} bytes at {at}"
+    );
     for i in 0..buf.len() {
         let byte = if i < filled {
             (at.wrapping_add(i as u64) % 251) as u8
         } else {
             255
         };
-        assert_eq!(rt; buf[i], byte);
+        assert_eq!(rt; buf[i], byte, "byte {i} of {len} at {at}");
     }
     Ok(())
 }
 
 /// Three chunks, of which the middle one is damaged.
 #[test]
-fn damaged_middle_chunk(rt: HostRuntime) -> Result<(), Fail> {
+fn damaged_middle_chunk_leaves_the_others_readable(rt: HostRuntime) -> Result<(), Fail> {
     let alloc = rt.alloc();
     let mut file = file_of(alloc, 140_000)?;
     assert_eq!(rt; file.len(), 140_214);
     file.as_mut_slice()[65_718] ^= 1;
-    let identities = passphrase(alloc)?;
+    let identities = passphrase_identities(alloc)?;
     let mut dev = MemAt::new(file.as_slice());
     let mut reader = open_ranges(alloc, &mut dev, identities.as_slice(), &Limits::default())?;
     assert_eq!(rt; reader.plain_len(), 140_000);
@@ -72,18 +76,18 @@ fn refused<T: Abort>(
 ) {
     let mut dev = MemAt::new(file);
     match open_ranges(alloc, &mut dev, identities.as_slice(), limits) {
-        Ok(_) => assert!(rt; false),
-        Err(met) => assert!(rt; met == fault),
+        Ok(_) => assert!(rt; false, "opened in place of: {fault}"),
+        Err(met) => assert!(rt; met == fault, "{met} in place of: {fault}"),
     }
 }
 
 /// Files that don't open, with the first fault that applies.
 #[test]
-fn files_that_do_not_open(rt: HostRuntime) -> Result<(), Fail> {
+fn open_ranges_returns_the_first_fault(rt: HostRuntime) -> Result<(), Fail> {
     let alloc = rt.alloc();
     let file = file_of(alloc, 65_537)?;
     assert_eq!(rt; file.len(), 65_735);
-    let identities = passphrase(alloc)?;
+    let identities = passphrase_identities(alloc)?;
     let limits = Limits::default();
     for (len, fault) in [
         (149, Fault::HeaderTruncated),
@@ -96,7 +100,7 @@ fn files_that_do_not_open(rt: HostRuntime) -> Result<(), Fail> {
         let front = &file.as_slice()[..len];
         refused(&rt, alloc, front, &identities, &limits, fault);
     }
-    let other = key_of(alloc, 3)?;
+    let other = key_identities(alloc, 3)?;
     refused(&rt, alloc, file.as_slice(), &other, &limits, Fault::NoMatch);
     let mut damaged = file;
     damaged.as_mut_slice()[65_734] ^= 1;

@@ -1,16 +1,16 @@
 //! Files that are written and read in steps.
 
-use super::{FRESH, encrypted, key_of, sevens, with_key};
+use super::{FRESH, encrypted, key_identities, key_recipients, sevens};
 use crate::{Decryptor, Encryptor, Fault, Limits};
 use age_header::{MemSink, MemSource};
 use std::test::Fail;
 
 /// The file that `encrypt` writes, and its plaintext again.
 #[test]
-fn in_steps(rt: HostRuntime) -> Result<(), Fail> {
+fn steps_write_and_read_the_same_file(rt: HostRuntime) -> Result<(), Fail> {
     let alloc = rt.alloc();
     let limits = Limits::default();
-    let recipients = with_key(alloc, 3)?;
+    let recipients = key_recipients(alloc, 3)?;
     let plain = sevens(alloc, 65_537)?;
     let (_, file) = encrypted(alloc, plain.as_slice(), &recipients, &limits);
     let encryptor = Encryptor::new(alloc, recipients.as_slice(), &FRESH, &limits)?;
@@ -23,7 +23,7 @@ fn in_steps(rt: HostRuntime) -> Result<(), Fail> {
     let mut source = MemSource::new(file.as_slice());
     let decryptor = Decryptor::new(alloc, &mut source, &limits)?;
     assert_eq!(rt; decryptor.stanzas().len(), 1);
-    let mut reader = decryptor.unlock(alloc, key_of(alloc, 3)?.as_slice())?;
+    let mut reader = decryptor.unlock(alloc, key_identities(alloc, 3)?.as_slice())?;
     let mut text = Vec::new(alloc);
     for _ in 0..3 {
         if let Some(chunk) = reader.next_chunk()? {
@@ -33,7 +33,7 @@ fn in_steps(rt: HostRuntime) -> Result<(), Fail> {
     assert!(rt; text == plain);
     let mut source = MemSource::new(file.as_slice());
     let decryptor = Decryptor::new(alloc, &mut source, &limits)?;
-    let other = decryptor.unlock(alloc, key_of(alloc, 4)?.as_slice());
+    let other = decryptor.unlock(alloc, key_identities(alloc, 4)?.as_slice());
     assert!(rt; matches!(&other, Err(Fault::WrongKey)));
     Ok(())
 }

@@ -44,7 +44,7 @@ impl Write for LateWriter {
 }
 
 #[test]
-fn a_read_is_not_tried_again(rt: HostRuntime) -> Result<(), Fail> {
+fn failed_read_is_not_retried(rt: HostRuntime) -> Result<(), Fail> {
     let mut source = ReadSource::new(LateReader {
         rest: b"abc",
         calls: 0,
@@ -60,7 +60,7 @@ fn a_read_is_not_tried_again(rt: HostRuntime) -> Result<(), Fail> {
 }
 
 #[test]
-fn a_write_is_not_tried_again(rt: HostRuntime) -> Result<(), Fail> {
+fn failed_write_is_not_retried(rt: HostRuntime) -> Result<(), Fail> {
     let mut sink = WriteSink::new(LateWriter {
         taken: Vec::new(rt.alloc()),
         calls: 0,

@@ -39,7 +39,7 @@ fn answer(
 }
 
 #[test]
-fn wrapped(rt: HostRuntime) -> Result<(), Fail> {
+fn key_pair_unwraps_what_it_wraps(rt: HostRuntime) -> Result<(), Fail> {
     let alloc = rt.alloc();
     let stanzas = KeyRecipient::new(SECRET, SALT).wrap(alloc, &KEY)?;
     assert_eq!(rt; stanzas.len(), 1);
@@ -54,7 +54,7 @@ fn wrapped(rt: HostRuntime) -> Result<(), Fail> {
 }
 
 #[test]
-fn unwrapped(rt: HostRuntime) -> Result<(), Fail> {
+fn keyed_stanza_is_checked_in_order(rt: HostRuntime) -> Result<(), Fail> {
     let own: &[&str] = &["example.org/key", SALT_TEXT];
     let cut: &[&str] = &["example.org/key", "ICEiIyQlJicoKSorLC0uL"];
     let three: &[&str] = &["example.org/key", "ICEiIyQlJicoKSorLC0uL", "x"];
@@ -64,30 +64,46 @@ fn unwrapped(rt: HostRuntime) -> Result<(), Fail> {
     let arg_count = Unwrapped::Malformed(StanzaFault::ArgCount);
     let salt = Unwrapped::Malformed(StanzaFault::Salt);
     let body_length = Unwrapped::Malformed(StanzaFault::BodyLength);
-    let found: [(&[(&[&str], &[u8])], Unwrapped); 11] = [
-        (&[], Unwrapped::NotMine),
-        (&[(foreign, short)], Unwrapped::NotMine),
-        (&[(own, &BODY)], Unwrapped::Key(KEY)),
-        (&[(own, &[0; 32])], Unwrapped::Failed),
-        (&[(three, short)], arg_count),
-        (&[(one, &BODY)], arg_count),
-        (&[(cut, short)], salt),
-        (&[(own, short)], body_length),
-        (&[(own, short), (own, &BODY)], body_length),
-        (&[(own, &BODY), (own, short)], Unwrapped::Key(KEY)),
+    let found: [(&str, &[(&[&str], &[u8])], Unwrapped); 11] = [
+        ("no stanza", &[], Unwrapped::NotMine),
+        ("foreign stanza", &[(foreign, short)], Unwrapped::NotMine),
+        ("own stanza", &[(own, &BODY)], Unwrapped::Key(KEY)),
         (
+            "stanza of another key",
+            &[(own, &[0; 32])],
+            Unwrapped::Failed,
+        ),
+        ("three arguments", &[(three, short)], arg_count),
+        ("one argument", &[(one, &BODY)], arg_count),
+        ("short salt", &[(cut, short)], salt),
+        ("short body", &[(own, short)], body_length),
+        (
+            "short body before the own stanza",
+            &[(own, short), (own, &BODY)],
+            body_length,
+        ),
+        (
+            "short body after the own stanza",
+            &[(own, &BODY), (own, short)],
+            Unwrapped::Key(KEY),
+        ),
+        (
+            "own stanza after two others",
             &[(foreign, short), (own, &[0; 32]), (own, &BODY)],
             Unwrapped::Key(KEY),
         ),
     ];
-    for (stanzas, expected) in found {
-        assert!(rt; answer(&rt, rt.alloc(), SECRET, stanzas)? == expected);
+    for (name, stanzas, expected) in found {
+        assert!(rt;
+            answer(&rt, rt.alloc(), SECRET, stanzas)? == expected,
+            "{name}"
+        );
     }
     Ok(())
 }
 
 #[test]
-fn several_identities(rt: HostRuntime) -> Result<(), Fail> {
+fn each_of_several_identities_is_tried(rt: HostRuntime) -> Result<(), Fail> {
     let alloc = rt.alloc();
     let stanzas = KeyRecipient::new(SECRET, SALT).wrap(alloc, &KEY)?;
     let mut identities: Vec<Box<dyn Identity>> = Vec::new(alloc);

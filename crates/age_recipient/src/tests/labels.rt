@@ -9,7 +9,7 @@ fn names(alloc: Global, texts: &[&str]) -> Result<Labels, Fail> {
 }
 
 #[test]
-fn sets_and_not_lists(rt: HostRuntime) -> Result<(), Fail> {
+fn labels_compare_as_sets(rt: HostRuntime) -> Result<(), Fail> {
     let alloc = rt.alloc();
     let both = names(alloc, &["a", "b"])?;
     assert!(rt; both.go_together(&names(alloc, &["b", "a", "a"])?));
@@ -21,7 +21,7 @@ fn sets_and_not_lists(rt: HostRuntime) -> Result<(), Fail> {
 }
 
 #[test]
-fn alone(rt: HostRuntime) -> Result<(), Fail> {
+fn recipient_alone_goes_with_no_other(rt: HostRuntime) -> Result<(), Fail> {
     let none = names(rt.alloc(), &[])?;
     assert!(rt; !Labels::Alone.go_together(&Labels::Alone));
     assert!(rt; !Labels::Alone.go_together(&none));
@@ -30,7 +30,7 @@ fn alone(rt: HostRuntime) -> Result<(), Fail> {
 }
 
 #[test]
-fn labels_of_recipients(rt: HostRuntime) -> Result<(), Fail> {
+fn each_recipient_has_its_labels(rt: HostRuntime) -> Result<(), Fail> {
     let alloc = rt.alloc();
     let pass = PassRecipient::new(alloc, b"pass", [1; 16], 10)?;
     assert!(rt; matches!(&pass.labels(alloc)?, Labels::Alone));

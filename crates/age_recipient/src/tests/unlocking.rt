@@ -43,33 +43,32 @@ fn choice_of(
 
 /// The last identities of some lists want memory, which shows that they are not asked.
 #[test]
-fn first_that_decides(rt: HostRuntime) -> Result<(), Fail> {
+fn first_deciding_identity_ends_the_search(rt: HostRuntime) -> Result<(), Fail> {
     let not_mine = Some(Unwrapped::NotMine);
     let failed = Some(Unwrapped::Failed);
     let key = Some(Unwrapped::Key(KEY));
     let short = Some(Unwrapped::Malformed(StanzaFault::BodyLength));
-    let lists: [(&[Option<Unwrapped>], Result<FileKey, UnlockFault>); 8] = [
-        (&[], Err(UnlockFault::NoMatch)),
-        (&[not_mine, not_mine], Err(UnlockFault::NoMatch)),
-        (&[failed, not_mine], Err(UnlockFault::WrongKey)),
+    let other = Some(Unwrapped::Malformed(StanzaFault::Other(7)));
+    let no_match = Err(UnlockFault::NoMatch);
+    let body_length = Err(UnlockFault::Malformed(StanzaFault::BodyLength));
+    let code_7 = Err(UnlockFault::Malformed(StanzaFault::Other(7)));
+    let memory = Err(UnlockFault::Memory);
+    let lists: [(&str, &[Option<Unwrapped>], Result<FileKey, UnlockFault>); 8] = [
+        ("no identity", &[], no_match),
+        ("no own stanza", &[not_mine, not_mine], no_match),
+        ("wrong key", &[failed, not_mine], Err(UnlockFault::WrongKey)),
+        ("malformed before the key", &[short, key], body_length),
         (
-            &[short, key],
-            Err(UnlockFault::Malformed(StanzaFault::BodyLength)),
+            "key after a wrong one",
+            &[failed, key, short, None],
+            Ok(KEY),
         ),
-        (&[failed, key, short, None], Ok(KEY)),
-        (&[failed, None, key], Err(UnlockFault::Memory)),
-        (
-            &[
-                not_mine,
-                Some(Unwrapped::Malformed(StanzaFault::Other(7))),
-                None,
-            ],
-            Err(UnlockFault::Malformed(StanzaFault::Other(7))),
-        ),
-        (&[None], Err(UnlockFault::Memory)),
+        ("out of memory before the key", &[failed, None, key], memory),
+        ("malformed by the caller", &[not_mine, other, None], code_7),
+        ("out of memory", &[None], memory),
     ];
-    for (answers, expected) in lists {
-        assert!(rt; choice_of(rt.alloc(), answers)? == expected);
+    for (name, answers, expected) in lists {
+        assert!(rt; choice_of(rt.alloc(), answers)? == expected, "{name}");
     }
     Ok(())
 }

@@ -30,14 +30,18 @@ fn range<T: Abort, D: ReadAt>(
     filled: usize,
 ) -> Result<(), Fail> {
     let mut buf = vec![in alloc; 255u8; len]?;
-    assert_eq!(rt; reader.read_range(at, buf.as_mut_slice()), answer);
+    assert_eq!(rt;
+        reader.read_range(at, buf.as_mut_slice()),
+        answer,
+        "{len} bytes at {at}"
+    );
     for i in 0..buf.len() {
         let byte = if i < filled {
             (at.wrapping_add(i as u64) % 251) as u8
         } else {
             255
         };
-        assert_eq!(rt; buf[i], byte);
+        assert_eq!(rt; buf[i], byte, "byte {i} of {len} at {at}");
     }
     Ok(())
 }
@@ -62,13 +66,14 @@ fn rows<T: Abort, D: ReadAt>(rt: &T, alloc: Global, dev: &mut D) -> Result<(), F
     assert_eq!(rt; reader.opened(), 1);
     for (place, n, opened) in ROWS {
         range(rt, alloc, &mut reader, place, Ok(n), n)?;
-        assert_eq!(rt; reader.opened(), opened);
+        let (at, len) = place;
+        assert_eq!(rt; reader.opened(), opened, "{len} bytes at {at}");
     }
     Ok(())
 }
 
 #[test]
-fn ranges_of_memory(rt: HostRuntime) -> Result<(), Fail> {
+fn ranges_of_memory_are_slices(rt: HostRuntime) -> Result<(), Fail> {
     let bytes = payload_of(rt.alloc(), 140_000)?;
     let mut dev = MemAt::new(bytes.as_slice());
     rows(&rt, rt.alloc(), &mut dev)?;
@@ -78,7 +83,7 @@ fn ranges_of_memory(rt: HostRuntime) -> Result<(), Fail> {
 
 /// A file, and a file that is read one byte at a time.
 #[test]
-fn ranges_of_a_file(rt: HostRuntime) -> Result<(), Fail> {
+fn ranges_of_a_file_are_slices(rt: HostRuntime) -> Result<(), Fail> {
     let bytes = payload_of(rt.alloc(), 140_000)?;
     fs::write(&rt, "ranges.tmp", bytes.as_slice())?;
     let mut whole = FileAt::new(File::open(&rt, "ranges.tmp")?);
@@ -93,7 +98,7 @@ fn ranges_of_a_file(rt: HostRuntime) -> Result<(), Fail> {
 /// Each chunk that is opened costs one read of a source that gives all it is asked for, and the
 /// nonce one.
 #[test]
-fn reads_are_counted(rt: HostRuntime) -> Result<(), Fail> {
+fn each_opened_chunk_costs_one_read(rt: HostRuntime) -> Result<(), Fail> {
     let alloc = rt.alloc();
     let bytes = payload_of(alloc, 140_000)?;
     let reads = Cell::new(0);
@@ -101,7 +106,8 @@ fn reads_are_counted(rt: HostRuntime) -> Result<(), Fail> {
     let mut reader = RangeReader::open(alloc, &KEY, &mut dev, 9, 3)?;
     for (place, n, opened) in ROWS {
         range(&rt, alloc, &mut reader, place, Ok(n), n)?;
-        assert_eq!(rt; reads.get(), opened + 1);
+        let (at, len) = place;
+        assert_eq!(rt; reads.get(), opened + 1, "{len} bytes at {at}");
     }
     Ok(())
 }
@@ -109,7 +115,7 @@ fn reads_are_counted(rt: HostRuntime) -> Result<(), Fail> {
 /// Each read failed in turn: a failed read leaves the bytes of the chunks before it, and the same
 /// call again works.
 #[test]
-fn failed_reads(rt: HostRuntime) -> Result<(), Fail> {
+fn failed_read_leaves_the_chunks_before_it(rt: HostRuntime) -> Result<(), Fail> {
     let alloc = rt.alloc();
     let bytes = payload_of(alloc, 140_000)?;
     for failing in 1..6 {
@@ -133,9 +139,9 @@ fn failed_reads(rt: HostRuntime) -> Result<(), Fail> {
                 )?;
                 range(&rt, alloc, &mut reader, whole, Ok(140_000), 140_000)?;
             }
-            Err(fault) => assert!(rt; failing < 3 && fault == StreamFault::Read),
+            Err(fault) => assert!(rt; failing < 3 && fault == StreamFault::Read, "read {failing}"),
         }
-        assert_eq!(rt; dev.failures(), 1);
+        assert_eq!(rt; dev.failures(), 1, "read {failing}");
     }
     Ok(())
 }
@@ -143,7 +149,7 @@ fn failed_reads(rt: HostRuntime) -> Result<(), Fail> {
 /// Each chunk damaged in turn, by its first byte: the ranges that do not touch it are right, also
 /// after a call that met it.
 #[test]
-fn damaged_chunks(rt: HostRuntime) -> Result<(), Fail> {
+fn damaged_chunk_leaves_the_others_readable(rt: HostRuntime) -> Result<(), Fail> {
     let alloc = rt.alloc();
     for (damaged, place, touching, other) in [
         (0, 25, (0, 10), (65_536, 65_536)),
@@ -158,14 +164,14 @@ fn damaged_chunks(rt: HostRuntime) -> Result<(), Fail> {
         let mut dev = MemAt::new(bytes.as_slice());
         match RangeReader::open(alloc, &KEY, &mut dev, 9, 3) {
             Ok(mut reader) => {
-                assert!(rt; damaged < 2);
+                assert!(rt; damaged < 2, "chunk {damaged}");
                 for _ in 0..2 {
                     range(&rt, alloc, &mut reader, touching, Err(fault), 0)?;
                     range(&rt, alloc, &mut reader, other, Ok(65_536), 65_536)?;
                     range(&rt, alloc, &mut reader, (131_072, 8_928), Ok(8_928), 8_928)?;
                 }
             }
-            Err(met) => assert!(rt; damaged == 2 && met == fault),
+            Err(met) => assert!(rt; damaged == 2 && met == fault, "chunk {damaged}"),
         }
     }
     Ok(())
@@ -174,7 +180,7 @@ fn damaged_chunks(rt: HostRuntime) -> Result<(), Fail> {
 /// A file that was cut after it was opened: a range that needs a lost byte is a failed read. The
 /// kept chunk is at hand still.
 #[test]
-fn file_cut_after_opening(rt: HostRuntime) -> Result<(), Fail> {
+fn truncated_file_is_a_failed_read(rt: HostRuntime) -> Result<(), Fail> {
     let alloc = rt.alloc();
     let bytes = payload_of(alloc, 140_000)?;
     fs::write(&rt, "cut.tmp", bytes.as_slice())?;
@@ -214,7 +220,7 @@ fn file_cut_after_opening(rt: HostRuntime) -> Result<(), Fail> {
 }
 
 #[test]
-fn ranges_of_an_empty_plaintext(rt: HostRuntime) -> Result<(), Fail> {
+fn ranges_of_an_empty_plaintext_are_empty(rt: HostRuntime) -> Result<(), Fail> {
     let mut dev = MemAt::new(&EMPTY);
     let mut reader = RangeReader::open(rt.alloc(), &KEY, &mut dev, 0, 1)?;
     assert_eq!(rt; reader.plain_len(), 0);
@@ -226,7 +232,7 @@ fn ranges_of_an_empty_plaintext(rt: HostRuntime) -> Result<(), Fail> {
 }
 
 #[test]
-fn payloads_that_do_not_open(rt: HostRuntime) -> Result<(), Fail> {
+fn open_returns_the_first_fault(rt: HostRuntime) -> Result<(), Fail> {
     let alloc = rt.alloc();
     let mut bytes = payload_of(alloc, 131_073)?;
     if let Some(last) = bytes.as_mut_slice().last_mut() {
@@ -240,8 +246,8 @@ fn payloads_that_do_not_open(rt: HostRuntime) -> Result<(), Fail> {
     ] {
         let mut dev = MemAt::new(bytes.as_slice());
         match RangeReader::open(alloc, &KEY, &mut dev, from, max) {
-            Ok(_) => assert!(rt; false),
-            Err(met) => assert_eq!(rt; met, fault),
+            Ok(_) => assert!(rt; false, "{max} chunks from {from} on"),
+            Err(met) => assert_eq!(rt; met, fault, "{max} chunks from {from} on"),
         }
     }
     Ok(())
