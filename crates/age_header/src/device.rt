@@ -21,7 +21,7 @@ pub trait Source {
     // The bytes that are still to come, where the source tells them.
     ghost to_come: { Self → Option (List ℕ) };
 
-    /// Reads the next bytes into the front of `buf`, and gives their number; 0 in a nonempty `buf`
+    /// Reads the next bytes to the start of `buf`, and gives their number; 0 in a nonempty `buf`
     /// only at the end of the input. A short read is not the end. An error says nothing of the
     /// bytes.
     fn read(&mut self, buf: &mut [u8]) -> Result<usize, DeviceFault>
@@ -54,7 +54,7 @@ pub trait Sink {
         ensures { result ≡ failed self.now };
 }
 
-/// Writes the whole piece, in as many writes as the sink needs. On an error a beginning of it was
+/// Writes the whole piece, in as many writes as the sink needs. On an error a prefix of it was
 /// written; a call that was interrupted is not tried again.
 pub fn write_all<W: Sink>(out: &mut W, piece: &[u8]) -> Result<(), DeviceFault>
     ensures text { Writes (W.taken out.old) (W.taken out.new) result piece.now }

@@ -71,7 +71,7 @@ impl Header {
         signs
     }
 
-    /// The length in bytes of the header's text, or the largest `u64` where it is longer.
+    /// The length in bytes of the header's text, or the largest `u64` if it is longer.
     pub fn text_len(&self) -> u64
         ensures { (h : List ℕ) × Head self.now.stanzas self.now.mac h
             × (result ≡ min (length h) (2 ^ 64 - 1)) }

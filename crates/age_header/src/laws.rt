@@ -10,8 +10,8 @@ ghost use Rattle.age_header.specs.Header.{StanzaParts, Head};
 ghost use Rattle.age_header.specs.Text.{signed};
 ghost use Rattle.age_header.specs.Verdict.{Found, HeaderVerdict, BeginsWith};
 
-/// Characters are decoded to just the bytes whose base64 they are, and what bytes are encoded to is
-/// their base64.
+/// Characters are decoded to exactly the bytes whose base64 they are, and what bytes are encoded to
+/// is their base64.
 pub fn one_base64()
     ensures decoded { (signs bytes : List ℕ) → (decoded signs ≡ Some bytes) ↔ B64 bytes signs }
     ensures encoded { (bytes : List ℕ) → IsBytes bytes → B64 bytes (base64_of bytes) }

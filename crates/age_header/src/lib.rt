@@ -9,7 +9,7 @@
 //! write_header(&header, &mut sink)?; // the same bytes again: a header has one text
 //! ```
 //!
-//! Limits: a reader takes just the header's bytes, at most as many as it was made for, which the
+//! Limits: a reader takes exactly the header's bytes, at most as many as it was made for, which the
 //! caller chooses. It does not verify the MAC, since that needs the file key: `mac_of` gives what
 //! it has to be.
 #![tactic(auto)]

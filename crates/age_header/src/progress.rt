@@ -1,4 +1,4 @@
-//! What the lines behind the version line have given so far.
+//! What the lines after the version line have given so far.
 
 ghost use Rattle.std.specs.Prelude.{◌≡◌, ◌≢◌, ◌↔◌, ◌<◌, ◌≤◌, [], List, length, IfOk, IfSome, IfNone, IsTrue};
 ghost use Rattle.age_header.specs.Header.{StanzaParts};
@@ -31,7 +31,7 @@ impl Model for Progress {
 }
 
 impl Progress {
-    /// Just behind the version line.
+    /// Just after the version line.
     pub(crate) fn new(alloc: Global) -> Progress
         ensures { result ≡ between [] }
     {

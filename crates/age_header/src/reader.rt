@@ -40,21 +40,21 @@ impl Model for HeaderReader {
 impl HeaderReader {
     ghost use Rattle.age_header.specs.Reader.{fault_of};
 
-    /// A reader of headers of at most so many bytes, which keeps no fault.
+    /// A reader of headers of at most this many bytes, which keeps no fault.
     pub fn new(max: usize) -> HeaderReader
         ensures { result ≡ record { max = max; fault = None } }
     {
         HeaderReader { max, fault: None }
     }
 
-    /// The header at the front of the input (C2SP `age.md`, "Header"), of which just the header's
-    /// bytes are taken.
+    /// The header at the front of the input (C2SP `age.md`, "Header"), of which exactly the
+    /// header's bytes are taken.
     ///
     /// # Errors
     /// Over the input's first `max` bytes: `NotAge` where they don't begin as the version line
     /// does; else `BadLine(n)` for the least n for which the first n lines are no header and no
-    /// front of one; else `Truncated` where the input is shorter than `max`, and `TooLarge` where
-    /// it is not. `Read` where the source failed, `Memory` where an allocation was refused.
+    /// front of one; else `Truncated` if the input is shorter than `max`, and `TooLarge` if it is
+    /// not. `Read` if the source failed, `Memory` if an allocation was refused.
     pub fn read_from<S: Source>(
         &mut self,
         alloc: Global,

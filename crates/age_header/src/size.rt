@@ -25,7 +25,7 @@ fn args_len(args: &[String]) -> u64
     len
 }
 
-/// The length of the lines of a body of so many bytes.
+/// The length of the lines of a body of this many bytes.
 fn body_len(len: usize) -> u64
     ensures { (b : List ℕ) → length b ≡ len → result ≡ min (length (body_text b)) (2 ^ 64 - 1) }
 {

@@ -13,7 +13,7 @@ use crate::header::Header;
 use crate::stanza::Stanza;
 use base64::engine::general_purpose::GeneralPurpose;
 
-/// Writes the header's text (C2SP `age.md`, "Header"). On an error a beginning of it was written.
+/// Writes the header's text (C2SP `age.md`, "Header"). On an error a prefix of it was written.
 pub fn write_header<W: Sink>(header: &Header, out: &mut W) -> Result<(), DeviceFault>
     ensures text { (h : List ℕ) × Head header.now.stanzas header.now.mac h
         × Writes (W.taken out.old) (W.taken out.new) result h }

@@ -27,8 +27,8 @@ pub enum UnlockFault {
 /// first that finds a key or a malformed stanza decides, and no later one is asked.
 ///
 /// # Errors
-/// `Malformed` where a malformed stanza decided; where nothing decided `WrongKey` if an identity
-/// answered `Failed`, else `NoMatch`; `Memory` where an identity that was asked answered so.
+/// `Malformed` if a malformed stanza decided; where nothing decided `WrongKey` if an identity
+/// answered `Failed`, else `NoMatch`; `Memory` if an identity that was asked answered so.
 pub fn unlock(
     alloc: Global,
     identities: &[Box<dyn Identity>],

@@ -14,7 +14,7 @@ pub trait Identity: Drop {
     /// What this identity makes of a header's stanzas.
     ///
     /// # Errors
-    /// Where it has no memory to go on.
+    /// If it has no memory to go on.
     fn unwrap(&self, alloc: Global, stanzas: &[Stanza]) -> Result<Unwrapped, AllocError>
         ensures { IfOk result (λ answer. answer ≡ meaning self.now stanzas.now) };
 }

@@ -26,7 +26,7 @@ impl LabelSet {
     /// The set of these texts, each once.
     ///
     /// # Errors
-    /// Where an allocation was refused.
+    /// If an allocation was refused.
     pub fn new(alloc: Global, texts: &[&str]) -> Result<LabelSet, AllocError>
         ensures { IfOk result (IsSetOf (map (λ text. text.now) texts.now)) }
     {
@@ -54,7 +54,7 @@ impl Clone for LabelSet {
 pub enum Labels {
     /// The recipient must be a file's only one.
     Alone,
-    /// The recipient goes together with those that have just these names, as a rule none.
+    /// The recipient goes together with those that have exactly these names, as a rule none.
     Names(LabelSet),
 }
 

@@ -25,8 +25,8 @@ pub trait Matched {
     fn identity(&self) -> &Self::I
         ensures { result.now ≡ the_identity self.now };
 
-    // The law: where the recipient wraps a key in stanzas, the identity makes of just these stanzas
-    // that key.
+    // The law: where the recipient wraps a key in stanzas, the identity makes of exactly these
+    // stanzas that key.
     ghost opens: { (pair : Self) (key : FileKey) (stanzas : List StanzaParts) → IsFileKey key
         → Self.R.wraps (the_recipient pair) key ≡ Ok stanzas
         → Self.I.meaning (the_identity pair) stanzas ≡ Key key };

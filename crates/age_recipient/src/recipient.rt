@@ -31,7 +31,7 @@ pub trait Recipient: Drop {
     /// The stanzas that hold the file key for this recipient.
     ///
     /// # Errors
-    /// `Refused` with the number that the recipient means, `Memory` where it has none to go on.
+    /// `Refused` with the number that the recipient means, `Memory` if it has none to go on.
     fn wrap(&self, alloc: Global, key: &FileKey) -> Result<Vec<Stanza>, WrapFault>
         ensures { WrapsAs (wraps self.now key.now) result };
 
@@ -39,7 +39,7 @@ pub trait Recipient: Drop {
     /// names, and goes together with all others that have none.
     ///
     /// # Errors
-    /// Where an allocation was refused.
+    /// If an allocation was refused.
     fn labels(&self, alloc: Global) -> Result<Labels, AllocError>
         ensures { IfOk result (MayLabel (the_labels self.now)) }
     {

@@ -24,8 +24,8 @@ pub(crate) trait Opener {
         ensures { IfOk result (λ answer. answer ≡ gives self.now stanza.now) };
 }
 
-/// The answer that decides, of what each of these stanzas gives. What comes behind it is not looked
-/// at.
+/// The answer that decides, of what each of these stanzas gives. What comes after it is not
+/// examined.
 pub(crate) fn first_opened<O: Opener>(
     alloc: Global,
     opener: &O,
@@ -48,7 +48,7 @@ pub(crate) fn first_opened<O: Opener>(
     Ok(rest)
 }
 
-/// The arguments behind the type, if the stanza is of this type.
+/// The arguments after the type, if the stanza is of this type.
 pub(crate) fn behind_type<'a>(stanza: &'a Stanza, kind: &str) -> Option<&'a [String]>
     ensures { option_map (λ args. map string_bytes args.now) result
         ≡ behind_type kind.now stanza.now.args }

@@ -5,7 +5,7 @@ pub enum StreamFault {
     NonceTruncated,
     /// This piece is shorter than a tag.
     ChunkShort(u128),
-    /// The last piece has a tag alone, and stands behind others.
+    /// The last piece has a tag alone, and stands after others.
     EmptyFinal(u128),
     /// No plaintext seals to this piece at its place.
     BadChunk(u128),

@@ -1,4 +1,4 @@
-//! Laws over the definitions alone: functions that do nothing, with the law as their contract.
+//! Laws over the definitions alone: functions that do nothing, each with a law as its contract.
 
 ghost use Rattle.std.specs.Prelude.{◌≡◌, ◌↔◌, ◌<◌, ◌≤◌, ℕ, List, Ok, drop, length, take};
 ghost use Rattle.age_recipient.specs.declared.key.FileKey.{FileKey};

@@ -21,7 +21,7 @@ pub(crate) struct Nonce {
     pub(crate) rest: u64,
 }
 
-/// One read behind the first `got` bytes, up to byte `end`.
+/// One read after the first `got` bytes, up to byte `end`.
 fn read_behind<D: ReadAt>(
     dev: &mut D,
     at: u64,
@@ -48,8 +48,8 @@ fn read_behind<D: ReadAt>(
     dev.read_at(place, hole)
 }
 
-/// Reads the first `end` bytes of `buf`, in as many reads as it takes; false where the source gives
-/// nothing more before.
+/// Reads the first `end` bytes of `buf`, in as many reads as it takes; false where the source
+/// returns nothing more before.
 pub(crate) fn read_full<D: ReadAt>(
     dev: &mut D,
     at: u64,
@@ -146,8 +146,8 @@ pub(crate) fn nonce_at<D: ReadAt>(dev: &mut D, at: u64) -> Result<Nonce, StreamF
     }
 }
 
-/// Reads and opens the last of the pieces, which have so many bytes from place `first` on. Its text
-/// is in front then.
+/// Reads and opens the last of the pieces, which have this many bytes from place `first` on. Its
+/// text is in front then.
 pub(crate) fn load_last<D: ReadAt>(
     dev: &mut D,
     key: [u8; 32],

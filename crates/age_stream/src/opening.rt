@@ -55,7 +55,7 @@ impl ChunkOpener {
     /// Reads the nonce of a payload, and stands before piece 0 then.
     ///
     /// # Errors
-    /// `NonceTruncated` where the source gives fewer than 16 bytes, `Read` where it failed.
+    /// `NonceTruncated` if the source returns fewer than 16 bytes, `Read` if it failed.
     pub fn start<S: Source>(
         key: &FileKey,
         source: &mut S,
@@ -254,15 +254,14 @@ fn carry(bytes: &mut [u8], ahead: usize)
     first.copy_from_slice(next);
 }
 
-/// Opens the first `end` bytes where they stand, as chunk i, and returns the length of their text,
-/// which is in front then. The tag, and what follows it, stays as it was. `last` says whether the
-/// chunk ends its payload. A payload may have `max` chunks.
+/// Opens the first `end` bytes in place, as chunk i, and returns the length of their text, which is
+/// in front then. The tag, and what follows it, is unchanged. `last` says whether the chunk ends
+/// its payload. A payload may have `max` chunks.
 ///
 /// # Errors
-/// The first that applies of `TooManyChunks` where `i` is `max`; `ChunkShort` where there are fewer
-/// bytes than a tag, 16; `EmptyFinal` where the last chunk, not being the first, is a tag alone;
-/// `BadChunk` where no plaintext seals to these bytes at their place. On each the buffer is as it
-/// was.
+/// The first that applies of `TooManyChunks` if `i` is `max`; `ChunkShort` if there are fewer bytes
+/// than a tag, 16; `EmptyFinal` if the last chunk, not being the first, is a tag alone; `BadChunk`
+/// if no plaintext seals to these bytes at their place. On each the buffer is unchanged.
 pub fn open_chunk(
     key: &[u8; 32],
     max: u128,
@@ -306,7 +305,7 @@ fn is_empty_final(last: bool, i: u128, len: usize) -> bool
     last && i > 0 && len == 16
 }
 
-/// Opens the first `end` bytes where they stand; where they don't open, all is as it was.
+/// Opens the first `end` bytes in place; where they don't open, all is unchanged.
 pub(crate) fn open_front(key: &[u8; 32], nonce: &[u8; 12], bytes: &mut [u8], end: usize) -> bool
     requires low { 16 ≤ end }
     requires high { end ≤ length bytes.old }

@@ -10,7 +10,7 @@ use crate::refused::Refused;
 use age_recipient::FileKey;
 use std::alloc::Global;
 
-/// Reads any part of a payload's plaintext from a caller's source. It reads and opens just the
+/// Reads any part of a payload's plaintext from a caller's source. It reads and opens exactly the
 /// chunks that a part touches, and keeps the chunk that it opened last. Its memory is that of one
 /// `ChunkBuf`, which is allocated once.
 #[derive(Drop)]
@@ -29,7 +29,7 @@ impl<'a, D: ReadAt> RangeReader<'a, D> {
         RangeReader { dev, chunks }
     }
 
-    /// As `open`, but hands the source back with the fault.
+    /// Like `open`, but returns the source with the fault.
     ///
     /// # Errors
     /// Those of `open`.
@@ -65,14 +65,14 @@ impl<'a, D: ReadAt> RangeReader<'a, D> {
     /// A reader of the payload that begins at place `payload_at` of the source, under this file key
     /// (C2SP `age.md`, "Payload"). It takes its memory, reads the nonce, and reads and opens the
     /// last piece, since its length and its tag prove where the payload ends. The last chunk is the
-    /// kept one then. Of the source after an error `started` says more.
+    /// kept one then. `started` says more about the source after an error.
     ///
     /// # Errors
-    /// `Memory` where the allocation was refused: nothing was read. `NonceTruncated` where fewer
-    /// than 16 bytes stand there. Then the first that applies: `TooManyChunks` where there are more
-    /// than `max_chunks` pieces, `ChunkShort` where the last is shorter than a tag, `EmptyFinal`
-    /// where it is not the first and a tag alone, `BadChunk` where nothing seals to it at its
-    /// place. `Read` where the source failed.
+    /// `Memory` if the allocation was refused: nothing was read. `NonceTruncated` if fewer than 16
+    /// bytes stand there. Then the first that applies: `TooManyChunks` if there are more than
+    /// `max_chunks` pieces, `ChunkShort` if the last is shorter than a tag, `EmptyFinal` if it is
+    /// not the first and a tag alone, `BadChunk` where nothing seals to it at its place. `Read` if
+    /// the source failed.
     pub fn open(
         alloc: Global,
         key: &FileKey,
@@ -118,13 +118,13 @@ impl<'a, D: ReadAt> RangeReader<'a, D> {
 
     /// Fills the front of `buf` with the plaintext from byte `at` on, and returns how many bytes:
     /// the smaller of `buf.len()` and what the plaintext has from `at` on, 0 past its end. The rest
-    /// of `buf` stays as it was. An empty range reads nothing. After a range that is not empty its
-    /// last chunk is kept; it takes no memory.
+    /// of `buf` is unchanged. An empty range reads nothing. After a range that is not empty its
+    /// last chunk is kept; it allocates nothing.
     ///
     /// # Errors
-    /// `BadChunk(i)` for the first chunk i of the range that does not open, `Read` where the source
-    /// failed. The bytes before that chunk are in `buf` then, the rest of `buf` stays as it was,
-    /// and no chunk is kept. A later call reads afresh.
+    /// `BadChunk(i)` for the first chunk i of the range that does not open, `Read` if the source
+    /// failed. The bytes before that chunk are in `buf` then, the rest of `buf` is unchanged, and
+    /// no chunk is kept. A later call reads afresh.
     pub fn read_range(&mut self, at: u64, buf: &mut [u8]) -> Result<usize, StreamFault>
         ensures same_reference { self.new.dev.ghost_name ≡ self.old.dev.ghost_name }
         ensures stay { D.bytes self.new.dev.now ≡ D.bytes self.old.dev.now }

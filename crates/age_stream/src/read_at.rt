@@ -35,8 +35,8 @@ pub trait ReadAt {
         ensures given { given self.new ≡ given self.old }
         ensures count { Counts (failed self.old) (failed self.new) result };
 
-    /// Reads the bytes from place `at` on into the front of `buf`, and returns their number; 0 with
-    /// a nonempty `buf` only at the end or past it. A short read is not the end.
+    /// Reads the bytes from place `at` on to the start of `buf`, and returns their number; 0 with a
+    /// nonempty `buf` only at the end or past it. A short read is not the end.
     ///
     /// # Errors
     /// The read failed, and gave no byte. The failure is counted.

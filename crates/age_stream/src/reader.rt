@@ -38,11 +38,11 @@ impl<'a, S: Source> StreamReader<'a, S> {
         StreamReader { input, opener }
     }
 
-    /// As `new`, but hands the source back with the fault.
+    /// Like `new`, but returns the source with the fault.
     ///
     /// # Errors
-    /// `Memory` where the allocation was refused: nothing was read. `NonceTruncated` where the
-    /// source gives fewer than 16 bytes, `Read` where it failed.
+    /// `Memory` if the allocation was refused: nothing was read. `NonceTruncated` if the source
+    /// returns fewer than 16 bytes, `Read` if it failed.
     pub fn started(
         alloc: Global,
         key: &FileKey,
@@ -74,11 +74,11 @@ impl<'a, S: Source> StreamReader<'a, S> {
     }
 
     /// A reader of the payload that the source still gives, under this file key. It takes its
-    /// memory, and then reads the nonce. Of the source after an error `started` says more.
+    /// memory, and then reads the nonce. `started` says more about the source after an error.
     ///
     /// # Errors
-    /// `Memory` where the allocation was refused: nothing was read. `NonceTruncated` where the
-    /// source gives fewer than 16 bytes, `Read` where it failed.
+    /// `Memory` if the allocation was refused: nothing was read. `NonceTruncated` if the source
+    /// returns fewer than 16 bytes, `Read` if it failed.
     pub fn new(
         alloc: Global,
         key: &FileKey,
@@ -132,9 +132,8 @@ impl<'a, S: Source> StreamReader<'a, S> {
     ///
     /// # Errors
     /// The first that applies to piece i: `TooManyChunks` where i reaches `max_chunks`,
-    /// `ChunkShort` where it is shorter than a tag, `EmptyFinal` where it is the last, not the
-    /// first, and a tag alone, `BadChunk` where nothing seals to it at its place. `Read` where the
-    /// source failed.
+    /// `ChunkShort` if it is shorter than a tag, `EmptyFinal` if it is the last, not the first, and
+    /// a tag alone, `BadChunk` where nothing seals to it at its place. `Read` if the source failed.
     pub fn next_chunk(&mut self) -> Result<Option<&[u8]>, StreamFault>
         ensures* after { sem 𝓛 (follows_so
             (the_row (record { mir = named 1; lft = [] }) S.row opener_row)
@@ -159,8 +158,8 @@ impl<'a, S: Source> StreamReader<'a, S> {
     /// how many bytes it wrote, and of how many chunks.
     ///
     /// # Errors
-    /// Those of `next_chunk`: the chunks before were written. `Write` where the sink failed: a
-    /// beginning of the chunks was written.
+    /// Those of `next_chunk`: the chunks before were written. `Write` if the sink failed: a prefix
+    /// of the chunks was written.
     pub fn copy_to<W: Sink>(self, out: &mut W) -> Result<Done, StreamFault>
         ensures kept { IfSome self.entry.opener.fault (λ f.
             (result ≡ Err f) × (self.exit.0.now ≡ self.entry.input.now) × (out.new ≡ out.old)) }

@@ -1,7 +1,7 @@
 //! What a constructor that failed hands back.
 ghost use Rattle.std.specs.Prelude.{◌≡◌};
 
-/// A device that is handed back, with the fault that was met.
+/// A device that is passed back, with the fault that was met.
 pub struct Refused<'a, D, E> {
     device: &'a mut D,
     fault: E,

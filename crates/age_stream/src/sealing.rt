@@ -67,7 +67,7 @@ impl ChunkSealer {
         }
     }
 
-    /// Takes all that the source still gives, and writes the chunks that are full and not the last.
+    /// Takes all bytes left in the source, and writes the chunks that are full and not the last.
     pub fn write_from<S: Source, W: Sink>(
         &mut self,
         plain: &mut S,
@@ -135,8 +135,8 @@ impl ChunkSealer {
     }
 }
 
-/// Takes all that the source still gives, after the first `len` bytes, and writes the chunks that
-/// are full and not the last. Returns how many bytes are held then.
+/// Takes all bytes left in the source, after the first `len` bytes, and writes the chunks that are
+/// full and not the last. Returns how many bytes are held then.
 fn feed<S: Source, W: Sink>(
     plain: &mut S,
     out: &mut W,
@@ -225,7 +225,7 @@ fn put_full<W: Sink>(
     }
 }
 
-/// Seals the first `len` bytes where they stand, and writes them with their tag.
+/// Seals the first `len` bytes in place, and writes them with their tag.
 fn put_sealed<W: Sink>(
     out: &mut W,
     key: &[u8; 32],
@@ -247,8 +247,8 @@ fn put_sealed<W: Sink>(
     write_all(out, piece)
 }
 
-/// Seals all but the last 16 bytes where they stand, as chunk i; the last 16 become the tag. `last`
-/// says whether the chunk ends its payload.
+/// Seals all but the last 16 bytes in place, as chunk i; the last 16 become the tag. `last` says
+/// whether the chunk ends its payload.
 pub fn seal_chunk(key: &[u8; 32], i: u128, last: bool, chunk: &mut [u8])
     requires low { 16 ≤ length chunk.old }
     requires high { length chunk.old ≤ 65552 }

@@ -34,10 +34,10 @@ impl<'a, W: Sink> StreamWriter<'a, W> {
         StreamWriter { out, sealer }
     }
 
-    /// As `with_buf`, but hands the sink back with the fault.
+    /// Like `with_buf`, but returns the sink with the fault.
     ///
     /// # Errors
-    /// `Write` where the sink failed: a beginning of the nonce was written.
+    /// `Write` if the sink failed: a prefix of the nonce was written.
     pub fn started_with(
         key: &FileKey,
         nonce: &[u8; 16],
@@ -66,11 +66,11 @@ impl<'a, W: Sink> StreamWriter<'a, W> {
         Ok(StreamWriter::over(out, ChunkSealer::new(key, nonce, max_chunks, buf)))
     }
 
-    /// As `new`, but hands the sink back with the fault.
+    /// Like `new`, but returns the sink with the fault.
     ///
     /// # Errors
-    /// `Memory` where the allocation was refused: nothing was written. `Write` where the sink
-    /// failed: a beginning of the nonce was written.
+    /// `Memory` if the allocation was refused: nothing was written. `Write` if the sink failed: a
+    /// prefix of the nonce was written.
     pub fn started(
         alloc: Global,
         key: &FileKey,
@@ -103,11 +103,11 @@ impl<'a, W: Sink> StreamWriter<'a, W> {
         Ok(StreamWriter::over(out, ChunkSealer::new(key, nonce, max_chunks, buf)))
     }
 
-    /// A writer of the payload with this nonce under this file key. It takes no memory, and writes
-    /// the nonce. Of the sink after an error `started_with` says more.
+    /// A writer of the payload with this nonce under this file key. It allocates nothing, and
+    /// writes the nonce. `started_with` says more about the sink after an error.
     ///
     /// # Errors
-    /// `Write` where the sink failed: a beginning of the nonce was written.
+    /// `Write` if the sink failed: a prefix of the nonce was written.
     pub fn with_buf(
         key: &FileKey,
         nonce: &[u8; 16],
@@ -135,11 +135,11 @@ impl<'a, W: Sink> StreamWriter<'a, W> {
     }
 
     /// A writer of the payload with this nonce under this file key. It takes its memory, and then
-    /// writes the nonce. Of the sink after an error `started` says more.
+    /// writes the nonce. `started` says more about the sink after an error.
     ///
     /// # Errors
-    /// `Memory` where the allocation was refused: nothing was written. `Write` where the sink
-    /// failed: a beginning of the nonce was written.
+    /// `Memory` if the allocation was refused: nothing was written. `Write` if the sink failed: a
+    /// prefix of the nonce was written.
     pub fn new(
         alloc: Global,
         key: &FileKey,
@@ -170,8 +170,8 @@ impl<'a, W: Sink> StreamWriter<'a, W> {
     /// Takes one more piece of the plaintext, and writes the chunks that are full and not the last.
     ///
     /// # Errors
-    /// `Write` where the sink failed: a beginning of the sealed chunks was written. `TooManyChunks`
-    /// where the text needs more than `max_chunks`: those before the last one allowed were written.
+    /// `Write` if the sink failed: a prefix of the sealed chunks was written. `TooManyChunks` if
+    /// the text needs more than `max_chunks`: those before the last one allowed were written.
     pub fn write_piece(&mut self, piece: &[u8]) -> Result<(), StreamFault>
         ensures same_reference { self.new.out.ghost_name ≡ self.old.out.ghost_name }
         ensures kept { IfSome self.old.sealer.fault (λ f. (result ≡ Err f)
@@ -185,12 +185,12 @@ impl<'a, W: Sink> StreamWriter<'a, W> {
         self.sealer.write_from(&mut source, self.out)
     }
 
-    /// Takes all that the source still gives, and writes all its chunks, the last one too. Returns
-    /// how much was sealed in all.
+    /// Takes all bytes left in the source, and writes all its chunks, the last one too. Returns how
+    /// much was sealed in all.
     ///
     /// # Errors
-    /// Those of `write_piece`, and `Read` where the source failed: a beginning of the sealed chunks
-    /// was written.
+    /// Those of `write_piece`, and `Read` if the source failed: a prefix of the sealed chunks was
+    /// written.
     pub fn seal_from<S: Source>(self, plain: &mut S) -> Result<Done, StreamFault>
         ensures kept { IfSome self.entry.sealer.fault (λ f.
             (result ≡ Err f) × (plain.new ≡ plain.old) × (self.exit.0.now ≡ self.entry.out.now)) }
@@ -213,7 +213,7 @@ impl<'a, W: Sink> StreamWriter<'a, W> {
     /// Seals what is held as the last chunk, and writes it. Returns how much was sealed in all.
     ///
     /// # Errors
-    /// `Write` where the sink failed: a beginning of the sealed chunk was written.
+    /// `Write` if the sink failed: a prefix of the sealed chunk was written.
     pub fn finish(self) -> Result<Done, StreamFault>
         ensures kept { IfSome self.entry.sealer.fault
             (λ f. (result ≡ Err f) × (self.exit.0.now ≡ self.entry.out.now)) }

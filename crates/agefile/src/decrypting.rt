@@ -16,8 +16,8 @@ use std::alloc::Global;
 /// to 30. On a fault after some chunks `out` has the plaintext of the chunks before it.
 ///
 /// # Errors
-/// 22 where `max_work` is not 1 to 30, 21 where `out` is too small for the plaintext, 17 where an
-/// allocation was refused; in these `out` is as it was. Else those of `age_file::decrypt`.
+/// 22 if `max_work` is not 1 to 30, 21 if `out` is too small for the plaintext, 17 if an allocation
+/// was refused; then `out` is unchanged. Otherwise those of `age_file::decrypt`.
 #[unsafe(no_mangle)]
 pub extern "C" fn agefile_decrypt_passphrase(
     alloc: Global,
@@ -47,8 +47,8 @@ pub extern "C" fn agefile_decrypt_passphrase(
 /// `out` has the plaintext of the chunks before it.
 ///
 /// # Errors
-/// 21 where `out` is too small for the plaintext, 17 where an allocation was refused; in these
-/// `out` is as it was. Else those of `age_file::decrypt`.
+/// 21 if `out` is too small for the plaintext, 17 if an allocation was refused; then `out` is
+/// unchanged. Otherwise those of `age_file::decrypt`.
 #[unsafe(no_mangle)]
 pub extern "C" fn agefile_decrypt_key(
     alloc: Global,

@@ -20,8 +20,8 @@ use std::alloc::Global;
 /// file key, a nonce and a salt, of 16 bytes each; its bytes must be random, and never used twice.
 ///
 /// # Errors
-/// 22 where `work` is not 1 to 30, 21 where `out` is too small for the file, 17 where an allocation
-/// was refused; in these `out` is as it was. There is no other.
+/// 22 if `work` is not 1 to 30, 21 if `out` is too small for the file, 17 if an allocation was
+/// refused; then `out` is unchanged. There is no other.
 #[unsafe(no_mangle)]
 pub extern "C" fn agefile_encrypt_passphrase(
     alloc: Global,
@@ -52,8 +52,8 @@ pub extern "C" fn agefile_encrypt_passphrase(
 /// nonce and a salt, of 16 bytes each; its bytes must be random, and never used twice.
 ///
 /// # Errors
-/// 21 where `out` is too small for the file, 17 where an allocation was refused; in these `out` is
-/// as it was. There is no other.
+/// 21 if `out` is too small for the file, 17 if an allocation was refused; then `out` is unchanged.
+/// There is no other.
 #[unsafe(no_mangle)]
 pub extern "C" fn agefile_encrypt_key(
     alloc: Global,

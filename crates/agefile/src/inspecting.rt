@@ -36,13 +36,12 @@ pub struct StanzaSummary {
     pub body_len: u64,
 }
 
-/// Sums up the header at the front of a file. Its MAC is not verified, since that needs the file
+/// Sums up the header at the start of a file. Its MAC is not verified, since that needs the file
 /// key. Of a file of more than 65,552 bytes the first 65,552 suffice: they have its header, if
 /// there is one.
 ///
 /// # Errors
-/// Those of `age_file::inspect`, or 17 where an allocation was refused; in these `summary` is as it
-/// was.
+/// Those of `age_file::inspect`, or 17 if an allocation was refused; then `summary` is unchanged.
 #[unsafe(no_mangle)]
 pub extern "C" fn agefile_inspect(
     alloc: Global,
@@ -72,13 +71,12 @@ pub extern "C" fn agefile_inspect(
 }
 
 /// Sums up the stanza at a place of the header, the first being 0, and writes its arguments to the
-/// front of `args`, joined by single spaces. Where `args` is too small for them, the stanza is
-/// still summed up. Of a file of more than 65,552 bytes the first 65,552 suffice.
+/// start of `args`, joined by single spaces. If `args` is too small for them, the stanza is still
+/// summed up. Of a file of more than 65,552 bytes the first 65,552 suffice.
 ///
 /// # Errors
-/// 23 where there is no such stanza, 21 where `args` is too small, 17 where an allocation was
-/// refused, else those of `age_file::inspect`; in these `args` is as it was, and in all but 21
-/// `stanza` too.
+/// 23 if there is no such stanza, 21 if `args` is too small, 17 if an allocation was refused, else
+/// those of `age_file::inspect`; then `args` is unchanged, and in all but 21 `stanza` too.
 #[unsafe(no_mangle)]
 pub extern "C" fn agefile_stanza(
     alloc: Global,
@@ -141,7 +139,7 @@ fn joined(alloc: Global, stanza: &Stanza) -> Result<String, AllocError>
     stanza.args().join(alloc, " ")
 }
 
-/// The header at the front of a file.
+/// The header at the start of a file.
 fn header_of(alloc: Global, front: &[u8]) -> Result<Header, Fault>
     ensures front { HeaderOf front.now result }
     ensures file { (b : List ℕ) → front.now ≡ take 65552 b → HeaderOf b result }

@@ -55,10 +55,10 @@ impl Ranges {
 /// the report has the last sealed chunk's place in the file and its length.
 ///
 /// # Errors
-/// 22 where `max_work` is not 1 to 30, 17 where an allocation was refused. Else the first that
-/// applies of those of `age_file::inspect` and `age_file::unlock_header`, and 10 where fewer than
-/// 16 bytes follow the header; then 23 where the file ends before its first sealed chunk. No
-/// payload is open then.
+/// 22 if `max_work` is not 1 to 30, 17 if an allocation was refused. Otherwise the first that
+/// applies of those of `age_file::inspect` and `age_file::unlock_header`, and 10 if fewer than 16
+/// bytes follow the header; then 23 if the file ends before its first sealed chunk. No payload is
+/// open then.
 #[unsafe(no_mangle)]
 pub extern "C" fn agefile_ranges_open_passphrase(
     alloc: Global,
@@ -110,7 +110,7 @@ fn stay_closed(code: u32, ranges: &mut Ranges, report: &mut Report) -> u32
     code
 }
 
-/// The payload from this start to the end of a file of so many bytes, or none.
+/// The payload from this start to the end of a file of this many bytes, or none.
 fn open_at(
     start: Result<Start, Fault>,
     file_len: u64,
@@ -147,8 +147,8 @@ fn open_at(
     OK
 }
 
-/// Verifies the last sealed chunk, whose length and tag prove where the file ends, and opens it
-/// where it stands. It must come before the other calls.
+/// Verifies the last sealed chunk, whose length and tag prove where the file ends, and opens it in
+/// place. It must come before the other calls.
 #[unsafe(no_mangle)]
 pub extern "C" fn agefile_ranges_last(
     ranges: &mut Ranges,
@@ -204,8 +204,8 @@ pub extern "C" fn agefile_ranges_locate(ranges: &Ranges, at: u64, report: &mut R
     OK
 }
 
-/// Opens the sealed chunk that holds byte `at` of the plaintext where it stands. The plaintext from
-/// `at` on is then in the chunk from the reported place on, as many bytes as are reported.
+/// Opens the sealed chunk that holds byte `at` of the plaintext in place. The plaintext from `at`
+/// on is then in the chunk from the reported place on, as many bytes as are reported.
 #[unsafe(no_mangle)]
 pub extern "C" fn agefile_ranges_chunk(
     ranges: &Ranges,
@@ -249,14 +249,14 @@ fn has_byte(ranges: &Ranges, at: u64) -> bool
         && at < plain_of(ranges.sealed_len)
 }
 
-/// The number of the last of the pieces that so many bytes are.
+/// The number of the last of the pieces that this many bytes are.
 fn last_index(sealed_len: u64) -> u64
     ensures { result ≡ last_index sealed_len }
 {
     sealed_len.saturating_sub(1) / 65_552
 }
 
-/// How long piece i of so many bytes is.
+/// How long piece i of this many bytes is.
 fn piece_len(sealed_len: u64, i: u64) -> usize
     requires { i ≤ last_index sealed_len }
     ensures { result ≡ piece_len sealed_len i }

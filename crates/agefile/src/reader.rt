@@ -15,7 +15,7 @@ use age_file::Fault;
 use age_stream::open_chunk;
 use std::alloc::Global;
 
-/// A reader of a file's sealed chunks, in its caller's memory. Any bytes may stand in it.
+/// A reader of a file's sealed chunks, in its caller's memory. It may hold any bytes.
 #[repr(C)]
 #[derive(Clone, Copy)]
 pub struct Reader {
@@ -39,7 +39,7 @@ impl Reader {
         }
     }
 
-    /// Whether it takes a chunk of so many bytes.
+    /// Whether it takes a chunk of this many bytes.
     fn takes(&self, len: usize, last: bool) -> bool
         ensures { result ≡ takes self.now len last }
     {
@@ -57,9 +57,9 @@ impl Reader {
 /// where the first sealed chunk begins.
 ///
 /// # Errors
-/// 22 where `max_work` is not 1 to 30, 17 where an allocation was refused. Else the first that
-/// applies of those of `age_file::inspect` and `age_file::unlock_header`, and 10 where fewer than
-/// 16 bytes follow the header. The reader is not open then.
+/// 22 if `max_work` is not 1 to 30, 17 if an allocation was refused. Otherwise the first that
+/// applies of those of `age_file::inspect` and `age_file::unlock_header`, and 10 if fewer than 16
+/// bytes follow the header. The reader is not open then.
 #[unsafe(no_mangle)]
 pub extern "C" fn agefile_reader_open_passphrase(
     alloc: Global,
@@ -85,9 +85,9 @@ pub extern "C" fn agefile_reader_open_passphrase(
 /// begins.
 ///
 /// # Errors
-/// 17 where an allocation was refused. Else the first that applies of those of `age_file::inspect`
-/// and `age_file::unlock_header`, and 10 where fewer than 16 bytes follow the header. The reader is
-/// not open then.
+/// 17 if an allocation was refused. Otherwise the first that applies of those of
+/// `age_file::inspect` and `age_file::unlock_header`, and 10 if fewer than 16 bytes follow the
+/// header. The reader is not open then.
 #[unsafe(no_mangle)]
 pub extern "C" fn agefile_reader_open_key(
     alloc: Global,
@@ -133,13 +133,13 @@ fn open_at(start: Result<Start, Fault>, reader: &mut Reader, report: &mut Report
     }
 }
 
-/// Opens the next sealed chunk where it stands: 65,552 bytes, or what is left where it is the last.
-/// On 0 its text is in front, and the report has its length. No memory is taken.
+/// Opens the next sealed chunk in place: 65,552 bytes, or what is left where it is the last. On 0
+/// its text is at the start of the buffer, and the report has its length. It allocates nothing.
 ///
 /// # Errors
-/// 23 where the reader is not open, or the chunk has another length: all is as it was. Else the
-/// first that applies of 14, 11, 12 and 13, as `age_stream::open_chunk` says: the chunk is as it
-/// was, and the reader takes no other.
+/// 23 if the reader is not open, or the chunk has another length: all is unchanged. Otherwise the
+/// first that applies of 14, 11, 12 and 13, as `age_stream::open_chunk` says: the chunk is
+/// unchanged, and the reader takes no other.
 #[unsafe(no_mangle)]
 pub extern "C" fn agefile_reader_chunk(
     reader: &mut Reader,

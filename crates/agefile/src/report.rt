@@ -21,7 +21,7 @@ pub struct Report {
 }
 
 impl Report {
-    /// No fault, and so many bytes.
+    /// No fault, and this many bytes.
     pub(crate) fn of_len(len: u64) -> Report
         ensures { result ≡ report_of len None }
     {
@@ -32,7 +32,7 @@ impl Report {
         }
     }
 
-    /// A fault, after so many bytes.
+    /// A fault, after this many bytes.
     pub(crate) fn of_fault(len: u64, fault: Fault) -> Report
         ensures { result ≡ report_of len (Some fault) }
     {

@@ -21,7 +21,7 @@ use age_file::{
 use age_stream::{payload_key, seal_chunk};
 use std::alloc::Global;
 
-/// A writer of a file's sealed chunks, in its caller's memory. Any bytes may stand in it.
+/// A writer of a file's sealed chunks, in its caller's memory. It may hold any bytes.
 #[repr(C)]
 #[derive(Clone, Copy)]
 pub struct Writer {
@@ -45,7 +45,7 @@ impl Writer {
         }
     }
 
-    /// Whether it takes a chunk of so many bytes.
+    /// Whether it takes a chunk of this many bytes.
     fn takes(&self, len: usize, last: bool) -> bool
         ensures { result ≡ takes self.now len last }
     {
@@ -58,7 +58,7 @@ impl Writer {
     }
 }
 
-/// Whether a last chunk of so many bytes has some text, or is the only one.
+/// Whether a last chunk of this many bytes has some text, or is the only one.
 fn has_text(number: u64, len: usize) -> bool
     ensures { result ≡ has_text number len }
 {
@@ -67,11 +67,11 @@ fn has_text(number: u64, len: usize) -> bool
 
 /// Begins a file under a passphrase, any bytes, with a work factor of 1 to 30. The seed is a file
 /// key, a nonce and a salt, of 16 bytes each; its bytes must be random, and never used twice. On 0
-/// the file's header and its nonce stand in front of `out`, at most 172 bytes.
+/// the file's header and its nonce stand at the start of `out`, at most 172 bytes.
 ///
 /// # Errors
-/// 22 where `work` is not 1 to 30, 21 where `out` is too small, 17 where an allocation was refused;
-/// in these `out` is as it was, and the writer is not open. There is no other.
+/// 22 if `work` is not 1 to 30, 21 if `out` is too small, 17 if an allocation was refused; then
+/// `out` is unchanged, and the writer is not open. There is no other.
 #[unsafe(no_mangle)]
 pub extern "C" fn agefile_writer_open_passphrase(
     alloc: Global,
@@ -101,11 +101,11 @@ pub extern "C" fn agefile_writer_open_passphrase(
 
 /// Begins a file under a key of 32 bytes, this project's own kind. The seed is a file key, a nonce
 /// and a salt, of 16 bytes each; its bytes must be random, and never used twice. On 0 the file's
-/// header and its nonce stand in front of `out`, at most 172 bytes.
+/// header and its nonce stand at the start of `out`, at most 172 bytes.
 ///
 /// # Errors
-/// 21 where `out` is too small, 17 where an allocation was refused; in these `out` is as it was,
-/// and the writer is not open. There is no other.
+/// 21 if `out` is too small, 17 if an allocation was refused; then `out` is unchanged, and the
+/// writer is not open. There is no other.
 #[unsafe(no_mangle)]
 pub extern "C" fn agefile_writer_open_key(
     alloc: Global,
@@ -205,13 +205,13 @@ fn stay_closed(code: u32, out: &mut [u8], writer: &mut Writer, report: &mut Repo
     give_up(code, out, report)
 }
 
-/// Seals the next chunk where it stands: its text, 65,536 bytes or what is left where it is the
-/// last, and then 16 bytes for the tag. Only the last chunk of an empty plaintext has no text. On 0
-/// all of it is the sealed chunk. No memory is taken.
+/// Seals the next chunk in place: its text, 65,536 bytes or what is left where it is the last, and
+/// then 16 bytes for the tag. Only the last chunk of an empty plaintext has no text. On 0 all of it
+/// is the sealed chunk. It allocates nothing.
 ///
 /// # Errors
-/// 23 where the writer is not open, or the chunk has another length; 14 where there are 2^64 - 1
-/// chunks already, after which the writer takes no other. The chunk is as it was.
+/// 23 if the writer is not open, or the chunk has another length; 14 if there are 2^64 - 1 chunks
+/// already, after which the writer takes no other. The chunk is unchanged.
 #[unsafe(no_mangle)]
 pub extern "C" fn agefile_writer_chunk(
     writer: &mut Writer,

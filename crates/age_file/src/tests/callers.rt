@@ -24,8 +24,8 @@ const OTHER_STANZA: &[u8] = b"-> x\n\n";
 
 const END: &[u8] = b"--- AAAAAAAAAAAAAAAAAAAAAAAAAAAAAAAAAAAAAAAAAAA\n";
 
-/// What a caller's identity makes of the stanzas, with the right identity behind it: what
-/// decrypting returns, and what it writes.
+/// What a caller's identity makes of the stanzas, with the right identity after it: what decrypting
+/// returns, and what it writes.
 #[test]
 fn identities_of_a_caller(rt: HostRuntime) -> Result<(), Fail> {
     let alloc = rt.alloc();
@@ -162,8 +162,8 @@ fn foreign_shape(rt: HostRuntime) -> Result<(), Fail> {
     Ok(())
 }
 
-/// A passphrase stanza beside another is refused before any identity is asked; where it stands
-/// alone each is asked once.
+/// A passphrase stanza beside another is refused before any identity is asked; in place alone each
+/// is asked once.
 #[test]
 fn mixed_passphrase_asks_no_identity(rt: HostRuntime) -> Result<(), Fail> {
     let alloc = rt.alloc();

@@ -49,7 +49,7 @@ impl Recipient for Long {
     }
 }
 
-/// Gives what the usual tool writes for an X25519 key, and a stanza of an unknown type behind it.
+/// Gives what the usual tool writes for an X25519 key, and a stanza of an unknown type after it.
 #[derive(Drop)]
 pub(super) struct Curve;
 
@@ -189,7 +189,7 @@ impl Recipient for Silent {
     }
 }
 
-/// Gives a stanza of a passphrase's type behind another.
+/// Gives a stanza of a passphrase's type after another.
 #[derive(Drop)]
 pub(super) struct Pair;
 

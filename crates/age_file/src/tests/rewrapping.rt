@@ -104,7 +104,7 @@ fn refused_before_the_first_byte(rt: HostRuntime) -> Result<(), Fail> {
     Ok(())
 }
 
-/// Each read and each write fails in turn: what was written is a beginning of the new file.
+/// Each read and each write fails in turn: what was written is a prefix of the new file.
 #[test]
 fn failing_devices(rt: HostRuntime) -> Result<(), Fail> {
     let alloc = rt.alloc();

@@ -53,7 +53,7 @@ pub(crate) fn keyed_answer(
     }
 }
 
-/// What a keyed stanza gives, whose arguments behind the type are these.
+/// What a keyed stanza gives, whose arguments after the type are these.
 fn arguments_answer(
     alloc: Global,
     key: &[u8; 32],

@@ -25,7 +25,7 @@ impl PassPair {
     /// identity with a maximum.
     ///
     /// # Errors
-    /// `WorkFactor` where `work` or `max` is not 1 to 30, or `work` is above `max`; else `Memory`.
+    /// `WorkFactor` if `work` or `max` is not 1 to 30, or `work` is above `max`; else `Memory`.
     pub fn new(
         alloc: Global,
         pass: &[u8],

@@ -48,7 +48,7 @@ impl PassRecipient {
     /// logarithm of scrypt's N.
     ///
     /// # Errors
-    /// `WorkFactor` where `work` is not 1 to 30, else `Memory`.
+    /// `WorkFactor` if `work` is not 1 to 30, else `Memory`.
     pub fn new(
         alloc: Global,
         pass: &[u8],
@@ -116,7 +116,7 @@ impl PassIdentity {
     /// An identity of this passphrase, any bytes, which takes work factors of at most `max`.
     ///
     /// # Errors
-    /// `WorkFactor` where `max` is not 1 to 30, else `Memory`.
+    /// `WorkFactor` if `max` is not 1 to 30, else `Memory`.
     pub fn new(alloc: Global, pass: &[u8], max: u8) -> Result<PassIdentity, PassError>
         ensures ok { IfOk result (λ i. WorkFits max × (i ≡ record { pass = pass.now; max = max })) }
         ensures err { IfErr result (IsPassError (WorkFits max)) }

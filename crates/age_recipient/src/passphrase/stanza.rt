@@ -83,7 +83,7 @@ pub(crate) fn pass_answer(
     }
 }
 
-/// What a passphrase stanza gives, whose arguments behind the type are these.
+/// What a passphrase stanza gives, whose arguments after the type are these.
 fn arguments_answer(
     alloc: Global,
     pass: &[u8],
