@@ -10,8 +10,8 @@ ghost use Rattle.age_header.specs.Header.{StanzaParts, Head};
 ghost use Rattle.age_header.specs.Text.{signed};
 ghost use Rattle.age_header.specs.Verdict.{Found, HeaderVerdict, BeginsWith};
 
-/// Characters are decoded to exactly the bytes whose base64 they are, and what bytes are encoded to
-/// is their base64.
+/// Characters are decoded to exactly the bytes whose base64 they are, and bytes are encoded to
+/// their base64.
 pub fn one_base64()
     ensures decoded { (signs bytes : List ℕ) → (decoded signs ≡ Some bytes) ↔ B64 bytes signs }
     ensures encoded { (bytes : List ℕ) → IsBytes bytes → B64 bytes (base64_of bytes) }
@@ -27,8 +27,8 @@ pub fn one_reading()
         → x ≡ [] }
 {}
 
-/// Bytes have one header verdict under a limit, and it is a header exactly where they begin with
-/// that header and the limit holds it.
+/// Bytes have exactly one header verdict under a limit. It is a header exactly if they begin with
+/// that header and its length is within the limit.
 pub fn one_verdict()
     ensures some { (b : List ℕ) (max : ℕ) → (r : Result Found HeaderFault) × HeaderVerdict b max r }
     ensures one { (b : List ℕ) (max : ℕ) (r q : Result Found HeaderFault) → HeaderVerdict b max r
@@ -37,8 +37,8 @@ pub fn one_verdict()
         → HeaderVerdict b max (Ok found) ↔ BeginsWith b max found }
 {}
 
-/// What a header's MAC is taken over is its text without the last 45 bytes: the space, the MAC's 43
-/// characters and the LF.
+/// The text under a header's MAC is the header's text without the last 45 bytes: the space, the
+/// MAC's 43 characters and the LF.
 pub fn signed_front()
     ensures { (ss : List StanzaParts) (mac h : List ℕ) → Head ss mac h
         → signed ss ≡ take (length h - 45) h }

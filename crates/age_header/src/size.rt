@@ -1,4 +1,4 @@
-//! How long the text of a stanza is. Sums stay at the largest `u64`.
+//! The length of a stanza's text. Sums saturate at the largest `u64`.
 
 ghost use Rattle.std.specs.Prelude.{◌≡◌, ◌-◌, ◌^◌, ℕ, List, length, map, min};
 ghost use Rattle.std.specs.String.{string_bytes};

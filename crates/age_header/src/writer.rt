@@ -1,4 +1,4 @@
-//! Writing a header, part by part and with no memory.
+//! Writing a header, part by part and without allocating.
 
 ghost use Rattle.std.specs.Prelude.{◌≡◌, ◌≤◌, ℕ, List, length, map};
 ghost use Rattle.std.specs.String.{string_bytes};
@@ -24,7 +24,7 @@ pub fn write_header<W: Sink>(header: &Header, out: &mut W) -> Result<(), DeviceF
     write_mac(header.mac(), &engine, out)
 }
 
-/// Writes the header of these stanzas through the three bytes `---`.
+/// Writes the header of these stanzas from its first byte to the three bytes `---`, these included.
 pub(crate) fn write_signed<W: Sink>(
     stanzas: &[Stanza],
     engine: &GeneralPurpose,
@@ -42,7 +42,7 @@ pub(crate) fn write_signed<W: Sink>(
     write_all(out, b"---")
 }
 
-/// Writes what follows those: the MAC.
+/// Writes the rest of the end line: the space, the MAC and the LF.
 fn write_mac<W: Sink>(
     mac: &[u8; 32],
     engine: &GeneralPurpose,

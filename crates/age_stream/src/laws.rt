@@ -7,14 +7,14 @@ ghost use Rattle.age_stream.specs.Payload.{chunks, payload, payload_key, pieces}
 ghost use Rattle.age_stream.specs.Reading.{payload_reading, whole};
 ghost use Rattle.age_stream.specs.Slice.{IsSlice, plain_len, range_outcome};
 
-/// There is one cut of a text, and it is the computed one.
+/// A text has exactly one cut, which is the computed one.
 pub fn one_cut()
     ensures { (size : ℕ) (text : List ℕ) (lists : List (List ℕ)) → 0 < size
         → IsCut size text lists ↔ (lists ≡ cut size text) }
 {}
 
-/// A payload reads whole as a plaintext exactly where it is the payload of this plaintext, which
-/// has few enough chunks. It then has as many pieces as the plaintext has chunks.
+/// A payload reads whole as a plaintext exactly if it is the payload of this plaintext, and the
+/// number of chunks is within the limit. It then has as many pieces as the plaintext has chunks.
 pub fn ok_is_payload()
     ensures ok { (k : FileKey) (text plain : List ℕ) (max : ℕ)
         → (payload_reading k max text ≡ whole plain) ↔ ((nonce : List ℕ) × (length nonce ≡ 16)

@@ -18,8 +18,8 @@ use age_recipient::FileKey;
 use std::marker::Model;
 
 /// Seals the chunks of a plaintext in order, each in the same memory. A full chunk is held until
-/// more text comes, since the last one is sealed in another way. It keeps a fault, and returns it
-/// from then on without asking its devices.
+/// more text comes, since the last one is sealed with another nonce. It keeps a fault, and returns
+/// it from then on without calling its devices.
 #[derive(Drop)]
 pub struct ChunkSealer {
     key: [u8; 32],
@@ -51,7 +51,7 @@ impl Model for ChunkSealer {
 impl ChunkSealer {
     ghost use Rattle.age_stream.specs.Sealing.{at_start};
 
-    /// A sealer of the payload with this nonce under this file key, before chunk 0.
+    /// Makes a sealer of the payload with this nonce under this file key, before chunk 0.
     pub fn new(key: &FileKey, nonce: &[u8; 16], max_chunks: u128, buf: ChunkBuf) -> ChunkSealer
         requires low { 1 ≤ max_chunks }
         requires high { max_chunks ≤ 2 ^ 88 }
@@ -67,7 +67,7 @@ impl ChunkSealer {
         }
     }
 
-    /// Takes all bytes left in the source, and writes the chunks that are full and not the last.
+    /// Reads all bytes left in the source, and writes the chunks that are full and not the last.
     pub fn write_from<S: Source, W: Sink>(
         &mut self,
         plain: &mut S,
@@ -105,7 +105,8 @@ impl ChunkSealer {
         }
     }
 
-    /// Seals what is held as the last chunk, and writes it. Returns how much was sealed in all.
+    /// Seals what is held as the last chunk, and writes it. Returns the total numbers of bytes and
+    /// chunks sealed.
     pub fn finish<W: Sink>(self, out: &mut W) -> Result<Done, StreamFault>
         ensures kept { IfSome self.fault (λ f. (result ≡ Err f) × (out.new ≡ out.old)) }
         ensures text { IfNone self.fault
@@ -135,8 +136,8 @@ impl ChunkSealer {
     }
 }
 
-/// Takes all bytes left in the source, after the first `len` bytes, and writes the chunks that are
-/// full and not the last. Returns how many bytes are held then.
+/// Reads all bytes left in the source, after the first `len` bytes, and writes the chunks that are
+/// full and not the last. Returns the number of bytes that are then held.
 fn feed<S: Source, W: Sink>(
     plain: &mut S,
     out: &mut W,
@@ -193,8 +194,8 @@ fn fill_chunk<S: Source>(plain: &mut S, bytes: &mut [u8], held: usize) -> Result
     fill_from(plain, front, held)
 }
 
-/// Writes the full chunk that stands in front, as one that is not the last, and moves the byte that
-/// follows it to the front.
+/// Writes the full chunk at the start of the buffer, as one that is not the last, and moves the
+/// byte that follows it to the start.
 fn put_full<W: Sink>(
     out: &mut W,
     key: &[u8; 32],

@@ -16,16 +16,16 @@ use age_header::{MemSource, Sink, Source, write_all};
 use age_recipient::FileKey;
 use std::alloc::Global;
 
-/// Writes a payload to a caller's sink. It must be spent, by `seal_from`, `finish` or `abandon`. It
-/// keeps a fault, and returns it from then on without asking the sink.
+/// Writes a payload to a caller's sink. It must be consumed, by `seal_from`, `finish` or `abandon`.
+/// It keeps a fault, and returns it from then on without writing to the sink.
 pub struct StreamWriter<'a, W, B = ChunkSealer> {
     out: &'a mut W,
     sealer: B,
 }
 
 impl<'a, W: Sink> StreamWriter<'a, W> {
-    /// A writer to this sink, with the nonce of the sealer's payload already written. It writes
-    /// nothing.
+    /// Makes a writer to this sink, to which the nonce of the sealer's payload was written already.
+    /// It writes nothing.
     pub fn over(out: &'a mut W, sealer: ChunkSealer) -> StreamWriter<'a, W>
         ensures same_reference { result.out.ghost_name ≡ out.entry.ghost_name }
         ensures kept { result.out.now ≡ out.old }
@@ -103,7 +103,7 @@ impl<'a, W: Sink> StreamWriter<'a, W> {
         Ok(StreamWriter::over(out, ChunkSealer::new(key, nonce, max_chunks, buf)))
     }
 
-    /// A writer of the payload with this nonce under this file key. It allocates nothing, and
+    /// Makes a writer of the payload with this nonce under this file key. It allocates nothing, and
     /// writes the nonce. `started_with` says more about the sink after an error.
     ///
     /// # Errors
@@ -134,8 +134,8 @@ impl<'a, W: Sink> StreamWriter<'a, W> {
         }
     }
 
-    /// A writer of the payload with this nonce under this file key. It takes its memory, and then
-    /// writes the nonce. `started` says more about the sink after an error.
+    /// Makes a writer of the payload with this nonce under this file key. It allocates its buffer,
+    /// and then writes the nonce. `started` says more about the sink after an error.
     ///
     /// # Errors
     /// `Memory` if the allocation was refused: nothing was written. `Write` if the sink failed: a
@@ -167,11 +167,12 @@ impl<'a, W: Sink> StreamWriter<'a, W> {
         }
     }
 
-    /// Takes one more piece of the plaintext, and writes the chunks that are full and not the last.
+    /// Appends one more piece to the plaintext, and writes the chunks that are full and not the
+    /// last.
     ///
     /// # Errors
     /// `Write` if the sink failed: a prefix of the sealed chunks was written. `TooManyChunks` if
-    /// the text needs more than `max_chunks`: those before the last one allowed were written.
+    /// the text needs more than `max_chunks`: the chunks before the last one allowed were written.
     pub fn write_piece(&mut self, piece: &[u8]) -> Result<(), StreamFault>
         ensures same_reference { self.new.out.ghost_name ≡ self.old.out.ghost_name }
         ensures kept { IfSome self.old.sealer.fault (λ f. (result ≡ Err f)
@@ -185,8 +186,8 @@ impl<'a, W: Sink> StreamWriter<'a, W> {
         self.sealer.write_from(&mut source, self.out)
     }
 
-    /// Takes all bytes left in the source, and writes all its chunks, the last one too. Returns how
-    /// much was sealed in all.
+    /// Reads all bytes left in the source, and writes all chunks, the last one too. Returns the
+    /// total numbers of bytes and chunks sealed.
     ///
     /// # Errors
     /// Those of `write_piece`, and `Read` if the source failed: a prefix of the sealed chunks was
@@ -210,7 +211,8 @@ impl<'a, W: Sink> StreamWriter<'a, W> {
         }
     }
 
-    /// Seals what is held as the last chunk, and writes it. Returns how much was sealed in all.
+    /// Seals what is held as the last chunk, and writes it. Returns the total numbers of bytes and
+    /// chunks sealed.
     ///
     /// # Errors
     /// `Write` if the sink failed: a prefix of the sealed chunk was written.
@@ -226,7 +228,7 @@ impl<'a, W: Sink> StreamWriter<'a, W> {
         sealer.finish(out)
     }
 
-    /// Lets go of the writer. What is held is not written.
+    /// Drops the writer. What is held is not written.
     pub fn abandon(self)
         ensures { self.exit.0.now ≡ self.entry.out.now }
     {

@@ -16,12 +16,13 @@ use age_file::{
 };
 use std::alloc::Global;
 
-/// Encrypts a plaintext under a passphrase, any bytes, with a work factor of 1 to 30. The seed is a
-/// file key, a nonce and a salt, of 16 bytes each; its bytes must be random, and never used twice.
+/// Encrypts a plaintext under a passphrase, which is any bytes, with a work factor of 1 to 30. The
+/// seed is a file key, a nonce and a salt, of 16 bytes each; its bytes must be random, and never
+/// used twice.
 ///
 /// # Errors
 /// 22 if `work` is not 1 to 30, 21 if `out` is too small for the file, 17 if an allocation was
-/// refused; then `out` is unchanged. There is no other.
+/// refused; then `out` is unchanged. There are no other codes.
 #[unsafe(no_mangle)]
 pub extern "C" fn agefile_encrypt_passphrase(
     alloc: Global,
@@ -53,7 +54,7 @@ pub extern "C" fn agefile_encrypt_passphrase(
 ///
 /// # Errors
 /// 21 if `out` is too small for the file, 17 if an allocation was refused; then `out` is unchanged.
-/// There is no other.
+/// There are no other codes.
 #[unsafe(no_mangle)]
 pub extern "C" fn agefile_encrypt_key(
     alloc: Global,
@@ -72,7 +73,7 @@ pub extern "C" fn agefile_encrypt_key(
     }
 }
 
-/// The 16 bytes of a seed from this place on.
+/// The 16 bytes of a seed from this offset on.
 pub(crate) fn part(seed: &[u8; 48], at: usize) -> [u8; 16]
     requires { at ≤ 32 }
     ensures { result ≡ take 16 (drop at seed.now) }

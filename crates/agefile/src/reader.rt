@@ -39,7 +39,7 @@ impl Reader {
         }
     }
 
-    /// Whether it takes a chunk of this many bytes.
+    /// Whether it accepts a chunk of this many bytes.
     fn takes(&self, len: usize, last: bool) -> bool
         ensures { result ≡ takes self.now len last }
     {
@@ -52,9 +52,9 @@ impl Reader {
     }
 }
 
-/// Opens a file with this front, its first 65,552 bytes or all of a shorter one, for a passphrase,
-/// any bytes, that takes work factors of at most `max_work`, 1 to 30. On 0 the report's length says
-/// where the first sealed chunk begins.
+/// Opens a file with this front, its first 65,552 bytes or all of a shorter one, with a passphrase,
+/// which is any bytes. It accepts work factors of at most `max_work`, 1 to 30. On 0 the report's
+/// length is the offset of the first sealed chunk.
 ///
 /// # Errors
 /// 22 if `max_work` is not 1 to 30, 17 if an allocation was refused. Otherwise the first that
@@ -80,9 +80,9 @@ pub extern "C" fn agefile_reader_open_passphrase(
     }
 }
 
-/// Opens a file with this front, its first 65,552 bytes or all of a shorter one, for a key of 32
-/// bytes, this project's own kind. On 0 the report's length says where the first sealed chunk
-/// begins.
+/// Opens a file with this front, its first 65,552 bytes or all of a shorter one, with a key of 32
+/// bytes, this project's own kind. On 0 the report's length is the offset of the first sealed
+/// chunk.
 ///
 /// # Errors
 /// 17 if an allocation was refused. Otherwise the first that applies of those of
@@ -133,13 +133,13 @@ fn open_at(start: Result<Start, Fault>, reader: &mut Reader, report: &mut Report
     }
 }
 
-/// Opens the next sealed chunk in place: 65,552 bytes, or what is left where it is the last. On 0
-/// its text is at the start of the buffer, and the report has its length. It allocates nothing.
+/// Opens the next sealed chunk in place: 65,552 bytes, or what is left if it is the last. On 0 its
+/// text is at the start of the buffer, and the report has its length. It allocates nothing.
 ///
 /// # Errors
 /// 23 if the reader is not open, or the chunk has another length: all is unchanged. Otherwise the
 /// first that applies of 14, 11, 12 and 13, as `age_stream::open_chunk` says: the chunk is
-/// unchanged, and the reader takes no other.
+/// unchanged, and the reader accepts no other.
 #[unsafe(no_mangle)]
 pub extern "C" fn agefile_reader_chunk(
     reader: &mut Reader,

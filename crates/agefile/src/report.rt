@@ -10,13 +10,13 @@ use age_file::Fault;
 #[repr(C)]
 #[derive(Clone, Copy, Default)]
 pub struct Report {
-    /// How many bytes the buffer got in front; where it is too small for them, how many it would
-    /// have got. The calls of readers and ranges say what it is there.
+    /// The number of bytes written to the start of the buffer; if it is too small for them, the
+    /// number that would have been written. The calls of readers and ranges say what it is there.
     pub len: u64,
-    /// The line, from 1, or the chunk, from 0, of a fault, else 0. The calls of ranges return a
-    /// place here.
+    /// The line, from 1, or the chunk, from 0, of a fault, else 0. The calls of ranges return an
+    /// offset here.
     pub place: u64,
-    /// Of a malformed stanza which part of it is malformed, else 0.
+    /// The part of a malformed stanza that is malformed, else 0.
     pub detail: u64,
 }
 

@@ -29,7 +29,7 @@ pub struct Writer {
     pub key: [u8; 32],
     /// The number of the next chunk.
     pub number: u64,
-    /// 0 not open, 1 open, 2 after the last chunk, 3 after a chunk too many.
+    /// 0 not open, 1 open, 2 after the last chunk, 3 after one chunk too many.
     pub state: u64,
 }
 
@@ -45,7 +45,7 @@ impl Writer {
         }
     }
 
-    /// Whether it takes a chunk of this many bytes.
+    /// Whether it accepts a chunk of this many bytes.
     fn takes(&self, len: usize, last: bool) -> bool
         ensures { result ≡ takes self.now len last }
     {
@@ -65,13 +65,13 @@ fn has_text(number: u64, len: usize) -> bool
     len > TAG || len == TAG && number == 0
 }
 
-/// Begins a file under a passphrase, any bytes, with a work factor of 1 to 30. The seed is a file
-/// key, a nonce and a salt, of 16 bytes each; its bytes must be random, and never used twice. On 0
-/// the file's header and its nonce stand at the start of `out`, at most 172 bytes.
+/// Begins a file under a passphrase, which is any bytes, with a work factor of 1 to 30. The seed is
+/// a file key, a nonce and a salt, of 16 bytes each; its bytes must be random, and never used
+/// twice. On 0 the file's header and its nonce are at the start of `out`, at most 172 bytes.
 ///
 /// # Errors
 /// 22 if `work` is not 1 to 30, 21 if `out` is too small, 17 if an allocation was refused; then
-/// `out` is unchanged, and the writer is not open. There is no other.
+/// `out` is unchanged, and the writer is not open. There are no other codes.
 #[unsafe(no_mangle)]
 pub extern "C" fn agefile_writer_open_passphrase(
     alloc: Global,
@@ -101,11 +101,11 @@ pub extern "C" fn agefile_writer_open_passphrase(
 
 /// Begins a file under a key of 32 bytes, this project's own kind. The seed is a file key, a nonce
 /// and a salt, of 16 bytes each; its bytes must be random, and never used twice. On 0 the file's
-/// header and its nonce stand at the start of `out`, at most 172 bytes.
+/// header and its nonce are at the start of `out`, at most 172 bytes.
 ///
 /// # Errors
 /// 21 if `out` is too small, 17 if an allocation was refused; then `out` is unchanged, and the
-/// writer is not open. There is no other.
+/// writer is not open. There are no other codes.
 #[unsafe(no_mangle)]
 pub extern "C" fn agefile_writer_open_key(
     alloc: Global,
@@ -172,8 +172,8 @@ fn open_for(
     }
 }
 
-/// Gives a file's front, and a writer before its first chunk, where the buffer has room for the
-/// front.
+/// Copies a file's front to the buffer, and returns a writer before its first chunk, if the buffer
+/// has room for the front.
 fn give_front(
     front: &[u8],
     fresh: &Fresh,
@@ -205,13 +205,13 @@ fn stay_closed(code: u32, out: &mut [u8], writer: &mut Writer, report: &mut Repo
     give_up(code, out, report)
 }
 
-/// Seals the next chunk in place: its text, 65,536 bytes or what is left where it is the last, and
+/// Seals the next chunk in place: its text, 65,536 bytes or what is left if it is the last, and
 /// then 16 bytes for the tag. Only the last chunk of an empty plaintext has no text. On 0 all of it
 /// is the sealed chunk. It allocates nothing.
 ///
 /// # Errors
 /// 23 if the writer is not open, or the chunk has another length; 14 if there are 2^64 - 1 chunks
-/// already, after which the writer takes no other. The chunk is unchanged.
+/// already, after which the writer accepts no other. The chunk is unchanged.
 #[unsafe(no_mangle)]
 pub extern "C" fn agefile_writer_chunk(
     writer: &mut Writer,

@@ -1,4 +1,4 @@
-//! The passphrase's recipient and identity.
+//! The recipient and the identity of a passphrase.
 
 ghost use Rattle.std.specs.Prelude.{◌≡◌, Ok, IfOk, IfErr};
 ghost use Rattle.age_recipient.specs.PassphraseHolders.{IsPassError, WorkFits};
@@ -44,8 +44,8 @@ impl Model for PassRecipient {
 }
 
 impl PassRecipient {
-    /// A recipient of this passphrase, any bytes, with a salt and a work factor, the base-2
-    /// logarithm of scrypt's N.
+    /// Makes a recipient of this passphrase, which is any bytes, with a salt and a work factor, the
+    /// base-2 logarithm of scrypt's N (RFC 7914, section 2).
     ///
     /// # Errors
     /// `WorkFactor` if `work` is not 1 to 30, else `Memory`.
@@ -94,8 +94,8 @@ impl Recipient for PassRecipient {
     }
 }
 
-/// Unwraps a file key with a passphrase. Of the stanzas of type `scrypt`, the first that is
-/// malformed or that opens decides.
+/// Unwraps a file key with a passphrase. The first stanza of type `scrypt` that is malformed or
+/// that opens decides.
 #[derive(Drop)]
 pub struct PassIdentity {
     pass: Vec<u8>,
@@ -113,7 +113,8 @@ impl Model for PassIdentity {
 }
 
 impl PassIdentity {
-    /// An identity of this passphrase, any bytes, which takes work factors of at most `max`.
+    /// Makes an identity of this passphrase, which is any bytes. It accepts work factors of at most
+    /// `max`.
     ///
     /// # Errors
     /// `WorkFactor` if `max` is not 1 to 30, else `Memory`.
