@@ -1,5 +1,6 @@
-/* Decrypts standard input to standard output, or encrypts it with -e, in constant memory: stream [-e] KEY_FILE, whose 32 bytes are the
- * key. What was written counts after status 0 alone. cc -O2 -o stream stream.c $(pkg-config --cflags --libs agefile) */
+/* Decrypts standard input to standard output, or encrypts it with -e, in constant memory: stream
+ * [-e] KEY_FILE, whose 32 bytes are the key. What was written counts after status 0 alone. cc
+ * -O2 -o stream stream.c $(pkg-config --cflags --libs agefile) */
 #include <agefile.h>
 #include <stdio.h>
 #include <string.h>
@@ -15,7 +16,8 @@ static bool is_ok(uint32_t code, const agefile_report *report)
     return code == AGEFILE_OK;
 }
 
-/* Reads on behind the first `have` bytes of `buf`, up to `most`. Returns how many are there then, fewer than `most` at the end. */
+/* Reads on behind the first `have` bytes of `buf`, up to `most`. Returns how many are there
+ * then, fewer than `most` at the end. */
 static size_t fill(size_t have, size_t most)
 {
     return have + fread(buf + have, 1, most - have, stdin);

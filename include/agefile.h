@@ -1,24 +1,29 @@
-/* agefile.h: the age v1 encrypted file format (C2SP age.md), proved. Whole buffers, streams in steps, ranges in steps.
+/* agefile.h: the age v1 encrypted file format (C2SP age.md), proved. Whole buffers, streams in
+ * steps, ranges in steps.
  *
- * Every length and every number is tested inside. What C alone can keep is up to the caller; nothing tests it, and a call that
- * breaks one of these duties has undefined behaviour:
+ * Every length and every number is checked inside. The following duties are the caller's;
+ * nothing can check them, and a call that breaks one of them has undefined behaviour:
  *
- *  1. No pointer is null. The macros at the end of this file make a null pointer with the length 0 safe.
- *  2. A pointer is good for the length that follows it, which is below 2^63. A key has 32 bytes, a seed 48.
+ *  1. No pointer is null. The macros at the end of this file make a null pointer with the length
+ *     0 safe.
+ *  2. A pointer is valid for the length that follows it, which is below 2^63. A key has 32
+ *     bytes, a seed 48.
  *  3. Structs are aligned as the compiler aligns them, and a bool is 0 or 1.
- *  4. What a call writes (`out`, `args`, `chunk`, the structs) overlaps nothing else that is passed. So a whole buffer cannot be
- *     encrypted or decrypted in place; a chunk of the steps is.
- *  5. During a call no other thread reads or writes what the call writes, or writes what it reads. Nothing else is shared: any
- *     number of calls may run at once.
+ *  4. What a call writes (`out`, `args`, `chunk`, the structs) overlaps no other argument. So a
+ *     whole buffer cannot be encrypted or decrypted in place; a chunk of the steps is processed
+ *     in place.
+ *  5. During a call no other thread reads or writes what the call writes, or writes what it
+ *     reads. Nothing else is shared: any number of calls may run at once.
  *  6. 128 KiB of stack are free.
  *  7. No call is made in a signal handler, or in a forked child of a process that had threads.
  *  8. malloc, realloc and free belong to one allocator, and align blocks as C demands.
  *
- * Each call but the two of sizes returns an agefile_code and sets all of its report. Where it fails it writes nothing but what its
- * comment says. Lines count from 1, chunks, stanzas and bytes from 0.
- * A passphrase has any bytes. A work factor is 1 to 30; `max_work` is the greatest that is accepted, 22 is usual, and 18 is usual for
- * a new file. A seed is 48 fresh random bytes (getrandom) for each file: the same seed for two files repeats their keys.
- * Keys and passphrases stay in freed memory. docs/C.md has what is proved and what is trusted. */
+ * Each call except the two of sizes returns an agefile_code and sets all of its report. If it
+ * fails, it writes only what its comment says. Lines are counted from 1, chunks, stanzas and
+ * bytes from 0. A passphrase is any bytes. A work factor is 1 to 30; `max_work` is the greatest
+ * that is accepted, and 22 is usual; 18 is usual for a new file. A seed is 48 fresh random bytes
+ * (getrandom) for each file: the same seed for two files repeats their keys. Keys and
+ * passphrases stay in freed memory. docs/C.md says what is proved and what is trusted. */
 #ifndef AGEFILE_H
 #define AGEFILE_H
 #include <stdbool.h>
@@ -30,10 +35,11 @@ extern "C" {
 
 #define AGEFILE_TEXT_CHUNK 65536   /* bytes of a full chunk of the plaintext */
 #define AGEFILE_SEALED_CHUNK 65552 /* the same with its tag */
-#define AGEFILE_FRONT 65552        /* so many bytes of a file's front always hold its header and its payload's nonce */
-#define AGEFILE_HEADER_ROOM 256    /* room for a header that is written, and its payload's nonce */
+#define AGEFILE_FRONT 65552        /* this many bytes from a file's start hold its header and its payload's nonce */
+#define AGEFILE_HEADER_ROOM 256    /* enough room for a new file's header and its payload's nonce */
 
-/* A number is never reused. 15, 16 and 18 to 20 are faults of files and of other recipients, and no call here returns them. */
+/* A code is never reused. 15, 16 and 18 to 20 are faults of files and of other recipients; no
+ * call here returns them. */
 enum agefile_code {
     AGEFILE_OK = 0,
     AGEFILE_NOT_AGE = 1,
@@ -61,7 +67,8 @@ enum agefile_code {
     AGEFILE_OUT_OF_ORDER = 23
 };
 
-/* What a code means, in the words of the program `agep`, without its numbers. The report's `place` has the line or the chunk. */
+/* The message of a code: the text of the program `agep`, without its numbers. The report's
+ * `place` has the line or the chunk. */
 static inline const char *agefile_message(uint32_t code)
 {
     switch (code) {
@@ -93,16 +100,17 @@ static inline const char *agefile_message(uint32_t code)
     }
 }
 
-/* What a call returns beside its code. */
+/* What a call returns in addition to its code. */
 typedef struct agefile_report {
     uint64_t len;
-    uint64_t place;  /* the line or the chunk of a fault, else 0; of the calls of ranges a place, as they say */
-    uint64_t detail; /* of AGEFILE_MALFORMED: 1 arguments, 2 salt, 3 work factor's text, 4 work factor too high, 5 body's length */
+    uint64_t place;  /* the line or the chunk of a fault, else 0; for the calls of ranges an offset, see there */
+    uint64_t detail; /* for AGEFILE_MALFORMED: 1 argument count, 2 salt, 3 work factor's text, 4 work factor too high, 5 body's length */
 } agefile_report;
 
-/* ---- Whole buffers.
- * report.len: the bytes that `out` got in front, or on AGEFILE_TOO_SMALL would have got. After a fault of the payload these are the
- * plaintext of the verified chunks before the fault: use it after AGEFILE_OK alone. */
+/* ---- Whole buffers. report.len is the number of bytes written to the start of `out`; on
+ * AGEFILE_TOO_SMALL it is the number that would have been written. After a fault of the payload
+ * these bytes are the plaintext of the verified chunks before the fault: use it only after
+ * AGEFILE_OK. */
 uint32_t agefile_decrypt_passphrase(const uint8_t *file, size_t file_len, const uint8_t *pass, size_t pass_len, uint8_t max_work,
                                     uint8_t *out, size_t out_len, agefile_report *report);
 uint32_t agefile_decrypt_key(const uint8_t *file, size_t file_len, const uint8_t key[32],
@@ -112,12 +120,12 @@ uint32_t agefile_encrypt_passphrase(const uint8_t *plain, size_t plain_len, cons
 uint32_t agefile_encrypt_key(const uint8_t *plain, size_t plain_len, const uint8_t key[32], const uint8_t seed[48],
                              uint8_t *out, size_t out_len, agefile_report *report);
 
-/* How much room suffices; UINT64_MAX where no 64 bits do. */
+/* The size of a buffer that suffices; UINT64_MAX if it exceeds 64 bits. */
 uint64_t agefile_sealed_len(uint64_t plain_len);
 uint64_t agefile_plain_len_at_most(uint64_t file_len);
 
-/* ---- Headers. No passphrase or key is needed, and so the MAC is not verified.
- * `front` is the file's first AGEFILE_FRONT bytes, or all of a shorter file. */
+/* ---- Headers. Reading a header needs no passphrase or key, so its MAC is not verified. `front` is
+ * the file's first AGEFILE_FRONT bytes, or all of a shorter file. */
 typedef struct agefile_summary {
     uint64_t header_len;
     uint64_t stanzas;
@@ -125,21 +133,24 @@ typedef struct agefile_summary {
 } agefile_summary;
 
 typedef struct agefile_stanza_summary {
-    uint64_t args;     /* how many arguments, the type being the first */
-    uint64_t args_len; /* how many bytes they have, joined by single spaces */
+    uint64_t args;     /* the number of arguments; the first is the type */
+    uint64_t args_len; /* their length in bytes, joined by single spaces */
     uint64_t body_len;
 } agefile_stanza_summary;
 
 uint32_t agefile_inspect(const uint8_t *front, size_t front_len, agefile_summary *summary, agefile_report *report);
-/* Writes the arguments, joined by single spaces; report.len is how many bytes they have. On AGEFILE_TOO_SMALL `args` is as it was, and
- * `stanza` is set all the same. AGEFILE_OUT_OF_ORDER where there is no such stanza. */
+/* Writes the arguments, joined by single spaces; report.len is their length. On
+ * AGEFILE_TOO_SMALL `args` is unchanged, and `stanza` is set nevertheless. AGEFILE_OUT_OF_ORDER
+ * if there is no such stanza. */
 uint32_t agefile_stanza(const uint8_t *front, size_t front_len, uint64_t index, uint8_t *args, size_t args_len,
                         agefile_stanza_summary *stanza, agefile_report *report);
 
-/* ---- Reading in steps: open, then one call for each sealed chunk. The struct is the caller's to keep, and the calls' to change.
- * On 0 of an opening report.len is where the first sealed chunk begins; else the reader is not open. Even where no byte follows, one
- * call for the last chunk is needed: it finds that the file was cut short. A call that does not fit the
- * state, or a chunk of another length, is AGEFILE_OUT_OF_ORDER, and all but the report is as it was. */
+/* ---- Reading in steps: open, then one call for each sealed chunk. The caller keeps the struct,
+ * and only the calls change it. If an opening returns 0, report.len is the offset of the first
+ * sealed chunk; otherwise the reader is not open. Even if no byte follows, one call for the last
+ * chunk is needed: it finds that the file was cut short. A call that does not fit the state, or
+ * a chunk of another length, returns AGEFILE_OUT_OF_ORDER, and everything except the report is
+ * unchanged. */
 typedef struct agefile_reader {
     uint8_t key[32];
     uint64_t number; /* of the next chunk */
@@ -150,38 +161,42 @@ uint32_t agefile_reader_open_passphrase(const uint8_t *front, size_t front_len, 
                                         uint8_t max_work, agefile_reader *reader, agefile_report *report);
 uint32_t agefile_reader_open_key(const uint8_t *front, size_t front_len, const uint8_t key[32],
                                  agefile_reader *reader, agefile_report *report);
-/* Opens the next sealed chunk where it stands: AGEFILE_SEALED_CHUNK bytes, or what is left where it is the last. On 0 its text is in
- * front, report.len bytes; else the chunk is as it was. After a fault the reader takes no other chunk. A plaintext is whole only after
+/* Opens the next sealed chunk in place: AGEFILE_SEALED_CHUNK bytes, or what is left if it is the
+ * last. On 0 its text is at the start of the chunk, report.len bytes; otherwise the chunk is
+ * unchanged. After a fault the reader accepts no other chunk. A plaintext is complete only after
  * a 0 for its last chunk. */
 uint32_t agefile_reader_chunk(agefile_reader *reader, uint8_t *chunk, size_t chunk_len, bool last, agefile_report *report);
 
-/* ---- Writing in steps: open, then one call for each chunk. An empty plaintext has one chunk, which is empty; no other is empty.
- * On 0 of an opening `out` has the header and the nonce in front, report.len bytes; else the writer is not open, and on
- * AGEFILE_TOO_SMALL report.len is the room that is needed. A call that does not
- * fit the state, or a chunk of another length, is AGEFILE_OUT_OF_ORDER, as with a reader. */
+/* ---- Writing in steps: open, then one call for each chunk. An empty plaintext has one chunk,
+ * which is empty; no other is empty. If an opening returns 0, `out` starts with the header and
+ * the nonce, report.len bytes; otherwise the writer is not open, and on AGEFILE_TOO_SMALL
+ * report.len is the size that is needed. A call that does not fit the state, or a chunk of
+ * another length, returns AGEFILE_OUT_OF_ORDER, as for a reader. */
 typedef struct agefile_writer {
     uint8_t key[32];
     uint64_t number; /* of the next chunk */
-    uint64_t state;  /* 0 not open, 1 open, 2 ended, 3 after a chunk too many */
+    uint64_t state;  /* 0 not open, 1 open, 2 ended, 3 after one chunk too many */
 } agefile_writer;
 
 uint32_t agefile_writer_open_passphrase(const uint8_t *pass, size_t pass_len, uint8_t work, const uint8_t seed[48],
                                         uint8_t *out, size_t out_len, agefile_writer *writer, agefile_report *report);
 uint32_t agefile_writer_open_key(const uint8_t key[32], const uint8_t seed[48],
                                  uint8_t *out, size_t out_len, agefile_writer *writer, agefile_report *report);
-/* Seals the next chunk where it stands: its text, AGEFILE_TEXT_CHUNK bytes or what is left where it is the last, and then 16 bytes
- * for the tag. On 0 all chunk_len bytes are the sealed chunk; else they are as they were. */
+/* Seals the next chunk in place: its text, AGEFILE_TEXT_CHUNK bytes or what is left if it is the
+ * last, and then 16 bytes for the tag. On 0 all chunk_len bytes are the sealed chunk; otherwise
+ * they are unchanged. */
 uint32_t agefile_writer_chunk(agefile_writer *writer, uint8_t *chunk, size_t chunk_len, bool last, agefile_report *report);
 
-/* ---- Ranges in steps: open, verify the last sealed chunk, then locate and open the chunks that are wanted. Other chunks may be
- * damaged, and it is not noticed.
- * On 0 of an opening report.place and report.len are the last sealed chunk's place in the file and its length; else nothing is open.
- * `file_len` is the file's true length; AGEFILE_OUT_OF_ORDER where it ends before the first sealed chunk.
- * A call that does not fit the state, or a chunk of another length, is AGEFILE_OUT_OF_ORDER, as with a reader. */
+/* ---- Ranges in steps: open, verify the last sealed chunk, then locate and open the chunks that
+ * are wanted. Damage in other chunks is not noticed. If an opening returns 0, report.place and
+ * report.len are the last sealed chunk's offset in the file and its length; otherwise nothing is
+ * open. `file_len` is the file's true length; AGEFILE_OUT_OF_ORDER if it ends before the first
+ * sealed chunk. A call that does not fit the state, or a chunk of another length, returns
+ * AGEFILE_OUT_OF_ORDER, as for a reader. */
 typedef struct agefile_ranges {
     uint8_t key[32];
-    uint64_t first;      /* where the first sealed chunk begins */
-    uint64_t sealed_len; /* how many bytes all have */
+    uint64_t first;      /* the offset of the first sealed chunk */
+    uint64_t sealed_len; /* the length of all sealed chunks */
     uint64_t state;      /* 0 not open, 1 open, 2 the last chunk was verified */
 } agefile_ranges;
 
@@ -189,17 +204,20 @@ uint32_t agefile_ranges_open_passphrase(const uint8_t *front, size_t front_len, 
                                         size_t pass_len, uint8_t max_work, agefile_ranges *ranges, agefile_report *report);
 uint32_t agefile_ranges_open_key(const uint8_t *front, size_t front_len, uint64_t file_len, const uint8_t key[32],
                                  agefile_ranges *ranges, agefile_report *report);
-/* Verifies the last sealed chunk, which proves where the file ends, and must come first. On 0 its text is in front, and report.len is the
- * plaintext's length. On a fault the chunk is as it was, and the payload counts as not verified. */
+/* Verifies the last sealed chunk, which proves where the file ends, and must come first. On 0
+ * its text is at the start of the chunk, and report.len is the plaintext's length. On a fault
+ * the chunk is unchanged, and the payload counts as not verified. */
 uint32_t agefile_ranges_last(agefile_ranges *ranges, uint8_t *chunk, size_t chunk_len, agefile_report *report);
-/* Which sealed chunk holds the plaintext's byte `at`: report.place and report.len. AGEFILE_OUT_OF_ORDER past the plaintext's end. */
+/* Finds the sealed chunk that holds the plaintext's byte `at`: report.place is its offset in the
+ * file, report.len its length. AGEFILE_OUT_OF_ORDER past the plaintext's end. */
 uint32_t agefile_ranges_locate(const agefile_ranges *ranges, uint64_t at, agefile_report *report);
-/* Opens the sealed chunk that holds byte `at` where it stands. On 0 the plaintext from `at` on stands at chunk + report.place,
- * report.len bytes of it; else the chunk is as it was. */
+/* Opens the sealed chunk that holds byte `at` in place. On 0 report.len bytes of the plaintext
+ * from `at` on are at chunk + report.place; otherwise the chunk is unchanged. */
 uint32_t agefile_ranges_chunk(const agefile_ranges *ranges, uint64_t at, uint8_t *chunk, size_t chunk_len, agefile_report *report);
 
-/* ---- Null pointers. A null pointer with the length 0 is made one of a byte that is neither read nor written. A name in
- * parentheses, as (agefile_inspect)(..), is the function itself. */
+/* ---- Null pointers. A null pointer with the length 0 is replaced by the address of a byte that
+ * is neither read nor written. A name in parentheses, as (agefile_inspect)(..), is the function
+ * itself. */
 static inline const uint8_t *agefile_input(const uint8_t *bytes)
 {
     static const uint8_t none = 0;

@@ -379,12 +379,12 @@ words() {
         check "status 2: agep ${row%%|*}"
     done
     run encrypt --help
-    grep -q 'a seed used twice repeats keys' out && grep -q 'What OUT held stays until' out &&
-        grep -q 'refused where it is also IN' out && grep -q 'default: 18' out && grep -q 'default: /dev/urandom' out &&
-        grep -q 'Above 22' out && grep -q 'Only agep opens' out && has_said 0 ""
+    grep -q 'a seed used twice repeats keys' out && grep -q 'An existing OUT keeps its contents until' out &&
+        grep -q 'refused if it is also IN' out && grep -q 'default: 18' out && grep -q 'default: /dev/urandom' out &&
+        grep -q 'Above 22' out && grep -q 'Only agep and its library open' out && has_said 0 ""
     check "help on encrypt, with its warnings"
     run decrypt --help
-    grep -q 'What OUT held stays until' out && grep -q 'refused where it is also IN' out && grep -q 'owner alone' out &&
+    grep -q 'An existing OUT keeps its contents until' out && grep -q 'refused if it is also IN' out && grep -q 'owner only' out &&
         grep -q 'default: 22' out && has_said 0 ""
     check "help on decrypt, with its warnings"
 }

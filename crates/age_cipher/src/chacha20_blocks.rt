@@ -1,5 +1,5 @@
-// ChaCha20's blocks, made four or eight at once and xored into a text where it stands (RFC 8439,
-// 2.3 and 2.4).
+// ChaCha20's blocks, made four or eight at once and XORed into a text in place (RFC 8439, 2.3 and
+// 2.4).
 ghost use Rattle.std.specs.Prelude.{◌≡◌, ℕ, ◌+◌, ◌-◌, ◌≤◌, ◌<◌, ◌^◌, [], ◌∷◌, ◌++◌, length, slice_index, slice_index_or, bit_xor};
 ghost use Rattle.std.specs.List.{flat_map};
 ghost use Rattle.age_cipher.specs.Numbers.{le_bytes};
@@ -39,7 +39,7 @@ fn transposed(a: u32x4, b: u32x4, c: u32x4, d: u32x4) -> (u32x4, u32x4, u32x4, u
     )
 }
 
-// Xors 16 bytes from `at` on with the bytes of four words.
+// XORs 16 bytes from `at` on with the bytes of four words.
 #[inline(always)]
 fn xor_words(buf: &mut [u8], at: usize, words: u32x4)
     requires { at + 16 ≤ length buf.old }
@@ -49,7 +49,7 @@ fn xor_words(buf: &mut [u8], at: usize, words: u32x4)
     xored.copy_to_slice(&mut buf[at..]);
 }
 
-// Xors 64 bytes from `at` on with the bytes of a block's words.
+// XORs 64 bytes from `at` on with the bytes of a block's words.
 #[inline(always)]
 fn xor_block(buf: &mut [u8], at: usize, a: u32x4, b: u32x4, c: u32x4, d: u32x4)
     requires { at + 64 ≤ length buf.old }
@@ -61,7 +61,7 @@ fn xor_block(buf: &mut [u8], at: usize, a: u32x4, b: u32x4, c: u32x4, d: u32x4)
     xor_words(buf, at + 48, d);
 }
 
-// Xors 256 bytes from `at` on with the four lanes' blocks.
+// XORs 256 bytes from `at` on with the four lanes' blocks.
 #[inline(always)]
 fn xor_lanes(buf: &mut [u8], at: usize, words: &[u32x4; 16])
     requires { at + 256 ≤ length buf.old }
@@ -79,7 +79,7 @@ fn xor_lanes(buf: &mut [u8], at: usize, words: &[u32x4; 16])
     xor_block(buf, at + 192, d0, d1, d2, d3);
 }
 
-/// Xors 256 bytes from `at` on with the four blocks from a counter on.
+/// XORs 256 bytes from `at` on with the four blocks from a counter on.
 #[inline(always)]
 pub(crate) fn xor_four_blocks(
     key: &[u8; 32],
@@ -141,7 +141,7 @@ fn high_lanes(words: &[u32x8; 16]) -> [u32x4; 16]
     high
 }
 
-/// Xors 512 bytes from `at` on with the eight blocks from a counter on.
+/// XORs 512 bytes from `at` on with the eight blocks from a counter on.
 #[inline(always)]
 pub(crate) fn xor_eight_blocks(
     key: &[u8; 32],

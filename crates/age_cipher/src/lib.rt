@@ -7,9 +7,9 @@
 //! }
 //! ```
 //!
-//! Limits: one call takes at most `MAX_TEXT` bytes, 2^38 - 64. A key and a nonce must seal one text
-//! only. Nothing here takes memory, and no call can fail under its condition. Secrecy, constant
-//! time and wiped memory are not claimed.
+//! Limits: one call accepts at most `MAX_TEXT` bytes, 2^38 - 64. A key and a nonce must be used for
+//! one text only. Nothing here allocates, and no call can fail if its `requires` is met. Secrecy,
+//! constant time and wiped memory are not claimed.
 #![tactic(auto)]
 
 mod aead;

@@ -11,7 +11,7 @@ use std::marker::Model;
 /// The one-time authenticator Poly1305 (RFC 8439, 2.5), fed a message in pieces.
 ///
 /// How the pieces cut the message does not matter: a contract's `tag_after a text` is the tag that
-/// comes out if `text` still follows. A key must serve for one message only.
+/// results if `text` still follows. A key must be used for one message only.
 #[derive(Drop)]
 pub struct Poly1305 {
     r: Limbs,
@@ -36,7 +36,7 @@ impl Model for Poly1305 {
     ghost invariant = { λ p. AtMost (2 ^ 26) p.r × AtMost (2 ^ 27) p.sum × (p.filled < 16) };
 }
 
-// The first `filled` bytes of a block, and a piece behind them.
+// The first `filled` bytes of a block, and a piece after them.
 fn joined(block: &[u8; 16], filled: usize, piece: &[u8]) -> [u8; 16]
     requires { filled + length piece.now ≤ 16 }
     ensures { take (filled + length piece.now) result ≡ take filled block.now ++ piece.now }
@@ -47,8 +47,8 @@ fn joined(block: &[u8; 16], filled: usize, piece: &[u8]) -> [u8; 16]
 }
 
 impl Poly1305 {
-    /// An authenticator of nothing yet. `key` is r and s, 16 bytes each; r's forbidden bits are
-    /// cleared.
+    /// Makes an authenticator of the empty message. `key` is r and s, 16 bytes each; r's forbidden
+    /// bits are cleared.
     pub fn new(key: &[u8; 32]) -> Poly1305
         ensures { (text : Bytes) → tag_after result text ≡ poly1305 key.now text }
     {

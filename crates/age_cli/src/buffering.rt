@@ -1,4 +1,4 @@
-//! The buffers between the files and the engine, and what every command does with them.
+//! The buffers between the files and `age_file`, and what every command does with them.
 ghost use Rattle.std.specs.Prelude.{◌≡◌, ◌^◌};
 ghost use Rattle.age_words.specs.Job.{IsInRange};
 
@@ -8,14 +8,14 @@ use age_words::Job;
 use std::alloc::Global;
 use std::io::{BufReader, BufWriter, Read, Seek, Write};
 
-/// So many bytes are read ahead for a header that is read byte by byte, and written at once.
+/// The size of the buffer for reading a header byte by byte, and for writing.
 const BUFFER_LEN: usize = 65_536;
 
-/// So many bytes are read ahead of a payload: what is left of them is copied, and all that follows
-/// is read where it is opened.
+/// The size of the buffer for reading a header before its payload. What is left in it is copied,
+/// and all that follows is read where it is opened.
 const HEADER_LEN: usize = 8_192;
 
-/// The most chunks that the engine takes, which is its default.
+/// The maximum number of chunks, which is the default of `age_file`.
 const MAX_CHUNKS: u128 = 1 << 88;
 
 /// The limits of this job.
@@ -29,7 +29,7 @@ pub(crate) fn limits_of(job: &Job) -> Limits
     limits
 }
 
-/// A source over this reader, for a header alone.
+/// Makes a source over this reader, for a header alone.
 pub(crate) fn header_source<'a, R: Read + Drop>(
     alloc: Global,
     input: R,
@@ -37,7 +37,7 @@ pub(crate) fn header_source<'a, R: Read + Drop>(
     buffered_source(alloc, BUFFER_LEN, input)
 }
 
-/// A source over this reader, for a header and its payload.
+/// Makes a source over this reader, for a header and its payload.
 pub(crate) fn file_source<'a, R: Read + Drop>(
     alloc: Global,
     input: R,
@@ -45,7 +45,7 @@ pub(crate) fn file_source<'a, R: Read + Drop>(
     buffered_source(alloc, HEADER_LEN, input)
 }
 
-/// A source with places over this file, for a header, its payload's nonce, and whole chunks.
+/// Makes a `ReadAt` over this file, for a header, its payload's nonce, and whole chunks.
 pub(crate) fn source_by_places<'a, F: Read + Seek + Drop>(
     alloc: Global,
     file: F,
@@ -67,7 +67,7 @@ fn buffered_source<'a, R: Read + Drop>(
     }
 }
 
-/// A buffer before this writer, to be ended by `end`.
+/// Makes a buffer before this writer; `end` ends it.
 pub(crate) fn buffer_of<'a, W: Write + Drop>(
     alloc: Global,
     out: W,
@@ -78,14 +78,13 @@ pub(crate) fn buffer_of<'a, W: Write + Drop>(
     }
 }
 
-/// Writes out what the buffer holds, after work that ended well or with this fault. A write that
-/// failed is not tried again.
+/// Flushes the buffer, after success or after this fault. A write that failed is not repeated.
 pub(crate) fn end<'a, W: Write + Drop>(
     mut buffered: BufWriter<W>,
     fault: Option<age_file::Fault>,
 ) -> Result<(), Fault<'a>> {
     let is_written = fault != Some(age_file::Fault::Write) && buffered.flush().is_ok();
-    // Dropped as a whole it would try once more to write what a failure left.
+    // If dropped as a whole, it would try once more to write what a failure left.
     let (_out, _unwritten) = buffered.into_parts();
     match fault {
         _ if !is_written => Err(Fault::Engine(age_file::Fault::Write)),

@@ -9,8 +9,8 @@ use age_words::Job;
 use std::alloc::Global;
 use std::io::{Read, Write};
 
-/// Decrypts the input to the output, with the one identity of this secret. Before a fault of the
-/// payload the plaintext of the chunks before it is written.
+/// Decrypts the input to the output, with the one identity of this secret. On a fault of the
+/// payload the plaintext of the chunks before it was written.
 pub(crate) fn decrypt<'a, R: Read, W: Write>(
     alloc: Global,
     job: &Job,

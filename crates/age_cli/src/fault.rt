@@ -1,17 +1,17 @@
-//! Why a command ends without its work done.
+//! Why a command failed.
 
 use crate::file_names::{Name, Role};
 use std::alloc::{AllocError, AllocFailed};
 use std::fmt;
 
-/// Why a command ends without its work done. Its text is what follows `agep: ` on standard error.
+/// Why a command failed. Its text is what follows `agep: ` on standard error.
 #[derive(Clone, Copy, Debug, Drop, PartialEq, Eq)]
 pub(crate) enum Fault<'a> {
-    /// What the engine returns; a device or memory may fail outside it too.
+    /// An error of `age_file`; a device or an allocation may fail outside it too.
     Engine(age_file::Fault),
-    /// The words name a passphrase file and a key file, or neither.
+    /// The arguments name a passphrase file and a key file, or neither.
     KeyChoice,
-    /// The words name a new passphrase file and a new key file, or neither.
+    /// The arguments name a new passphrase file and a new key file, or neither.
     NewKeyChoice,
     CannotOpen(Name<'a>),
     CannotCreate(Name<'a>),

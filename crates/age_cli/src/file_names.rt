@@ -3,7 +3,7 @@
 use std::fmt;
 use std::fmt::Write;
 
-/// What a file is to a job.
+/// The role of a file in a job.
 #[derive(Clone, Copy, Debug, PartialEq, Eq)]
 pub(crate) enum Role {
     Input,
@@ -43,7 +43,7 @@ impl fmt::Display for Name<'_> {
     }
 }
 
-/// Writes text that has a control character at its end alone, or none.
+/// Writes text that has a control character only at its end, or none.
 fn write_piece<W: fmt::Write>(piece: &str, f: &mut fmt::Formatter<W>) -> fmt::Result {
     let mut chars = piece.chars();
     match chars.next_back() {
@@ -67,8 +67,8 @@ fn write_escape<W: fmt::Write>(control: char, f: &mut fmt::Formatter<W>) -> fmt:
     }
 }
 
-/// A text of several lines with words of the command line in it. Its control characters but LF are
-/// printed as escapes.
+/// A text of several lines that quotes the command line. Its control characters but LF are printed
+/// as escapes.
 #[derive(Drop)]
 pub(crate) struct Lines<'a, D>(pub(crate) &'a D);
 
@@ -79,7 +79,7 @@ impl<D: fmt::Display> fmt::Display for Lines<'_, D> {
     }
 }
 
-/// Writes what it is given, with escapes.
+/// Writes its input with escapes.
 #[derive(Drop)]
 struct Escaping<'a, W> {
     f: &'a mut fmt::Formatter<W>,

@@ -1,4 +1,4 @@
-//! The files that the words name to be read, and which of them are the same.
+//! The files that the arguments name for reading, and which of them are the same.
 
 use crate::fault::Fault;
 use crate::file_names::{Name, Role};
@@ -9,15 +9,15 @@ use std::io::{ErrorKind, Read, Seek, SeekFrom};
 use std::os::unix::fs::{FileTypeExt, MetadataExt};
 use std::rt::Files;
 
-/// The name under which the system shows a process its standard input.
+/// The name of a process's standard input.
 const STANDARD_INPUT: &str = "/dev/stdin";
 
-/// The file of this name, open to be read.
+/// Opens the file of this name for reading.
 pub(crate) fn open<'a, F: Files>(rt: &F, name: &'a str) -> Result<F::File, Fault<'a>> {
     fs::open(rt, name).map_err(|_| Fault::CannotOpen(Name(name)))
 }
 
-/// The file of this name, open to be read by places, as a pipe or a terminal cannot be.
+/// Opens the file of this name to be read at offsets, which a pipe or a terminal cannot be.
 pub(crate) fn open_by_places<'a, F: Files>(rt: &F, name: &'a str) -> Result<F::File, Fault<'a>> {
     let mut file = open(rt, name)?;
     match file.seek(SeekFrom::Start(0)) {
@@ -26,8 +26,8 @@ pub(crate) fn open_by_places<'a, F: Files>(rt: &F, name: &'a str) -> Result<F::F
     }
 }
 
-/// The small file that an option names, open to be read. Standard input is refused where it is IN:
-/// what a small file takes of it, IN would lack.
+/// Opens the small file that an option names for reading. Standard input is refused if it is IN:
+/// bytes read as a small file would be missing in IN.
 pub(crate) fn open_small<'a, F: Files>(
     rt: &F,
     job: &Job,
@@ -40,7 +40,7 @@ pub(crate) fn open_small<'a, F: Files>(
     open(rt, name)
 }
 
-/// Whether IN is standard input: left out, or named so.
+/// Whether IN is standard input: not given, or named so.
 fn reads_standard_input<F: Files>(rt: &F, job: &Job) -> bool {
     match &job.input {
         Some(name) => is_standard_input(rt, name.as_str()),
@@ -48,7 +48,7 @@ fn reads_standard_input<F: Files>(rt: &F, job: &Job) -> bool {
     }
 }
 
-/// Refuses a regular file of this name to be written where the job reads it too.
+/// Refuses to write a regular file of this name if the job reads it too.
 pub(crate) fn refuse_read_file<'a, F: Files>(
     rt: &F,
     job: &Job,
@@ -63,7 +63,7 @@ pub(crate) fn refuse_read_file<'a, F: Files>(
     }
 }
 
-/// What this file is to the job, where the job reads it.
+/// The role of this file in the job, if the job reads it.
 fn role_of<F: Files>(rt: &F, job: &Job, file: &Metadata) -> Option<Role> {
     if is_named(rt, file, &job.input) || job.input.is_none() && is_at(rt, file, STANDARD_INPUT) {
         return Some(Role::Input);
@@ -86,7 +86,7 @@ fn role_of<F: Files>(rt: &F, job: &Job, file: &Metadata) -> Option<Role> {
     None
 }
 
-/// Whether there is a name, and this file is found by it.
+/// Whether there is a name, and it leads to this file.
 fn is_named<F: Files>(rt: &F, file: &Metadata, name: &Option<String>) -> bool {
     match name {
         Some(name) => is_at(rt, file, name.as_str()),
@@ -94,7 +94,7 @@ fn is_named<F: Files>(rt: &F, file: &Metadata, name: &Option<String>) -> bool {
     }
 }
 
-/// Whether this file is found by this name, through links too.
+/// Whether this name leads to this file, through links too.
 fn is_at<F: Files>(rt: &F, file: &Metadata, name: &str) -> bool {
     match fs::metadata(rt, name) {
         Ok(found) => found.dev() == file.dev() && found.ino() == file.ino(),
@@ -102,9 +102,9 @@ fn is_at<F: Files>(rt: &F, file: &Metadata, name: &str) -> bool {
     }
 }
 
-/// Whether a read of the file of this name takes from standard input. What one reads of a character
-/// device, such as `/dev/null`, another doesn't lack: so such a device is standard input by its
-/// names alone.
+/// Whether a read of the file of this name consumes standard input. A character device, such as
+/// `/dev/null`, counts as standard input only by its names, since one reader of it takes nothing
+/// from another.
 pub(crate) fn is_standard_input<F: Files>(rt: &F, name: &str) -> bool {
     if name == STANDARD_INPUT || name == "/dev/fd/0" || name == "/proc/self/fd/0" {
         return true;
@@ -115,7 +115,7 @@ pub(crate) fn is_standard_input<F: Files>(rt: &F, name: &str) -> bool {
     }
 }
 
-/// The next N bytes; the fault `short` where there are fewer.
+/// Reads the next N bytes; the fault `short` if there are fewer.
 pub(crate) fn read_front<'a, R: Read, const N: usize>(
     file: &mut R,
     short: Fault<'a>,
@@ -128,7 +128,7 @@ pub(crate) fn read_front<'a, R: Read, const N: usize>(
     }
 }
 
-/// What this file holds, which has to be just N bytes; the fault `length` where it is not.
+/// Reads this file, which must hold exactly N bytes; the fault `length` if it does not.
 pub(crate) fn read_just<'a, R: Read, const N: usize>(
     file: &mut R,
     length: Fault<'a>,

@@ -11,7 +11,7 @@ use std::alloc::{AllocError, Global};
 use std::io::{Read, Write};
 use std::{fmt, io};
 
-/// What is known of a header's MAC.
+/// The result of checking a header's MAC.
 #[derive(Clone, Copy, Debug, PartialEq, Eq)]
 enum Check {
     /// No file key was given.
@@ -30,8 +30,8 @@ impl fmt::Display for Check {
     }
 }
 
-/// Shows the header at the front of the input. Where there is none, nothing is written. A header
-/// that fails its check is shown before that is returned.
+/// Shows the header at the start of the input. If there is none, nothing is written. A header that
+/// fails its check is shown before the fault is returned.
 pub(crate) fn inspect<'a, R: Read, W: Write>(
     alloc: Global,
     job: &Job,
@@ -85,7 +85,7 @@ fn write_table<W: Write>(header: &Header, check: Check, out: &mut W) -> io::Resu
     write!(out, "\nheader {len} bytes\ncheck {check}\n")
 }
 
-/// A stanza's place, the size of its body, and its arguments.
+/// A stanza's index, the size of its body, and its arguments.
 fn write_row<W: Write>(index: usize, stanza: &Stanza, out: &mut W) -> io::Result<()> {
     let size = stanza.body().len();
     write!(out, "{index:>4} {size:>8}")?;

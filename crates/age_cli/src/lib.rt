@@ -4,12 +4,12 @@
 //! let status = age_cli::run(rt, words, &mut rt.stdin(), &mut rt.stdout(), &mut rt.stderr());
 //! ```
 //!
-//! `run` is the whole program over a reader and two writers that are handed in; the crate `agep`
+//! `run` is the whole program over a reader and two writers that are passed to it; the crate `agep`
 //! calls it with the standard streams. The command line is read by `age_words`, and the work is
 //! done by `age_file`.
 //!
-//! Limits: what files hold is not the program's to promise. Which words do what is shown by the
-//! scripts under `tests/`.
+//! Limits: the program cannot promise what files hold. The scripts under `tests/` show which
+//! arguments do what.
 #![tactic(auto)]
 
 mod buffering;

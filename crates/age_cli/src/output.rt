@@ -1,4 +1,4 @@
-//! The file that the words name to be written.
+//! The file that the arguments name for writing.
 ghost use Rattle.std.specs.Prelude.{◌≡◌, ◌<◌, false, length, IfOk, IsOk};
 ghost use Rattle.age_cli.specs.Mode.{new_mode};
 
@@ -12,17 +12,17 @@ use std::io::Write;
 use std::os::unix::fs::OpenOptionsExt;
 use std::rt::Files;
 
-/// A file to write. What a regular file held before stays until the first byte goes to it, or the
-/// work has ended well.
+/// A file to write. A regular file keeps its contents until the first byte is written to it, or the
+/// command succeeds.
 #[derive(Drop)]
 pub(crate) struct Output<F> {
     file: F,
     is_regular: bool,
-    /// Whether it is a regular file that may still hold what it held before.
+    /// Whether it is a regular file that may still have its old contents.
     is_stale: bool,
 }
 
-/// The file of this name to be written, made where it isn't there.
+/// Opens the file of this name for writing, and creates it if it does not exist.
 pub(crate) fn create<'a, F: Files>(
     rt: &F,
     job: &Job,
@@ -46,8 +46,8 @@ fn open_output<F: Files>(rt: &F, mode: u32, name: &str) -> io::Result<Output<F::
     })
 }
 
-/// The mode of a file that this command makes anew, from which the system takes the umask. A
-/// plaintext is its owner's alone.
+/// The mode of a file that this command creates, from which the system subtracts the umask. Only
+/// the owner can read a plaintext.
 fn new_mode(command: Command) -> u32
     ensures { result ≡ new_mode command }
 {
@@ -58,7 +58,7 @@ fn new_mode(command: Command) -> u32
 }
 
 impl<F: OpenFile> Output<F> {
-    /// Empties a file that may still hold what it held before.
+    /// Truncates a file that may still have its old contents.
     fn empty(&mut self) -> io::Result<()>
         ensures { IsOk result → self.new.is_stale ≡ false }
     {
@@ -69,7 +69,7 @@ impl<F: OpenFile> Output<F> {
         Ok(())
     }
 
-    /// Empties the file before the first byte of these is written to it.
+    /// Truncates the file before the first of these bytes is written to it.
     fn make_room(&mut self, bytes: &[u8]) -> io::Result<()>
         ensures waits { length bytes.now ≡ 0 → self.new.is_stale ≡ self.old.is_stale }
         ensures emptied { IsOk result → 0 < length bytes.now → self.new.is_stale ≡ false }
@@ -80,7 +80,7 @@ impl<F: OpenFile> Output<F> {
         Ok(())
     }
 
-    /// Ends the output of work that ended well: what a regular file holds then is on its device.
+    /// Ends the output after success: a regular file is then synced to its device.
     pub(crate) fn finish(mut self) -> Result<(), Fault<'static>>
     where
         F: Drop,

@@ -1,4 +1,4 @@
-//! The program, over a reader and two writers that are handed in.
+//! The program, over a reader and two writers.
 ghost use Rattle.std.specs.Prelude.{◌≡◌, ◌≤◌};
 ghost use Rattle.age_words.specs.Job.{IsInRange};
 
@@ -21,19 +21,19 @@ use std::fmt::Display;
 use std::io::{Read, Write};
 use std::rt::Files;
 
-/// The work was done.
+/// Success.
 const DONE: u8 = 0;
-/// A fault ended it.
+/// A fault.
 const FAILED: u8 = 1;
 /// The command line was refused.
 const REFUSED: u8 = 2;
 
-/// Runs `agep` on these words, the program's name first, and returns its exit status: 0 where the
-/// work was done, 1 after a fault, 2 where the words were refused.
+/// Runs `agep` on these arguments, the program's name first, and returns its exit status: 0 for
+/// success, 1 after a fault, 2 for a refused command line.
 ///
-/// `input` is read where the words name no file; which file that is, the system's `/dev/stdin`
-/// says. `out` gets what the command gives, and the texts of help and version; `err` gets one line
-/// for a fault, and the text for words that were refused.
+/// `input` is read if the arguments name no file; `/dev/stdin` says which file that is. `out`
+/// receives the output of the command, and the texts of help and version. `err` receives one line
+/// for a fault, and the text for a refused command line.
 pub fn run<F: Files + AllocGlobal, R: Read, W: Write, E: Write>(
     rt: &F,
     words: &[&str],
@@ -54,19 +54,18 @@ pub fn run<F: Files + AllocGlobal, R: Read, W: Write, E: Write>(
     }
 }
 
-/// A command with all that it needs besides its input, from which it reads from the front to the
-/// end.
+/// A command with all that it needs besides its input, which it reads from the start to the end.
 #[derive(Drop)]
 enum Task {
     Encrypt(Secret, Seed),
     Decrypt(Secret),
     /// With the old secret, the new one, and the salt.
     Rewrap(Secret, Secret, [u8; 16]),
-    /// With the file key, where the header is to be checked.
+    /// With the file key, if the header is to be checked.
     Inspect(Option<[u8; 16]>),
 }
 
-/// Reads the small files, opens the input, makes the output, and does the work, in this order.
+/// Reads the small files, opens the input, creates the output, and does the work, in this order.
 fn perform<'a, F: Files + AllocGlobal, R: Read, W: Write>(
     rt: &F,
     job: &'a Job,
@@ -94,7 +93,7 @@ fn perform<'a, F: Files + AllocGlobal, R: Read, W: Write>(
     }
 }
 
-/// The old secret and the new one, whose files the words have to name, and the salt.
+/// The old secret and the new one, whose files the arguments must name, and the salt.
 fn rewrap_task<'a, F: Files + AllocGlobal>(rt: &F, job: &'a Job) -> Result<Task, Fault<'a>> {
     let old = secret_file(job)?;
     let new = new_secret_file(job)?;
@@ -115,7 +114,7 @@ fn read_file_key<'a, F: Files>(rt: &F, job: &'a Job) -> Result<Option<[u8; 16]>,
     }
 }
 
-/// As `perform`, for a range, whose input is read by places.
+/// Like `perform`, for a range, whose input is read at offsets.
 fn perform_range<'a, F: Files + AllocGlobal, W: Write>(
     rt: &F,
     job: &'a Job,
@@ -139,7 +138,7 @@ fn perform_range<'a, F: Files + AllocGlobal, W: Write>(
     }
 }
 
-/// Makes the output, and does the work on this input.
+/// Creates the output, and does the work on this input.
 fn perform_on<'a, F: Files + AllocGlobal, R: Read, W: Write>(
     rt: &F,
     job: &'a Job,
@@ -177,7 +176,7 @@ fn perform_between<'a, R: Read, W: Write>(
     }
 }
 
-/// Says the fault on standard error. That nobody hears it changes nothing.
+/// Prints the fault on standard error. A failed write changes nothing.
 fn report<E: Write>(fault: Fault<'_>, err: &mut E) -> u8
     ensures { result ≡ 1 }
 {
@@ -185,7 +184,7 @@ fn report<E: Write>(fault: Fault<'_>, err: &mut E) -> u8
     FAILED
 }
 
-/// Says on standard error why the command line was refused. That nobody hears it changes nothing.
+/// Prints on standard error why the command line was refused. A failed write changes nothing.
 fn refuse<D: Display, E: Write>(why: &D, err: &mut E) -> u8
     ensures { result ≡ 2 }
 {
@@ -193,7 +192,7 @@ fn refuse<D: Display, E: Write>(why: &D, err: &mut E) -> u8
     REFUSED
 }
 
-/// Says why the words gave no job, or shows help or the version.
+/// Prints why the arguments make no job, or prints help or the version.
 fn answer_refusal<W: Write, E: Write>(fault: &WordsFault, out: &mut W, err: &mut E) -> u8
     ensures status { result ≤ 2 }
     ensures refused { result ≡ 2 → out.new ≡ out.old }

@@ -13,11 +13,11 @@ use age_words::Job;
 use std::alloc::Global;
 use std::io::Write;
 
-/// The most bytes of a chunk's plaintext.
+/// The maximum number of bytes of a chunk's plaintext.
 const CHUNK_LEN: u64 = 65_536;
 
-/// Writes the plaintext of the input from the job's place on, at most as many bytes as the job asks
-/// for. Before a fault of a chunk the plaintext up to that chunk is written.
+/// Writes the plaintext of the input from the job's offset on, at most as many bytes as the job
+/// requests. On a fault of a chunk the plaintext up to that chunk was written.
 pub(crate) fn range<'a, D: ReadAt, W: Write>(
     alloc: Global,
     job: &Job,
@@ -54,8 +54,8 @@ pub(crate) fn range<'a, D: ReadAt, W: Write>(
     end(buffered, result.err())
 }
 
-/// Writes at most `len` bytes from place `at` on. No read crosses the end of a chunk: so what a
-/// failed one leaves in the buffer is nothing.
+/// Writes at most `len` bytes from offset `at` on. No read crosses the end of a chunk, so a failed
+/// one leaves nothing in the buffer to write.
 fn write_range<D: ReadAt, W: Sink>(
     reader: &mut RangeReader<'_, D>,
     at: u64,

@@ -11,7 +11,7 @@ use age_words::Job;
 use std::alloc::Global;
 use std::io::{Read, Write};
 
-/// Copies the input to the output with a new header, for the one recipient of the new secret, where
+/// Copies the input to the output with a new header, for the one recipient of the new secret, if
 /// the old secret opens the old header.
 pub(crate) fn rewrap<'a, R: Read, W: Write>(
     alloc: Global,

@@ -1,5 +1,4 @@
-//! What must be kept from others: passphrases, keys and seeds, each read from a file that the words
-//! name.
+//! Secrets: passphrases, keys and seeds, each read from a file that the arguments name.
 
 use crate::fault::Fault;
 use crate::file_names::Role;
@@ -10,10 +9,10 @@ use std::alloc::Global;
 use std::io::{ErrorKind, Read};
 use std::rt::Files;
 
-/// The most bytes of a passphrase file.
+/// The maximum size of a passphrase file in bytes.
 const MOST_PASSPHRASE: u64 = 65_536;
 
-/// What a file is encrypted and decrypted with.
+/// The secret of a file.
 #[derive(Drop)]
 pub(crate) enum Secret {
     /// A passphrase, any bytes.
@@ -21,7 +20,7 @@ pub(crate) enum Secret {
     Key([u8; 32]),
 }
 
-/// What has to be fresh for each file that is made.
+/// The random bytes of a new file.
 #[derive(Drop)]
 pub(crate) struct Seed {
     pub(crate) fresh: Fresh,
@@ -43,7 +42,7 @@ impl<'a> SecretFile<'a> {
     }
 }
 
-/// The file of the job's passphrase or key, of which it has to name just one.
+/// The file of the job's passphrase or key. It must name exactly one.
 pub(crate) fn secret_file<'a>(job: &'a Job) -> Result<SecretFile<'a>, Fault<'a>> {
     match (&job.pass, &job.key) {
         (Some(name), None) => Ok(SecretFile::Passphrase(Role::Passphrase, name.as_str())),
@@ -61,7 +60,8 @@ pub(crate) fn new_secret_file<'a>(job: &'a Job) -> Result<SecretFile<'a>, Fault<
     }
 }
 
-/// Refuses two secrets that are both standard input: what one takes of it, the other would lack.
+/// Refuses two secrets that are both standard input: bytes read for one would be missing in the
+/// other.
 pub(crate) fn refuse_shared_input<'a, F: Files>(
     rt: &F,
     old: SecretFile<'a>,
@@ -93,7 +93,7 @@ pub(crate) fn read_secret<'a, F: Files + AllocGlobal>(
     }
 }
 
-/// The bytes of this file, less one LF at their end.
+/// The bytes of this file, without one LF at their end.
 fn read_passphrase<'a, R: Read + Drop>(alloc: Global, file: R) -> Result<Vec<u8>, Fault<'a>> {
     let mut passphrase = Vec::new(alloc);
     match file.take(MOST_PASSPHRASE + 1).read_to_end(&mut passphrase) {

@@ -1,4 +1,4 @@
-//! The bytes of a source with places, read one after another from the first on.
+//! Sequential reading of a `ReadAt` from its first byte.
 ghost use Rattle.std.specs.Prelude.{◌≡◌, ◌+◌, ◌≤◌, drop, option_map};
 ghost use Rattle.age_header.specs.Device.{Known};
 ghost use Rattle.age_file.specs.Ranges.{AtState, IsWithin};
@@ -7,7 +7,7 @@ use age_header::{DeviceFault, Source};
 use age_stream::ReadAt;
 use std::marker::{Brand, Model, PhantomData};
 
-/// What a source with places holds, and how many bytes it had given, when reading began.
+/// The contents of a `ReadAt`, and how many bytes had been read from it, when reading began.
 pub(crate) trait Origin {
     ghost use Rattle.std.specs.Prelude.{List, ℕ};
     ghost use Rattle.std.specs.declared.option.Option.{Option};
@@ -26,7 +26,7 @@ impl Origin for Brand {
     ghost given = { 0 };
 }
 
-/// A source with places, read from its first byte on.
+/// A `Source` that reads a `ReadAt` from its first byte on.
 pub(crate) struct AtSource<'a, D: ReadAt, K: Origin> {
     dev: &'a mut D,
     at: u64,
@@ -47,7 +47,7 @@ impl<'a, D: ReadAt, K: Origin> Model for AtSource<'a, D, K> {
 }
 
 impl<'a, D: ReadAt, K: Origin> AtSource<'a, D, K> {
-    /// A source that starts at the first byte.
+    /// Starts at the first byte.
     pub(crate) fn new(dev: &'a mut D) -> AtSource<'a, D, K>
         requires bytes { K.bytes ≡ D.bytes dev.old }
         requires given { K.given ≡ D.given dev.old }
@@ -60,7 +60,7 @@ impl<'a, D: ReadAt, K: Origin> AtSource<'a, D, K> {
         }
     }
 
-    /// The source, and the place behind the last byte that was read.
+    /// The `ReadAt`, and the offset after the last byte that was read.
     pub(crate) fn into_parts(self) -> (&'a mut D, u64)
         ensures at { result.1 ≡ self.entry.at }
         ensures bytes { D.bytes result.0.now ≡ K.bytes }

@@ -11,8 +11,8 @@ use age_header::{Sink, Source, fill_from, write_all};
 /// the loop ends.
 const MAX_PIECES: u128 = 1 << 89;
 
-/// Copies all that the source still gives: a piece of `first` bytes, and then pieces of the
-/// buffer's length.
+/// Copies all bytes left in the source: a piece of `first` bytes, and then pieces of the buffer's
+/// length.
 pub(crate) fn copy_all<S: Source, W: Sink>(
     input: &mut S,
     out: &mut W,
@@ -33,7 +33,7 @@ pub(crate) fn copy_all<S: Source, W: Sink>(
     }
 }
 
-/// Copies all that the source still gives, a piece of the buffer's length at a time.
+/// Copies all bytes left in the source, a piece of the buffer's length at a time.
 fn copy_pieces<S: Source, W: Sink>(input: &mut S, out: &mut W, buf: &mut [u8]) -> Result<(), Fault>
     requires { length buf.old ≡ buffer_size }
     ensures copies { Copies (S.to_come input.old) (W.taken out.old) (W.taken out.new) result }

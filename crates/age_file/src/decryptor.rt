@@ -18,8 +18,8 @@ use age_recipient::Identity;
 use age_stream::{ChunkBuf, ChunkOpener, Refused, StreamReader};
 use std::alloc::Global;
 
-/// A file of which the header was read, and the rest is still to come from the caller's source. It
-/// is spent by `unlock`.
+/// A file whose header was read. The caller's source is at the first byte after the header.
+/// `unlock` consumes it.
 #[derive(Drop)]
 pub struct Decryptor<'a, S, H = Header> {
     input: &'a mut S,
@@ -30,7 +30,7 @@ pub struct Decryptor<'a, S, H = Header> {
 impl<'a, S: Source> Decryptor<'a, S> {
     ghost use Rattle.age_file.specs.States.{MissesUnder, RefusesHeader, StartsUnder, header_of, input_of, limits_of};
 
-    /// A file with this header, of which the source gives the rest.
+    /// A file with this header; the source returns the bytes after it.
     fn over(input: &'a mut S, header: Header, limits: &Limits) -> Decryptor<'a, S>
         ensures same_reference { (input_of result).ghost_name ≡ input.entry.ghost_name }
         ensures kept { (input_of result).now ≡ input.old }
@@ -44,10 +44,10 @@ impl<'a, S: Source> Decryptor<'a, S> {
         }
     }
 
-    /// As `new`, but hands the source back with the fault.
+    /// Like `new`, but returns the source with the fault.
     ///
     /// # Errors
-    /// Those of `inspect`, then `MixedPassphrase` where a `scrypt` stanza stands beside another.
+    /// Those of `inspect`, then `MixedPassphrase` if a `scrypt` stanza is not alone.
     pub fn started(
         alloc: Global,
         input: &'a mut S,
@@ -76,11 +76,11 @@ impl<'a, S: Source> Decryptor<'a, S> {
         Ok(Decryptor::over(input, header, limits))
     }
 
-    /// Reads the header of a file, and takes just the header's bytes. Its MAC is not looked at. Of
-    /// the source after an error `started` says more.
+    /// Reads the header of a file (C2SP `age.md`), and from the source exactly the header's bytes.
+    /// It does not verify the MAC. `started` says more about the source after an error.
     ///
     /// # Errors
-    /// Those of `inspect`, then `MixedPassphrase` where a `scrypt` stanza stands beside another.
+    /// Those of `inspect`, then `MixedPassphrase` if a `scrypt` stanza is not alone.
     pub fn new(alloc: Global, input: &'a mut S, limits: &Limits) -> Result<Decryptor<'a, S>, Fault>
         ensures same_reference { IfOk result
             (λ d. (input_of d).ghost_name ≡ input.entry.ghost_name) }
@@ -106,12 +106,12 @@ impl<'a, S: Source> Decryptor<'a, S> {
         self.header.stanzas()
     }
 
-    /// As `unlock`, but hands the source back with the fault.
+    /// Like `unlock`, but returns the source with the fault.
     ///
     /// # Errors
     /// `NoMatch`, `WrongKey`, `Malformed` as `age_recipient::unlock` says; `BadMac`; `OutOfMemory`
-    /// where an allocation was refused or an identity returned so: nothing was read. Then
-    /// `NonceTruncated` where the source gives fewer than 16 bytes, `Read` where it failed.
+    /// if an allocation was refused or an identity returned it. On these nothing was read. Then
+    /// `NonceTruncated` if the source returns fewer than 16 bytes, `Read` if it failed.
     pub fn unlocked(
         self,
         alloc: Global,
@@ -159,13 +159,13 @@ impl<'a, S: Source> Decryptor<'a, S> {
         }
     }
 
-    /// Finds the file key, verifies the header's MAC under it, reads the nonce, and gives a reader
-    /// of the payload. Of the source after an error `unlocked` says more.
+    /// Finds the file key, verifies the header's MAC under it, reads the nonce, and returns a
+    /// reader of the payload. `unlocked` says more about the source after an error.
     ///
     /// # Errors
     /// `NoMatch`, `WrongKey`, `Malformed` as `age_recipient::unlock` says; `BadMac`; `OutOfMemory`
-    /// where an allocation was refused or an identity returned so: nothing was read. Then
-    /// `NonceTruncated` where the source gives fewer than 16 bytes, `Read` where it failed.
+    /// if an allocation was refused or an identity returned it. On these nothing was read. Then
+    /// `NonceTruncated` if the source returns fewer than 16 bytes, `Read` if it failed.
     pub fn unlock(
         self,
         alloc: Global,

@@ -18,8 +18,7 @@ use age_stream::{ChunkBuf, ChunkSealer, Refused, StreamWriter};
 use std::alloc::Global;
 use std::marker::Model;
 
-/// A file that is ready to be written: its header is made, and nothing is written yet. It is spent
-/// by `start`.
+/// A new file whose header is made and not written yet. `start` consumes it.
 #[derive(Drop)]
 pub struct Encryptor {
     header: Header,
@@ -42,10 +41,10 @@ impl Encryptor {
     /// Makes the header of a new file for these recipients.
     ///
     /// # Errors
-    /// In this order: `Refused` at the first recipient that refuses, `IncompatibleRecipients` at
-    /// the first whose labels do not go together with those of recipient 0, `NoRecipients` where
-    /// there is no stanza at all, `MixedPassphrase` where a `scrypt` stanza stands beside another,
-    /// `HeaderTooLarge`. `OutOfMemory` where an allocation was refused.
+    /// The first that applies, in this order: `Refused` at the first recipient that refuses,
+    /// `IncompatibleRecipients` at the first whose labels do not go together with those of
+    /// recipient 0, `NoRecipients` if there is no stanza at all, `MixedPassphrase` if a `scrypt`
+    /// stanza is not alone, `HeaderTooLarge`. `OutOfMemory` if an allocation was refused.
     pub fn new(
         alloc: Global,
         recipients: &[Box<dyn Recipient>],
@@ -73,11 +72,11 @@ impl Encryptor {
         }
     }
 
-    /// As `start`, but hands the sink back with the fault.
+    /// Like `start`, but returns the sink with the fault.
     ///
     /// # Errors
-    /// `OutOfMemory` where the allocation was refused: nothing was written. `Write` where the sink
-    /// failed: a beginning of the header and the nonce was written.
+    /// `OutOfMemory` if the allocation was refused: nothing was written. `Write` if the sink
+    /// failed: a prefix of the header and the nonce was written.
     pub fn started<'a, W: Sink>(
         self,
         alloc: Global,
@@ -110,12 +109,12 @@ impl Encryptor {
         Ok(StreamWriter::over(out, sealer))
     }
 
-    /// Writes the header and the nonce, and gives a writer of the payload. It takes its memory
-    /// before it writes. Of the sink after an error `started` says more.
+    /// Writes the header and the nonce, and returns a writer of the payload. It allocates before it
+    /// writes. `started` says more about the sink after an error.
     ///
     /// # Errors
-    /// `OutOfMemory` where the allocation was refused: nothing was written. `Write` where the sink
-    /// failed: a beginning of the header and the nonce was written.
+    /// `OutOfMemory` if the allocation was refused: nothing was written. `Write` if the sink
+    /// failed: a prefix of the header and the nonce was written.
     pub fn start<'a, W: Sink>(
         self,
         alloc: Global,

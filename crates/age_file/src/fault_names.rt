@@ -1,4 +1,4 @@
-//! A file's names of the faults of its parts.
+//! Conversions of the errors of headers, keys and payloads to `Fault`.
 
 ghost use Rattle.std.specs.Prelude.{◌≡◌};
 ghost use Rattle.age_file.specs.Device.{IsInside};
@@ -9,7 +9,7 @@ use age_header::HeaderFault;
 use age_recipient::UnlockFault;
 use age_stream::StreamFault;
 
-/// A file's name of the fault of its header.
+/// The `Fault` of a header's error.
 pub(crate) fn header_fault(fault: HeaderFault) -> Fault
     ensures { result ≡ of_header fault }
 {
@@ -23,7 +23,7 @@ pub(crate) fn header_fault(fault: HeaderFault) -> Fault
     }
 }
 
-/// A file's name of why its key was not found.
+/// The `Fault` of an error of finding the file key.
 pub(crate) fn unlock_fault(fault: UnlockFault) -> Fault
     ensures name { result ≡ of_unlock fault }
     ensures inside { IsInside result }
@@ -36,7 +36,7 @@ pub(crate) fn unlock_fault(fault: UnlockFault) -> Fault
     }
 }
 
-/// A file's name of the fault of its payload.
+/// The `Fault` of a payload's error.
 pub(crate) fn stream_fault(fault: StreamFault) -> Fault
     ensures { result ≡ of_stream fault }
 {

@@ -1,4 +1,4 @@
-//! The header of a file, and the file key that its identities find in it.
+//! Reading a header, and finding the file key in it.
 
 ghost use Rattle.std.specs.Prelude.{◌≡◌, ◌⊎◌, map, Err, IfErr};
 ghost use Rattle.std.specs.List.{list_any};
@@ -14,13 +14,12 @@ use age_header::{Header, HeaderReader, Source, Stanza, mac_of};
 use age_recipient::{FileKey, Identity, UnlockFault, unlock};
 use std::alloc::Global;
 
-/// The header at the front of a file, of which just the header's bytes are taken. Its MAC is not
-/// looked at.
+/// Reads the header at the start of a file (C2SP `age.md`), and from the source exactly the
+/// header's bytes. It does not verify the MAC.
 ///
 /// # Errors
 /// The first of `NotAge`, `BadLine`, `HeaderTruncated` and `HeaderTooLarge` that applies, as
-/// `HeaderReader` says; `Read` where the source failed, `OutOfMemory` where an allocation was
-/// refused.
+/// `HeaderReader` says; `Read` if the source failed, `OutOfMemory` if an allocation was refused.
 pub fn inspect<S: Source>(alloc: Global, input: &mut S, limits: &Limits) -> Result<Header, Fault>
     ensures verdict { Inspects limits.now (S.to_come input.old) (S.to_come input.new) result }
     ensures reads { CountsRead (S.failed input.old) (S.failed input.new) result }
@@ -31,12 +30,13 @@ pub fn inspect<S: Source>(alloc: Global, input: &mut S, limits: &Limits) -> Resu
     }
 }
 
-/// Finds the file key of a header among these identities, and verifies the header's MAC under it.
+/// Finds the file key of a header by these identities, tried in order, and verifies the header's
+/// MAC under it.
 ///
 /// # Errors
 /// The first that applies of `MixedPassphrase`; `NoMatch`, `WrongKey` and `Malformed` as
-/// `age_recipient::unlock` says; `BadMac`. `OutOfMemory` where an allocation was refused or an
-/// identity returned so.
+/// `age_recipient::unlock` says; `BadMac`. `OutOfMemory` if an allocation was refused or an
+/// identity returned it.
 pub fn unlock_header(
     alloc: Global,
     identities: &[Box<dyn Identity>],
@@ -52,7 +52,7 @@ pub fn unlock_header(
     checked(alloc, header, unlock(alloc, identities, header.stanzas()))
 }
 
-/// The key that was chosen, where the header's MAC is the one under it.
+/// The key that was chosen, if the header's MAC under it is right.
 fn checked(
     alloc: Global,
     header: &Header,
@@ -75,7 +75,7 @@ fn checked(
     }
 }
 
-/// Whether a `scrypt` stanza stands beside another stanza.
+/// Whether there is a `scrypt` stanza and another stanza.
 pub(crate) fn is_mixed(stanzas: &[Stanza]) -> bool
     ensures { result ≡ is_mixed stanzas.now }
 {

@@ -1,4 +1,4 @@
-//! Laws over the definitions alone: functions that do nothing, with the law as their contract.
+//! Laws over the definitions alone: functions that do nothing, each with a law as its contract.
 
 ghost use Rattle.std.specs.Prelude.{◌≡◌, ◌↔◌, ℕ, ◌+◌, List, [], ◌∷◌, ◌++◌, replicate, Option, Some, None, Ok};
 ghost use Rattle.age_header.specs.Device.{Bytes};
@@ -16,8 +16,8 @@ ghost use Rattle.age_file.specs.Verdict.{Answering, IsVerdict};
 
 use age_recipient::{Labels, Matched};
 
-/// The verdict is a plaintext exactly on the age files of this plaintext for the file key that the
-/// identities choose. All bytes have one verdict, and only one.
+/// The verdict is without fault, with this plaintext, exactly on the age files of this plaintext
+/// for the file key that the identities choose. All bytes have one verdict, and only one.
 pub fn ok_is_age_file()
     ensures ok { (limits : Bounds) (answers : Answering) (b plain : Bytes)
         → IsVerdict limits answers b (whole plain) ↔ ((stanzas : List StanzaParts) × (k : FileKey)
@@ -28,8 +28,8 @@ pub fn ok_is_age_file()
         → (v : Reading Fault) × IsVerdict limits answers b v }
 {}
 
-/// An age file of the stanzas in which a pair's recipient wraps its file key is its plaintext to
-/// the pair's identity.
+/// An age file whose stanzas a pair's recipient wrapped has, for the pair's identity alone, the
+/// verdict "this plaintext, no fault".
 pub fn pair_opens<M: Matched>(pair: &M)
     ensures { (limits : Bounds) (k : FileKey) (stanzas : List StanzaParts) (plain b : Bytes)
         → IsFileKey k → M.R.wraps (M.the_recipient pair.now) k ≡ Ok stanzas
@@ -37,8 +37,8 @@ pub fn pair_opens<M: Matched>(pair: &M)
         → IsVerdict limits (λ s. M.I.meaning (M.the_identity pair.now) s ∷ []) b (whole plain) }
 {}
 
-/// Which recipients of this crate's own kinds go together. Of one recipient, and of keyed ones,
-/// this holds of whatever their boxes return; the last two clauses are about the labels that the
+/// Which of this crate's own recipients go together. For one recipient, and for keyed ones, this
+/// holds whatever labels their boxes return. The last two clauses are about the labels that the
 /// recipients mean.
 pub fn own_recipients()
     ensures one { (meant : Labels) (place : Option ℕ) → IsApart (meant ∷ []) place → place ≡ None }
@@ -51,8 +51,8 @@ pub fn own_recipients()
         ≡ Some (n + 1) }
 {}
 
-/// A rewrapped file is to identities that find its file key what the file was to those that found
-/// it before: the same plaintext, or the same fault after the same plaintext.
+/// A rewrapped file is to identities that find its file key what the old file was to those that
+/// found the key before: the same plaintext, or the same fault after the same plaintext.
 pub fn rewrap_keeps()
     ensures { (limits : Bounds) (old new : Answering) (b c : Bytes) (is : Rewrapped limits old b c)
         → choice (new is.stanzas) ≡ Ok is.key → (v : Reading Fault)

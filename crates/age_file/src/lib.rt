@@ -11,11 +11,13 @@
 //! decrypt(alloc, &mut MemSource::new(file.as_slice()), &mut back, identities, limits)?;
 //! ```
 //!
-//! `encrypt` needs recipients and `decrypt` identities, in boxes; `Fresh` is what no file before
-//! may have had. `rewrap` gives a file another passphrase or key, `open_ranges` reads any part of a
-//! plaintext, `inspect` reads a header, and `Encryptor` and `Decryptor` take the plaintext piece by
-//! piece. What bytes are to given identities is one definition, the verdict (`specs/Verdict.antt`);
-//! the contracts and the laws in `laws` speak of it.
+//! `encrypt` needs recipients and `decrypt` identities, in boxes; `Fresh` is 32 random bytes that
+//! are never used for two files. `rewrap` gives a file another passphrase or key, `open_ranges`
+//! reads any part of a plaintext, `inspect` reads a header, and `Encryptor` and `Decryptor` are the
+//! two in steps: the first takes the plaintext piece by piece, the second returns it chunk by
+//! chunk. One definition, the verdict (`specs/Verdict.antt`), says what bytes are to given
+//! identities. The contracts and the laws in `laws` cite it. The terms are defined in
+//! docs/DESIGN.md, "Words".
 //!
 //! Limits: those of `Limits`. A source is read to its end. What was written before an error is
 //! genuine, but incomplete.

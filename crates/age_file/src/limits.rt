@@ -5,10 +5,10 @@ ghost use Rattle.age_stream.specs.Sizes.{most_chunks};
 use age_recipient::FileKey;
 use std::marker::Model;
 
-/// The most chunks that a payload may have: a chunk's number has eleven bytes in its nonce.
+/// The maximum number of chunks of a payload: a chunk's number has eleven bytes in its nonce.
 const MOST_CHUNKS: u128 = 1 << 88;
 
-/// How long a header may be in bytes, and a payload in chunks.
+/// The maximum size of a header in bytes, and of a payload in chunks.
 #[derive(Clone, Copy, Debug, PartialEq, Eq)]
 pub struct Limits {
     max_header: usize,
@@ -31,8 +31,9 @@ impl Model for Limits {
 impl Limits {
     ghost use Rattle.age_file.specs.AgeFile.{IsBounds};
 
-    /// Limits of 1,024 to 16,777,216 bytes of a header and 1 to 2^88 =
-    /// 309,485,009,821,345,068,724,781,056 chunks of a payload; None exactly outside.
+    /// Makes limits of `max_header` bytes, 1,024 to 16,777,216, and `max_chunks` chunks, 1 to 2^88
+    /// = 309,485,009,821,345,068,724,781,056. Returns `None` exactly if a number is out of its
+    /// range.
     pub fn new(max_header: usize, max_chunks: u128) -> Option<Limits>
         ensures some { IfSome result (λ limits. IsBounds limits
             × (limits ≡ record { max_header = max_header; max_chunks = max_chunks })) }
@@ -52,7 +53,7 @@ impl Limits {
         })
     }
 
-    /// The most bytes that a header may have.
+    /// The maximum size of a header in bytes.
     pub(crate) fn max_header(&self) -> usize
         ensures value { result ≡ self.now.max_header }
         ensures range { IsBounds self.now }
@@ -60,7 +61,7 @@ impl Limits {
         self.max_header
     }
 
-    /// The most chunks that a payload may have.
+    /// The maximum number of chunks of a payload.
     pub(crate) fn max_chunks(&self) -> u128
         ensures value { result ≡ self.now.max_chunks }
         ensures range { IsBounds self.now }
@@ -73,7 +74,7 @@ impl Default for Limits {
     ghost is_default = { λ limits.
         limits ≡ record { max_header = default_max_header; max_chunks = most_chunks } };
 
-    /// A header of 65,536 bytes, and a payload of 2^88 chunks.
+    /// 65,536 bytes of a header, and 2^88 chunks of a payload.
     fn default() -> Limits {
         Limits {
             max_header: 65_536,
@@ -82,9 +83,9 @@ impl Default for Limits {
     }
 }
 
-/// What a file needs that no file before it may have had: 32 random bytes. With the salts of its
-/// recipients, of 16 bytes each, they are what makes two files of one plaintext differ. The same
-/// values for two files repeat the keys of their payloads.
+/// The random bytes of a new file, 32 of them; they must never be used for two files. With the
+/// salts of its recipients, of 16 bytes each, they make two files of one plaintext differ. Two
+/// files with the same values have the same payload key.
 #[derive(Clone, Copy, PartialEq, Eq)]
 pub struct Fresh {
     /// The file key.

@@ -17,10 +17,10 @@ use std::alloc::{AllocError, Global};
 /// Makes the header of a new file for these recipients, with its MAC under the file key.
 ///
 /// # Errors
-/// In this order: `Refused` at the first recipient that refuses, `IncompatibleRecipients` at the
-/// first whose labels do not go together with those of recipient 0, `NoRecipients` where there is
-/// no stanza at all, `MixedPassphrase` where a `scrypt` stanza stands beside another,
-/// `HeaderTooLarge`. `OutOfMemory` where an allocation was refused.
+/// The first that applies, in this order: `Refused` at the first recipient that refuses,
+/// `IncompatibleRecipients` at the first whose labels do not go together with those of recipient 0,
+/// `NoRecipients` if there is no stanza at all, `MixedPassphrase` if a `scrypt` stanza is not
+/// alone, `HeaderTooLarge`. `OutOfMemory` if an allocation was refused.
 pub fn header_for(
     alloc: Global,
     recipients: &[Box<dyn Recipient>],
@@ -58,7 +58,7 @@ pub fn header_for(
     Ok(header)
 }
 
-/// The stanzas of the recipients, in order, where the recipients go together.
+/// The stanzas of the recipients, in order, if the recipients go together.
 fn gather_stanzas(
     alloc: Global,
     recipients: &[Box<dyn Recipient>],
@@ -103,7 +103,7 @@ fn wrap_all(
     Ok(all)
 }
 
-/// The least place whose labels do not go together with those of place 0.
+/// The least index of a recipient whose labels do not go together with those of recipient 0.
 fn first_apart(
     alloc: Global,
     recipients: &[Box<dyn Recipient>],
@@ -116,7 +116,7 @@ fn first_apart(
     }
 }
 
-/// The place of the first of the others, counted from 1, whose labels do not go together with
+/// The index, counted from 1, of the first of the others whose labels do not go together with
 /// these.
 fn apart_from(
     alloc: Global,
@@ -133,7 +133,8 @@ fn apart_from(
     Ok(None)
 }
 
-/// What one recipient gives; of a box in a list a contract can speak here.
+/// Calls one recipient's `wrap`. It is a function of its own since its contract can cite the box,
+/// which is an item of a list.
 fn wrap_by(
     alloc: Global,
     recipient: &Box<dyn Recipient>,
@@ -144,7 +145,7 @@ fn wrap_by(
     recipient.wrap(alloc, key)
 }
 
-/// The labels of one recipient, for the same reason.
+/// Calls one recipient's `labels`; a function of its own for the same reason.
 fn labels_of(alloc: Global, recipient: &Box<dyn Recipient>) -> Result<Labels, AllocError>
     ensures { IfOk result (MayLabel (the_labels recipient.now)) }
 {

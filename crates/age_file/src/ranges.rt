@@ -16,14 +16,15 @@ use age_stream::{RangeReader, ReadAt};
 use std::alloc::Global;
 use std::marker::Brand;
 
-/// A header, its source, and the place behind it.
+/// A header, its source, and the offset of the first byte after it.
 struct Front<'a, D> {
     header: Header,
     dev: &'a mut D,
     at: u64,
 }
 
-/// The header at the front of a source, of which it is known what it held and had given.
+/// Reads the header at the start of a source. The ghost arguments are its contents and the number
+/// of bytes that had been read.
 fn front_of<'a, D: ReadAt, K: Origin>(
     alloc: Global,
     dev: &'a mut D,
@@ -53,7 +54,7 @@ fn front_of<'a, D: ReadAt, K: Origin>(
     }
 }
 
-/// The header at the front of a source.
+/// Reads the header at the start of a source.
 fn read_front<'a, D: ReadAt>(
     alloc: Global,
     dev: &'a mut D,
@@ -74,15 +75,15 @@ fn read_front<'a, D: ReadAt>(
 
 /// Opens a file for reading any part of its plaintext (C2SP `age.md`): reads its header from the
 /// source's first byte on, finds the file key, verifies the header's MAC under it, and opens the
-/// payload as `RangeReader::open` does. What it reads is the header, byte by byte, the nonce and
-/// the last piece.
+/// payload like `RangeReader::open`. It reads the header, byte by byte, the nonce and the last
+/// piece.
 ///
 /// # Errors
 /// The first that applies of `NotAge`, `BadLine`, `HeaderTruncated`, `HeaderTooLarge` as `inspect`
 /// says; `MixedPassphrase`; `NoMatch`, `WrongKey`, `Malformed` as `age_recipient::unlock` says;
 /// `BadMac`; `NonceTruncated`; `TooManyChunks`; then `ChunkShort`, `EmptyFinal` or `BadChunk` of
-/// the last piece. `Read` where the source failed, `OutOfMemory` where an allocation was refused or
-/// an identity returned so.
+/// the last piece. `Read` if the source failed, `OutOfMemory` if an allocation was refused or an
+/// identity returned it.
 pub fn open_ranges<'a, D: ReadAt>(
     alloc: Global,
     dev: &'a mut D,

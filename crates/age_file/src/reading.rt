@@ -14,21 +14,21 @@ use age_recipient::Identity;
 use age_stream::{Done, StreamReader};
 use std::alloc::Global;
 
-/// Decrypts a file (C2SP `age.md`), all that the source still gives: writes the plaintext of each
-/// chunk as soon as it is verified.
+/// Decrypts a file (C2SP `age.md`), which is all bytes left in the source. It writes the plaintext
+/// of each chunk as soon as the chunk is verified.
 ///
-/// What was written before an error is genuine, and incomplete: only after Ok is it the whole
-/// plaintext. A passphrase identity takes 2^work KiB of memory for the stanza's work factor, up to
-/// its maximum.
+/// What was written before an error is genuine but incomplete. It is the whole plaintext only after
+/// Ok. A passphrase identity takes 2^work KiB of memory for the stanza's work factor, up to its
+/// maximum.
 ///
 /// # Errors
 /// The first that applies of `NotAge`, `BadLine`, `HeaderTruncated`, `HeaderTooLarge` as `inspect`
 /// says; `MixedPassphrase`; `NoMatch`, `WrongKey`, `Malformed` as `age_recipient::unlock` says;
 /// `BadMac`; `NonceTruncated`; then, chunk by chunk, `TooManyChunks`, `ChunkShort`, `EmptyFinal`,
-/// `BadChunk` as `age_stream::StreamReader::next_chunk` says. Before a chunk's fault the plaintext
-/// of the chunks before it was written, and nothing before the others. `Read` and `Write` where a
-/// device failed: a beginning of that plaintext was written. `OutOfMemory` where an allocation was
-/// refused or an identity returned so: nothing was written.
+/// `BadChunk` as `age_stream::StreamReader::next_chunk` says. On a chunk's fault the plaintext of
+/// the chunks before it was written, on the others nothing. `Read` and `Write` if a device failed:
+/// a prefix of that plaintext was written. `OutOfMemory` if an allocation was refused or an
+/// identity returned it; nothing was written.
 pub fn decrypt<S: Source, W: Sink>(
     alloc: Global,
     input: &mut S,

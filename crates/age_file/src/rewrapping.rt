@@ -1,4 +1,4 @@
-//! A file for other recipients, with the payload as it is.
+//! Replacing the header of a file; the payload stays.
 
 ghost use Rattle.std.specs.Prelude.{◌⊎◌, map, IfErr};
 ghost use Rattle.std.specs.Io.KnownBytes.{Keeps};
@@ -24,8 +24,8 @@ use std::alloc::Global;
 /// says; `MixedPassphrase`; `NoMatch`, `WrongKey`, `Malformed` as `age_recipient::unlock` says;
 /// `BadMac`; then of the new header, as `encrypt` says: `Refused`, `IncompatibleRecipients`,
 /// `NoRecipients`, `MixedPassphrase`, `HeaderTooLarge`. On these, and on `OutOfMemory`, nothing was
-/// written. `Read` and `Write` where a device failed: a beginning of the new file was written.
-/// `TooManyChunks` where the source gives more than 2^105 bytes, which no payload has.
+/// written. `Read` and `Write` if a device failed: a prefix of the new file was written.
+/// `TooManyChunks` if the source returns more than 2^105 bytes, which no payload has.
 pub fn rewrap<S: Source, W: Sink>(
     alloc: Global,
     input: &mut S,

@@ -101,7 +101,7 @@ fn decrypted(
     (answer, out.into_vec())
 }
 
-/// The answer on so many bytes in one chunk.
+/// The answer on this many bytes in one chunk.
 fn done(bytes: u128) -> Result<Done, Fault> {
     Ok(Done { bytes, chunks: 1 })
 }

@@ -16,22 +16,22 @@ use age_recipient::Recipient;
 use age_stream::{ChunkBuf, ChunkSealer, Done, StreamWriter};
 use std::alloc::Global;
 
-/// Writes the age file of a plaintext, all that the source still gives, for these recipients (C2SP
-/// `age.md`). Every allocation is made before the first byte goes out, and each chunk goes out as
-/// soon as more text comes.
+/// Writes the age file (C2SP `age.md`) of a plaintext, which is all bytes left in the source, for
+/// these recipients. It allocates before it writes the first byte. It writes each chunk as soon as
+/// a byte after it was read.
 ///
-/// `fresh`, and the salts of the recipients, must be random and used for this file alone: the same
-/// again repeats the keys of a file. A passphrase recipient takes 2^work KiB of memory while it
-/// wraps. What was written before an error is no whole file.
+/// `fresh`, and the salts of the recipients, must be random and used only for this file: the same
+/// values again repeat the keys of a file. A passphrase recipient takes 2^work KiB of memory while
+/// it wraps. What was written before an error is not a complete file.
 ///
 /// # Errors
-/// In this order: `Refused` at the first recipient that refuses, `IncompatibleRecipients` at the
-/// first whose labels do not go together with those of recipient 0, `NoRecipients` where there is
-/// no stanza at all, `MixedPassphrase` where a `scrypt` stanza stands beside another,
-/// `HeaderTooLarge`. On these, and on `OutOfMemory`, nothing was written. `TooManyChunks` where the
-/// plaintext has more chunks than are allowed: the header, the nonce and the sealed chunks with an
-/// index below the limit less one were written. `Read` and `Write` where a device failed: a
-/// beginning of the file was written.
+/// The first that applies, in this order: `Refused` at the first recipient that refuses,
+/// `IncompatibleRecipients` at the first whose labels do not go together with those of recipient 0,
+/// `NoRecipients` if there is no stanza at all, `MixedPassphrase` if a `scrypt` stanza is not
+/// alone, `HeaderTooLarge`. On these, and on `OutOfMemory`, nothing was written. `TooManyChunks` if
+/// the plaintext has more chunks than are allowed: the header, the nonce and the sealed chunks with
+/// an index below the limit less one were written. `Read` and `Write` if a device failed: a prefix
+/// of the file was written.
 pub fn encrypt<S: Source, W: Sink>(
     alloc: Global,
     plain: &mut S,
@@ -71,10 +71,10 @@ pub fn encrypt<S: Source, W: Sink>(
     }
 }
 
-/// Writes a header, and after it the nonce of its payload.
+/// Writes a header, and then the nonce of its payload, 16 bytes.
 ///
 /// # Errors
-/// `DeviceFault` where the sink failed: a beginning of both was written.
+/// `DeviceFault` if the sink failed: a prefix of both was written.
 pub fn write_front<W: Sink>(
     header: &Header,
     nonce: &[u8; 16],

@@ -1,4 +1,4 @@
-//! The arguments of a stanza, and the line that spells them.
+//! The arguments of a stanza, and their line.
 
 ghost use Rattle.std.specs.Prelude.{◌≡◌, ◌≢◌, ◌≤◌, ◌++◌, ℕ, List, map, length, take, drop, IfOk, MatchOption};
 ghost use Rattle.std.specs.List.{AllByRecursion};
@@ -31,7 +31,7 @@ impl Arguments {
     ghost use Rattle.age_header.specs.Header.{AreArguments, argument_line, line};
     ghost use Rattle.age_header.specs.Device.{Bytes};
 
-    /// These texts, copied.
+    /// Copies these texts.
     pub(crate) fn copied(alloc: Global, texts: &[&str]) -> Result<Arguments, AllocError>
         ensures { IfOk result (λ args. args ≡ map (λ t. t.now) texts.now) }
     {
@@ -43,7 +43,7 @@ impl Arguments {
         Ok(Arguments { texts: copies })
     }
 
-    /// The arguments that an argument line, less its LF, spells.
+    /// Parses an argument line, without its LF.
     pub(crate) fn parse(alloc: Global, text: &[u8]) -> Result<Option<Arguments>, AllocError>
         ensures some { IfOk result
             (λ o. IfSome o (λ args. AreArguments args × (line text.now ≡ argument_line args))) }
@@ -81,7 +81,7 @@ impl Arguments {
     }
 }
 
-/// What follows this front, where the text begins with it.
+/// The text after this prefix, if it begins with the prefix.
 pub(crate) fn strip_prefix<'a>(text: &'a [u8], front: &[u8]) -> Option<&'a [u8]>
     ensures { MatchOption result ((x : Bytes) → text.now ≢ front.now ++ x)
         (λ x. text.now ≡ front.now ++ x.now) }
@@ -89,7 +89,7 @@ pub(crate) fn strip_prefix<'a>(text: &'a [u8], front: &[u8]) -> Option<&'a [u8]>
     text.strip_prefix(front)
 }
 
-/// How many visible characters the text begins with.
+/// The number of visible characters (bytes 33 to 126) at the start of the text.
 pub(crate) fn visible_len(text: &[u8]) -> usize
     ensures bound { result ≤ length text.now }
     ensures front { AllByRecursion IsVisible (take result text.now) }

@@ -14,7 +14,8 @@ use std::alloc::{AllocError, Global};
 
 const ALPHABET: &str = "ABCDEFGHIJKLMNOPQRSTUVWXYZabcdefghijklmnopqrstuvwxyz0123456789+/";
 
-/// The engine for base64 without padding, canonical. It holds a table: make it once for many lines.
+/// The engine for base64 without padding, canonical. It holds a table, so make it once for many
+/// lines.
 pub fn engine() -> GeneralPurpose
     ensures { IsPlain result }
 {
@@ -24,7 +25,7 @@ pub fn engine() -> GeneralPurpose
     GeneralPurpose::new(&alphabet, NO_PAD)
 }
 
-/// The bytes whose base64 these characters are; None where there are no such bytes.
+/// Decodes: returns the bytes whose base64 these characters are; `None` if there are no such bytes.
 pub fn decode(
     alloc: Global,
     engine: &GeneralPurpose,
@@ -42,7 +43,7 @@ pub fn decode(
     }
 }
 
-/// The base64 of these bytes.
+/// Encodes these bytes.
 pub fn encode(alloc: Global, engine: &GeneralPurpose, bytes: &[u8]) -> Result<String, AllocError>
     requires { IsPlain engine.now }
     ensures { IfOk result (λ text. string_bytes text ≡ base64_of bytes.now) }

@@ -1,5 +1,5 @@
-//! Where bytes come from and where they go to. A device counts its failures, so that a caller can
-//! tell a fault of the outside from one of the bytes, and may tell its bytes to proofs.
+//! Devices: what bytes are read from and written to. A device counts its failures, so that a caller
+//! can tell an I/O error from a fault of the bytes. Its contents may be known to proofs.
 
 ghost use Rattle.std.specs.Prelude.{◌≡◌, ◌<◌, ◌≤◌, ◌+◌, ◌-◌, ◌^◌, ℕ, List, Some, length, min, vec_capacity, vec_len, IfOk, OnErr};
 ghost use Rattle.std.specs.declared.option.Option.{Option};
@@ -9,53 +9,53 @@ ghost use Rattle.age_header.specs.MemSink.{spare_of};
 
 use std::io::{Read, Write};
 
-/// A read or a write that failed. The device's count of failures says that it did.
+/// A read or a write failed. The device's count of failures has risen.
 #[derive(Clone, Copy, Debug, Drop, PartialEq, Eq)]
 pub struct DeviceFault;
 
-/// Where bytes come from.
+/// What bytes are read from.
 pub trait Source {
-    // How many reads have failed, which stays at the largest u64.
+    // The number of failed reads, saturating at the largest u64.
     ghost failed: { Self → ℕ };
 
-    // The bytes that are still to come, where the source tells them.
+    // The bytes still to come, if the contents are known to proofs.
     ghost to_come: { Self → Known };
 
-    /// Reads the next bytes into the front of `buf`, and gives their number; 0 in a nonempty `buf`
-    /// only at the end of the input. A short read is not the end. An error says nothing of the
-    /// bytes.
+    /// Reads the next bytes to the start of `buf`, and returns their number. It returns 0 with a
+    /// nonempty `buf` only at the end of the input. A short read does not mean the end. After an
+    /// error nothing is known of the bytes.
     fn read(&mut self, buf: &mut [u8]) -> Result<usize, DeviceFault>
         ensures bound { ReadsAtMost result buf.new }
         ensures count { Counts (failed self.old) (failed self.new) result }
         ensures bytes { Gives (to_come self.old) (to_come self.new) result buf.new };
 
-    /// How many reads have failed; it stays at the largest `u64`.
+    /// The number of failed reads, saturating at the largest `u64`.
     fn failures(&self) -> u64
         ensures { result ≡ failed self.now };
 }
 
-/// Where bytes go to.
+/// What bytes are written to.
 pub trait Sink {
-    // How many writes have failed, which stays at the largest u64.
+    // The number of failed writes, saturating at the largest u64.
     ghost failed: { Self → ℕ };
 
-    // The bytes that were taken, where the sink tells them.
+    // The bytes written so far, if the contents are known to proofs.
     ghost taken: { Self → Known };
 
-    /// Takes the front of `piece`, and gives the number of bytes taken, at least 1 of a nonempty
-    /// piece. An error takes nothing.
+    /// Writes a prefix of `piece`, and returns the number of bytes written, at least 1 of a
+    /// nonempty piece. On an error nothing was written.
     fn write(&mut self, piece: &[u8]) -> Result<usize, DeviceFault>
         ensures bound { IfOk result (λ n. n ≤ length piece.now) }
         ensures count { Counts (failed self.old) (failed self.new) result }
         ensures bytes { Takes (taken self.old) (taken self.new) result piece.now };
 
-    /// How many writes have failed; it stays at the largest `u64`.
+    /// The number of failed writes, saturating at the largest `u64`.
     fn failures(&self) -> u64
         ensures { result ≡ failed self.now };
 }
 
-/// Writes the whole piece, in as many writes as the sink needs. On an error a beginning of it was
-/// written; a call that was interrupted is not tried again.
+/// Writes the whole piece, in as many writes as the sink needs. On an error a prefix of it was
+/// written; an interrupted call is not repeated.
 pub fn write_all<W: Sink>(out: &mut W, piece: &[u8]) -> Result<(), DeviceFault>
     ensures text { Writes (W.taken out.old) (W.taken out.new) result piece.now }
     ensures count { Counts (W.failed out.old) (W.failed out.new) result }
@@ -67,7 +67,7 @@ pub fn write_all<W: Sink>(out: &mut W, piece: &[u8]) -> Result<(), DeviceFault>
     Ok(())
 }
 
-/// One failure more.
+/// Counts one more failure.
 fn count_failure(failures: &mut u64) -> DeviceFault
     ensures { failures.new ≡ min (failures.old + 1) (2 ^ 64 - 1) }
 {
@@ -82,14 +82,14 @@ pub struct MemSource<'a> {
 }
 
 impl<'a> MemSource<'a> {
-    /// A source of these bytes.
+    /// Makes a source of these bytes.
     pub fn new(bytes: &'a [u8]) -> MemSource<'a>
         ensures { ⟦<MemSource<'a> as Source>⟧.to_come result ≡ Some bytes.now }
     {
         MemSource { rest: bytes }
     }
 
-    /// The bytes that are still to come.
+    /// The bytes still to come.
     pub fn rest(&self) -> &'a [u8]
         ensures { ⟦<MemSource<'a> as Source>⟧.to_come self.now ≡ Some result.now }
     {
@@ -115,8 +115,8 @@ impl<'a> Source for MemSource<'a> {
     }
 }
 
-/// A sink that appends to its vector. It takes a piece whole, and fails only where its vector has
-/// no room for the piece and the allocation is refused.
+/// A sink that appends to its vector. It writes a piece whole, and fails only if its vector has no
+/// room for the piece and the allocation is refused.
 #[derive(Drop)]
 pub struct MemSink {
     out: Vec<u8>,
@@ -124,7 +124,7 @@ pub struct MemSink {
 }
 
 impl MemSink {
-    /// A sink that appends to this vector, and has not failed yet.
+    /// Makes a sink that appends to this vector, with no failure counted.
     pub fn new(out: Vec<u8>) -> MemSink
         ensures bytes { ⟦<MemSink as Sink>⟧.taken result ≡ Some out.items }
         ensures count { ⟦<MemSink as Sink>⟧.failed result ≡ 0 }
@@ -133,7 +133,7 @@ impl MemSink {
         MemSink { out, failures: 0 }
     }
 
-    /// The vector, with all that was taken.
+    /// Returns the vector, with all bytes written.
     pub fn into_vec(self) -> Vec<u8>
         ensures { ⟦<MemSink as Sink>⟧.taken self ≡ Some result.items }
     {
@@ -174,7 +174,7 @@ pub struct ReadSource<R> {
 }
 
 impl<R: Read> ReadSource<R> {
-    /// A source of what this reader gives, which has not failed yet.
+    /// Makes a source of this reader's bytes, with no failure counted.
     pub fn new(reader: R) -> ReadSource<R>
         ensures bytes { ⟦<ReadSource<R> as Source>⟧.to_come result ≡ R.remaining reader }
         ensures count { ⟦<ReadSource<R> as Source>⟧.failed result ≡ 0 }
@@ -185,7 +185,7 @@ impl<R: Read> ReadSource<R> {
         }
     }
 
-    /// The reader, which gives what this source would still give.
+    /// Returns the reader, which has the bytes still to come.
     pub fn into_inner(self) -> R
         ensures { ⟦<ReadSource<R> as Source>⟧.to_come self ≡ R.remaining result }
     {
@@ -214,7 +214,7 @@ impl<R: Read> Source for ReadSource<R> {
     }
 }
 
-/// A sink over any writer. A write that takes nothing of a nonempty piece is a failure.
+/// A sink over any writer. A write of 0 bytes of a nonempty piece is a failure.
 #[derive(Drop)]
 pub struct WriteSink<W> {
     writer: W,
@@ -222,7 +222,7 @@ pub struct WriteSink<W> {
 }
 
 impl<W: Write> WriteSink<W> {
-    /// A sink into this writer, which has not failed yet.
+    /// Makes a sink to this writer, with no failure counted.
     pub fn new(writer: W) -> WriteSink<W>
         ensures bytes { ⟦<WriteSink<W> as Sink>⟧.taken result ≡ W.contents writer }
         ensures count { ⟦<WriteSink<W> as Sink>⟧.failed result ≡ 0 }
@@ -233,7 +233,7 @@ impl<W: Write> WriteSink<W> {
         }
     }
 
-    /// The writer, which has what this sink has taken.
+    /// Returns the writer, which has the bytes written.
     pub fn into_inner(self) -> W
         ensures { ⟦<WriteSink<W> as Sink>⟧.taken self ≡ W.contents result }
     {

@@ -1,15 +1,15 @@
-/// Why no header was read.
+/// The errors of reading a header.
 #[derive(Clone, Copy, Debug, Drop, PartialEq, Eq)]
 pub enum HeaderFault {
-    /// The first bytes are no front of the version line.
+    /// The first bytes are not a prefix of the version line.
     NotAge,
-    /// With this line, the first being 1, no header can come any more.
+    /// From this line on the text cannot be a header. The first line is line 1.
     BadLine(u64),
-    /// The input ends before the header does.
+    /// The input ends within the header.
     Truncated,
-    /// The header goes on beyond the limit.
+    /// The header is larger than the limit.
     TooLarge,
-    /// The source failed.
+    /// A read of the source failed.
     Read,
     /// An allocation was refused.
     Memory,

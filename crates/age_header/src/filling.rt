@@ -8,11 +8,11 @@ ghost use Rattle.age_header.specs.Filling.{Filled, Got};
 use crate::device::{DeviceFault, Source};
 
 /// Reads into `buf` after its first `start` bytes, in as many reads as it takes, until it is full
-/// or the source is at its end. Returns how many bytes of `buf` are filled then, the first `start`
-/// counted.
+/// or the source is at its end. Returns the number of bytes of `buf` that are then filled,
+/// including the first `start`.
 ///
 /// # Errors
-/// A read failed. It is not tried again, and the bytes that were read before it are lost.
+/// A read failed. It is not repeated, and the bytes that were read before it are lost.
 pub fn fill_from<S: Source>(
     input: &mut S,
     buf: &mut [u8],

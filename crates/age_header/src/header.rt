@@ -30,7 +30,7 @@ impl Header {
     ghost use Rattle.age_header.specs.Text.{IsHeaderValue};
     ghost use Rattle.age_header.specs.Device.{Bytes};
 
-    /// A header of these stanzas and this MAC; None where there is no stanza.
+    /// Makes a header of these stanzas and this MAC; `None` if there is no stanza.
     pub fn new(stanzas: Vec<Stanza>, mac: [u8; 32]) -> Option<Header>
         ensures some { IfSome result
             (λ h. (stanzas.items ≢ []) × (h.stanzas ≡ stanzas.items) × (h.mac ≡ mac)) }
@@ -39,7 +39,7 @@ impl Header {
         if stanzas.is_empty() {
             return None;
         }
-        // each stanza says here what it keeps, which a list of them doesn't
+        // here each stanza's invariant becomes known; for the items of a list it isn't
         for stanza in &stanzas {
             let _ = stanza.args();
             let _ = stanza.body();
@@ -47,7 +47,7 @@ impl Header {
         Some(Header { stanzas, mac })
     }
 
-    /// The stanzas, in order. With the MAC they have a text.
+    /// The stanzas, in order.
     pub fn stanzas(&self) -> &[Stanza]
         ensures value { result.now ≡ self.now.stanzas }
         ensures whole { IsHeaderValue self.now.stanzas self.now.mac }
@@ -62,7 +62,7 @@ impl Header {
         &self.mac
     }
 
-    /// The MAC as the end line spells it: its base64.
+    /// The base64 of the MAC, 43 characters, as in the end line.
     pub fn mac_signs(&self) -> [u8; 43]
         ensures { B64 self.now.mac result }
     {
@@ -73,7 +73,7 @@ impl Header {
         characters
     }
 
-    /// The length in bytes of the header's text, or the largest `u64` where it is longer.
+    /// The length of the header's text in bytes, saturating at the largest `u64`.
     pub fn text_len(&self) -> u64
         ensures { (h : Bytes) × Head self.now.stanzas self.now.mac h
             × (result ≡ min (length h) (2 ^ 64 - 1)) }

@@ -11,7 +11,7 @@ ghost use Rattle.age_header.specs.Header.{StanzaParts, Head};
 ghost use Rattle.age_header.specs.Text.{signed};
 ghost use Rattle.age_header.specs.Verdict.{Found, HeaderVerdict, BeginsWith};
 
-/// Characters are decoded to just the bytes whose base64 they are, and what bytes are encoded to is
+/// Characters are decoded to exactly the bytes whose base64 they are, and bytes are encoded to
 /// their base64.
 pub fn one_base64()
     ensures decoded { (characters bytes : Bytes) → (decoded characters ≡ Some bytes) ↔ B64 bytes characters }
@@ -28,8 +28,8 @@ pub fn one_reading()
         → x ≡ [] }
 {}
 
-/// Bytes have one header verdict under a limit, and it is a header exactly where they begin with
-/// that header and the limit holds it.
+/// Bytes have exactly one header verdict under a limit. It is a header exactly if they begin with
+/// that header and its length is within the limit.
 pub fn one_verdict()
     ensures some { (b : Bytes) (max : ℕ) → (r : Result Found HeaderFault) × HeaderVerdict b max r }
     ensures one { (b : Bytes) (max : ℕ) (r q : Result Found HeaderFault) → HeaderVerdict b max r
@@ -38,8 +38,8 @@ pub fn one_verdict()
         → HeaderVerdict b max (Ok found) ↔ BeginsWith b max found }
 {}
 
-/// What a header's MAC is taken over is its text without the last 45 bytes: the space, the MAC's 43
-/// characters and the LF.
+/// The text under a header's MAC is the header's text without the last 45 bytes: the space, the
+/// MAC's 43 characters and the LF.
 pub fn signed_front()
     ensures { (ss : List StanzaParts) (mac h : Bytes) → Head ss mac h
         → signed ss ≡ take (length h - 45) h }

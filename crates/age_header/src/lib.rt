@@ -9,9 +9,8 @@
 //! write_header(&header, &mut sink)?; // the same bytes again: a header has one text
 //! ```
 //!
-//! Limits: a reader takes just the header's bytes, at most as many as it was made for, which the
-//! caller chooses. It does not verify the MAC, since that needs the file key: `mac_of` gives what
-//! it has to be.
+//! Limits: a reader reads exactly the header's bytes, up to a limit that the caller chooses. It
+//! does not verify the MAC, since that needs the file key: `mac_of` computes it.
 #![tactic(auto)]
 
 mod arguments;

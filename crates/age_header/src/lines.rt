@@ -8,18 +8,18 @@ use crate::device::Source;
 use crate::fault::HeaderFault;
 use std::alloc::Global;
 
-/// How a line ended.
+/// What ended a line.
 #[derive(Clone, Copy, Debug, Drop, PartialEq, Eq)]
 pub(crate) enum LineEnd {
-    /// By an LF, which was taken too.
+    /// An LF, which was read too.
     Lf,
-    /// By the end of the input.
+    /// The end of the input.
     Input,
-    /// By its room: it goes on.
+    /// The limit `room`: the line is longer.
     Room,
 }
 
-/// Takes one line, of at most `room` bytes with its LF, and no byte past it: so byte by byte.
+/// Reads one line, of at most `room` bytes with its LF, and no byte after it, so byte by byte.
 pub(crate) fn read_line<S: Source>(
     alloc: Global,
     input: &mut S,

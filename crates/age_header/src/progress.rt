@@ -1,4 +1,4 @@
-//! What the lines behind the version line have given so far.
+//! The stanzas that the lines after the version line have made so far.
 
 ghost use Rattle.std.specs.Prelude.{◌≡◌, ◌≢◌, ◌↔◌, ◌<◌, ◌≤◌, [], List, length, IfOk, IfSome, IfNone, IsTrue};
 ghost use Rattle.age_header.specs.Header.{StanzaParts};
@@ -13,7 +13,7 @@ use base64::engine::general_purpose::GeneralPurpose;
 use std::alloc::{AllocError, Global};
 use std::marker::Model;
 
-/// The whole stanzas, and the one that a body line may follow.
+/// The complete stanzas, and the one that a body line may follow.
 #[derive(Drop)]
 pub(crate) struct Progress {
     stanzas: Vec<Stanza>,
@@ -31,7 +31,7 @@ impl Model for Progress {
 }
 
 impl Progress {
-    /// Just behind the version line.
+    /// The progress after the version line.
     pub(crate) fn new(alloc: Global) -> Progress
         ensures { result ≡ between [] }
     {
@@ -62,7 +62,7 @@ impl Progress {
         header
     }
 
-    /// After one more line, less its LF; None where it leads nowhere.
+    /// The progress after one more line, without its LF; `None` if it leads nowhere.
     pub(crate) fn step(
         self,
         alloc: Global,
@@ -87,7 +87,8 @@ impl Progress {
     }
 }
 
-/// After one more line of an open stanza's body: a full line leaves it open, a shorter one ends it.
+/// The progress after one more line of an open stanza's body: a full line leaves it open, a shorter
+/// one ends it.
 fn body_line(
     alloc: Global,
     engine: &GeneralPurpose,

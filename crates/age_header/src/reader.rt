@@ -22,8 +22,8 @@ use std::marker::Model;
 
 const VERSION: &[u8; 21] = b"age-encryption.org/v1";
 
-/// Reads headers of at most `max` bytes. It keeps a fault, and answers it from then on without
-/// asking its source.
+/// Reads headers of at most `max` bytes. It keeps a fault, and returns it from then on without
+/// reading its source.
 #[derive(Drop)]
 pub struct HeaderReader {
     max: usize,
@@ -41,21 +41,21 @@ impl Model for HeaderReader {
 impl HeaderReader {
     ghost use Rattle.age_header.specs.Reader.{fault_of};
 
-    /// A reader of headers of at most so many bytes, which keeps no fault.
+    /// Makes a reader of headers of at most `max` bytes, which keeps no fault.
     pub fn new(max: usize) -> HeaderReader
         ensures { result ≡ record { max = max; fault = None } }
     {
         HeaderReader { max, fault: None }
     }
 
-    /// The header at the front of the input (C2SP `age.md`, "Header"), of which just the header's
-    /// bytes are taken.
+    /// Reads the header at the start of the input (C2SP `age.md`, "Header"), and from the source
+    /// exactly the header's bytes.
     ///
     /// # Errors
-    /// Over the input's first `max` bytes: `NotAge` where they don't begin as the version line
-    /// does; else `BadLine(n)` for the least n for which the first n lines are no header and no
-    /// front of one; else `Truncated` where the input is shorter than `max`, and `TooLarge` where
-    /// it is not. `Read` where the source failed, `Memory` where an allocation was refused.
+    /// For the input's first `max` bytes: `NotAge` if their start is not a prefix of the version
+    /// line; else `BadLine(n)` for the least n for which the first n lines are neither a header nor
+    /// a prefix of one; else `Truncated` if the input is shorter than `max`, `TooLarge` if it is
+    /// not. `Read` if the source failed, `Memory` if an allocation was refused.
     pub fn read_from<S: Source>(
         &mut self,
         alloc: Global,
@@ -79,7 +79,7 @@ impl HeaderReader {
     }
 }
 
-/// The header at the front of the input.
+/// Reads the header at the start of the input.
 fn read_header<S: Source>(alloc: Global, input: &mut S, max: usize) -> Result<Header, HeaderFault>
     ensures count { CountsRead (S.failed input.old) (S.failed input.new) result }
     ensures verdict { ReadsHeader (S.to_come input.old) (S.to_come input.new) max result }
@@ -113,7 +113,7 @@ fn read_header<S: Source>(alloc: Global, input: &mut S, max: usize) -> Result<He
     }
 }
 
-/// Takes the version line.
+/// Reads the version line.
 fn read_version<S: Source>(alloc: Global, input: &mut S, max: usize) -> Result<(), HeaderFault>
     ensures count { CountsRead (S.failed input.old) (S.failed input.new) result }
     ensures ok { OnOk result
@@ -137,7 +137,7 @@ fn read_version<S: Source>(alloc: Global, input: &mut S, max: usize) -> Result<(
     }
 }
 
-/// The MAC that an end line, less its LF, spells.
+/// The MAC of an end line, which is passed without its LF.
 fn end_mac(
     alloc: Global,
     engine: &GeneralPurpose,

@@ -1,4 +1,4 @@
-//! A header's MAC, and what it is taken over.
+//! A header's MAC, and the text under it.
 
 ghost use Rattle.std.specs.Prelude.{◌≡◌, IfOk};
 ghost use Rattle.age_header.specs.Mac.{header_mac};
@@ -11,8 +11,9 @@ use crate::writer::write_signed;
 use age_kdf::{hkdf, hmac};
 use std::alloc::{AllocError, Global};
 
-/// The text of a header with these stanzas, one or more, from its first byte through the three
-/// bytes `---`: what the header's MAC is taken over (C2SP `age.md`, "Header MAC").
+/// The text of a header with these stanzas, one or more, from its first byte to the three bytes
+/// `---`, these included: the text that the header's MAC is computed over (C2SP `age.md`, "Header
+/// MAC").
 pub fn signed_text(alloc: Global, stanzas: &[Stanza]) -> Result<Vec<u8>, AllocError>
     ensures { IfOk result (λ text. text.items ≡ signed stanzas.now) }
 {

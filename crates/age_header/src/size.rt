@@ -1,4 +1,4 @@
-//! How long the text of a stanza is. Sums stay at the largest `u64`.
+//! The length of a stanza's text. Sums saturate at the largest `u64`.
 
 ghost use Rattle.std.specs.Prelude.{◌≡◌, ◌-◌, ◌^◌, ℕ, List, length, map, min};
 ghost use Rattle.std.specs.String.{string_bytes};
@@ -26,7 +26,7 @@ fn args_len(args: &[String]) -> u64
     len
 }
 
-/// The length of the lines of a body of so many bytes.
+/// The length of the lines of a body of this many bytes.
 fn body_len(len: usize) -> u64
     ensures { (b : Bytes) → length b ≡ len → result ≡ min (length (body_text b)) (2 ^ 64 - 1) }
 {

@@ -10,9 +10,9 @@ use std::marker::Model;
 pub enum StanzaError {
     /// There is no argument.
     NoArgs,
-    /// The argument at this place, the first being 0, is empty.
+    /// The argument of this index, from 0, is empty.
     EmptyArg(usize),
-    /// The argument at this place has a byte outside 33 to 126.
+    /// The argument of this index, from 0, has a byte outside 33 to 126.
     BadByte(usize),
     /// An allocation was refused.
     Memory,
@@ -41,7 +41,7 @@ impl Stanza {
     ghost use Rattle.base64.specs.GeneralPurpose.{IsBytes};
     ghost use Rattle.std.specs.String.{string_bytes};
 
-    /// A stanza of these arguments and this body, copied.
+    /// Makes a stanza of copies of these arguments and this body.
     ///
     /// # Errors
     /// `NoArgs`; else for the first bad argument `EmptyArg` or `BadByte`; else `Memory`.
@@ -59,7 +59,7 @@ impl Stanza {
         Ok(Stanza { args, body })
     }
 
-    /// A stanza of these arguments, whose body is still empty.
+    /// Makes a stanza of these arguments with an empty body.
     pub(crate) fn open(alloc: Global, args: Arguments) -> Stanza
         requires { AreArguments args }
         ensures { result ≡ record { args = args; body = [] } }

@@ -1,4 +1,4 @@
-//! Writing a header, part by part and with no memory.
+//! Writing a header, part by part and without allocating.
 
 ghost use Rattle.std.specs.Prelude.{◌≡◌, ◌≤◌, ℕ, List, length, map};
 ghost use Rattle.std.specs.String.{string_bytes};
@@ -14,7 +14,7 @@ use crate::header::Header;
 use crate::stanza::Stanza;
 use base64::engine::general_purpose::GeneralPurpose;
 
-/// Writes the header's text (C2SP `age.md`, "Header"). On an error a beginning of it was written.
+/// Writes the header's text (C2SP `age.md`, "Header"). On an error a prefix of it was written.
 pub fn write_header<W: Sink>(header: &Header, out: &mut W) -> Result<(), DeviceFault>
     ensures text { (h : Bytes) × Head header.now.stanzas header.now.mac h
         × Writes (W.taken out.old) (W.taken out.new) result h }
@@ -25,7 +25,7 @@ pub fn write_header<W: Sink>(header: &Header, out: &mut W) -> Result<(), DeviceF
     write_mac(header.mac(), &engine, out)
 }
 
-/// Writes the header of these stanzas through the three bytes `---`.
+/// Writes the header of these stanzas from its first byte to the three bytes `---`, these included.
 pub(crate) fn write_signed<W: Sink>(
     stanzas: &[Stanza],
     engine: &GeneralPurpose,
@@ -43,7 +43,7 @@ pub(crate) fn write_signed<W: Sink>(
     write_all(out, b"---")
 }
 
-/// Writes what follows those: the MAC.
+/// Writes the rest of the end line: the space, the MAC and the LF.
 fn write_mac<W: Sink>(
     mac: &[u8; 32],
     engine: &GeneralPurpose,

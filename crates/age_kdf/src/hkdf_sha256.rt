@@ -16,7 +16,7 @@ pub fn hkdf(ikm: &[u8], salt: &[u8], info: &[u8], out: &mut [u8])
 {
     let extracted = Mac::new(&hmac(salt, &[ikm]));
     let count = out.len().div_ceil(32);
-    // T(0) is empty: no byte of the block counts yet.
+    // T(0) is empty: no byte of the block is used yet.
     let mut block = [0u8; 32];
     let mut block_len = 0;
     'each_block: for i in 0..count {

@@ -1,4 +1,5 @@
-// A running HMAC-SHA-256 (RFC 2104), which can be copied between two pieces of its text.
+// The state of an HMAC-SHA-256 computation (RFC 2104), which can be copied between two pieces of
+// the text.
 
 ghost use Rattle.std.specs.Prelude.{◌≡◌, ℕ, ◌≤◌, ◌++◌, List, [], map, length, drop, bit_xor};
 ghost use Rattle.std.specs.List.{flat_map};
@@ -11,7 +12,7 @@ const IPAD: u8 = 0x36;
 
 const OPAD: u8 = 0x5c;
 
-// Writes `bytes` over the front of `block`.
+// Writes `bytes` over the start of `block`.
 fn put_front(block: &mut [u8; 64], bytes: &[u8])
     requires { length bytes.now ≤ 64 }
     ensures { block.new ≡ bytes.now ++ drop (length bytes.now) block.old }
@@ -43,7 +44,7 @@ fn xored(block: &[u8; 64], pad: u8) -> [u8; 64]
     out
 }
 
-/// The inner and the outer hash of an HMAC; the inner one takes the text.
+/// The states of the inner and the outer hash of an HMAC; the text is fed to the inner one.
 #[derive(Clone, Drop)]
 pub(crate) struct Mac {
     inner: Sha256,
@@ -54,7 +55,7 @@ impl Mac {
     ghost use Rattle.age_kdf.specs.HmacState.{IsFed};
     ghost use Rattle.age_kdf.specs.Bytes.{Bytes};
 
-    /// A running HMAC under `key` that has been fed nothing.
+    /// The state of an HMAC under `key` before any text.
     pub(crate) fn new(key: &[u8]) -> Mac
         ensures { IsFed result key.now [] }
     {
@@ -65,7 +66,7 @@ impl Mac {
         }
     }
 
-    /// A copy, which takes no memory.
+    /// Copies the state; it allocates nothing.
     pub(crate) fn copy(&self) -> Mac
         ensures { result ≡ self.now }
     {
@@ -92,7 +93,7 @@ impl Mac {
         outer.finalize()
     }
 
-    /// The MAC of what was fed followed by the parts; the running HMAC stays as it is.
+    /// The MAC of what was fed followed by the parts. The state is unchanged.
     pub(crate) fn tag_with(&self, parts: &[&[u8]]) -> [u8; 32]
         ensures { (key text : Bytes) → IsFed self.now key text
             → result ≡ hmac key (text ++ flat_map (λ p. p.now) parts.now) }

@@ -1,10 +1,10 @@
-// Outputs that are the front of a row of blocks of 32 bytes.
+// Outputs that are a prefix of a sequence of blocks of 32 bytes.
 
 ghost use Rattle.std.specs.Prelude.{◌≡◌, ℕ, ◌+◌, ◌*◌, ◌<◌, ◌++◌, List, length, take};
 ghost use Rattle.age_kdf.specs.Bytes.{Bytes};
 
-/// Writes block `i`, or as much of its front as there is room for: where `out` held the blocks of
-/// `front` before, it holds these and `block` after.
+/// Writes block `i`, or as much of its start as there is room for: if `out` held the blocks of
+/// `front` before, it then holds these and `block`.
 pub(crate) fn put_block(out: &mut [u8], i: usize, block: &[u8; 32])
     requires { 32 * i < length out.old }
     ensures { (front : Bytes) → length front ≡ 32 * i

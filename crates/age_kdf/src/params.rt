@@ -24,7 +24,7 @@ impl Model for ScryptParams {
     ghost inverse = { λ c. record { log_n = c.log_n; r = c.r; p = c.p } };
 }
 
-/// How many rows the table has: N = 2^log_n.
+/// The number of rows of the table: N = 2^log_n.
 pub(crate) fn row_count(log_n: u32) -> usize
     requires { log_n ≤ 30 }
     ensures value { result ≡ 2 ^ log_n }
@@ -34,8 +34,8 @@ pub(crate) fn row_count(log_n: u32) -> usize
 }
 
 impl ScryptParams {
-    /// These parameters, or None where one is out of range: `log_n` is 1 to 30 and below 16 * r,
-    /// and `r` and `p` are 1 to 32.
+    /// Makes parameters; `None` if one is out of range: `log_n` is 1 to 30 and below 16 * r, and
+    /// `r` and `p` are 1 to 32.
     pub fn new(log_n: u32, r: u32, p: u32) -> Option<ScryptParams>
         ensures in_range { IsSome result ↔ InRange log_n r p }
         ensures parts { IfSome result (λ s. s ≡ record { log_n = log_n; r = r; p = p }) }
@@ -74,7 +74,7 @@ impl ScryptParams {
         self.p
     }
 
-    /// How many words of work space `scrypt_with` wants: 32 * r * (N + p + 2).
+    /// The number of words of work space that `scrypt_with` needs: 32 * r * (N + p + 2).
     pub fn work_len(&self) -> usize
         ensures { result ≡ work_words self.now }
     {

@@ -1,4 +1,4 @@
-// ROMix (RFC 7914, section 5), with the table of the V[i] that the definition does without.
+// ROMix (RFC 7914, section 5), with the table of the V[i], which the definition does not have.
 
 ghost use Rattle.std.specs.Prelude.{◌≡◌, ℕ, ◌+◌, ◌*◌, ◌^◌, ◌≤◌, ◌<◌, length, take, drop, bit_xor};
 ghost use Rattle.std.specs.Simd.Lanes.{zip2};
@@ -19,7 +19,7 @@ fn put_row(table: &mut [u32], size: usize, i: usize, row: &[u32])
     table[at..at + size].copy_from_slice(row);
 }
 
-// Xors each word of `x` with that of `row`.
+// XORs each word of `x` with that of `row`.
 fn xor_into(x: &mut [u32], row: &[u32])
     requires { length row.now ≡ length x.old }
     ensures { x.new ≡ zip2 bit_xor x.old row.now }
@@ -29,7 +29,7 @@ fn xor_into(x: &mut [u32], row: &[u32])
     }
 }
 
-// Xors `x` with row `i` of a table whose rows are as long as `x`.
+// XORs `x` with row `i` of a table whose rows are as long as `x`.
 fn xor_row(x: &mut [u32], table: &[u32], i: usize)
     requires { length x.old * i + length x.old ≤ length table.now }
     ensures { x.new ≡ zip2 bit_xor x.old (take (length x.old) (drop (length x.old * i) table.now)) }
@@ -40,7 +40,7 @@ fn xor_row(x: &mut [u32], table: &[u32], i: usize)
 }
 
 /// ROMix of `x` with N = 2^log_n. The table has room for N rows of the size of `x`, and `y` for
-/// one; what they hold before does not matter.
+/// one; their contents before do not matter.
 pub(crate) fn romix(table: &mut [u32], x: &mut [u32], y: &mut [u32], r: usize, log_n: u32)
     requires r { (1 ≤ r) × (r ≤ 32) }
     requires log_n { log_n ≤ 30 }

@@ -62,7 +62,7 @@ fn quarter(a: u32x4, b: u32x4, c: u32x4, d: u32x4) -> (u32x4, u32x4, u32x4, u32x
     (a1, b1, c1, d1)
 }
 
-// Each lane moved down by one, two or three places.
+// Each lane moved down by one, two or three positions.
 #[inline(always)]
 fn turned_1(v: u32x4) -> u32x4
     ensures { result ≡ turned 1 v }

@@ -1,4 +1,4 @@
-// scrypt (RFC 7914, section 6), over a work space that is handed in, or that it takes itself.
+// scrypt (RFC 7914, section 6), in a work space that is passed, or that it allocates.
 
 ghost use Rattle.std.specs.Prelude.{◌≡◌, ℕ, ◌+◌, ◌*◌, ◌^◌, ◌≤◌, ◌++◌, List, [], length, OnErr, OnOk};
 ghost use Rattle.age_kdf.specs.Bytes.{Bytes};
@@ -69,9 +69,9 @@ fn mix_parts(table: &mut [u32], parts: &mut [u32], y: &mut [u32], r: usize, log_
 
 /// scrypt (RFC 7914, section 6): fills `out` with the derived key of its length.
 ///
-/// `work` is scratch space of `params.work_len()` words. What it holds before does not matter;
-/// after, it holds what came of the passphrase. The caller asks for at most 2^32 - 1 blocks of 32
-/// bytes. No memory is taken.
+/// `work` is scratch space of `params.work_len()` words. Its contents before do not matter; after
+/// the call it holds data derived from the passphrase. The caller requests at most 2^32 - 1 blocks
+/// of 32 bytes. It allocates nothing.
 pub fn scrypt_with(
     work: &mut [u32],
     pass: &[u8],
@@ -101,10 +101,10 @@ pub fn scrypt_with(
     fill(&keyed, &fed, 1, out);
 }
 
-/// scrypt (RFC 7914, section 6) as `scrypt_with` does it, with work space of its own:
-/// 4 * `params.work_len()` bytes.
+/// scrypt (RFC 7914, section 6) like `scrypt_with`, with work space that it allocates: 4 *
+/// `params.work_len()` bytes.
 ///
-/// Where that memory is refused the answer is `AllocError`, and `out` stays as it was.
+/// If that memory is refused the result is `AllocError`, and `out` is unchanged.
 pub fn scrypt(
     alloc: Global,
     pass: &[u8],

@@ -1,4 +1,4 @@
-//! Which file key a list of identities gives.
+//! The choice of a file key by several identities.
 
 ghost use Rattle.std.specs.Prelude.{◌≡◌, ◌⊎◌, map, Err, IfOk};
 ghost use Rattle.age_recipient.specs.Answer.{decided};
@@ -10,25 +10,26 @@ use crate::unwrapped::{StanzaFault, Unwrapped};
 use age_header::Stanza;
 use std::alloc::{AllocError, Global};
 
-/// Why identities gave no file key.
+/// Why identities found no file key.
 #[derive(Clone, Copy, Debug, Drop, PartialEq, Eq)]
 pub enum UnlockFault {
     /// No stanza is of the type of any identity.
     NoMatch,
-    /// There are stanzas of an identity's type, and none opens.
+    /// There are stanzas of an identity's type, and none of them opens: the passphrase or key is
+    /// wrong.
     WrongKey,
     /// A stanza of an identity's type is malformed.
     Malformed(StanzaFault),
-    /// An allocation was refused, or an identity returned so.
+    /// An allocation was refused, or an identity returned `Memory`.
     Memory,
 }
 
-/// The file key that these identities find in a header's stanzas. They are asked in order: the
-/// first that finds a key or a malformed stanza decides, and no later one is asked.
+/// Finds the file key in a header's stanzas. The identities are called in order. The first that
+/// finds a key or a malformed stanza decides, and no later one is called.
 ///
 /// # Errors
-/// `Malformed` where a malformed stanza decided; where nothing decided `WrongKey` if an identity
-/// answered `Failed`, else `NoMatch`; `Memory` where an identity that was asked answered so.
+/// `Malformed` if a malformed stanza decided. If nothing decided, `WrongKey` if an identity
+/// returned `Failed`, else `NoMatch`. `Memory` if an identity that was called returned it.
 pub fn unlock(
     alloc: Global,
     identities: &[Box<dyn Identity>],
@@ -46,7 +47,7 @@ pub fn unlock(
     }
 }
 
-/// The answer that decides, of these identities' answers.
+/// The result that decides, of these identities' results.
 fn first_decided(
     alloc: Global,
     identities: &[Box<dyn Identity>],
@@ -70,7 +71,8 @@ fn first_decided(
     Ok(rest)
 }
 
-/// What one identity answers; of a box in a list a contract can speak here.
+/// Calls one identity's `unwrap`. It is a function of its own since its contract can cite the box,
+/// which is an item of a list.
 fn ask(
     alloc: Global,
     identity: &Box<dyn Identity>,

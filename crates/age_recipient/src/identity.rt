@@ -2,19 +2,19 @@ use crate::unwrapped::Unwrapped;
 use age_header::Stanza;
 use std::alloc::{AllocError, Global};
 
-/// Who unwraps a file key.
+/// Finds the file key in a header's stanzas, by a secret (C2SP `age.md`, "File key").
 pub trait Identity: Drop {
     ghost use Rattle.std.specs.Prelude.{List, ◌≡◌, IfOk};
     ghost use Rattle.age_header.specs.Header.{StanzaParts};
     ghost use Rattle.age_recipient.specs.declared.unwrapped.Unwrapped.{Unwrapped};
 
-    // What the identity makes of each list of stanzas.
+    // The identity's meaning: its result for each list of stanzas.
     ghost meaning: { Self → List StanzaParts → Unwrapped };
 
-    /// What this identity makes of a header's stanzas.
+    /// Unwraps the file key from a header's stanzas. The result is the identity's meaning for them.
     ///
     /// # Errors
-    /// Where it has no memory to go on.
+    /// If an allocation was refused.
     fn unwrap(&self, alloc: Global, stanzas: &[Stanza]) -> Result<Unwrapped, AllocError>
         ensures { IfOk result (λ answer. answer ≡ meaning self.now stanzas.now) };
 }

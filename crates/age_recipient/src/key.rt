@@ -1,4 +1,4 @@
 /// The file key of one age file: 16 bytes, from which its header's and its payload's keys are
-/// derived (C2SP `age.md`, "File key"). A file key must serve one file only.
+/// derived (C2SP `age.md`, "File key"). A file key must be used for one file only.
 #[derive(Clone, Copy, PartialEq, Eq)]
 pub struct FileKey(pub [u8; 16]);

@@ -1,4 +1,4 @@
-//! With whom a recipient goes together.
+//! Labels: which recipients go together in one file.
 
 ghost use Rattle.std.specs.Prelude.{◌≡◌, map, IfOk};
 ghost use Rattle.age_kdf.specs.Bytes.{Bytes};
@@ -25,10 +25,10 @@ impl Model for LabelSet {
 }
 
 impl LabelSet {
-    /// The set of these texts, each once.
+    /// Makes the set of these texts, each once.
     ///
     /// # Errors
-    /// Where an allocation was refused.
+    /// If an allocation was refused.
     pub fn new(alloc: Global, texts: &[&str]) -> Result<LabelSet, AllocError>
         ensures { IfOk result (IsSetOf (map (λ text. text.now) texts.now)) }
     {
@@ -50,19 +50,20 @@ impl Clone for LabelSet {
     }
 }
 
-/// What a recipient asks of the others of the same file. Recipients go together where their labels
-/// are the same set of names.
+/// A recipient's requirement on the other recipients of the same file. Recipients go together if
+/// their labels are the same set of names.
 #[derive(Drop)]
 pub enum Labels {
     /// The recipient must be a file's only one.
     Alone,
-    /// The recipient goes together with those that have just these names, as a rule none.
+    /// The recipient goes together with those that have exactly these names; usually there are
+    /// none.
     Names(LabelSet),
 }
 
 impl Labels {
-    /// Whether recipients with these labels may stand in one file: both have names, and the same
-    /// set of them.
+    /// Whether recipients with these labels may be recipients of one file: both have names, and the
+    /// same set of them.
     pub fn go_together(&self, other: &Labels) -> bool
         ensures { result ≡ go_together self.now other.now }
     {

@@ -1,5 +1,5 @@
-//! Recipients and identities of age v1 files: who wraps a file key into stanzas, and who unwraps it
-//! again.
+//! Recipients and identities of age v1 files (C2SP `age.md`). A recipient wraps a file key into
+//! stanzas, an identity unwraps it.
 //!
 //! ```
 //! // a fresh salt; 2^18 KiB of memory
@@ -10,7 +10,7 @@
 //! let key = unlock(alloc, identities.as_slice(), stanzas.as_slice())?;
 //! ```
 //!
-//! Here are those of a passphrase and, with a stanza of this project's own, of a secret of 32
+//! This crate has those of a passphrase and, with a stanza of this project's own, of a secret of 32
 //! bytes. A caller's own kind implements `Recipient` or `Identity`, and states its meaning as a
 //! function.
 //!

@@ -17,16 +17,16 @@ pub trait Matched {
 
     ghost the_identity: { Self → Self.I };
 
-    /// The one that wraps.
+    /// The recipient, which wraps.
     fn recipient(&self) -> &Self::R
         ensures { result.now ≡ the_recipient self.now };
 
-    /// The one that unwraps.
+    /// The identity, which unwraps.
     fn identity(&self) -> &Self::I
         ensures { result.now ≡ the_identity self.now };
 
-    // The law: where the recipient wraps a key in stanzas, the identity makes of just these stanzas
-    // that key.
+    // The law: if the recipient wraps a key in stanzas, the identity's meaning for exactly these
+    // stanzas is that key.
     ghost opens: { (pair : Self) (key : FileKey) (stanzas : List StanzaParts) → IsFileKey key
         → Self.R.wraps (the_recipient pair) key ≡ Ok stanzas
         → Self.I.meaning (the_identity pair) stanzas ≡ Key key };

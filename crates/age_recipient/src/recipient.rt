@@ -3,16 +3,16 @@ use crate::labels::{LabelSet, Labels};
 use age_header::Stanza;
 use std::alloc::{AllocError, Global};
 
-/// Why a recipient gave no stanzas.
+/// Why a recipient returned no stanzas.
 #[derive(Clone, Copy, Debug, Drop, PartialEq, Eq)]
 pub enum WrapFault {
-    /// The recipient refuses, for the reason of this number.
+    /// The recipient refuses, with this code.
     Refused(u32),
     /// An allocation was refused.
     Memory,
 }
 
-/// Who wraps a file key.
+/// Wraps a file key into stanzas (C2SP `age.md`, "File key").
 pub trait Recipient: Drop {
     ghost use Rattle.std.specs.Prelude.{List, [], ℕ, Result, IfOk};
     ghost use Rattle.age_header.specs.Header.{StanzaParts};
@@ -22,24 +22,25 @@ pub trait Recipient: Drop {
     ghost use Rattle.age_recipient.specs.Labels.{MayLabel};
     ghost use Rattle.age_recipient.specs.Wrap.{WrapsAs};
 
-    // The stanzas in which the recipient wraps a key, or the number with which it refuses.
+    // The recipient's meaning: the stanzas in which it wraps a key, or the code with which it
+    // refuses.
     ghost wraps: { Self → FileKey → Result (List StanzaParts) ℕ };
 
-    // The labels that the recipient means; no names where it says nothing.
+    // The labels that the recipient means; by default no names.
     ghost the_labels: { Self → Labels } = { λ _. Names [] };
 
-    /// The stanzas that hold the file key for this recipient.
+    /// Wraps the file key: returns the stanzas that hold it for this recipient.
     ///
     /// # Errors
-    /// `Refused` with the number that the recipient means, `Memory` where it has none to go on.
+    /// `Refused` with the code that the recipient means, `Memory` if an allocation was refused.
     fn wrap(&self, alloc: Global, key: &FileKey) -> Result<Vec<Stanza>, WrapFault>
         ensures { WrapsAs (wraps self.now key.now) result };
 
-    /// With whom this recipient may stand in one file. A recipient that leaves this body has no
-    /// names, and goes together with all others that have none.
+    /// The labels of this recipient: with which others it may share a file. A recipient that keeps
+    /// the default body has no names, and goes together with all others that have none.
     ///
     /// # Errors
-    /// Where an allocation was refused.
+    /// If an allocation was refused.
     fn labels(&self, alloc: Global) -> Result<Labels, AllocError>
         ensures { IfOk result (MayLabel (the_labels self.now)) }
     {

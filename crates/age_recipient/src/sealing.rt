@@ -7,7 +7,7 @@ use crate::key::FileKey;
 use crate::unwrapped::Unwrapped;
 use age_cipher::{open_in_place, seal_in_place};
 
-/// A wrap key seals one file key alone, so the nonce is always this one.
+/// A wrap key seals only one file key, so the nonce is always this one.
 const NONCE: [u8; 12] = [0; 12];
 
 /// The body that holds this file key: 16 bytes of ciphertext and the tag.
@@ -23,7 +23,7 @@ pub(crate) fn seal_key(wrap_key: &[u8; 32], key: &FileKey) -> [u8; 32]
     body
 }
 
-/// What a body of 32 bytes gives under this wrap key.
+/// Opens a body of 32 bytes under this wrap key.
 pub(crate) fn unseal_key(wrap_key: &[u8; 32], body: &[u8]) -> Unwrapped
     requires { length body.now ≡ sealed_key_size }
     ensures { result ≡ unsealed wrap_key.now body.now }

@@ -1,4 +1,4 @@
-//! How an identity goes through a header's stanzas.
+//! The loop of an identity over a header's stanzas.
 
 ghost use Rattle.std.specs.Prelude.{◌≡◌, map, option_map, IfOk};
 ghost use Rattle.std.specs.String.{string_bytes};
@@ -11,21 +11,20 @@ use age_header::{Stanza, base64_no_pad};
 use std::alloc::{AllocError, Global};
 use std::convert::TryFrom;
 
-/// Who looks at one stanza at a time.
+/// An identity that examines one stanza at a time.
 pub(crate) trait Opener {
     ghost use Rattle.std.specs.Prelude.{◌≡◌, IfOk};
     ghost use Rattle.age_header.specs.Header.{StanzaParts};
     ghost use Rattle.age_recipient.specs.declared.unwrapped.Unwrapped.{Unwrapped};
 
-    // What a stanza gives.
+    // The answer of one stanza.
     ghost gives: { Self → StanzaParts → Unwrapped };
 
     fn open(&self, alloc: Global, stanza: &Stanza) -> Result<Unwrapped, AllocError>
         ensures { IfOk result (λ answer. answer ≡ gives self.now stanza.now) };
 }
 
-/// The answer that decides, of what each of these stanzas gives. What comes behind it is not looked
-/// at.
+/// The first answer that decides, among those of these stanzas. Stanzas after it are not examined.
 pub(crate) fn first_opened<O: Opener>(
     alloc: Global,
     opener: &O,
@@ -48,7 +47,7 @@ pub(crate) fn first_opened<O: Opener>(
     Ok(rest)
 }
 
-/// The arguments behind the type, if the stanza is of this type.
+/// The arguments after the type, if the stanza is of this type.
 pub(crate) fn behind_type<'a>(stanza: &'a Stanza, kind: &str) -> Option<&'a [String]>
     ensures { option_map (λ args. map string_bytes args.now) result
         ≡ behind_type kind.now stanza.now.args }
@@ -62,7 +61,7 @@ pub(crate) fn behind_type<'a>(stanza: &'a Stanza, kind: &str) -> Option<&'a [Str
     Some(rest)
 }
 
-/// The salt that these characters spell, if it is one of 16 bytes.
+/// The salt whose base64 these characters are, if it has 16 bytes.
 pub(crate) fn salt_of(alloc: Global, text: &[u8]) -> Result<Option<[u8; 16]>, AllocError>
     ensures { IfOk result (λ salt. salt ≡ salt_of (decoded text.now)) }
 {

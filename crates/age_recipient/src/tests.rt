@@ -45,8 +45,8 @@ fn answer(
     Ok(identity.unwrap(alloc, stanzas.as_slice())?)
 }
 
-/// The checks, in their order: each stanza is wrong in what is named, and often in what is looked
-/// at later too.
+/// The checks, in their order: each stanza is wrong in what is named, and often in what is examined
+/// later too.
 #[test]
 fn scrypt_stanza_is_checked_in_order(rt: HostRuntime) -> Result<(), Fail> {
     let short = &BODY[..31];

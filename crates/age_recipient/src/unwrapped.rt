@@ -1,8 +1,8 @@
 use crate::key::FileKey;
 use thiserror::Error;
 
-/// Why a stanza of an identity's own type is malformed. The product's identities look for these in
-/// this order.
+/// Why a stanza of an identity's own type is malformed. This crate's identities check these in this
+/// order.
 #[derive(Clone, Copy, Debug, Drop, PartialEq, Eq, Error)]
 pub enum StanzaFault {
     #[error("argument count")]
@@ -16,20 +16,20 @@ pub enum StanzaFault {
     /// The work factor is above the identity's maximum.
     #[error("work factor is too high")]
     WorkFactorTooHigh,
-    /// The body hasn't 32 bytes.
+    /// The body does not have 32 bytes.
     #[error("body length")]
     BodyLength,
-    /// What a caller's own identity found, by its number.
+    /// Another fault, by the code of a caller's own identity.
     #[error("code {0}")]
     Other(u32),
 }
 
-/// What an identity makes of a header's stanzas.
+/// The result of an identity for a header's stanzas.
 #[derive(Clone, Copy, PartialEq, Eq)]
 pub enum Unwrapped {
     /// No stanza is of the identity's type.
     NotMine,
-    /// There are stanzas of its type, and none opens.
+    /// There are stanzas of its type, and none of them opens.
     Failed,
     Key(FileKey),
     /// A stanza of its type is malformed.

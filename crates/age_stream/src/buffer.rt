@@ -3,8 +3,8 @@ ghost use Rattle.std.specs.Prelude.{◌≡◌, length, IfOk};
 
 use std::alloc::{AllocError, Global};
 
-/// Room for one sealed chunk and one byte, 65,553 bytes: all the memory that a payload needs while
-/// it is written or read.
+/// A buffer for one sealed chunk and one byte, 65,553 bytes. Writing or reading a payload needs no
+/// other memory.
 #[derive(Drop)]
 pub struct ChunkBuf {
     bytes: Vec<u8>,

@@ -1,4 +1,4 @@
-//! The chunks of a payload, of which one is kept, apart from the source that they are read from.
+//! The chunks of a payload, of which one is kept. The source is passed to each call.
 ghost use Rattle.std.specs.Prelude.{◌≡◌, ◌+◌, ◌-◌, ◌*◌, ◌/◌, ◌<◌, ◌≤◌, ◌++◌, ℕ, length, take, drop, min, Some, None, IfOk, OnOk, OnErr, IfErr, if◌then◌else◌};
 ghost use Rattle.age_stream.specs.Counts.{CountsRead};
 ghost use Rattle.age_stream.specs.Ranges.{Counts, Fills, IsLost, IsOpenFault, IsSound, OpensRanges, Probes, Stops, fresh, is_kept, kept_text, range_len, sealed_span};
@@ -15,7 +15,7 @@ use age_recipient::FileKey;
 use std::alloc::Global;
 use std::marker::Model;
 
-/// The chunks of a payload: where they lie, and the one that was opened last.
+/// The chunks of a payload: their offsets, and the one that was opened last.
 #[derive(Drop)]
 pub struct Chunks {
     layout: Layout,
@@ -36,7 +36,7 @@ impl Model for Chunks {
     ghost invariant = { λ c. length c.buf.items ≡ 65553 };
 }
 
-/// How many bytes a range has.
+/// The number of bytes of a range.
 fn range_len(plain: u64, at: u64, len: usize) -> usize
     ensures { result ≡ min len (plain - at) }
 {
@@ -68,21 +68,21 @@ fn put(text: &[u8], skip: usize, buf: &mut [u8], done: usize, end: usize) -> usi
 }
 
 impl Chunks {
-    /// Where the chunks lie.
+    /// The offsets of the chunks.
     pub(crate) fn layout(&self) -> Layout
         ensures { result ≡ self.now.layout }
     {
         self.layout
     }
 
-    /// How many chunks were opened so far; it stays at the largest `u64`.
+    /// The number of chunks that were opened so far, saturating at the largest `u64`.
     pub(crate) fn opened(&self) -> u64
         ensures { result ≡ self.now.opened }
     {
         self.opened
     }
 
-    /// The chunks of the payload at this place, of which the last is opened and kept.
+    /// Finds the chunks of the payload at this offset, and opens and keeps the last.
     pub(crate) fn open<D: ReadAt>(
         alloc: Global,
         key: &FileKey,
@@ -120,7 +120,7 @@ impl Chunks {
         }
     }
 
-    /// Makes chunk i the kept one.
+    /// Opens and keeps chunk i, unless it is kept already.
     fn hold<D: ReadAt>(&mut self, dev: &mut D, i: u64) -> Result<(), StreamFault>
         requires within { i < self.old.layout.count }
         ensures stay { D.bytes dev.new ≡ D.bytes dev.old }
@@ -150,7 +150,7 @@ impl Chunks {
         Ok(())
     }
 
-    /// The front of the buffer, where chunk i has its text while it is the kept one.
+    /// The start of the buffer, which has the text of chunk i while it is kept.
     fn text(&self, i: u64) -> &[u8]
         requires { i < self.now.layout.count }
         ensures text { result.now ≡ kept_text self.now i }
@@ -160,7 +160,8 @@ impl Chunks {
         &self.buf.as_slice()[..n]
     }
 
-    /// Fills the front of `buf` with the plaintext from `at` on, and returns how many bytes.
+    /// Fills the start of `buf` with the plaintext from offset `at` on, and returns the number of
+    /// bytes.
     pub(crate) fn read_range<D: ReadAt>(
         &mut self,
         dev: &mut D,

@@ -1,13 +1,13 @@
-/// What can be wrong with a payload (C2SP `age.md`, "Payload"). Chunks are numbered from 0.
+/// The faults of a payload (C2SP `age.md`, "Payload"). Chunks are numbered from 0.
 #[derive(Clone, Copy, Debug, Drop, PartialEq, Eq)]
 pub enum StreamFault {
-    /// There are fewer than the nonce's 16 bytes.
+    /// There are fewer bytes than the nonce's 16.
     NonceTruncated,
     /// This piece is shorter than a tag.
     ChunkShort(u128),
-    /// The last piece has a tag alone, and stands behind others.
+    /// The last piece has only a tag, and is not the first.
     EmptyFinal(u128),
-    /// No plaintext seals to this piece at its place.
+    /// No plaintext seals to this piece at its number: its tag is wrong.
     BadChunk(u128),
     /// There are more chunks than are allowed.
     TooManyChunks,

@@ -1,4 +1,4 @@
-//! Laws over the definitions alone: functions that do nothing, with the law as their contract.
+//! Laws over the definitions alone: functions that do nothing, each with a law as its contract.
 
 ghost use Rattle.std.specs.Prelude.{◌≡◌, ◌↔◌, ◌<◌, ◌≤◌, ℕ, List, Ok, drop, length, take};
 ghost use Rattle.age_kdf.specs.Bytes.{Bytes};
@@ -9,14 +9,14 @@ ghost use Rattle.age_stream.specs.Reading.{payload_reading, whole};
 ghost use Rattle.age_stream.specs.Slice.{IsSlice, plain_len, range_outcome};
 ghost use Rattle.age_stream.specs.Sizes.{nonce_size};
 
-/// There is one cut of a text, and it is the computed one.
+/// A text has exactly one cut, which is the computed one.
 pub fn one_cut()
     ensures { (size : ℕ) (text : Bytes) (lists : List Bytes) → 0 < size
         → IsCut size text lists ↔ (lists ≡ cut size text) }
 {}
 
-/// A payload reads whole as a plaintext exactly where it is the payload of this plaintext, which
-/// has few enough chunks. It then has as many pieces as the plaintext has chunks.
+/// A payload reads whole as a plaintext exactly if it is the payload of this plaintext, and the
+/// number of chunks is within the limit. It then has as many pieces as the plaintext has chunks.
 pub fn ok_is_payload()
     ensures ok { (k : FileKey) (text plain : Bytes) (max : ℕ)
         → (payload_reading k max text ≡ whole plain) ↔ ((nonce : Bytes)

@@ -1,7 +1,7 @@
-//! Where the chunks of a payload lie.
+//! The offsets of a payload's chunks.
 ghost use Rattle.std.specs.Prelude.{◌^◌, ◌+◌, ◌-◌, ◌*◌, ◌<◌, ◌≤◌};
 
-/// The sealed chunks of a payload: their key, the place of the first, the plaintext's length, and
+/// The sealed chunks of a payload: their key, the offset of the first, the plaintext's length, and
 /// their number.
 #[derive(Clone, Copy, Drop)]
 pub struct Layout {

@@ -1,5 +1,5 @@
 //! The payload of age v1 files (C2SP `age.md`, "Payload"): a nonce, then a plaintext's chunks, each
-//! sealed at its place. It is written and read one chunk at a time, in the memory of one
+//! sealed at its number. It is written and read one chunk at a time, in the memory of one
 //! `ChunkBuf`.
 //!
 //! ```
@@ -14,7 +14,7 @@
 //! `RangeReader` reads any part of a plaintext. `open_chunk` and `seal_chunk` work on one chunk in
 //! the caller's memory.
 //!
-//! Limits: at most 2^88 chunks of 65,536 bytes. A payload is whole only where its last chunk was
+//! Limits: at most 2^88 chunks of 65,536 bytes. A payload is complete only if its last chunk was
 //! read.
 #![tactic(auto)]
 

@@ -1,4 +1,4 @@
-//! Reading pieces at their places, each opened where it was read.
+//! Reading pieces at their offsets, each opened in place.
 ghost use Rattle.std.specs.Prelude.{◌≡◌, ◌⊎◌, ◌^◌, ◌+◌, ◌-◌, ◌*◌, ◌<◌, ◌≤◌, length, take, drop, Some, None, IfOk, OnOk, OnErr, IfErr, IfSome};
 ghost use Rattle.std.specs.Bool.{OnTrue, OnFalse};
 ghost use Rattle.age_header.specs.Device.{Counts};
@@ -22,7 +22,7 @@ pub(crate) struct Nonce {
     pub(crate) rest: u64,
 }
 
-/// One read behind the first `got` bytes, up to byte `end`.
+/// One read after the first `got` bytes, up to byte `end`.
 fn read_behind<D: ReadAt>(
     dev: &mut D,
     at: u64,
@@ -49,8 +49,8 @@ fn read_behind<D: ReadAt>(
     dev.read_at(place, hole)
 }
 
-/// Reads the first `end` bytes of `buf`, in as many reads as it takes; false where the source gives
-/// nothing more before.
+/// Reads the first `end` bytes of `buf`, in as many reads as it takes; false if the source ends
+/// before.
 pub(crate) fn read_full<D: ReadAt>(
     dev: &mut D,
     at: u64,
@@ -76,7 +76,7 @@ pub(crate) fn read_full<D: ReadAt>(
     Ok(true)
 }
 
-/// How long chunk i is.
+/// The length of chunk i.
 pub(crate) fn chunk_len(layout: Layout, i: u64) -> usize
     requires { i < layout.count }
     ensures { result ≡ text_len layout.plain i }
@@ -84,7 +84,7 @@ pub(crate) fn chunk_len(layout: Layout, i: u64) -> usize
     (layout.plain - 65_536 * i).min(65_536) as usize
 }
 
-/// Reads and opens piece i. Its text is in front then.
+/// Reads and opens piece i. Its text is then at the start of the buffer.
 pub(crate) fn load<D: ReadAt>(
     dev: &mut D,
     layout: Layout,
@@ -118,7 +118,7 @@ pub(crate) fn load<D: ReadAt>(
     }
 }
 
-/// Reads the nonce at this place.
+/// Reads the nonce at this offset.
 pub(crate) fn nonce_at<D: ReadAt>(dev: &mut D, at: u64) -> Result<Nonce, StreamFault>
     ensures stay { D.bytes dev.new ≡ D.bytes dev.old }
     ensures fits { IfOk result (λ nonce. at + nonce_size + nonce.rest < 2 ^ 64) }
@@ -148,8 +148,8 @@ pub(crate) fn nonce_at<D: ReadAt>(dev: &mut D, at: u64) -> Result<Nonce, StreamF
     }
 }
 
-/// Reads and opens the last of the pieces, which have so many bytes from place `first` on. Its text
-/// is in front then.
+/// Reads and opens the last of the pieces, which have this many bytes from offset `first` on. Its
+/// text is then at the start of the buffer.
 pub(crate) fn load_last<D: ReadAt>(
     dev: &mut D,
     key: [u8; 32],

@@ -19,7 +19,7 @@ use age_recipient::FileKey;
 use std::marker::Model;
 
 /// Opens the pieces of a payload in order, each in the same memory. It keeps a fault, and returns
-/// it from then on without asking its source.
+/// it from then on without reading its source.
 #[derive(Drop)]
 pub struct ChunkOpener {
     key: [u8; 32],
@@ -54,10 +54,10 @@ impl Model for ChunkOpener {
 impl ChunkOpener {
     ghost use Rattle.age_stream.specs.Opening.{OpenerState};
 
-    /// Reads the nonce of a payload, and stands before piece 0 then.
+    /// Reads the nonce of a payload, and is then before piece 0.
     ///
     /// # Errors
-    /// `NonceTruncated` where the source gives fewer than 16 bytes, `Read` where it failed.
+    /// `NonceTruncated` if the source returns fewer than 16 bytes, `Read` if it failed.
     pub fn start<S: Source>(
         key: &FileKey,
         source: &mut S,
@@ -95,7 +95,7 @@ impl ChunkOpener {
         &self.buf.as_slice()[..self.len]
     }
 
-    /// The fault that is kept.
+    /// The kept fault.
     pub(crate) fn kept(&self) -> Option<StreamFault>
         ensures { result ≡ self.now.fault }
     {
@@ -142,7 +142,7 @@ impl ChunkOpener {
     }
 
     /// Opens the pieces that are left, and writes the text of each as soon as it is verified.
-    /// Returns how much was written.
+    /// Returns the numbers of bytes and chunks written.
     pub(crate) fn write_pieces<S: Source, W: Sink>(
         self,
         source: &mut S,
@@ -176,7 +176,7 @@ impl ChunkOpener {
     }
 }
 
-/// How long the text of a piece is, and whether another piece follows.
+/// The length of a piece's text, and whether another piece follows.
 #[derive(Clone, Copy)]
 struct Piece {
     len: usize,
@@ -243,7 +243,7 @@ fn read_nonce<S: Source>(source: &mut S) -> Result<[u8; 16], StreamFault>
     }
 }
 
-/// Moves what was read ahead to the front.
+/// Moves what was read ahead to the start of the buffer.
 fn carry(bytes: &mut [u8], ahead: usize)
     requires size { length bytes.old ≡ 65553 }
     requires ahead { ahead ≤ 1 }
@@ -256,15 +256,14 @@ fn carry(bytes: &mut [u8], ahead: usize)
     first.copy_from_slice(next);
 }
 
-/// Opens the first `end` bytes where they stand, as chunk i, and returns the length of their text,
-/// which is in front then. The tag, and what follows it, stays as it was. `last` says whether the
-/// chunk ends its payload. A payload may have `max` chunks.
+/// Opens the first `end` bytes in place, as chunk i, and returns the length of their text, which is
+/// then at the start of the buffer. The tag, and what follows it, is unchanged. `last` says whether
+/// the chunk ends its payload. A payload may have at most `max` chunks (C2SP `age.md`, "Payload").
 ///
 /// # Errors
-/// The first that applies of `TooManyChunks` where `i` is `max`; `ChunkShort` where there are fewer
-/// bytes than a tag, 16; `EmptyFinal` where the last chunk, not being the first, is a tag alone;
-/// `BadChunk` where no plaintext seals to these bytes at their place. On each the buffer is as it
-/// was.
+/// The first that applies of `TooManyChunks` if `i` is `max`; `ChunkShort` if there are fewer bytes
+/// than a tag, 16; `EmptyFinal` if it is the last chunk, not the first, and only a tag; `BadChunk`
+/// if no plaintext seals to these bytes at this number. On each the buffer is unchanged.
 pub fn open_chunk(
     key: &[u8; 32],
     max: u128,
@@ -301,14 +300,14 @@ pub fn open_chunk(
     }
 }
 
-/// Whether the piece is the last, not the first, and a tag alone.
+/// Whether the piece is the last, not the first, and only a tag.
 fn is_empty_final(last: bool, i: u128, len: usize) -> bool
     ensures { result ≡ (last && nat_lt 0 i && nat_eq len tag_size) }
 {
     last && i > 0 && len == 16
 }
 
-/// Opens the first `end` bytes where they stand; where they don't open, all is as it was.
+/// Opens the first `end` bytes in place; if they don't open, the buffer is unchanged.
 pub(crate) fn open_front(key: &[u8; 32], nonce: &[u8; 12], bytes: &mut [u8], end: usize) -> bool
     requires low { tag_size ≤ end }
     requires high { end ≤ length bytes.old }

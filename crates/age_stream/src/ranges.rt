@@ -11,9 +11,9 @@ use crate::refused::Refused;
 use age_recipient::FileKey;
 use std::alloc::Global;
 
-/// Reads any part of a payload's plaintext from a caller's source. It reads and opens just the
-/// chunks that a part touches, and keeps the chunk that it opened last. Its memory is that of one
-/// `ChunkBuf`, which is allocated once.
+/// Reads any part of a payload's plaintext from a caller's source. It reads and opens only the
+/// chunks that a part touches, and keeps the chunk that it opened last. It allocates one
+/// `ChunkBuf`, once.
 #[derive(Drop)]
 pub struct RangeReader<'a, D, B = Chunks> {
     dev: &'a mut D,
@@ -21,7 +21,7 @@ pub struct RangeReader<'a, D, B = Chunks> {
 }
 
 impl<'a, D: ReadAt> RangeReader<'a, D> {
-    /// A reader of this source and these chunks.
+    /// Makes a reader of this source and these chunks.
     fn over(dev: &'a mut D, chunks: Chunks) -> RangeReader<'a, D>
         ensures same_reference { result.dev.ghost_name ≡ dev.entry.ghost_name }
         ensures kept { result.dev.now ≡ dev.old }
@@ -30,7 +30,7 @@ impl<'a, D: ReadAt> RangeReader<'a, D> {
         RangeReader { dev, chunks }
     }
 
-    /// As `open`, but hands the source back with the fault.
+    /// Like `open`, but returns the source with the fault.
     ///
     /// # Errors
     /// Those of `open`.
@@ -63,17 +63,17 @@ impl<'a, D: ReadAt> RangeReader<'a, D> {
         }
     }
 
-    /// A reader of the payload that begins at place `payload_at` of the source, under this file key
-    /// (C2SP `age.md`, "Payload"). It takes its memory, reads the nonce, and reads and opens the
-    /// last piece, since its length and its tag prove where the payload ends. The last chunk is the
-    /// kept one then. Of the source after an error `started` says more.
+    /// Makes a reader of the payload that begins at offset `payload_at` of the source, under this
+    /// file key (C2SP `age.md`, "Payload"). It allocates its buffer, reads the nonce, and reads and
+    /// opens the last piece, whose length and tag prove where the payload ends. The last chunk is
+    /// then the kept one. `started` says more about the source after an error.
     ///
     /// # Errors
-    /// `Memory` where the allocation was refused: nothing was read. `NonceTruncated` where fewer
-    /// than 16 bytes stand there. Then the first that applies: `TooManyChunks` where there are more
-    /// than `max_chunks` pieces, `ChunkShort` where the last is shorter than a tag, `EmptyFinal`
-    /// where it is not the first and a tag alone, `BadChunk` where nothing seals to it at its
-    /// place. `Read` where the source failed.
+    /// `Memory` if the allocation was refused: nothing was read. `NonceTruncated` if there are
+    /// fewer than 16 bytes from there on. Then the first that applies: `TooManyChunks` if there are
+    /// more than `max_chunks` pieces, `ChunkShort` if the last is shorter than a tag, `EmptyFinal`
+    /// if it is not the first and only a tag, `BadChunk` if no plaintext seals to it at its number.
+    /// `Read` if the source failed.
     pub fn open(
         alloc: Global,
         key: &FileKey,
@@ -109,23 +109,23 @@ impl<'a, D: ReadAt> RangeReader<'a, D> {
         self.chunks.layout().plain
     }
 
-    /// How many times a chunk was read to be opened so far, failures included: 1 after `open`. It
-    /// stays at the largest `u64`.
+    /// The number of times that a chunk was read to be opened so far, failures included, saturating
+    /// at the largest `u64`. It is 1 after `open`.
     pub fn opened(&self) -> u64
         ensures { result ≡ self.now.chunks.opened }
     {
         self.chunks.opened()
     }
 
-    /// Fills the front of `buf` with the plaintext from byte `at` on, and returns how many bytes:
-    /// the smaller of `buf.len()` and what the plaintext has from `at` on, 0 past its end. The rest
-    /// of `buf` stays as it was. An empty range reads nothing. After a range that is not empty its
-    /// last chunk is kept; it takes no memory.
+    /// Fills the start of `buf` with the plaintext from offset `at` on, and returns the number of
+    /// bytes: the smaller of `buf.len()` and the length of the plaintext from `at` on, 0 past its
+    /// end. The rest of `buf` is unchanged. An empty range reads nothing. After a range that is not
+    /// empty its last chunk is kept; it allocates nothing.
     ///
     /// # Errors
-    /// `BadChunk(i)` for the first chunk i of the range that does not open, `Read` where the source
-    /// failed. The bytes before that chunk are in `buf` then, the rest of `buf` stays as it was,
-    /// and no chunk is kept. A later call reads afresh.
+    /// `BadChunk(i)` for the first chunk i of the range that does not open, `Read` if the source
+    /// failed. Then the bytes before that chunk are in `buf`, the rest of `buf` is unchanged, and
+    /// no chunk is kept. A later call reads the source again.
     pub fn read_range(&mut self, at: u64, buf: &mut [u8]) -> Result<usize, StreamFault>
         ensures same_reference { self.new.dev.ghost_name ≡ self.old.dev.ghost_name }
         ensures stay { D.bytes self.new.dev.now ≡ D.bytes self.old.dev.now }

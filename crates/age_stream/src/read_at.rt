@@ -1,4 +1,4 @@
-//! Where bytes are read from at their places.
+//! Sources that are read at offsets.
 
 ghost use Rattle.std.specs.Prelude.{◌≡◌, ◌+◌, ◌-◌, ◌^◌, ℕ, List, Some, None, length, min};
 ghost use Rattle.std.specs.declared.option.Option.{Option};
@@ -10,37 +10,37 @@ ghost use Rattle.age_stream.specs.Places.{CountsGiven, FindsSize, GivesAt, HasPl
 use age_header::DeviceFault;
 use std::io::{Read, Seek, SeekFrom};
 
-/// Where bytes are read from at their places, in any order. A source whose contents are known to
-/// proofs keeps them: the same place gives the same byte at each read. Of other sources, such as
-/// files, nothing is known but counts and sizes.
+/// A source that is read at offsets, in any order. If its contents are known to proofs, they do not
+/// change: the same offset has the same byte at each read. Of other sources, such as files, only
+/// counts and sizes are known.
 pub trait ReadAt {
-    // The contents, where they are known to proofs.
+    // The contents, if they are known to proofs.
     ghost bytes: { Self → Known };
 
-    // How many bytes there are, once this was found.
+    // The size in bytes, once it was found.
     ghost found: { Self → Option ℕ };
 
-    // How many bytes were given, which stays at the largest u64.
+    // The number of bytes read so far, saturating at the largest u64.
     ghost given: { Self → ℕ };
 
-    // How many calls have failed, which stays at the largest u64.
+    // The number of failed calls, saturating at the largest u64.
     ghost failed: { Self → ℕ };
 
-    /// How many bytes there are.
+    /// The size in bytes.
     ///
     /// # Errors
-    /// The size was not found. The failure is counted.
+    /// If the size was not found. The failure is counted.
     fn size(&mut self) -> Result<u64, DeviceFault>
         ensures stay { bytes self.new ≡ bytes self.old }
         ensures size { FindsSize (bytes self.old) (found self.old) (found self.new) result }
         ensures given { given self.new ≡ given self.old }
         ensures count { Counts (failed self.old) (failed self.new) result };
 
-    /// Reads the bytes from place `at` on into the front of `buf`, and returns their number; 0 with
-    /// a nonempty `buf` only at the end or past it. A short read is not the end.
+    /// Reads bytes from offset `at` on to the start of `buf`, and returns their number. It returns
+    /// 0 with a nonempty `buf` only at the end or past it. A short read does not mean the end.
     ///
     /// # Errors
-    /// The read failed, and gave no byte. The failure is counted.
+    /// If the read failed; no byte was read. The failure is counted.
     fn read_at(&mut self, at: u64, buf: &mut [u8]) -> Result<usize, DeviceFault>
         ensures stay { bytes self.new ≡ bytes self.old }
         ensures found { found self.new ≡ found self.old }
@@ -50,16 +50,16 @@ pub trait ReadAt {
         ensures given { CountsGiven (given self.old) (given self.new) result }
         ensures count { Counts (failed self.old) (failed self.new) result };
 
-    /// How many bytes were given so far; it stays at the largest `u64`.
+    /// The number of bytes read so far, saturating at the largest `u64`.
     fn given(&self) -> u64
         ensures { result ≡ given self.now };
 
-    /// How many calls have failed; it stays at the largest `u64`.
+    /// The number of failed calls, saturating at the largest `u64`.
     fn failures(&self) -> u64
         ensures { result ≡ failed self.now };
 }
 
-/// Bytes in memory, which never fail.
+/// A slice. Its calls never fail.
 #[derive(Drop)]
 pub struct MemAt<'a> {
     bytes: &'a [u8],
@@ -67,7 +67,7 @@ pub struct MemAt<'a> {
 }
 
 impl<'a> MemAt<'a> {
-    /// A source of these bytes, which has given none yet.
+    /// Makes a source of these bytes, of which none was read yet.
     pub fn new(bytes: &'a [u8]) -> MemAt<'a>
         ensures bytes { ⟦<MemAt<'a> as ReadAt>⟧.bytes result ≡ Some bytes.now }
         ensures given { ⟦<MemAt<'a> as ReadAt>⟧.given result ≡ 0 }
@@ -106,13 +106,13 @@ impl<'a> ReadAt for MemAt<'a> {
     }
 }
 
-/// A file, or whatever else can be read and sought. Its contents are not known to proofs. It keeps
-/// the first size that it found: a read that gives no byte below that size is a failure. A read
-/// where the one before ended does not seek.
+/// A file, or anything else that implements `Read` and `Seek`. Its contents are not known to
+/// proofs. It keeps the first size that it found: a read that returns no byte below that size is a
+/// failure. A read at the offset where the one before ended does not seek.
 #[derive(Drop)]
 pub struct FileAt<F> {
     file: F,
-    // where the file stands, as far as that is known
+    // the file's offset, if it is known
     position: Option<u64>,
     size: Option<u64>,
     given: u64,
@@ -120,7 +120,7 @@ pub struct FileAt<F> {
 }
 
 impl<F: Read + Seek> FileAt<F> {
-    /// A source over this file, which has given nothing and has not failed yet.
+    /// Makes a source over this file, with no byte read and no failure counted.
     pub fn new(file: F) -> FileAt<F>
         ensures bytes { ⟦<FileAt<F> as ReadAt>⟧.bytes result ≡ None }
         ensures found { ⟦<FileAt<F> as ReadAt>⟧.found result ≡ None }
@@ -137,7 +137,7 @@ impl<F: Read + Seek> FileAt<F> {
     }
 }
 
-/// One failure more.
+/// Counts one more failure.
 fn count_failure(failures: &mut u64) -> DeviceFault
     ensures { failures.new ≡ min (failures.old + 1) (2 ^ 64 - 1) }
 {
@@ -145,7 +145,7 @@ fn count_failure(failures: &mut u64) -> DeviceFault
     DeviceFault
 }
 
-/// Reads once from this place on, and seeks before where the file may stand elsewhere.
+/// Reads once from this offset on, after a seek if the file may be at another offset.
 fn read_from<F: Read + Seek>(
     file: &mut F,
     position: &mut Option<u64>,

@@ -19,7 +19,7 @@ use age_recipient::FileKey;
 use std::alloc::Global;
 
 /// Reads a payload from a caller's source, and lends its chunks in order, each once it is verified.
-/// It keeps a fault, and returns it from then on without asking the source.
+/// It keeps a fault, and returns it from then on without reading the source.
 #[derive(Drop)]
 pub struct StreamReader<'a, S, B = ChunkOpener> {
     input: &'a mut S,
@@ -30,7 +30,8 @@ impl<'a, S: Source> StreamReader<'a, S> {
     ghost use Rattle.age_stream.specs.contracts.opening.ChunkOpener.{the_row as opener_row};
     ghost use Rattle.age_stream.specs.contracts.reader.StreamReader.{the_row};
 
-    /// A reader of this source, from which the opener read the nonce before. It reads nothing.
+    /// Makes a reader of this source, from which the opener read the nonce already. It reads
+    /// nothing.
     pub fn over(input: &'a mut S, opener: ChunkOpener) -> StreamReader<'a, S>
         ensures same_reference { result.input.ghost_name ≡ input.entry.ghost_name }
         ensures kept { result.input.now ≡ input.old }
@@ -39,11 +40,11 @@ impl<'a, S: Source> StreamReader<'a, S> {
         StreamReader { input, opener }
     }
 
-    /// As `new`, but hands the source back with the fault.
+    /// Like `new`, but returns the source with the fault.
     ///
     /// # Errors
-    /// `Memory` where the allocation was refused: nothing was read. `NonceTruncated` where the
-    /// source gives fewer than 16 bytes, `Read` where it failed.
+    /// `Memory` if the allocation was refused: nothing was read. `NonceTruncated` if the source
+    /// returns fewer than 16 bytes, `Read` if it failed.
     pub fn started(
         alloc: Global,
         key: &FileKey,
@@ -74,12 +75,12 @@ impl<'a, S: Source> StreamReader<'a, S> {
         }
     }
 
-    /// A reader of the payload that the source still gives, under this file key. It takes its
-    /// memory, and then reads the nonce. Of the source after an error `started` says more.
+    /// Makes a reader, under this file key, of the payload that is left in the source. It allocates
+    /// its buffer, and then reads the nonce. `started` says more about the source after an error.
     ///
     /// # Errors
-    /// `Memory` where the allocation was refused: nothing was read. `NonceTruncated` where the
-    /// source gives fewer than 16 bytes, `Read` where it failed.
+    /// `Memory` if the allocation was refused: nothing was read. `NonceTruncated` if the source
+    /// returns fewer than 16 bytes, `Read` if it failed.
     pub fn new(
         alloc: Global,
         key: &FileKey,
@@ -128,14 +129,14 @@ impl<'a, S: Source> StreamReader<'a, S> {
         self.opener.advance(self.input)
     }
 
-    /// Lends the next chunk of the plaintext, once it is verified; None after the last. Of an empty
-    /// plaintext one empty chunk is lent.
+    /// Lends the next chunk of the plaintext, once it is verified; `None` after the last. An empty
+    /// plaintext has one empty chunk.
     ///
     /// # Errors
-    /// The first that applies to piece i: `TooManyChunks` where i reaches `max_chunks`,
-    /// `ChunkShort` where it is shorter than a tag, `EmptyFinal` where it is the last, not the
-    /// first, and a tag alone, `BadChunk` where nothing seals to it at its place. `Read` where the
-    /// source failed.
+    /// The first that applies to piece i: `TooManyChunks` if i reaches `max_chunks`, `ChunkShort`
+    /// if it is shorter than a tag, 16 bytes, `EmptyFinal` if it is the last, not the first, and
+    /// only a tag, `BadChunk` if no plaintext seals to it at its number. `Read` if the source
+    /// failed.
     pub fn next_chunk(&mut self) -> Result<Option<&[u8]>, StreamFault>
         ensures* after { sem 𝓛 (follows_so
             (the_row (record { mir = named 1; lft = [] }) S.row opener_row)
@@ -157,11 +158,11 @@ impl<'a, S: Source> StreamReader<'a, S> {
     }
 
     /// Writes the chunks of the plaintext that are left, each as soon as it is verified. Returns
-    /// how many bytes it wrote, and of how many chunks.
+    /// the number of bytes written, and of chunks.
     ///
     /// # Errors
-    /// Those of `next_chunk`: the chunks before were written. `Write` where the sink failed: a
-    /// beginning of the chunks was written.
+    /// Those of `next_chunk`: the chunks before were written. `Write` if the sink failed: a prefix
+    /// of the chunks was written.
     pub fn copy_to<W: Sink>(self, out: &mut W) -> Result<Done, StreamFault>
         ensures kept { IfSome self.entry.opener.fault (λ f.
             (result ≡ Err f) × (self.exit.0.now ≡ self.entry.input.now) × (out.new ≡ out.old)) }

@@ -1,14 +1,14 @@
-//! What a constructor that failed hands back.
+//! The error of a constructor that returns its device.
 ghost use Rattle.std.specs.Prelude.{◌≡◌};
 
-/// A device that is handed back, with the fault that was met.
+/// A device, and the fault for which the constructor failed.
 pub struct Refused<'a, D, E> {
     device: &'a mut D,
     fault: E,
 }
 
 impl<'a, D, E> Refused<'a, D, E> {
-    /// This device and this fault.
+    /// Joins a device and a fault.
     pub fn of(device: &'a mut D, fault: E) -> Refused<'a, D, E>
         ensures same_reference { result.device.ghost_name ≡ device.entry.ghost_name }
         ensures kept { result.device.now ≡ device.old }
@@ -17,7 +17,7 @@ impl<'a, D, E> Refused<'a, D, E> {
         Refused { device, fault }
     }
 
-    /// The fault; the device is its owner's again.
+    /// The fault. The borrow of the device ends.
     pub fn fault(self) -> E
         ensures fault { result ≡ self.entry.fault }
         ensures kept { self.exit.0.now ≡ self.entry.device.now }

@@ -19,8 +19,8 @@ use age_recipient::FileKey;
 use std::marker::Model;
 
 /// Seals the chunks of a plaintext in order, each in the same memory. A full chunk is held until
-/// more text comes, since the last one is sealed in another way. It keeps a fault, and returns it
-/// from then on without asking its devices.
+/// more text comes, since the last one is sealed with another nonce. It keeps a fault, and returns
+/// it from then on without calling its devices.
 #[derive(Drop)]
 pub struct ChunkSealer {
     key: [u8; 32],
@@ -52,7 +52,7 @@ impl Model for ChunkSealer {
 impl ChunkSealer {
     ghost use Rattle.age_stream.specs.Sealing.{at_start};
 
-    /// A sealer of the payload with this nonce under this file key, before chunk 0.
+    /// Makes a sealer of the payload with this nonce under this file key, before chunk 0.
     pub fn new(key: &FileKey, nonce: &[u8; 16], max_chunks: u128, buf: ChunkBuf) -> ChunkSealer
         requires low { 1 ≤ max_chunks }
         requires high { max_chunks ≤ most_chunks }
@@ -68,7 +68,7 @@ impl ChunkSealer {
         }
     }
 
-    /// Takes all that the source still gives, and writes the chunks that are full and not the last.
+    /// Reads all bytes left in the source, and writes the chunks that are full and not the last.
     pub fn write_from<S: Source, W: Sink>(
         &mut self,
         plain: &mut S,
@@ -106,7 +106,8 @@ impl ChunkSealer {
         }
     }
 
-    /// Seals what is held as the last chunk, and writes it. Returns how much was sealed in all.
+    /// Seals what is held as the last chunk, and writes it. Returns the total numbers of bytes and
+    /// chunks sealed.
     pub fn finish<W: Sink>(self, out: &mut W) -> Result<Done, StreamFault>
         ensures kept { IfSome self.fault (λ f. (result ≡ Err f) × (out.new ≡ out.old)) }
         ensures text { IfNone self.fault
@@ -136,8 +137,8 @@ impl ChunkSealer {
     }
 }
 
-/// Takes all that the source still gives, after the first `len` bytes, and writes the chunks that
-/// are full and not the last. Returns how many bytes are held then.
+/// Reads all bytes left in the source, after the first `len` bytes, and writes the chunks that are
+/// full and not the last. Returns the number of bytes that are then held.
 fn feed<S: Source, W: Sink>(
     plain: &mut S,
     out: &mut W,
@@ -194,8 +195,8 @@ fn fill_chunk<S: Source>(plain: &mut S, bytes: &mut [u8], held: usize) -> Result
     fill_from(plain, front, held)
 }
 
-/// Writes the full chunk that stands in front, as one that is not the last, and moves the byte that
-/// follows it to the front.
+/// Writes the full chunk at the start of the buffer, as one that is not the last, and moves the
+/// byte that follows it to the start.
 fn put_full<W: Sink>(
     out: &mut W,
     key: &[u8; 32],
@@ -226,7 +227,7 @@ fn put_full<W: Sink>(
     }
 }
 
-/// Seals the first `len` bytes where they stand, and writes them with their tag.
+/// Seals the first `len` bytes in place, and writes them with their tag.
 fn put_sealed<W: Sink>(
     out: &mut W,
     key: &[u8; 32],
@@ -248,8 +249,8 @@ fn put_sealed<W: Sink>(
     write_all(out, piece)
 }
 
-/// Seals all but the last 16 bytes where they stand, as chunk i; the last 16 become the tag. `last`
-/// says whether the chunk ends its payload.
+/// Seals all but the last 16 bytes in place, as chunk i; the last 16 become the tag. `last` says
+/// whether the chunk ends its payload.
 pub fn seal_chunk(key: &[u8; 32], i: u128, last: bool, chunk: &mut [u8])
     requires low { tag_size ≤ length chunk.old }
     requires high { length chunk.old ≤ sealed_chunk_size }

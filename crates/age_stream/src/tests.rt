@@ -46,7 +46,7 @@ fn sevens(alloc: Global, len: usize) -> Result<Vec<u8>, AllocError> {
     Ok(bytes)
 }
 
-/// The payload of this plaintext, which is written in pieces of so many bytes.
+/// The payload of this plaintext, which is written in pieces of this many bytes.
 fn written(
     alloc: Global,
     plain: &[u8],
@@ -67,7 +67,7 @@ fn written(
     Ok((done, sink.into_vec()))
 }
 
-/// The plaintext of a payload, read from a source that gives so many bytes at a time, and the
+/// The plaintext of a payload, read from a source that gives this many bytes at a time, and the
 /// number of its chunks.
 fn read(alloc: Global, payload: &[u8], most: usize) -> Result<(Vec<u8>, u64), Fail> {
     let mut source = Short::new(payload, most);

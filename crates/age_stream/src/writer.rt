@@ -17,16 +17,16 @@ use age_header::{MemSource, Sink, Source, write_all};
 use age_recipient::FileKey;
 use std::alloc::Global;
 
-/// Writes a payload to a caller's sink. It must be spent, by `seal_from`, `finish` or `abandon`. It
-/// keeps a fault, and returns it from then on without asking the sink.
+/// Writes a payload to a caller's sink. It must be consumed, by `seal_from`, `finish` or `abandon`.
+/// It keeps a fault, and returns it from then on without writing to the sink.
 pub struct StreamWriter<'a, W, B = ChunkSealer> {
     out: &'a mut W,
     sealer: B,
 }
 
 impl<'a, W: Sink> StreamWriter<'a, W> {
-    /// A writer to this sink, with the nonce of the sealer's payload already written. It writes
-    /// nothing.
+    /// Makes a writer to this sink, to which the nonce of the sealer's payload was written already.
+    /// It writes nothing.
     pub fn over(out: &'a mut W, sealer: ChunkSealer) -> StreamWriter<'a, W>
         ensures same_reference { result.out.ghost_name ≡ out.entry.ghost_name }
         ensures kept { result.out.now ≡ out.old }
@@ -35,10 +35,10 @@ impl<'a, W: Sink> StreamWriter<'a, W> {
         StreamWriter { out, sealer }
     }
 
-    /// As `with_buf`, but hands the sink back with the fault.
+    /// Like `with_buf`, but returns the sink with the fault.
     ///
     /// # Errors
-    /// `Write` where the sink failed: a beginning of the nonce was written.
+    /// `Write` if the sink failed: a prefix of the nonce was written.
     pub fn started_with(
         key: &FileKey,
         nonce: &[u8; 16],
@@ -67,11 +67,11 @@ impl<'a, W: Sink> StreamWriter<'a, W> {
         Ok(StreamWriter::over(out, ChunkSealer::new(key, nonce, max_chunks, buf)))
     }
 
-    /// As `new`, but hands the sink back with the fault.
+    /// Like `new`, but returns the sink with the fault.
     ///
     /// # Errors
-    /// `Memory` where the allocation was refused: nothing was written. `Write` where the sink
-    /// failed: a beginning of the nonce was written.
+    /// `Memory` if the allocation was refused: nothing was written. `Write` if the sink failed: a
+    /// prefix of the nonce was written.
     pub fn started(
         alloc: Global,
         key: &FileKey,
@@ -104,11 +104,11 @@ impl<'a, W: Sink> StreamWriter<'a, W> {
         Ok(StreamWriter::over(out, ChunkSealer::new(key, nonce, max_chunks, buf)))
     }
 
-    /// A writer of the payload with this nonce under this file key. It takes no memory, and writes
-    /// the nonce. Of the sink after an error `started_with` says more.
+    /// Makes a writer of the payload with this nonce under this file key. It allocates nothing, and
+    /// writes the nonce. `started_with` says more about the sink after an error.
     ///
     /// # Errors
-    /// `Write` where the sink failed: a beginning of the nonce was written.
+    /// `Write` if the sink failed: a prefix of the nonce was written.
     pub fn with_buf(
         key: &FileKey,
         nonce: &[u8; 16],
@@ -135,12 +135,12 @@ impl<'a, W: Sink> StreamWriter<'a, W> {
         }
     }
 
-    /// A writer of the payload with this nonce under this file key. It takes its memory, and then
-    /// writes the nonce. Of the sink after an error `started` says more.
+    /// Makes a writer of the payload with this nonce under this file key. It allocates its buffer,
+    /// and then writes the nonce. `started` says more about the sink after an error.
     ///
     /// # Errors
-    /// `Memory` where the allocation was refused: nothing was written. `Write` where the sink
-    /// failed: a beginning of the nonce was written.
+    /// `Memory` if the allocation was refused: nothing was written. `Write` if the sink failed: a
+    /// prefix of the nonce was written.
     pub fn new(
         alloc: Global,
         key: &FileKey,
@@ -168,11 +168,12 @@ impl<'a, W: Sink> StreamWriter<'a, W> {
         }
     }
 
-    /// Takes one more piece of the plaintext, and writes the chunks that are full and not the last.
+    /// Appends one more piece to the plaintext, and writes the chunks that are full and not the
+    /// last.
     ///
     /// # Errors
-    /// `Write` where the sink failed: a beginning of the sealed chunks was written. `TooManyChunks`
-    /// where the text needs more than `max_chunks`: those before the last one allowed were written.
+    /// `Write` if the sink failed: a prefix of the sealed chunks was written. `TooManyChunks` if
+    /// the text needs more than `max_chunks`: the chunks before the last one allowed were written.
     pub fn write_piece(&mut self, piece: &[u8]) -> Result<(), StreamFault>
         ensures same_reference { self.new.out.ghost_name ≡ self.old.out.ghost_name }
         ensures kept { IfSome self.old.sealer.fault (λ f. (result ≡ Err f)
@@ -186,12 +187,12 @@ impl<'a, W: Sink> StreamWriter<'a, W> {
         self.sealer.write_from(&mut source, self.out)
     }
 
-    /// Takes all that the source still gives, and writes all its chunks, the last one too. Returns
-    /// how much was sealed in all.
+    /// Reads all bytes left in the source, and writes all chunks, the last one too. Returns the
+    /// total numbers of bytes and chunks sealed.
     ///
     /// # Errors
-    /// Those of `write_piece`, and `Read` where the source failed: a beginning of the sealed chunks
-    /// was written.
+    /// Those of `write_piece`, and `Read` if the source failed: a prefix of the sealed chunks was
+    /// written.
     pub fn seal_from<S: Source>(self, plain: &mut S) -> Result<Done, StreamFault>
         ensures kept { IfSome self.entry.sealer.fault (λ f.
             (result ≡ Err f) × (plain.new ≡ plain.old) × (self.exit.0.now ≡ self.entry.out.now)) }
@@ -211,10 +212,11 @@ impl<'a, W: Sink> StreamWriter<'a, W> {
         }
     }
 
-    /// Seals what is held as the last chunk, and writes it. Returns how much was sealed in all.
+    /// Seals what is held as the last chunk, and writes it. Returns the total numbers of bytes and
+    /// chunks sealed.
     ///
     /// # Errors
-    /// `Write` where the sink failed: a beginning of the sealed chunk was written.
+    /// `Write` if the sink failed: a prefix of the sealed chunk was written.
     pub fn finish(self) -> Result<Done, StreamFault>
         ensures kept { IfSome self.entry.sealer.fault
             (λ f. (result ≡ Err f) × (self.exit.0.now ≡ self.entry.out.now)) }
@@ -227,7 +229,7 @@ impl<'a, W: Sink> StreamWriter<'a, W> {
         sealer.finish(out)
     }
 
-    /// Lets go of the writer. What is held is not written.
+    /// Drops the writer. What is held is not written.
     pub fn abandon(self)
         ensures { self.exit.0.now ≡ self.entry.out.now }
     {

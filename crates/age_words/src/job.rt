@@ -1,19 +1,19 @@
-//! What the command line asks for, and why it may ask for nothing.
+//! The job of a command line, and the errors of parsing it.
 
 use clap::Error;
 use clap::error::ErrorKind;
 use std::alloc::AllocError;
 
-/// What the program can do.
+/// The commands of the program.
 #[derive(Clone, Copy, Debug, PartialEq, Eq)]
 pub enum Command {
-    /// Makes a file of a plaintext.
+    /// Encrypts a plaintext to a file.
     Encrypt,
-    /// Gives the plaintext of a file.
+    /// Decrypts a file to its plaintext.
     Decrypt,
     /// Shows a file's header.
     Inspect,
-    /// Gives a part of a file's plaintext.
+    /// Decrypts a part of a file's plaintext.
     Range,
     /// Gives a file a new header for another passphrase or key.
     Rewrap,
@@ -34,37 +34,37 @@ pub struct Job {
     pub new_key: Option<String>,
     /// The work factor that `encrypt` and `rewrap` write, 1 to 30.
     pub work: u8,
-    /// The file whose first 48 bytes are the file key, the nonce and the salt that `encrypt` takes,
-    /// and of which `rewrap` takes the salt.
+    /// The file whose first 48 bytes are the file key, the nonce and the salt that `encrypt` uses;
+    /// `rewrap` uses only the salt.
     pub seed: String,
-    /// The greatest work factor that `decrypt`, `range` and `rewrap` take, 1 to 30.
+    /// The greatest work factor that `decrypt`, `range` and `rewrap` accept, 1 to 30.
     pub max_work: u8,
-    /// The most bytes that a header may have, 1,024 to 16,777,216.
+    /// The maximum size of a header in bytes, 1,024 to 16,777,216.
     pub max_header: usize,
-    /// The file to write; standard output where there is none.
+    /// The file to write; standard output if there is none.
     pub output: Option<String>,
-    /// Whether `inspect` gives the header's own bytes in place of the table.
+    /// Whether `inspect` writes the header's bytes instead of a table.
     pub raw: bool,
     /// The file that holds the file key under which `inspect` checks the header's MAC.
     pub file_key: Option<String>,
-    /// The file to read; standard input where there is none. `range` always has one.
+    /// The file to read; standard input if there is none. `range` always has one.
     pub input: Option<String>,
-    /// The place in the plaintext from which `range` gives it, in bytes, at most
+    /// The offset in the plaintext at which `range` begins, in bytes, at most
     /// 9,223,372,036,854,775,807.
     pub at: u64,
-    /// How many bytes `range` gives at most, up to 9,223,372,036,854,775,807.
+    /// The maximum number of bytes that `range` writes, at most 9,223,372,036,854,775,807.
     pub len: u64,
 }
 
-/// Why the words gave no job.
+/// Why the arguments make no job.
 #[derive(Debug, Drop)]
 pub enum WordsFault {
-    /// `clap` refused the words, or has help or the version to show.
+    /// `clap` refused the arguments, or has help or the version to show.
     Refused(Error),
     /// An allocation was refused.
     Memory,
-    /// `clap` took the words, and then had no value in range for one of them, or met another
-    /// subcommand.
+    /// `clap` accepted the arguments, and then had no value in range for one of them, or met
+    /// another subcommand.
     Lost,
 }
 

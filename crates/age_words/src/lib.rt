@@ -1,12 +1,12 @@
-//! The words of the command line of `agep`, and the job that they ask for.
+//! The arguments of the command line of `agep`, and the job that they make.
 //!
 //! ```
 //! let job = read_words(alloc, &["agep", "encrypt", "-p", "passphrase", "-o", "out.age", "in"])?;
 //! // job.command, job.pass, job.work and so on; else the text of clap, for help too
 //! ```
 //!
-//! Limits: words are UTF-8. No file is opened here, and whether a file that a word names is there
-//! is not looked at.
+//! Limits: arguments are UTF-8. No file is opened here, and the existence of a named file is not
+//! checked.
 #![tactic(auto)]
 
 mod job;

@@ -1,4 +1,4 @@
-//! The commands and options that `clap` is told of. An option's id is its long name.
+//! The commands and options that `clap` parses. An option's id is its long name.
 ghost use Rattle.std.specs.Prelude.{◌≡◌, true, false, IfOk};
 ghost use Rattle.clap.specs.Words.{app_of};
 
@@ -46,13 +46,13 @@ pub(crate) const LEAST_HEADER: u64 = 1024;
 
 pub(crate) const MOST_HEADER: u64 = 16_777_216;
 
-/// The last place of a range, and its greatest length.
+/// The greatest offset of a range, and its greatest length, in bytes: 2^63 - 1.
 pub(crate) const MOST_PLACE: u64 = 9_223_372_036_854_775_807;
 
-/// The seed file where the words name none.
+/// The seed file if the command line names none.
 pub(crate) const DEFAULT_SEED: &str = "/dev/urandom";
 
-const ABOUT: &str = "Works on files in the age v1 format";
+const ABOUT: &str = "Encrypt and decrypt files in the age v1 format";
 
 /// The newest version in `CHANGELOG.md`.
 const VERSION: &str = "0.3.0";
@@ -128,7 +128,7 @@ fn inspect_command<'a>(alloc: Global) -> Result<Command<'a>, AllocError>
     let raw = Arg::new(alloc, RAW)
         .short('r')
         .long(RAW)
-        .help("Write the header's own bytes, and no table")
+        .help("Write the header's bytes instead of a table")
         .action(ArgAction::SetTrue);
     let file_key = text_option(alloc, FILE_KEY, 'f', "FILE", FILE_KEY_HELP);
     Command::new(alloc, "inspect")
@@ -151,14 +151,9 @@ fn range_command<'a>(alloc: Global) -> Result<Command<'a>, AllocError>
             alloc,
             AT,
             "AT",
-            "The place of the first byte, counted from 0 in the plaintext",
+            "The offset of the first byte in the plaintext, from 0",
         ))?
-        .arg(place_word(
-            alloc,
-            LEN,
-            "LEN",
-            "The most bytes to write; fewer where the plaintext ends before",
-        ))?
+        .arg(place_word(alloc, LEN, "LEN", "The maximum number of bytes to write"))?
         .arg(required_word(alloc, INPUT, "IN", PLACES_HELP))
 }
 
@@ -166,7 +161,7 @@ fn rewrap_command<'a>(alloc: Global) -> Result<Command<'a>, AllocError>
     ensures { IfOk result (λ command. (app_of command).top.is_plain ≡ true) }
 {
     let command = Command::new(alloc, "rewrap")
-        .about("Give a file a new passphrase or key, without sealing it anew")
+        .about("Give a file a new passphrase or key without encrypting it again")
         .after_help(REWRAP_END);
     with_opening_options(alloc, command, ENCRYPTED_OUTPUT_HELP)?
         .arg(text_option(alloc, NEW_PASS, 'P', "FILE", NEW_PASS_HELP))?

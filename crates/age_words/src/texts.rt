@@ -1,18 +1,20 @@
-//! The longer texts of help. Their lines fit 80 columns beside the options' names.
+//! The longer texts of `--help`. Beside the options' names each line fits 80 columns.
 
 pub(crate) const PASS_HELP: &str = "The file that holds the passphrase.\
-    \nOne LF at its end is taken off. At most 65536 bytes.\
+    \nOne LF at its end is removed. At most 65536 bytes.\
     \nGive one of -p and -k";
 
 pub(crate) const KEY_HELP: &str = "The file that holds the key, 32 bytes.\
-    \nOnly agep opens a file that is encrypted with -k";
+    \nOnly agep and its library open a file that is\
+    \nencrypted with -k";
 
 pub(crate) const NEW_PASS_HELP: &str = "The file that holds the new passphrase.\
-    \nOne LF at its end is taken off. At most 65536 bytes.\
+    \nOne LF at its end is removed. At most 65536 bytes.\
     \nGive one of -P and -K";
 
 pub(crate) const NEW_KEY_HELP: &str = "The file that holds the new key, 32 bytes.\
-    \nOnly agep opens a file that is rewrapped with -K";
+    \nOnly agep and its library open a file that is\
+    \nrewrapped with -K";
 
 pub(crate) const WORK_HELP: &str = "The work factor of the passphrase, 1 to 30.\
     \nEncrypting takes 2^N KiB of memory, and time in\
@@ -27,40 +29,39 @@ pub(crate) const MAX_WORK_HELP: &str = "The greatest work factor to accept, 1 to
 
 pub(crate) const SEED_HELP: &str = "The file whose first 48 bytes are the file key, the\
     \nnonce and the salt: a seed used twice repeats keys.\
-    \nFor tests alone";
+    \nFor tests only";
 
 pub(crate) const SALT_HELP: &str = "The file of 48 bytes or more whose bytes 32 to 47\
     \nare the salt: a salt used twice repeats keys.\
-    \nFor tests alone";
+    \nFor tests only";
 
-pub(crate) const MAX_HEADER_HELP: &str = "The most bytes that the header may have,\
+pub(crate) const MAX_HEADER_HELP: &str = "The maximum size of the header in bytes,\
     \n1024 to 16777216";
 
-pub(crate) const ENCRYPTED_OUTPUT_HELP: &str = "The file to write; standard output where it is left\
-    \nout. What OUT held stays until the first byte is\
-    \nwritten to it, or the work has ended well. OUT is\
-    \nrefused where it is also IN, or a file that another\
-    \noption names. With status 0 it is on its device";
+pub(crate) const ENCRYPTED_OUTPUT_HELP: &str = "The file to write; standard output if it is not\
+    \ngiven. An existing OUT keeps its contents until the\
+    \nfirst byte is written to it or the command succeeds.\
+    \nOUT is refused if it is also IN, or a file that\
+    \nanother option names. With status 0 it is synced";
 
-pub(crate) const PLAIN_OUTPUT_HELP: &str = "The file to write; standard output where it is left\
-    \nout. What OUT held stays until the first byte is\
-    \nwritten to it, or the work has ended well. OUT is\
-    \nrefused where it is also IN, or a file that another\
-    \noption names. With status 0 it is on its device.\
-    \nA new OUT can be read by its owner alone";
+pub(crate) const PLAIN_OUTPUT_HELP: &str = "The file to write; standard output if it is not\
+    \ngiven. An existing OUT keeps its contents until the\
+    \nfirst byte is written to it or the command succeeds.\
+    \nOUT is refused if it is also IN, or a file that\
+    \nanother option names. With status 0 it is synced.\
+    \nA new OUT can be read by its owner only";
 
 pub(crate) const FILE_KEY_HELP: &str = "The file that holds the file key, 16 bytes. The\
     \nheader's MAC is checked under it. Not read with -r";
 
-pub(crate) const INPUT_HELP: &str = "The file to read; standard input where it is left out.\
+pub(crate) const INPUT_HELP: &str = "The file to read; standard input if it is not given.\
     \nThen no option may name standard input";
 
-pub(crate) const PLACES_HELP: &str =
-    "The file to read: a pipe or a terminal cannot be read by places";
+pub(crate) const PLACES_HELP: &str = "The file to read. It must be seekable: no pipe or terminal";
 
 pub(crate) const ENCRYPT_END: &str = "Status:\
-    \n  0  the work is done\
-    \n  1  a fault ended it: one line on standard error says which\
+    \n  0  success\
+    \n  1  an error: one line on standard error says which\
     \n  2  the command line was refused\
     \n\
     \nExamples:\
@@ -69,12 +70,12 @@ pub(crate) const ENCRYPT_END: &str = "Status:\
     \n  agep encrypt -k key -o dump.age dump";
 
 pub(crate) const DECRYPT_END: &str =
-    "Before a damaged chunk the chunks before it are written: use the plaintext after\
-    \nstatus 0 alone.\
+    "The chunks before a damaged chunk are written. Use the plaintext only after\
+    \nstatus 0.\
     \n\
     \nStatus:\
-    \n  0  the work is done\
-    \n  1  a fault ended it: one line on standard error says which\
+    \n  0  success\
+    \n  1  an error: one line on standard error says which\
     \n  2  the command line was refused\
     \n\
     \nExamples:\
@@ -83,8 +84,8 @@ pub(crate) const DECRYPT_END: &str =
     \n  agep decrypt -k key dump.age >/dev/null  # verifies it";
 
 pub(crate) const INSPECT_END: &str = "Status:\
-    \n  0  the work is done\
-    \n  1  a fault, or a bad check, ended it: one line on standard error says which\
+    \n  0  success\
+    \n  1  an error or a bad check: one line on standard error says which\
     \n  2  the command line was refused\
     \n\
     \nExamples:\
@@ -96,8 +97,8 @@ pub(crate) const RANGE_END: &str =
     "Only the chunks that the range touches and the last one are read and verified.\
     \n\
     \nStatus:\
-    \n  0  the work is done\
-    \n  1  a fault ended it: one line on standard error says which\
+    \n  0  success\
+    \n  1  an error: one line on standard error says which\
     \n  2  the command line was refused\
     \n\
     \nExamples:\
@@ -109,8 +110,8 @@ pub(crate) const REWRAP_END: &str =
     \nthe old passphrase or key can still open it.\
     \n\
     \nStatus:\
-    \n  0  the work is done\
-    \n  1  a fault ended it: one line on standard error says which\
+    \n  0  success\
+    \n  1  an error: one line on standard error says which\
     \n  2  the command line was refused\
     \n\
     \nExamples:\

@@ -1,4 +1,4 @@
-//! From the words of the command line to a job.
+//! Parsing the arguments of the command line to a job.
 ghost use Rattle.std.specs.Prelude.{IfOk};
 ghost use Rattle.age_words.specs.Job.{IsInRange, Lies};
 
@@ -11,19 +11,19 @@ use crate::options::{
 use clap::ArgMatches;
 use std::alloc::{AllocError, Global};
 
-/// The work factor that `encrypt` and `rewrap` write where the words name none.
+/// The work factor that `encrypt` and `rewrap` write if the arguments name none.
 const DEFAULT_WORK: u8 = 18;
 
-/// The greatest work factor that `decrypt`, `range` and `rewrap` take where the words name none.
+/// The greatest work factor that `decrypt`, `range` and `rewrap` accept if the arguments name none.
 const DEFAULT_MAX_WORK: u8 = 22;
 
-/// The job that the words ask for, the program's name first.
+/// Parses the arguments, the program's name first, to a job.
 ///
-/// Each number of the job lies in its range, and a range has a file to read.
+/// Each number of the job is in its range, and a range has a file to read.
 ///
 /// # Errors
-/// `Refused` with `clap`'s own text for words that name no job, and for help and the version;
-/// `Memory` where an allocation was refused; `Lost` where `clap` took the words and then had no
+/// `Refused` with `clap`'s own text for arguments that make no job, and for help and the version;
+/// `Memory` if an allocation was refused; `Lost` if `clap` accepted the arguments and then had no
 /// value in range for one of them, or another subcommand.
 pub fn read_words(alloc: Global, words: &[&str]) -> Result<Job, WordsFault>
     ensures ranges { IfOk result IsInRange }
@@ -172,7 +172,7 @@ fn rewrap_job(alloc: Global, matches: &ArgMatches<'_>) -> Result<Job, WordsFault
     })
 }
 
-/// The most bytes that a header may have.
+/// The maximum size of a header in bytes.
 fn max_header_of(matches: &ArgMatches<'_>) -> Result<usize, WordsFault>
     ensures { IfOk result (Lies 1024 16777216) }
 {
@@ -188,7 +188,8 @@ fn work_of(matches: &ArgMatches<'_>, id: &str) -> Result<u8, WordsFault>
     Ok(work as u8)
 }
 
-/// The number of an option, which is tested again, since `clap` promises little of what it took.
+/// The number of an option, which is tested again, since `clap` promises little of what it
+/// accepted.
 fn number_in(matches: &ArgMatches<'_>, id: &str, least: u64, most: u64) -> Result<u64, WordsFault>
     ensures { IfOk result (Lies least most) }
 {

@@ -1,26 +1,26 @@
-//! Faults as numbers.
+//! The codes of `agefile.h`.
 
 ghost use Rattle.std.specs.Prelude.{◌≡◌, ◌-◌, ◌^◌, min};
 ghost use Rattle.agefile.specs.Codes.{fault_code, fault_detail, fault_place};
 
 use age_file::{Fault, StanzaFault};
 
-/// Nothing went wrong.
+/// No fault.
 pub(crate) const OK: u32 = 0;
 
 /// An allocation was refused.
 pub(crate) const OUT_OF_MEMORY: u32 = 17;
 
-/// The buffer is too small for what it was to get.
+/// The buffer is too small for the output.
 pub(crate) const TOO_SMALL: u32 = 21;
 
 /// A work factor, or its maximum, is not 1 to 30.
 pub(crate) const WORK_FACTOR: u32 = 22;
 
-/// There is no such stanza or place, or the call does not fit the state.
+/// There is no such stanza or offset, or the call does not fit the state.
 pub(crate) const OUT_OF_ORDER: u32 = 23;
 
-/// The number of a fault.
+/// The code of a fault.
 pub(crate) fn code_of(fault: Fault) -> u32
     ensures { result ≡ fault_code fault }
 {
@@ -48,7 +48,7 @@ pub(crate) fn code_of(fault: Fault) -> u32
     }
 }
 
-/// The line or the chunk of a fault, else 0. Of a chunk's number beyond `u64` it is the largest
+/// The line or the chunk of a fault, else 0. A chunk's number beyond `u64` saturates at the largest
 /// `u64`.
 pub(crate) fn place_of(fault: Fault) -> u64
     ensures { result ≡ fault_place fault }
@@ -71,7 +71,7 @@ fn capped(n: u128) -> u64
     }
 }
 
-/// Which part of a stanza is malformed, from 1 up; of another fault 0.
+/// The part of a stanza that is malformed, 1 to 5 or 0 for other parts; 0 for other faults.
 pub(crate) fn detail_of(fault: Fault) -> u64
     ensures { result ≡ fault_detail fault }
 {

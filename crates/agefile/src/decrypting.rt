@@ -13,12 +13,12 @@ use crate::report::Report;
 use age_file::{Identity, KeyIdentity, MemSink, MemSource, PassError, PassIdentity, decrypt};
 use std::alloc::Global;
 
-/// Decrypts a file with a passphrase, any bytes, that takes work factors of at most `max_work`, 1
-/// to 30. On a fault after some chunks `out` has the plaintext of the chunks before it.
+/// Decrypts a file with a passphrase, which is any bytes. It accepts work factors of at most
+/// `max_work`, 1 to 30. On a chunk's fault `out` has the plaintext of the chunks before it.
 ///
 /// # Errors
-/// 22 where `max_work` is not 1 to 30, 21 where `out` is too small for the plaintext, 17 where an
-/// allocation was refused; in these `out` is as it was. Else those of `age_file::decrypt`.
+/// 22 if `max_work` is not 1 to 30, 21 if `out` is too small for the plaintext, 17 if an allocation
+/// was refused; then `out` is unchanged. Otherwise those of `age_file::decrypt`.
 #[unsafe(no_mangle)]
 pub extern "C" fn agefile_decrypt_passphrase(
     alloc: Global,
@@ -45,12 +45,12 @@ pub extern "C" fn agefile_decrypt_passphrase(
     }
 }
 
-/// Decrypts a file with a key of 32 bytes, this project's own kind. On a fault after some chunks
-/// `out` has the plaintext of the chunks before it.
+/// Decrypts a file with a key of 32 bytes, this project's own kind. On a chunk's fault `out` has
+/// the plaintext of the chunks before it.
 ///
 /// # Errors
-/// 21 where `out` is too small for the plaintext, 17 where an allocation was refused; in these
-/// `out` is as it was. Else those of `age_file::decrypt`.
+/// 21 if `out` is too small for the plaintext, 17 if an allocation was refused; then `out` is
+/// unchanged. Otherwise those of `age_file::decrypt`.
 #[unsafe(no_mangle)]
 pub extern "C" fn agefile_decrypt_key(
     alloc: Global,

@@ -17,12 +17,13 @@ use age_file::{
 };
 use std::alloc::Global;
 
-/// Encrypts a plaintext under a passphrase, any bytes, with a work factor of 1 to 30. The seed is a
-/// file key, a nonce and a salt, of 16 bytes each; its bytes must be random, and never used twice.
+/// Encrypts a plaintext under a passphrase, which is any bytes, with a work factor of 1 to 30. The
+/// seed is a file key, a nonce and a salt, of 16 bytes each; its bytes must be random, and never
+/// used twice.
 ///
 /// # Errors
-/// 22 where `work` is not 1 to 30, 21 where `out` is too small for the file, 17 where an allocation
-/// was refused; in these `out` is as it was. There is no other.
+/// 22 if `work` is not 1 to 30, 21 if `out` is too small for the file, 17 if an allocation was
+/// refused; then `out` is unchanged. There are no other codes.
 #[unsafe(no_mangle)]
 pub extern "C" fn agefile_encrypt_passphrase(
     alloc: Global,
@@ -54,8 +55,8 @@ pub extern "C" fn agefile_encrypt_passphrase(
 /// nonce and a salt, of 16 bytes each; its bytes must be random, and never used twice.
 ///
 /// # Errors
-/// 21 where `out` is too small for the file, 17 where an allocation was refused; in these `out` is
-/// as it was. There is no other.
+/// 21 if `out` is too small for the file, 17 if an allocation was refused; then `out` is unchanged.
+/// There are no other codes.
 #[unsafe(no_mangle)]
 pub extern "C" fn agefile_encrypt_key(
     alloc: Global,
@@ -74,7 +75,7 @@ pub extern "C" fn agefile_encrypt_key(
     }
 }
 
-/// The 16 bytes of a seed from this place on.
+/// The 16 bytes of a seed from this offset on.
 pub(crate) fn part(seed: &[u8; 48], at: usize) -> [u8; 16]
     requires { at ≤ 32 }
     ensures { result ≡ take 16 (drop at seed.now) }

@@ -1,4 +1,4 @@
-//! How a call gives its caller what was read or written.
+//! Copying a call's output to the caller's buffer.
 
 ghost use Rattle.std.specs.Prelude.{◌≡◌, ◌⊎◌, ◌≤◌, ◌++◌, drop, length, Some, None};
 ghost use Rattle.agefile.specs.Answer.{Exceeds, Gives, GivesUp};
@@ -8,7 +8,7 @@ use crate::code::{OK, OUT_OF_MEMORY, TOO_SMALL, code_of};
 use crate::report::Report;
 use age_file::Fault;
 
-/// Gives up with a code, which is all that the caller learns.
+/// Returns a code, and sets all else of the report to 0.
 pub(crate) fn give_up(code: u32, out: &mut [u8], report: &mut Report) -> u32
     ensures { GivesUp code out.old out.new report.new result }
 {
@@ -17,7 +17,7 @@ pub(crate) fn give_up(code: u32, out: &mut [u8], report: &mut Report) -> u32
     code
 }
 
-/// Gives a text whole, where the buffer has room for it.
+/// Copies a text to the buffer, if it has room for it.
 pub(crate) fn give_whole(text: &[u8], out: &mut [u8], report: &mut Report) -> u32
     ensures { Gives text.now None out.old out.new report.new result }
 {
@@ -25,7 +25,7 @@ pub(crate) fn give_whole(text: &[u8], out: &mut [u8], report: &mut Report) -> u3
     give(text, OK, out, report)
 }
 
-/// Gives a text up to a fault, where the buffer has room for it.
+/// Copies the text before a fault to the buffer, if it has room for it.
 pub(crate) fn give_part(text: &[u8], fault: Fault, out: &mut [u8], report: &mut Report) -> u32
     ensures { Gives text.now (Some fault) out.old out.new report.new result }
 {
@@ -33,7 +33,8 @@ pub(crate) fn give_part(text: &[u8], fault: Fault, out: &mut [u8], report: &mut 
     give(text, code_of(fault), out, report)
 }
 
-/// Gives a text with a code, where the buffer has room for it; else only its length stays reported.
+/// Copies a text to the buffer and returns the code, if the buffer has room for it; otherwise only
+/// the length is reported.
 fn give(text: &[u8], code: u32, out: &mut [u8], report: &mut Report) -> u32
     ensures { ((length text.now ≤ length out.old) × (result ≡ code) × (report.new ≡ report.old)
         × (out.new ≡ text.now ++ drop (length text.now) out.old))

@@ -1,4 +1,4 @@
-//! What the header of a file says.
+//! Reading a file's header.
 
 ghost use Rattle.std.specs.Prelude.{◌≡◌, ◌⊎◌, ℕ, List, take, Some, IfOk};
 ghost use Rattle.std.specs.String.{string_bytes};
@@ -15,37 +15,36 @@ use crate::report::Report;
 use age_file::{Fault, Header, MemSource, Stanza, inspect};
 use std::alloc::{AllocError, Global};
 
-/// What a header says of itself.
+/// A header's sizes and MAC.
 #[repr(C)]
 #[derive(Clone, Copy)]
 pub struct Summary {
-    /// How many bytes the header has.
+    /// The header's length in bytes.
     pub header_len: u64,
-    /// How many stanzas it has.
+    /// The number of its stanzas.
     pub stanzas: u64,
     /// Its MAC.
     pub mac: [u8; 32],
 }
 
-/// What a stanza says of itself.
+/// A stanza's sizes.
 #[repr(C)]
 #[derive(Clone, Copy)]
 pub struct StanzaSummary {
-    /// How many arguments it has, the type being the first.
+    /// The number of its arguments; the first is the type.
     pub args: u64,
-    /// How many bytes its arguments have, joined by single spaces.
+    /// The length in bytes of its arguments, joined by single spaces.
     pub args_len: u64,
-    /// How many bytes its body has.
+    /// The length of its body in bytes.
     pub body_len: u64,
 }
 
-/// Sums up the header at the front of a file. Its MAC is not verified, since that needs the file
-/// key. Of a file of more than 65,552 bytes the first 65,552 suffice: they have its header, if
-/// there is one.
+/// Reads the header at the start of a file, and writes its sizes and MAC to `summary`. It does not
+/// verify the MAC, since that needs the file key. The first 65,552 bytes of a longer file suffice:
+/// they have its header, if there is one.
 ///
 /// # Errors
-/// Those of `age_file::inspect`, or 17 where an allocation was refused; in these `summary` is as it
-/// was.
+/// Those of `age_file::inspect`, or 17 if an allocation was refused; then `summary` is unchanged.
 #[unsafe(no_mangle)]
 pub extern "C" fn agefile_inspect(
     alloc: Global,
@@ -74,14 +73,13 @@ pub extern "C" fn agefile_inspect(
     }
 }
 
-/// Sums up the stanza at a place of the header, the first being 0, and writes its arguments to the
-/// front of `args`, joined by single spaces. Where `args` is too small for them, the stanza is
-/// still summed up. Of a file of more than 65,552 bytes the first 65,552 suffice.
+/// Writes the sizes of the header's stanza of this index, from 0, to `stanza`, and its arguments,
+/// joined by single spaces, to the start of `args`. If `args` is too small for them, `stanza` is
+/// still set. The first 65,552 bytes of a longer file suffice.
 ///
 /// # Errors
-/// 23 where there is no such stanza, 21 where `args` is too small, 17 where an allocation was
-/// refused, else those of `age_file::inspect`; in these `args` is as it was, and in all but 21
-/// `stanza` too.
+/// 23 if there is no such stanza, 21 if `args` is too small, 17 if an allocation was refused, else
+/// those of `age_file::inspect`; then `args` is unchanged, and in all but 21 `stanza` too.
 #[unsafe(no_mangle)]
 pub extern "C" fn agefile_stanza(
     alloc: Global,
@@ -107,7 +105,7 @@ pub extern "C" fn agefile_stanza(
     give_stanza(alloc, &header.stanzas()[place], args, stanza, report)
 }
 
-/// Sums up a stanza and gives its arguments.
+/// Writes a stanza's sizes and its arguments.
 fn give_stanza(
     alloc: Global,
     found: &Stanza,
@@ -126,7 +124,7 @@ fn give_stanza(
     give_whole(text.as_bytes(), args, report)
 }
 
-/// What a stanza says of itself, whose arguments are joined to this text.
+/// The sizes of a stanza whose arguments are joined to this text.
 fn summary_of(stanza: &Stanza, text: &[u8]) -> StanzaSummary
     requires { text.now ≡ joined stanza.now.args }
     ensures { result ≡ stanza_summary stanza.now }
@@ -145,7 +143,7 @@ fn joined(alloc: Global, stanza: &Stanza) -> Result<String, AllocError>
     stanza.args().join(alloc, " ")
 }
 
-/// The header at the front of a file.
+/// The header at the start of a file.
 fn header_of(alloc: Global, front: &[u8]) -> Result<Header, Fault>
     ensures front { HeaderOf front.now result }
     ensures file { (b : Bytes) → front.now ≡ take front_size b → HeaderOf b result }

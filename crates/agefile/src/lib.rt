@@ -1,6 +1,6 @@
-//! Age v1 files (C2SP `age.md`) for callers in C: the exports of `agefile.h`. Each states the
-//! contract of what it calls again, over the bytes behind its pointers, and none has a `requires`.
-//! Nothing is kept between two calls but what the caller holds.
+//! Age v1 files (C2SP `age.md`) for callers in C: the exports of `agefile.h`. Each repeats the
+//! contract of the call below it, over the bytes that its pointers refer to, and none has a
+//! `requires`. The library keeps no state between two calls; the caller holds it.
 //!
 //! ```c
 //! agefile_report report;

@@ -30,9 +30,9 @@ const VERIFIED: u64 = 2;
 pub struct Ranges {
     /// The key of the chunks.
     pub key: [u8; 32],
-    /// Where in the file the first sealed chunk begins.
+    /// The offset in the file of the first sealed chunk.
     pub first: u64,
-    /// How many bytes the sealed chunks have.
+    /// The length of all sealed chunks in bytes.
     pub sealed_len: u64,
     /// 0 not open, 1 open, 2 the last sealed chunk was verified.
     pub state: u64,
@@ -53,14 +53,14 @@ impl Ranges {
 }
 
 /// Opens a file of `file_len` bytes with this front, its first 65,552 bytes or all of a shorter
-/// one, for a passphrase, any bytes, that takes work factors of at most `max_work`, 1 to 30. On 0
-/// the report has the last sealed chunk's place in the file and its length.
+/// one, with a passphrase, which is any bytes. It accepts work factors of at most `max_work`, 1 to
+/// 30. On 0 the report has the last sealed chunk's offset in the file and its length.
 ///
 /// # Errors
-/// 22 where `max_work` is not 1 to 30, 17 where an allocation was refused. Else the first that
-/// applies of those of `age_file::inspect` and `age_file::unlock_header`, and 10 where fewer than
-/// 16 bytes follow the header; then 23 where the file ends before its first sealed chunk. No
-/// payload is open then.
+/// 22 if `max_work` is not 1 to 30, 17 if an allocation was refused. Otherwise the first that
+/// applies of those of `age_file::inspect` and `age_file::unlock_header`, and 10 if fewer than 16
+/// bytes follow the header; then 23 if the file ends before its first sealed chunk. No payload is
+/// open then.
 #[unsafe(no_mangle)]
 pub extern "C" fn agefile_ranges_open_passphrase(
     alloc: Global,
@@ -84,11 +84,11 @@ pub extern "C" fn agefile_ranges_open_passphrase(
 }
 
 /// Opens a file of `file_len` bytes with this front, its first 65,552 bytes or all of a shorter
-/// one, for a key of 32 bytes, this project's own kind. On 0 the report has the last sealed chunk's
-/// place in the file and its length.
+/// one, with a key of 32 bytes, this project's own kind. On 0 the report has the last sealed
+/// chunk's offset in the file and its length.
 ///
 /// # Errors
-/// Those of `agefile_ranges_open_passphrase`, but for 22.
+/// Those of `agefile_ranges_open_passphrase` except 22.
 #[unsafe(no_mangle)]
 pub extern "C" fn agefile_ranges_open_key(
     alloc: Global,
@@ -113,7 +113,7 @@ fn stay_closed(code: u32, ranges: &mut Ranges, report: &mut Report) -> u32
     code
 }
 
-/// The payload from this start to the end of a file of so many bytes, or none.
+/// The payload from this start to the end of a file of this many bytes, or none.
 fn open_at(
     start: Result<Start, Fault>,
     file_len: u64,
@@ -150,8 +150,8 @@ fn open_at(
     OK
 }
 
-/// Verifies the last sealed chunk, whose length and tag prove where the file ends, and opens it
-/// where it stands. It must come before the other calls.
+/// Verifies the last sealed chunk, whose length and tag prove where the file ends, and opens it in
+/// place. It must come before the other calls.
 #[unsafe(no_mangle)]
 pub extern "C" fn agefile_ranges_last(
     ranges: &mut Ranges,
@@ -188,7 +188,7 @@ pub extern "C" fn agefile_ranges_last(
     }
 }
 
-/// Finds the sealed chunk that holds byte `at` of the plaintext: its place in the file, and its
+/// Finds the sealed chunk that holds byte `at` of the plaintext: its offset in the file, and its
 /// length.
 #[unsafe(no_mangle)]
 pub extern "C" fn agefile_ranges_locate(ranges: &Ranges, at: u64, report: &mut Report) -> u32
@@ -207,8 +207,8 @@ pub extern "C" fn agefile_ranges_locate(ranges: &Ranges, at: u64, report: &mut R
     OK
 }
 
-/// Opens the sealed chunk that holds byte `at` of the plaintext where it stands. The plaintext from
-/// `at` on is then in the chunk from the reported place on, as many bytes as are reported.
+/// Opens the sealed chunk that holds byte `at` of the plaintext in place. The plaintext from `at`
+/// on is then in the chunk, from the reported offset on and of the reported length.
 #[unsafe(no_mangle)]
 pub extern "C" fn agefile_ranges_chunk(
     ranges: &Ranges,
@@ -243,7 +243,7 @@ pub extern "C" fn agefile_ranges_chunk(
     }
 }
 
-/// Whether the last chunk was verified and the plaintext has a byte at this place.
+/// Whether the last chunk was verified and the plaintext has a byte at this offset.
 fn has_byte(ranges: &Ranges, at: u64) -> bool
     ensures { result ≡ has_byte ranges.now at }
 {
@@ -252,14 +252,14 @@ fn has_byte(ranges: &Ranges, at: u64) -> bool
         && at < plain_of(ranges.sealed_len)
 }
 
-/// The number of the last of the pieces that so many bytes are.
+/// The number of the last piece, if all pieces have this many bytes.
 fn last_index(sealed_len: u64) -> u64
     ensures { result ≡ last_index sealed_len }
 {
     sealed_len.saturating_sub(1) / 65_552
 }
 
-/// How long piece i of so many bytes is.
+/// The length of piece i, if all pieces have this many bytes.
 fn piece_len(sealed_len: u64, i: u64) -> usize
     requires { i ≤ last_index sealed_len }
     ensures { result ≡ piece_len sealed_len i }
@@ -267,7 +267,7 @@ fn piece_len(sealed_len: u64, i: u64) -> usize
     (sealed_len - 65_552 * i).min(65_552) as usize
 }
 
-/// How long the plaintext is of so many sealed bytes.
+/// The length of the plaintext, if the sealed chunks have this many bytes.
 fn plain_of(sealed_len: u64) -> u64
     ensures { result ≡ plain_of sealed_len }
 {

@@ -16,7 +16,7 @@ use age_file::Fault;
 use age_stream::open_chunk;
 use std::alloc::Global;
 
-/// A reader of a file's sealed chunks, in its caller's memory. Any bytes may stand in it.
+/// A reader of a file's sealed chunks, in its caller's memory. It may hold any bytes.
 #[repr(C)]
 #[derive(Clone, Copy)]
 pub struct Reader {
@@ -40,7 +40,7 @@ impl Reader {
         }
     }
 
-    /// Whether it takes a chunk of so many bytes.
+    /// Whether it accepts a chunk of this many bytes.
     fn takes(&self, len: usize, last: bool) -> bool
         ensures { result ≡ takes self.now len last }
     {
@@ -53,14 +53,14 @@ impl Reader {
     }
 }
 
-/// Opens a file with this front, its first 65,552 bytes or all of a shorter one, for a passphrase,
-/// any bytes, that takes work factors of at most `max_work`, 1 to 30. On 0 the report's length says
-/// where the first sealed chunk begins.
+/// Opens a file with this front, its first 65,552 bytes or all of a shorter one, with a passphrase,
+/// which is any bytes. It accepts work factors of at most `max_work`, 1 to 30. On 0 the report's
+/// length is the offset of the first sealed chunk.
 ///
 /// # Errors
-/// 22 where `max_work` is not 1 to 30, 17 where an allocation was refused. Else the first that
-/// applies of those of `age_file::inspect` and `age_file::unlock_header`, and 10 where fewer than
-/// 16 bytes follow the header. The reader is not open then.
+/// 22 if `max_work` is not 1 to 30, 17 if an allocation was refused. Otherwise the first that
+/// applies of those of `age_file::inspect` and `age_file::unlock_header`, and 10 if fewer than 16
+/// bytes follow the header. The reader is not open then.
 #[unsafe(no_mangle)]
 pub extern "C" fn agefile_reader_open_passphrase(
     alloc: Global,
@@ -82,14 +82,14 @@ pub extern "C" fn agefile_reader_open_passphrase(
     }
 }
 
-/// Opens a file with this front, its first 65,552 bytes or all of a shorter one, for a key of 32
-/// bytes, this project's own kind. On 0 the report's length says where the first sealed chunk
-/// begins.
+/// Opens a file with this front, its first 65,552 bytes or all of a shorter one, with a key of 32
+/// bytes, this project's own kind. On 0 the report's length is the offset of the first sealed
+/// chunk.
 ///
 /// # Errors
-/// 17 where an allocation was refused. Else the first that applies of those of `age_file::inspect`
-/// and `age_file::unlock_header`, and 10 where fewer than 16 bytes follow the header. The reader is
-/// not open then.
+/// 17 if an allocation was refused. Otherwise the first that applies of those of
+/// `age_file::inspect` and `age_file::unlock_header`, and 10 if fewer than 16 bytes follow the
+/// header. The reader is not open then.
 #[unsafe(no_mangle)]
 pub extern "C" fn agefile_reader_open_key(
     alloc: Global,
@@ -135,13 +135,13 @@ fn open_at(start: Result<Start, Fault>, reader: &mut Reader, report: &mut Report
     }
 }
 
-/// Opens the next sealed chunk where it stands: 65,552 bytes, or what is left where it is the last.
-/// On 0 its text is in front, and the report has its length. No memory is taken.
+/// Opens the next sealed chunk in place: 65,552 bytes, or what is left if it is the last. On 0 its
+/// text is at the start of the buffer, and the report has its length. It allocates nothing.
 ///
 /// # Errors
-/// 23 where the reader is not open, or the chunk has another length: all is as it was. Else the
-/// first that applies of 14, 11, 12 and 13, as `age_stream::open_chunk` says: the chunk is as it
-/// was, and the reader takes no other.
+/// 23 if the reader is not open, or the chunk has another length: all is unchanged. Otherwise the
+/// first that applies of 14, 11, 12 and 13, as `age_stream::open_chunk` says: the chunk is
+/// unchanged, and the reader accepts no other.
 #[unsafe(no_mangle)]
 pub extern "C" fn agefile_reader_chunk(
     reader: &mut Reader,

@@ -10,18 +10,18 @@ use age_file::Fault;
 #[repr(C)]
 #[derive(Clone, Copy, Default)]
 pub struct Report {
-    /// How many bytes the buffer got in front; where it is too small for them, how many it would
-    /// have got. The calls of readers and ranges say what it is there.
+    /// The number of bytes written to the start of the buffer; if it is too small for them, the
+    /// number that would have been written. The calls of readers and ranges say what it is there.
     pub len: u64,
-    /// The line, from 1, or the chunk, from 0, of a fault, else 0. The calls of ranges return a
-    /// place here.
+    /// The line, from 1, or the chunk, from 0, of a fault, else 0. The calls of ranges return an
+    /// offset here.
     pub place: u64,
-    /// Of a malformed stanza which part of it is malformed, else 0.
+    /// The part of a malformed stanza that is malformed, else 0.
     pub detail: u64,
 }
 
 impl Report {
-    /// No fault, and so many bytes.
+    /// No fault, and this many bytes.
     pub(crate) fn of_len(len: u64) -> Report
         ensures { result ≡ report_of len None }
     {
@@ -32,7 +32,7 @@ impl Report {
         }
     }
 
-    /// A fault, after so many bytes.
+    /// A fault, after this many bytes.
     pub(crate) fn of_fault(len: u64, fault: Fault) -> Report
         ensures { result ≡ report_of len (Some fault) }
     {

@@ -1,4 +1,4 @@
-//! How much room a caller needs.
+//! The sizes of buffers that suffice.
 
 ghost use Rattle.std.specs.Prelude.{◌≡◌, ◌-◌, ◌^◌, ◌<◌, ◌≤◌, ℕ, List, length, min};
 ghost use Rattle.age_kdf.specs.Bytes.{Bytes};
@@ -14,14 +14,14 @@ ghost use Rattle.agefile.specs.Limits.{limits};
 ghost use Rattle.agefile.specs.Sizes.{plain_len_at_most, sealed_len};
 
 /// The header of a file under a key, 156 bytes, and its payload's nonce. Under a passphrase the
-/// header has six or seven bytes fewer.
+/// header is six or seven bytes shorter.
 const FRONT: u64 = 172;
 
 /// The shortest header, 70 bytes without its stanzas, and its payload's nonce.
 const LEAST_FRONT: u64 = 86;
 
-/// Room that suffices for the file of a plaintext of so many bytes under a key or a passphrase. It
-/// is the length under a key; the largest `u64` where that is longer.
+/// Room that suffices for the file of a plaintext of this many bytes under a key or a passphrase.
+/// It is the length under a key, saturating at the largest `u64`.
 #[unsafe(no_mangle)]
 pub extern "C" fn agefile_sealed_len(plain_len: u64) -> u64
     ensures value { result ≡ min (sealed_len plain_len) (2 ^ 64 - 1) }
@@ -39,8 +39,8 @@ pub extern "C" fn agefile_sealed_len(plain_len: u64) -> u64
     FRONT.saturating_add(plain_len).saturating_add(16 * chunks)
 }
 
-/// Room that suffices for the plaintext of any file of so many bytes, and for the plaintext before
-/// a fault.
+/// Room that suffices for the plaintext of any file of this many bytes, and for the plaintext
+/// before a fault.
 #[unsafe(no_mangle)]
 pub extern "C" fn agefile_plain_len_at_most(file_len: u64) -> u64
     ensures value { result ≡ plain_len_at_most file_len }

@@ -1,4 +1,4 @@
-//! Where a file's sealed chunks begin, and their key.
+//! The offset of a file's first sealed chunk, and the key of its chunks.
 
 ghost use Rattle.std.specs.Prelude.{◌≡◌, IfNone, IfSome, map};
 ghost use Rattle.age_recipient.specs.KeyedHolders.{key_unwraps};
@@ -13,15 +13,15 @@ use age_file::{
 use age_stream::payload_key;
 use std::alloc::Global;
 
-/// Where a file's sealed chunks begin, and their key.
+/// The offset of a file's first sealed chunk, and the key of its chunks.
 #[derive(Clone, Copy)]
 pub(crate) struct Start {
     pub(crate) first: u64,
     pub(crate) key: [u8; 32],
 }
 
-/// Finds the start of a file with this front for a passphrase, any bytes, that takes work factors
-/// of at most `max_work`. None exactly where that is not 1 to 30.
+/// Finds the start of a file with this front for a passphrase, which is any bytes. It accepts work
+/// factors of at most `max_work`; `None` exactly if that is not 1 to 30.
 pub(crate) fn start_for_passphrase(
     alloc: Global,
     front: &[u8],

@@ -1,19 +1,19 @@
-//! The states of what a caller holds between two calls.
+//! The states of a caller's struct between two calls.
 
 /// Nothing was opened.
 pub(crate) const CLOSED: u64 = 0;
 
-/// The next chunk may come.
+/// Open: the next chunk is accepted.
 pub(crate) const OPEN: u64 = 1;
 
-/// The last chunk came.
+/// The last chunk was accepted.
 pub(crate) const ENDED: u64 = 2;
 
 /// A chunk had a fault.
 pub(crate) const FAILED: u64 = 3;
 
-/// How many bytes a full chunk has with its tag.
+/// The length of a full chunk with its tag, in bytes.
 pub(crate) const SEALED_CHUNK: usize = 65_552;
 
-/// How many bytes a tag has.
+/// The length of a tag in bytes.
 pub(crate) const TAG: usize = 16;

@@ -1,4 +1,4 @@
-//! What was encrypted comes back: a law over the definitions alone, which is the contract of a
+//! Decrypting undoes encrypting: a law over the definitions alone, which is the contract of a
 //! function that does nothing.
 
 ghost use Rattle.std.specs.Prelude.{ℕ, List};
@@ -15,9 +15,9 @@ ghost use Rattle.agefile.specs.Limits.{limits};
 
 use age_file::laws;
 
-/// The file that an encrypting call gives is to the decrypting call of the same key its plaintext,
-/// whole and without a fault; so with the same passphrase, where the maximum is at least the work
-/// factor. The seed is any 48 bytes.
+/// For the decrypting call of the same key, the file that an encrypting call writes has the verdict
+/// "this plaintext, no fault"; so it has for the same passphrase, if the maximum is at least the
+/// work factor. The seed is any 48 bytes.
 pub fn comes_back()
     ensures key { (key seed plain file : Bytes) → IsSeed seed
         → NewFile limits (fresh_of seed)

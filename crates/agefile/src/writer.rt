@@ -22,7 +22,7 @@ use age_file::{
 use age_stream::{payload_key, seal_chunk};
 use std::alloc::Global;
 
-/// A writer of a file's sealed chunks, in its caller's memory. Any bytes may stand in it.
+/// A writer of a file's sealed chunks, in its caller's memory. It may hold any bytes.
 #[repr(C)]
 #[derive(Clone, Copy)]
 pub struct Writer {
@@ -30,7 +30,7 @@ pub struct Writer {
     pub key: [u8; 32],
     /// The number of the next chunk.
     pub number: u64,
-    /// 0 not open, 1 open, 2 after the last chunk, 3 after a chunk too many.
+    /// 0 not open, 1 open, 2 after the last chunk, 3 after one chunk too many.
     pub state: u64,
 }
 
@@ -46,7 +46,7 @@ impl Writer {
         }
     }
 
-    /// Whether it takes a chunk of so many bytes.
+    /// Whether it accepts a chunk of this many bytes.
     fn takes(&self, len: usize, last: bool) -> bool
         ensures { result ≡ takes self.now len last }
     {
@@ -59,20 +59,20 @@ impl Writer {
     }
 }
 
-/// Whether a last chunk of so many bytes has some text, or is the only one.
+/// Whether a last chunk of this many bytes has some text, or is the only one.
 fn has_text(number: u64, len: usize) -> bool
     ensures { result ≡ has_text number len }
 {
     len > TAG || len == TAG && number == 0
 }
 
-/// Begins a file under a passphrase, any bytes, with a work factor of 1 to 30. The seed is a file
-/// key, a nonce and a salt, of 16 bytes each; its bytes must be random, and never used twice. On 0
-/// the file's header and its nonce stand in front of `out`, at most 172 bytes.
+/// Begins a file under a passphrase, which is any bytes, with a work factor of 1 to 30. The seed is
+/// a file key, a nonce and a salt, of 16 bytes each; its bytes must be random, and never used
+/// twice. On 0 the file's header and its nonce are at the start of `out`, at most 172 bytes.
 ///
 /// # Errors
-/// 22 where `work` is not 1 to 30, 21 where `out` is too small, 17 where an allocation was refused;
-/// in these `out` is as it was, and the writer is not open. There is no other.
+/// 22 if `work` is not 1 to 30, 21 if `out` is too small, 17 if an allocation was refused; then
+/// `out` is unchanged, and the writer is not open. There are no other codes.
 #[unsafe(no_mangle)]
 pub extern "C" fn agefile_writer_open_passphrase(
     alloc: Global,
@@ -102,11 +102,11 @@ pub extern "C" fn agefile_writer_open_passphrase(
 
 /// Begins a file under a key of 32 bytes, this project's own kind. The seed is a file key, a nonce
 /// and a salt, of 16 bytes each; its bytes must be random, and never used twice. On 0 the file's
-/// header and its nonce stand in front of `out`, at most 172 bytes.
+/// header and its nonce are at the start of `out`, at most 172 bytes.
 ///
 /// # Errors
-/// 21 where `out` is too small, 17 where an allocation was refused; in these `out` is as it was,
-/// and the writer is not open. There is no other.
+/// 21 if `out` is too small, 17 if an allocation was refused; then `out` is unchanged, and the
+/// writer is not open. There are no other codes.
 #[unsafe(no_mangle)]
 pub extern "C" fn agefile_writer_open_key(
     alloc: Global,
@@ -173,8 +173,8 @@ fn open_for(
     }
 }
 
-/// Gives a file's front, and a writer before its first chunk, where the buffer has room for the
-/// front.
+/// Copies a file's front to the buffer, and returns a writer before its first chunk, if the buffer
+/// has room for the front.
 fn give_front(
     front: &[u8],
     fresh: &Fresh,
@@ -206,13 +206,13 @@ fn stay_closed(code: u32, out: &mut [u8], writer: &mut Writer, report: &mut Repo
     give_up(code, out, report)
 }
 
-/// Seals the next chunk where it stands: its text, 65,536 bytes or what is left where it is the
-/// last, and then 16 bytes for the tag. Only the last chunk of an empty plaintext has no text. On 0
-/// all of it is the sealed chunk. No memory is taken.
+/// Seals the next chunk in place: its text, 65,536 bytes or what is left if it is the last, and
+/// then 16 bytes for the tag. Only the last chunk of an empty plaintext has no text. On 0 all of it
+/// is the sealed chunk. It allocates nothing.
 ///
 /// # Errors
-/// 23 where the writer is not open, or the chunk has another length; 14 where there are 2^64 - 1
-/// chunks already, after which the writer takes no other. The chunk is as it was.
+/// 23 if the writer is not open, or the chunk has another length; 14 if there are 2^64 - 1 chunks
+/// already, after which the writer accepts no other. The chunk is unchanged.
 #[unsafe(no_mangle)]
 pub extern "C" fn agefile_writer_chunk(
     writer: &mut Writer,

@@ -1,4 +1,4 @@
-//! The program `agep`: `age_cli::run` on the words and the standard streams.
+//! The program `agep`: `age_cli::run` on the arguments and the standard streams.
 #![tactic(auto)]
 
 use std::process::ExitCode;
@@ -12,7 +12,7 @@ fn main(rt: HostRuntime) -> ExitCode {
     ExitCode::from(status)
 }
 
-/// The words of the command line, which have to be UTF-8.
+/// The arguments of the command line, which must be UTF-8.
 fn words(rt: &HostRuntime) -> io::Result<Vec<String>> {
     Ok(env::args(rt)?.collect(rt.alloc())?)
 }
@@ -33,7 +33,7 @@ fn run(rt: &HostRuntime, owned: &[String]) -> u8 {
     )
 }
 
-/// Says why there are no words to run.
+/// Prints why the arguments cannot be read.
 fn refuse(rt: &HostRuntime, kind: io::ErrorKind) -> u8 {
     if kind == io::ErrorKind::OutOfMemory {
         let _ = eprintln!(rt; "agep: out of memory");

@@ -1,4 +1,4 @@
-//! One recipient, one identity, and bytes in memory.
+//! Encrypting for one recipient and decrypting with one identity, in memory.
 
 ghost use Rattle.std.specs.Prelude.{◌≡◌, ℕ, List, [], ◌∷◌, Ok, IfOk, IfErr};
 ghost use Rattle.age_file.specs.AgeFile.{AgeFile};
@@ -11,7 +11,7 @@ use age_file::{
 };
 use std::alloc::Global;
 
-/// The age file of a plaintext for one recipient.
+/// Encrypts a plaintext for one recipient.
 ///
 /// # Errors
 /// Those of `encrypt`.
@@ -45,11 +45,11 @@ pub fn encrypted(
     }
 }
 
-/// The plaintext of a file for one identity.
+/// Decrypts a file with one identity.
 ///
 /// # Errors
-/// Those of `decrypt`; of a file that this identity reads whole, `OutOfMemory`, or `Write` where
-/// the allocation was the sink's.
+/// Those of `decrypt`; of a file that this identity reads whole, `OutOfMemory`, or `Write` if the
+/// allocation was the sink's.
 pub fn decrypted(
     alloc: Global,
     identity: Box<dyn Identity>,

@@ -1,5 +1,5 @@
-//! What is encrypted for the recipient of a pair comes back through its identity. The proofs use
-//! the contracts and laws of `age_file` alone.
+//! What is encrypted for the recipient of a pair is decrypted by its identity to the same
+//! plaintext. The proofs use the contracts and laws of `age_file` alone.
 #![tactic(auto)]
 
 mod file;

@@ -1,4 +1,4 @@
-//! There and back, for the pairs.
+//! Encrypting and decrypting, for the pairs.
 
 ghost use Rattle.std.specs.Prelude.{◌≡◌, IfOk, IfErr};
 ghost use Rattle.age_file.specs.Words.{IsFileKey};
@@ -24,13 +24,13 @@ pub enum Lost {
     Decrypting(Fault),
 }
 
-/// What `decrypt` gives of what `encrypt` made of a plaintext, for a pair's recipient and identity:
-/// that plaintext. A pair lends its two parts and a box owns what it holds, so the boxes are handed
-/// in beside the pair.
+/// Encrypts a plaintext for a pair's recipient and decrypts the file with its identity: the result
+/// is that plaintext. A pair lends its two parts and a box owns what it holds, so the boxes are
+/// passed in addition to the pair.
 ///
 /// # Errors
-/// `Encrypting` with a fault of `encrypt`; `Decrypting` with `OutOfMemory`, or with `Write` where
-/// the allocation was the sink's.
+/// `Encrypting` with a fault of `encrypt`; `Decrypting` with `OutOfMemory`, or with `Write` if the
+/// allocation was the sink's.
 pub fn there_and_back<M: Matched>(
     alloc: Global,
     pair: &M,
@@ -59,7 +59,7 @@ pub fn there_and_back<M: Matched>(
     }
 }
 
-/// A file key has sixteen bytes: its type says so, and here a contract.
+/// A file key has 16 bytes: its type says so, and here a contract.
 fn has_sixteen_bytes(key: FileKey)
     ensures { IsFileKey key }
 {

@@ -27,8 +27,8 @@ const OTHER_STANZA: &[u8] = b"-> x\n\n";
 
 const END: &[u8] = b"--- AAAAAAAAAAAAAAAAAAAAAAAAAAAAAAAAAAAAAAAAAAA\n";
 
-/// What a caller's identity makes of the stanzas, with the right identity behind it: what
-/// decrypting returns, and what it writes.
+/// What a caller's identity makes of the stanzas, with the right identity after it: what decrypting
+/// returns, and what it writes.
 #[test]
 fn callers_identity_decides_before_the_next(rt: HostRuntime) -> Result<(), Fail> {
     let alloc = rt.alloc();
@@ -210,8 +210,8 @@ fn x25519_file_has_no_match_for_a_passphrase(rt: HostRuntime) -> Result<(), Fail
     Ok(())
 }
 
-/// A passphrase stanza beside another is refused before any identity is asked; where it stands
-/// alone each is asked once.
+/// A passphrase stanza beside another is refused before any identity is asked; in place alone each
+/// is asked once.
 #[test]
 fn mixed_passphrase_asks_no_identity(rt: HostRuntime) -> Result<(), Fail> {
     let alloc = rt.alloc();

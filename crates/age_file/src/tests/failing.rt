@@ -14,8 +14,8 @@ use age_recipient::{KeyIdentity, KeyRecipient};
 use std::alloc::Global;
 use std::test::Fail;
 
-/// A sink over a slice of each length: it gets a beginning of the passphrase's file, as much as it
-/// has room for.
+/// A sink over a slice of each length: it gets a prefix of the passphrase's file, as much as it has
+/// room for.
 #[test]
 fn failing_sink_gets_a_beginning_of_the_file(rt: HostRuntime) -> Result<(), Fail> {
     let alloc = rt.alloc();
@@ -68,8 +68,8 @@ fn reads_until(
     Ok((source.reads, if failing == 0 { whole } else { failed }))
 }
 
-/// Decrypting two chunks, with each read failed in turn: a beginning of the plaintext is written,
-/// and nothing more is read.
+/// Decrypting two chunks, with each read failed in turn: a prefix of the plaintext is written, and
+/// nothing more is read.
 #[test]
 fn failing_read_leaves_a_beginning_of_the_plaintext(rt: HostRuntime) -> Result<(), Fail> {
     let alloc = rt.alloc();
@@ -90,7 +90,7 @@ fn failing_read_leaves_a_beginning_of_the_plaintext(rt: HostRuntime) -> Result<(
     Ok(())
 }
 
-/// A source of a plaintext that fails leaves a beginning of the file.
+/// A source of a plaintext that fails leaves a prefix of the file.
 #[test]
 fn failing_plaintext_leaves_a_beginning_of_the_file(rt: HostRuntime) -> Result<(), Fail> {
     let alloc = rt.alloc();

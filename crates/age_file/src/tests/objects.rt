@@ -49,7 +49,7 @@ impl Recipient for LongRecipient {
     }
 }
 
-/// Gives what the usual tool writes for an X25519 key, and a stanza of an unknown type behind it.
+/// Gives what the usual tool writes for an X25519 key, and a stanza of an unknown type after it.
 #[derive(Drop)]
 pub(super) struct X25519Shape;
 
@@ -189,7 +189,7 @@ impl Recipient for NoStanza {
     }
 }
 
-/// Gives a stanza of a passphrase's type behind another.
+/// Gives a stanza of a passphrase's type after another.
 #[derive(Drop)]
 pub(super) struct ScryptBesideAnother;
 

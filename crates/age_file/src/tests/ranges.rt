@@ -6,7 +6,7 @@ use std::alloc::Global;
 use std::process::Abort;
 use std::test::Fail;
 
-/// A file of so many bytes, each its place modulo 251, for the passphrase.
+/// A file of this many bytes, each its place modulo 251, for the passphrase.
 fn file_of(alloc: Global, len: usize) -> Result<Vec<u8>, Fail> {
     let mut plain = Vec::new(alloc);
     for at in 0..len {

@@ -124,7 +124,7 @@ fn refused_rewrap_writes_nothing(rt: HostRuntime) -> Result<(), Fail> {
     Ok(())
 }
 
-/// Each read and each write fails in turn: what was written is a beginning of the new file.
+/// Each read and each write fails in turn: what was written is a prefix of the new file.
 #[test]
 fn failing_devices_leave_a_beginning_of_the_rewrapped_file(rt: HostRuntime) -> Result<(), Fail> {
     let alloc = rt.alloc();

@@ -1,4 +1,4 @@
-//! A key's recipient and identity, which belong together.
+//! The recipient and the identity of one secret of 32 bytes.
 
 ghost use Rattle.std.specs.Prelude.{◌≡◌};
 ghost use Rattle.age_recipient.specs.Salt.{IsSalt};
@@ -16,7 +16,7 @@ pub struct KeyPair {
 }
 
 impl KeyPair {
-    /// The pair of this secret: a recipient with a salt, and an identity.
+    /// Makes the pair of this secret: a recipient with a salt of 16 bytes, and an identity.
     pub fn new(key: [u8; 32], salt: [u8; 16]) -> KeyPair
         ensures recipient { ⟦<KeyPair as Matched>⟧.the_recipient result
             ≡ record { key = key; salt = salt } }

@@ -1,4 +1,4 @@
-//! A key's recipient and identity.
+//! The recipient and the identity of a secret of 32 bytes.
 
 ghost use Rattle.std.specs.Prelude.{◌≡◌};
 ghost use Rattle.age_kdf.specs.Bytes.{Bytes};
@@ -13,7 +13,8 @@ use age_header::Stanza;
 use std::alloc::{AllocError, Global};
 use std::marker::Model;
 
-/// Wraps a file key under a secret of 32 bytes. The salt must be fresh for each file.
+/// Wraps a file key under a secret of 32 bytes, in a stanza of this project's own. The salt must be
+/// 16 random bytes, fresh for each file.
 #[derive(Drop)]
 pub struct KeyRecipient {
     key: [u8; 32],
@@ -29,7 +30,7 @@ impl Model for KeyRecipient {
 }
 
 impl KeyRecipient {
-    /// A recipient of this secret, with a salt.
+    /// Makes a recipient of this secret, with a salt.
     pub fn new(key: [u8; 32], salt: [u8; 16]) -> KeyRecipient
         ensures { result ≡ record { key = key; salt = salt } }
     {
@@ -53,8 +54,8 @@ impl Recipient for KeyRecipient {
     }
 }
 
-/// Unwraps a file key with a secret of 32 bytes. Of the stanzas of type `example.org/key`, the
-/// first that is malformed or that opens decides.
+/// Unwraps a file key with a secret of 32 bytes. The first stanza of type `example.org/key` that is
+/// malformed or that opens decides.
 #[derive(Drop)]
 pub struct KeyIdentity {
     key: [u8; 32],
@@ -70,7 +71,7 @@ impl Model for KeyIdentity {
 }
 
 impl KeyIdentity {
-    /// An identity of this secret.
+    /// Makes an identity of this secret.
     pub fn new(key: [u8; 32]) -> KeyIdentity
         ensures { result ≡ key }
     {

@@ -32,14 +32,14 @@ pub(crate) fn keyed_stanza(
 {
     let salt_text = base64_no_pad::encode(alloc, &base64_no_pad::engine(), salt)?;
     let body = seal_key(&wrap_key(key, salt), file_key);
-    // its arguments are visible texts, so only memory can be wanting
+    // its arguments are visible characters, so the only error is a refused allocation
     let Ok(stanza) = Stanza::new(alloc, &["example.org/key", salt_text.as_str()], &body) else {
         return Err(AllocError);
     };
     Ok(stanza)
 }
 
-/// What one stanza gives to a key.
+/// The answer of one stanza, for a key.
 pub(crate) fn keyed_answer(
     alloc: Global,
     key: &[u8; 32],
@@ -53,7 +53,7 @@ pub(crate) fn keyed_answer(
     }
 }
 
-/// What a keyed stanza gives, whose arguments behind the type are these.
+/// The answer of a keyed stanza whose arguments after the type are these.
 fn arguments_answer(
     alloc: Global,
     key: &[u8; 32],
@@ -72,7 +72,7 @@ fn arguments_answer(
     }
 }
 
-/// What a stanza with this salt gives.
+/// The answer of a stanza with this salt.
 fn salted_answer(key: &[u8; 32], body: &[u8], salt: &[u8; 16]) -> Unwrapped
     ensures { result ≡ salted_answer key.now body.now (Some salt.now) }
 {

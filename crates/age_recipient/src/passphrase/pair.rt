@@ -1,4 +1,4 @@
-//! A passphrase's recipient and identity, which belong together.
+//! The recipient and the identity of one passphrase.
 
 ghost use Rattle.std.specs.Prelude.{◌≡◌, IfOk, IfErr};
 ghost use Rattle.age_recipient.specs.PassphraseHolders.{IsPassError, PairFits};
@@ -21,11 +21,11 @@ pub struct PassPair {
 }
 
 impl PassPair {
-    /// The pair of this passphrase, any bytes: a recipient with a salt and a work factor, and an
-    /// identity with a maximum.
+    /// Makes the pair of this passphrase, which is any bytes: a recipient with a salt of 16 bytes
+    /// and a work factor, and an identity with a maximum work factor.
     ///
     /// # Errors
-    /// `WorkFactor` where `work` or `max` is not 1 to 30, or `work` is above `max`; else `Memory`.
+    /// `WorkFactor` if `work` or `max` is not 1 to 30, or `work` is above `max`; else `Memory`.
     pub fn new(
         alloc: Global,
         pass: &[u8],

@@ -1,4 +1,4 @@
-//! The passphrase's recipient and identity.
+//! The recipient and the identity of a passphrase.
 
 ghost use Rattle.std.specs.Prelude.{◌≡◌, Ok, IfOk, IfErr};
 ghost use Rattle.age_recipient.specs.PassphraseHolders.{IsPassError, WorkFits};
@@ -44,11 +44,11 @@ impl Model for PassRecipient {
 }
 
 impl PassRecipient {
-    /// A recipient of this passphrase, any bytes, with a salt and a work factor, the base-2
-    /// logarithm of scrypt's N.
+    /// Makes a recipient of this passphrase, which is any bytes, with a salt and a work factor, the
+    /// base-2 logarithm of scrypt's N (RFC 7914, section 2).
     ///
     /// # Errors
-    /// `WorkFactor` where `work` is not 1 to 30, else `Memory`.
+    /// `WorkFactor` if `work` is not 1 to 30, else `Memory`.
     pub fn new(
         alloc: Global,
         pass: &[u8],
@@ -94,8 +94,8 @@ impl Recipient for PassRecipient {
     }
 }
 
-/// Unwraps a file key with a passphrase. Of the stanzas of type `scrypt`, the first that is
-/// malformed or that opens decides.
+/// Unwraps a file key with a passphrase. The first stanza of type `scrypt` that is malformed or
+/// that opens decides.
 #[derive(Drop)]
 pub struct PassIdentity {
     pass: Vec<u8>,
@@ -113,10 +113,11 @@ impl Model for PassIdentity {
 }
 
 impl PassIdentity {
-    /// An identity of this passphrase, any bytes, which takes work factors of at most `max`.
+    /// Makes an identity of this passphrase, which is any bytes. It accepts work factors of at most
+    /// `max`.
     ///
     /// # Errors
-    /// `WorkFactor` where `max` is not 1 to 30, else `Memory`.
+    /// `WorkFactor` if `max` is not 1 to 30, else `Memory`.
     pub fn new(alloc: Global, pass: &[u8], max: u8) -> Result<PassIdentity, PassError>
         ensures ok { IfOk result (λ i. WorkFits max × (i ≡ record { pass = pass.now; max = max })) }
         ensures err { IfErr result (IsPassError (WorkFits max)) }

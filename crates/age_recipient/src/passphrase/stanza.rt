@@ -31,7 +31,7 @@ fn pass_key(alloc: Global, pass: &[u8], salt: &[u8; 16], work: u8) -> Result<[u8
     Ok(key)
 }
 
-/// The salt that scrypt gets.
+/// The salt of scrypt: the label, then the stanza's salt.
 fn labelled(salt: &[u8; 16]) -> [u8; 44]
     ensures { result ≡ LABEL.now ++ salt.now }
 {
@@ -58,7 +58,7 @@ pub(crate) fn pass_stanza(
     let salt_text = base64_no_pad::encode(alloc, &base64_no_pad::engine(), salt)?;
     let work_text = format!(in alloc; "{work}")?;
     let body = seal_key(&wrap_key, key);
-    // its arguments are visible texts, so only memory can be wanting
+    // its arguments are visible characters, so the only error is a refused allocation
     let Ok(stanza) = Stanza::new(
         alloc,
         &["scrypt", salt_text.as_str(), work_text.as_str()],
@@ -69,7 +69,7 @@ pub(crate) fn pass_stanza(
     Ok(stanza)
 }
 
-/// What one stanza gives to a passphrase. Everything about it is checked before scrypt is run.
+/// The answer of one stanza, for a passphrase. Its form is checked before scrypt is run.
 pub(crate) fn pass_answer(
     alloc: Global,
     pass: &[u8],
@@ -85,7 +85,7 @@ pub(crate) fn pass_answer(
     }
 }
 
-/// What a passphrase stanza gives, whose arguments behind the type are these.
+/// The answer of a passphrase stanza whose arguments after the type are these.
 fn arguments_answer(
     alloc: Global,
     pass: &[u8],
@@ -106,8 +106,8 @@ fn arguments_answer(
     }
 }
 
-/// What a stanza with this salt gives. Memory is taken, and scrypt run, only for a work factor and
-/// a body that are well formed.
+/// The answer of a stanza with this salt. It allocates, and runs scrypt, only if the work factor
+/// and the body are well formed.
 fn salted_answer(
     alloc: Global,
     pass: &[u8],

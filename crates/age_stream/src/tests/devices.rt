@@ -39,7 +39,7 @@ impl<'a> Source for Short<'a> {
     }
 }
 
-/// Takes pieces while there is room for so many bytes, and counts how often it is asked. Its
+/// Takes pieces while there is room for this many bytes, and counts how often it is asked. Its
 /// contents are not known to proofs.
 #[derive(Drop)]
 pub(super) struct Full {

@@ -10,7 +10,7 @@ use std::fs::File;
 use std::process::Abort;
 use std::test::Fail;
 
-/// Nine other bytes, and then the payload of so many bytes, each its place modulo 251.
+/// Nine other bytes, and then the payload of this many bytes, each its place modulo 251.
 fn payload_of(alloc: Global, len: usize) -> Result<Vec<u8>, Fail> {
     let plain = plain_of(alloc, len)?;
     let (_, payload) = written(alloc, plain.as_slice(), len)?;
@@ -19,7 +19,7 @@ fn payload_of(alloc: Global, len: usize) -> Result<Vec<u8>, Fail> {
     Ok(bytes)
 }
 
-/// Reads so many bytes from place `at` on into a buffer of bytes 255: what is returned, and how
+/// Reads this many bytes from place `at` on into a buffer of bytes 255: what is returned, and how
 /// many bytes of the plaintext are at the buffer's front; the others are still 255.
 fn range<T: Abort, D: ReadAt>(
     rt: &T,
@@ -59,7 +59,7 @@ const ROWS: [((u64, usize), usize, u64); 8] = [
     ((0, 0), 0, 4),
 ];
 
-/// Those ranges of the payload behind the first nine bytes.
+/// Those ranges of the payload after the first nine bytes.
 fn rows<T: Abort, D: ReadAt>(rt: &T, alloc: Global, dev: &mut D) -> Result<(), Fail> {
     let mut reader = RangeReader::open(alloc, &KEY, dev, 9, 3)?;
     assert_eq!(rt; reader.plain_len(), 140_000);
