@@ -6,7 +6,7 @@ ghost use Rattle.age_stream.specs.Reader.{opener_of, source_of};
 ghost use Rattle.age_stream.specs.Writer.{device_of, fault_of};
 ghost use Rattle.age_file.specs.AgeFile.{is_mixed};
 ghost use Rattle.age_file.specs.Inspect.{Inspects};
-ghost use Rattle.age_file.specs.Verdict.{unlocked};
+ghost use Rattle.age_file.specs.Verdict.{Answering, unlocked};
 ghost use Rattle.age_stream.specs.Sizes.{nonce_size};
 
 use crate::fault::Fault;
@@ -28,7 +28,8 @@ pub struct Decryptor<'a, S, H = Header> {
 }
 
 impl<'a, S: Source> Decryptor<'a, S> {
-    ghost use Rattle.age_file.specs.States.{MissesUnder, RefusesHeader, StartsUnder, header_of, input_of, limits_of};
+    ghost use Rattle.age_file.specs.States.{MissesUnder, RefusesHeader, StartsUnder};
+    ghost use Rattle.age_file.specs.States.{header_of, input_of, limits_of};
 
     /// A file with this header; the source returns the bytes after it.
     fn over(input: &'a mut S, header: Header, limits: &Limits) -> Decryptor<'a, S>
@@ -119,27 +120,26 @@ impl<'a, S: Source> Decryptor<'a, S> {
     ) -> Result<StreamReader<'a, S>, Refused<'a, S, Fault>>
         ensures same_reference { IfOk result
             (λ reader. (source_of reader).ghost_name ≡ (input_of self.entry).ghost_name) }
-        ensures starts { IfOk result (λ reader. StartsUnder (limits_of self.entry)
-            (unlocked (λ stanzas. map (λ i. meaning i stanzas) identities.now)
-            (header_of self.entry))
-            (S.to_come (input_of self.entry).now) (S.to_come (source_of reader).now)
-            (opener_of reader)) }
+        ensures starts { let answers : Answering =
+            λ stanzas. map (λ i. meaning i stanzas) identities.now in
+            IfOk result (λ reader. StartsUnder (limits_of self.entry)
+            (unlocked answers (header_of self.entry)) (S.to_come (input_of self.entry).now)
+            (S.to_come (source_of reader).now) (opener_of reader)) }
         ensures gave { IfOk result (λ reader. GaveAtMost nonce_size
             (S.to_come (input_of self.entry).now) (S.to_come (source_of reader).now)) }
         ensures uncounted { IfOk result
             (λ reader. S.failed (source_of reader).now ≡ S.failed (input_of self.entry).now) }
         ensures handed_back { IfErr result
             (λ refused. (device_of refused).ghost_name ≡ (input_of self.entry).ghost_name) }
-        ensures misses { IfErr result (λ refused. (((fault_of refused ≡ Fault.OutOfMemory)
-            ⊎ (unlocked (λ stanzas. map (λ i. meaning i stanzas) identities.now)
-            (header_of self.entry)
-            ≡ Err (fault_of refused)))
+        ensures misses { let answers : Answering =
+            λ stanzas. map (λ i. meaning i stanzas) identities.now in
+            let found = unlocked answers (header_of self.entry) in
+            IfErr result (λ refused. (((fault_of refused ≡ Fault.OutOfMemory)
+            ⊎ (found ≡ Err (fault_of refused)))
             × ((device_of refused).now ≡ (input_of self.entry).now))
-            ⊎ MissesUnder (limits_of self.entry) (unlocked
-            (λ stanzas. map (λ i. meaning i stanzas) identities.now) (header_of self.entry))
-            (S.to_come (input_of self.entry).now) (S.to_come (device_of refused).now)
-            (S.failed (input_of self.entry).now) (S.failed (device_of refused).now)
-            (fault_of refused)) }
+            ⊎ MissesUnder (limits_of self.entry) found (S.to_come (input_of self.entry).now)
+            (S.to_come (device_of refused).now) (S.failed (input_of self.entry).now)
+            (S.failed (device_of refused).now) (fault_of refused)) }
     {
         let Decryptor {
             input,
@@ -173,23 +173,20 @@ impl<'a, S: Source> Decryptor<'a, S> {
     ) -> Result<StreamReader<'a, S>, Fault>
         ensures same_reference { IfOk result
             (λ reader. (source_of reader).ghost_name ≡ (input_of self.entry).ghost_name) }
-        ensures starts { IfOk result (λ reader. StartsUnder (limits_of self.entry)
-            (unlocked (λ stanzas. map (λ i. meaning i stanzas) identities.now)
-            (header_of self.entry))
-            (S.to_come (input_of self.entry).now) (S.to_come (source_of reader).now)
-            (opener_of reader)) }
+        ensures starts { let answers : Answering =
+            λ stanzas. map (λ i. meaning i stanzas) identities.now in
+            IfOk result (λ reader. StartsUnder (limits_of self.entry)
+            (unlocked answers (header_of self.entry)) (S.to_come (input_of self.entry).now)
+            (S.to_come (source_of reader).now) (opener_of reader)) }
         ensures gave { IfOk result (λ reader. GaveAtMost nonce_size
             (S.to_come (input_of self.entry).now) (S.to_come (source_of reader).now)) }
         ensures uncounted { IfOk result
             (λ reader. S.failed (source_of reader).now ≡ S.failed (input_of self.entry).now) }
-        ensures misses { IfErr result (λ fault. ((fault ≡ Fault.OutOfMemory)
-            ⊎ (unlocked (λ stanzas. map (λ i. meaning i stanzas) identities.now)
-            (header_of self.entry)
-            ≡ Err fault))
-            ⊎ ((last : S)
-            × MissesUnder (limits_of self.entry) (unlocked
-            (λ stanzas. map (λ i. meaning i stanzas) identities.now)
-            (header_of self.entry))
+        ensures misses { let answers : Answering =
+            λ stanzas. map (λ i. meaning i stanzas) identities.now in
+            let found = unlocked answers (header_of self.entry) in
+            IfErr result (λ fault. ((fault ≡ Fault.OutOfMemory) ⊎ (found ≡ Err fault))
+            ⊎ ((last : S) × MissesUnder (limits_of self.entry) found
             (S.to_come (input_of self.entry).now) (S.to_come last)
             (S.failed (input_of self.entry).now) (S.failed last) fault)) }
     {

@@ -51,16 +51,15 @@ impl Encryptor {
         fresh: &Fresh,
         limits: &Limits,
     ) -> Result<Encryptor, Fault>
-        ensures ok { IfOk result (λ e. (e.fresh ≡ fresh.now) × (e.limits ≡ limits.now)
+        ensures ok { let given = Gathered (map (λ r. wraps r fresh.now.file_key) recipients.now)
+            (map (λ r. the_labels r) recipients.now) in
+            IfOk result (λ e. (e.fresh ≡ fresh.now) × (e.limits ≡ limits.now)
             × (e.header.mac ≡ header_mac fresh.now.file_key.0 e.header.stanzas)
             × ((text : Bytes)
-            × IsHeading limits.now fresh.now.file_key
-            (Gathered (map (λ r. wraps r fresh.now.file_key) recipients.now)
-            (map (λ r. the_labels r) recipients.now))
-            e.header.stanzas text)) }
-        ensures err { IfErr result (FailsHeading limits.now fresh.now.file_key
-            (Gathered (map (λ r. wraps r fresh.now.file_key) recipients.now)
-            (map (λ r. the_labels r) recipients.now))) }
+            × IsHeading limits.now fresh.now.file_key given e.header.stanzas text)) }
+        ensures err { let given = Gathered (map (λ r. wraps r fresh.now.file_key) recipients.now)
+            (map (λ r. the_labels r) recipients.now) in
+            IfErr result (FailsHeading limits.now fresh.now.file_key given) }
     {
         match header_for(alloc, recipients, &fresh.file_key, limits) {
             Ok(header) => Ok(Encryptor {

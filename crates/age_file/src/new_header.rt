@@ -27,14 +27,13 @@ pub fn header_for(
     key: &FileKey,
     limits: &Limits,
 ) -> Result<Header, Fault>
-    ensures ok { IfOk result (λ h. (h.mac ≡ header_mac key.now.0 h.stanzas)
-        × ((text : Bytes)
-        × IsHeading limits.now key.now (Gathered (map (λ r. wraps r key.now) recipients.now)
-        (map (λ r. the_labels r) recipients.now))
-        h.stanzas text)) }
-    ensures err { IfErr result (FailsHeading limits.now key.now
-        (Gathered (map (λ r. wraps r key.now) recipients.now)
-        (map (λ r. the_labels r) recipients.now))) }
+    ensures ok { let given = Gathered (map (λ r. wraps r key.now) recipients.now)
+        (map (λ r. the_labels r) recipients.now) in
+        IfOk result (λ h. (h.mac ≡ header_mac key.now.0 h.stanzas)
+        × ((text : Bytes) × IsHeading limits.now key.now given h.stanzas text)) }
+    ensures err { let given = Gathered (map (λ r. wraps r key.now) recipients.now)
+        (map (λ r. the_labels r) recipients.now) in
+        IfErr result (FailsHeading limits.now key.now given) }
 {
     let stanzas = match gather_stanzas(alloc, recipients, key) {
         Ok(stanzas) => stanzas,
@@ -64,9 +63,9 @@ fn gather_stanzas(
     recipients: &[Box<dyn Recipient>],
     key: &FileKey,
 ) -> Result<Vec<Stanza>, Fault>
-    ensures { Gathers (Gathered (map (λ r. wraps r key.now) recipients.now)
-        (map (λ r. the_labels r) recipients.now))
-        result }
+    ensures { let given = Gathered (map (λ r. wraps r key.now) recipients.now)
+        (map (λ r. the_labels r) recipients.now) in
+        Gathers given result }
 {
     let stanzas = match wrap_all(alloc, recipients, key) {
         Ok(stanzas) => stanzas,

@@ -4,6 +4,7 @@ ghost use Rattle.std.specs.Prelude.{◌≡◌, ◌+◌, ◌-◌, ◌≤◌, ℕ,
 ghost use Rattle.age_stream.specs.Ranges.{chunks_of, source_at_of};
 ghost use Rattle.age_file.specs.Device.{CountsRead};
 ghost use Rattle.age_file.specs.Ranges.{HasFront, IsOpenFault, IsRangesOf, MissesFront, MissesRanges};
+ghost use Rattle.age_file.specs.Verdict.{Answering};
 
 use crate::at_source::{AtSource, Origin};
 use crate::fault::Fault;
@@ -91,16 +92,18 @@ pub fn open_ranges<'a, D: ReadAt>(
     limits: &Limits,
 ) -> Result<RangeReader<'a, D>, Fault>
     ensures stay { IfOk result (λ reader. D.bytes (source_at_of reader).now ≡ D.bytes dev.old) }
-    ensures ranges { IfOk result (λ reader. IfSome (D.bytes dev.old) (λ b. IsRangesOf limits.now
-        (λ stanzas. map (λ i. meaning i stanzas) identities.now) b (chunks_of reader)
-        (D.given dev.old) (D.given (source_at_of reader).now))) }
+    ensures ranges { let answers : Answering =
+        λ stanzas. map (λ i. meaning i stanzas) identities.now in
+        IfOk result (λ reader. IfSome (D.bytes dev.old) (λ b. IsRangesOf limits.now answers b
+        (chunks_of reader) (D.given dev.old) (D.given (source_at_of reader).now))) }
     ensures kept { IfOk result (λ reader. ((chunks_of reader).index
         ≡ Some ((chunks_of reader).layout.count - 1))
         × ((chunks_of reader).opened ≡ 1)) }
     ensures uncounted { IfOk result
         (λ reader. D.failed (source_at_of reader).now ≡ D.failed dev.old) }
-    ensures misses { IfErr result (MissesRanges limits.now
-        (λ stanzas. map (λ i. meaning i stanzas) identities.now) (D.bytes dev.old)) }
+    ensures misses { let answers : Answering =
+        λ stanzas. map (λ i. meaning i stanzas) identities.now in
+        IfErr result (MissesRanges limits.now answers (D.bytes dev.old)) }
     ensures named { IfErr result IsOpenFault }
     ensures counted { IfErr result (λ fault. (last : D) × (D.bytes last ≡ D.bytes dev.old)
         × CountsRead {A = ℕ} (D.failed dev.old) (D.failed last) (Err fault)) }

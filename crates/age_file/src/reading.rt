@@ -4,6 +4,7 @@ ghost use Rattle.std.specs.Prelude.{◌⊎◌, map, IfErr};
 ghost use Rattle.std.specs.Io.KnownBytes.{Keeps};
 ghost use Rattle.age_file.specs.Decrypt.{Decrypts, Takes};
 ghost use Rattle.age_file.specs.Device.{CountsRead, CountsWrite, IsLate};
+ghost use Rattle.age_file.specs.Verdict.{Answering};
 
 use crate::fault::Fault;
 use crate::fault_names::stream_fault;
@@ -36,8 +37,9 @@ pub fn decrypt<S: Source, W: Sink>(
     identities: &[Box<dyn Identity>],
     limits: &Limits,
 ) -> Result<Done, Fault>
-    ensures answer { Decrypts limits.now (λ stanzas. map (λ i. meaning i stanzas) identities.now)
-        (S.to_come input.old) (W.taken out.old) (W.taken out.new) result }
+    ensures answer { let answers : Answering =
+        λ stanzas. map (λ i. meaning i stanzas) identities.now in
+        Decrypts limits.now answers (S.to_come input.old) (W.taken out.old) (W.taken out.new) result }
     ensures quiet { IfErr result
         (λ fault. IsLate fault ⊎ Keeps (W.taken out.old) (W.taken out.new)) }
     ensures reads { CountsRead (S.failed input.old) (S.failed input.new) result }

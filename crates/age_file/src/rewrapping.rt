@@ -5,6 +5,7 @@ ghost use Rattle.std.specs.Io.KnownBytes.{Keeps};
 ghost use Rattle.age_file.specs.Device.{CountsRead, CountsWrite, IsLate};
 ghost use Rattle.age_file.specs.NewFile.{Gathered};
 ghost use Rattle.age_file.specs.Rewrap.{Rewraps};
+ghost use Rattle.age_file.specs.Verdict.{Answering};
 
 use crate::copying::copy_all;
 use crate::fault::Fault;
@@ -34,8 +35,9 @@ pub fn rewrap<S: Source, W: Sink>(
     recipients: &[Box<dyn Recipient>],
     limits: &Limits,
 ) -> Result<(), Fault>
-    ensures answer { Rewraps limits.now (λ stanzas. map (λ i. meaning i stanzas) identities.now)
-        (λ key. Gathered (map (λ r. wraps r key) recipients.now)
+    ensures answer { let answers : Answering =
+        λ stanzas. map (λ i. meaning i stanzas) identities.now in
+        Rewraps limits.now answers (λ key. Gathered (map (λ r. wraps r key) recipients.now)
         (map (λ r. the_labels r) recipients.now))
         (S.to_come input.old) (W.taken out.old) (W.taken out.new) result }
     ensures quiet { IfErr result

@@ -40,20 +40,20 @@ pub fn encrypt<S: Source, W: Sink>(
     fresh: &Fresh,
     limits: &Limits,
 ) -> Result<Done, Fault>
-    ensures answer { EncryptsGiven limits.now fresh.now (Gathered
-        (map (λ r. wraps r fresh.now.file_key) recipients.now)
-        (map (λ r. the_labels r) recipients.now))
+    ensures answer { let given = Gathered (map (λ r. wraps r fresh.now.file_key) recipients.now)
+        (map (λ r. the_labels r) recipients.now) in
+        EncryptsGiven limits.now fresh.now given
         (S.to_come plain.old) (W.taken out.old) (W.taken out.new) result }
-    ensures refused { IfErr result (RefusesFirst limits.now fresh.now.file_key
-        (Gathered (map (λ r. wraps r fresh.now.file_key) recipients.now)
-        (map (λ r. the_labels r) recipients.now))) }
+    ensures refused { let given = Gathered (map (λ r. wraps r fresh.now.file_key) recipients.now)
+        (map (λ r. the_labels r) recipients.now) in
+        IfErr result (RefusesFirst limits.now fresh.now.file_key given) }
     ensures quiet { IfErr result
         (λ fault. IsLate fault ⊎ Keeps (W.taken out.old) (W.taken out.new)) }
     ensures reads { CountsRead (S.failed plain.old) (S.failed plain.new) result }
     ensures writes { CountsWrite (W.failed out.old) (W.failed out.new) result }
-    ensures took { IfErr result (TakesOf limits.now fresh.now
-        (Gathered (map (λ r. wraps r fresh.now.file_key) recipients.now)
-        (map (λ r. the_labels r) recipients.now))
+    ensures took { let given = Gathered (map (λ r. wraps r fresh.now.file_key) recipients.now)
+        (map (λ r. the_labels r) recipients.now) in
+        IfErr result (TakesOf limits.now fresh.now given
         (S.to_come plain.old) (S.to_come plain.new) (W.taken out.old) (W.taken out.new)) }
 {
     let header = header_for(alloc, recipients, &fresh.file_key, limits)?;

@@ -14,7 +14,8 @@ ghost use Rattle.age_header.specs.Verdict.{Found, HeaderVerdict, BeginsWith};
 /// Characters are decoded to exactly the bytes whose base64 they are, and bytes are encoded to
 /// their base64.
 pub fn one_base64()
-    ensures decoded { (characters bytes : Bytes) → (decoded characters ≡ Some bytes) ↔ B64 bytes characters }
+    ensures decoded { (characters bytes : Bytes)
+        → (decoded characters ≡ Some bytes) ↔ B64 bytes characters }
     ensures encoded { (bytes : Bytes) → IsBytes bytes → B64 bytes (base64_of bytes) }
 {}
 
