@@ -1,6 +1,6 @@
-/* Decrypts standard input to standard output, or encrypts it with -e, in constant memory: stream
- * [-e] KEY_FILE, whose 32 bytes are the key. What was written counts after status 0 alone. cc
- * -O2 -o stream stream.c $(pkg-config --cflags --libs agefile) */
+/* Decrypts standard input to standard output, or encrypts it with -e, in constant memory:
+ * stream [-e] KEY_FILE, whose 32 bytes are the key. Use the output only after status 0.
+ * cc -O2 -o stream stream.c $(pkg-config --cflags --libs agefile) */
 #include <agefile.h>
 #include <stdio.h>
 #include <string.h>
@@ -8,7 +8,7 @@
 
 static uint8_t buf[AGEFILE_SEALED_CHUNK + 1]; /* a sealed chunk, and a byte that tells whether it is the last */
 
-/* Whether a call ended well; else it says why on standard error. */
+/* Whether a call succeeded; otherwise it prints why on standard error. */
 static bool is_ok(uint32_t code, const agefile_report *report)
 {
     if (code != AGEFILE_OK)
@@ -16,8 +16,8 @@ static bool is_ok(uint32_t code, const agefile_report *report)
     return code == AGEFILE_OK;
 }
 
-/* Reads on behind the first `have` bytes of `buf`, up to `most`. Returns how many are there
- * then, fewer than `most` at the end. */
+/* Reads after the first `have` bytes of `buf`, up to `most`. Returns how many bytes `buf` then has,
+ * fewer than `most` at the end. */
 static size_t fill(size_t have, size_t most)
 {
     return have + fread(buf + have, 1, most - have, stdin);

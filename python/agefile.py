@@ -1,11 +1,13 @@
-"""Encrypts and decrypts age v1 files (age-encryption.org/v1) by the proved library libagefile.
+"""Encrypts and decrypts age v1 files (age-encryption.org/v1) with the proved library libagefile.
 
-encrypt, decrypt and inspect work on bytes. open returns a readable, seekable binary file over a path, and decrypts only the chunks that
-are read. Each takes a passphrase (bytes, or a str, which is encoded as UTF-8) or a key of 32 bytes. Whatever fails in the library
-raises AgeError.
+encrypt, decrypt and inspect work on bytes. open returns a readable, seekable binary file over the
+plaintext of the file at a path, and decrypts only the chunks that are read. encrypt, decrypt and
+open take a passphrase (bytes, or a str, which is encoded as UTF-8) or a key of 32 bytes. A fault
+that the library returns raises AgeError.
 
-The library is the file that the variable AGEFILE_LIBRARY names, else libagefile.so.0 where the loader finds it: ./install-library
-puts it under PREFIX/lib. Calls may run in any number of threads; the interpreter's lock is released while they run.
+The library is the file that the variable AGEFILE_LIBRARY names, otherwise libagefile.so.0 in the
+loader's path: ./install-library installs it under PREFIX/lib. Calls may run in any number of
+threads; the interpreter's lock is released while they run.
 """
 
 import builtins
@@ -51,7 +53,10 @@ _DETAILS = ("other", "argument count", "salt", "work factor", "work factor is to
 
 
 class AgeError(Exception):
-    """What a call of the library refused: its code (enum agefile_code of agefile.h), and the line or the chunk of the fault, else 0."""
+    """A fault that the library returned.
+
+    code is of enum agefile_code in agefile.h; place is the line or the chunk of the fault, else 0.
+    """
 
     def __init__(self, code, place=0, detail=0):
         text = _MESSAGES[code] if code < len(_MESSAGES) else "unknown code"
@@ -113,7 +118,7 @@ _library = _loaded()
 
 
 def _call(name, *arguments):
-    """Calls a function of the library with a report of its own, and returns the report."""
+    """Calls a function of the library with a new report, and returns the report."""
     report = _Report()
     code = getattr(_library, f"agefile_{name}")(*arguments, ctypes.byref(report))
     if code:
@@ -122,12 +127,12 @@ def _call(name, *arguments):
 
 
 def _bytes(data):
-    """The bytes of a bytes-like object. A number or a str is none."""
+    """The bytes of a bytes-like object; a number or a str is refused."""
     return data if isinstance(data, bytes) else bytes(memoryview(data))
 
 
 def _secret(passphrase, key, work):
-    """The end of a function's name, and the arguments that name the secret."""
+    """The end of a function's name, and the arguments that pass the secret."""
     if (passphrase is None) == (key is None):
         raise TypeError("give a passphrase or a key, and not both")
     if key is not None:
@@ -142,28 +147,31 @@ def _secret(passphrase, key, work):
 
 
 def _written(name, data, secret, room):
-    """Calls a function that fills a buffer of this room, and returns what it wrote."""
+    """Calls a function that fills a buffer of this size, and returns what it wrote."""
     out = ctypes.create_string_buffer(max(room, 1))
     report = _call(name, data, len(data), *secret, out, room)
     return ctypes.string_at(out, report.len)
 
 
 def encrypt(data, passphrase=None, key=None, work=WORK):
-    """Returns the age file of these bytes. The work factor is what each try to open a passphrase's file costs: 2^work KiB of memory."""
+    """Returns the age file of these bytes.
+
+    Each try to open a file with a passphrase costs 2^work KiB of memory.
+    """
     kind, secret = _secret(passphrase, key, work)
     data = _bytes(data)
     return _written(f"encrypt_{kind}", data, (*secret, os.urandom(48)), _library.agefile_sealed_len(len(data)))
 
 
 def decrypt(data, passphrase=None, key=None, max_work=MAX_WORK):
-    """Returns the plaintext of an age file, whole. The greatest work factor that is accepted is max_work."""
+    """Returns the whole plaintext of an age file. max_work is the greatest accepted work factor."""
     kind, secret = _secret(passphrase, key, max_work)
     data = _bytes(data)
     return _written(f"decrypt_{kind}", data, secret, _library.agefile_plain_len_at_most(len(data)))
 
 
 class Stanza(typing.NamedTuple):
-    """What one recipient left in a header: its arguments, the type being the first, and the length of its body."""
+    """One stanza of a header: its arguments, of which the first is the type, and its body's length."""
 
     args: list
     body_len: int
@@ -178,7 +186,10 @@ class Summary(typing.NamedTuple):
 
 
 def inspect(data):
-    """Returns the Summary of an age file's header. It needs no passphrase or key, and the file's first 65,552 bytes suffice."""
+    """Returns the Summary of an age file's header, without a passphrase or key.
+
+    The file's first 65,552 bytes suffice.
+    """
     front = bytes(memoryview(data)[:_FRONT])
     summary, stanza, args = _Summary(), _StanzaSummary(), ctypes.create_string_buffer(len(front) + 1)
     _call("inspect", front, len(front), ctypes.byref(summary))
@@ -191,14 +202,14 @@ def inspect(data):
 
 
 class _Plaintext(io.RawIOBase):
-    """The plaintext of a file, of which one chunk at a time is opened and kept."""
+    """The plaintext of a file. One chunk at a time is opened and kept."""
 
     def __init__(self, file, kind, secret):
         self._file = file
         self._at = 0
         self._ranges = _Ranges()
         self._chunk = ctypes.create_string_buffer(_SEALED_CHUNK)
-        # where in the plaintext the text begins that the chunk's buffer has
+        # the offset in the plaintext of the text in the chunk's buffer
         self._begin, self._text = 0, memoryview(b"")
         front = os.pread(file.fileno(), _FRONT, 0)
         length = os.fstat(file.fileno()).st_size
@@ -207,7 +218,7 @@ class _Plaintext(io.RawIOBase):
         self._len = _call("ranges_last", ctypes.byref(self._ranges), self._chunk, sealed).len
 
     def _sealed(self, report):
-        """Reads the sealed chunk that a report names into the buffer, and returns how many bytes there are."""
+        """Reads the sealed chunk that a report names into the buffer, and returns its length."""
         sealed = os.pread(self._file.fileno(), report.len, report.place)
         ctypes.memmove(self._chunk, sealed, len(sealed))
         return len(sealed)
@@ -257,8 +268,8 @@ class _Plaintext(io.RawIOBase):
 def open(path, passphrase=None, key=None, max_work=MAX_WORK):
     """Opens an age file for reading: a binary file over its plaintext, readable and seekable.
 
-    The last chunk is verified first, which proves where the file ends, and then each chunk as it is read. What lies in chunks
-    that are not read may be damaged. The file must not change while it is open.
+    The last chunk is verified first, which proves where the file ends, and then each chunk as it
+    is read. Chunks that are not read may be damaged. The file must not change while it is open.
     """
     kind, secret = _secret(passphrase, key, max_work)
     file = builtins.open(path, "rb", buffering=0)

@@ -3,14 +3,14 @@ use std::io;
 
 use crate::ffi::Report;
 
-/// What a call of the library refused.
+/// A fault that the library returned.
 #[derive(Clone, Copy, Debug, PartialEq, Eq)]
 pub struct Error {
-    /// A number of `enum agefile_code` in `agefile.h`.
+    /// A code of `enum agefile_code` in `agefile.h`.
     pub code: u32,
     /// The line or the chunk of the fault, else 0.
     pub place: u64,
-    /// Of a malformed stanza which part is malformed, from 1 up, else 0.
+    /// The malformed part of a malformed stanza, from 1 up, else 0.
     pub detail: u64,
 }
 
@@ -57,7 +57,7 @@ impl From<Error> for io::Error {
     }
 }
 
-/// The report of a call whose code is 0, else the error.
+/// The report of a call if its code is 0, otherwise the error.
 pub(crate) fn checked(code: u32, report: Report) -> Result<Report, Error> {
     match code {
         0 => Ok(report),

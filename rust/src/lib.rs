@@ -1,7 +1,8 @@
-//! Encrypts and decrypts age v1 files (`age-encryption.org/v1`) by the proved library `libagefile`.
+//! Encrypts and decrypts age v1 files (`age-encryption.org/v1`) with the proved library
+//! `libagefile`.
 //!
-//! [`encrypt`], [`decrypt`] and [`inspect`] work on bytes; a [`Reader`] and a [`Writer`] on streams of any size, in constant memory. There
-//! are no X25519 recipients and no ASCII armor.
+//! [`encrypt`], [`decrypt`] and [`inspect`] work on bytes; a [`Reader`] and a [`Writer`] on streams
+//! of any size, in constant memory. There are no X25519 recipients and no ASCII armor.
 //!
 //! ```no_run
 //! # fn main() -> std::io::Result<()> {
@@ -13,7 +14,8 @@
 //! # }
 //! ```
 //!
-//! What is proved of the library stands in the repository's `docs/C.md`. This crate is ordinary Rust: it is tested, not proved.
+//! The repository's `docs/C.md` says what is proved of the library. This crate is ordinary Rust: it
+//! is tested, not proved.
 
 mod error;
 mod ffi;
@@ -24,12 +26,13 @@ pub use error::Error;
 pub use stream::{Reader, Writer};
 pub use whole::{decrypt, encrypt, inspect, Stanza, Summary};
 
-/// With what a file is encrypted and decrypted.
+/// The secret of a file.
 #[derive(Clone, Copy)]
 pub enum Secret<'a> {
     /// 32 bytes that both sides hold.
     Key(&'a [u8; 32]),
-    /// A passphrase, the work factor of a new file, and the greatest work factor that is accepted of a file; each is 1 to 30.
+    /// A passphrase, the work factor of a new file, and the greatest accepted work factor of a file
+    /// that is read; both are 1 to 30.
     Passphrase { text: &'a [u8], work: u8, max_work: u8 },
 }
 

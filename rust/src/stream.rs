@@ -12,7 +12,8 @@ const TAG: usize = 16;
 const HEADER_ROOM: usize = 256;
 const OUT_OF_ORDER: u32 = 23;
 
-/// Reads on behind the first `have` bytes until the buffer is full or the source ends, and counts on.
+/// Reads after the first `have` bytes until the buffer is full or the source ends. Adds the bytes
+/// read to `have`.
 fn fill(source: &mut impl Read, buf: &mut [u8], have: &mut usize) -> io::Result<()> {
     while *have < buf.len() {
         match source.read(&mut buf[*have..]) {
@@ -25,14 +26,15 @@ fn fill(source: &mut impl Read, buf: &mut [u8], have: &mut usize) -> io::Result<
     Ok(())
 }
 
-/// The plaintext of an age file, chunk by chunk. Each byte that it returns was verified; that the plaintext ends there is known only
-/// after `Ok(0)`. After an error of the library each read returns an error.
+/// The plaintext of an age file, chunk by chunk. Each byte that it returns was verified. Only
+/// `Ok(0)` proves that the plaintext ends there. After an error of the library each read returns an
+/// error.
 pub struct Reader<R> {
     source: R,
     state: State,
     /// A chunk, sealed or opened, and the byte after it, which tells whether it is the last.
     buf: Box<[u8]>,
-    /// How many bytes of the next sealed chunk were read, and the first of them.
+    /// The number of bytes of the next sealed chunk that were read, and the first of them.
     sealed: usize,
     first: u8,
     /// The text in `buf` that was not returned yet.
@@ -47,7 +49,8 @@ impl<R: Read> Reader<R> {
         let mut have = 0;
         fill(&mut source, &mut buf[..FRONT], &mut have)?;
         let (mut state, mut report) = (State::default(), Report::default());
-        // SAFETY: each pointer and length belong to one slice or struct, none is null, and `state` and `report` are borrowed alone.
+        // SAFETY: each pointer and length belong to one slice or struct, none is null, and `state`
+        // and `report` are borrowed alone.
         let code = unsafe {
             match secret {
                 Secret::Key(key) => agefile_reader_open_key(buf.as_ptr(), have, key, &mut state, &mut report),
@@ -97,8 +100,8 @@ impl<R: Read> Read for Reader<R> {
     }
 }
 
-/// Encrypts what is written to it, chunk by chunk, to its sink. Without [`Writer::finish`] the file is cut short. After an error each
-/// call returns an error.
+/// Encrypts what is written to it, chunk by chunk, and writes it to its sink. Without
+/// [`Writer::finish`] the file is incomplete. After an error each call returns an error.
 pub struct Writer<W> {
     sink: W,
     state: State,
@@ -114,7 +117,8 @@ impl<W: Write> Writer<W> {
         let seed = fresh_seed()?;
         let mut header = [0; HEADER_ROOM];
         let (mut state, mut report) = (State::default(), Report::default());
-        // SAFETY: each pointer and length belong to one slice or struct, none is null, and what is written is borrowed alone.
+        // SAFETY: each pointer and length belong to one slice or struct, none is null, and what is
+        // written is borrowed alone.
         let code = unsafe {
             match secret {
                 Secret::Key(key) => {
@@ -146,7 +150,8 @@ impl<W: Write> Writer<W> {
         self.has_failed = true;
         let len = self.len + TAG;
         let mut report = Report::default();
-        // SAFETY: as in `new`; a text is at most TEXT_CHUNK bytes, so the length is at most the buffer's.
+        // SAFETY: as in `new`; a text is at most TEXT_CHUNK bytes, so the length is at most the
+        // buffer's.
         let code = unsafe { agefile_writer_chunk(&mut self.state, self.buf.as_mut_ptr(), len, is_last, &mut report) };
         checked(code, report)?;
         self.sink.write_all(&self.buf[..len])?;
@@ -174,7 +179,7 @@ impl<W: Write> Write for Writer<W> {
         Ok(n)
     }
 
-    /// Flushes the sink. The text of a chunk that is not full stays here.
+    /// Flushes the sink. The text of a chunk that is not full stays in the writer.
     fn flush(&mut self) -> io::Result<()> {
         self.sink.flush()
     }

@@ -5,24 +5,26 @@ use crate::error::{checked, Error};
 use crate::ffi::*;
 use crate::Secret;
 
-/// So many bytes of a file's front always hold its header and its payload's nonce.
+/// This many bytes from a file's start always hold its header and its payload's nonce.
 pub(crate) const FRONT: usize = 65552;
 
-/// 48 fresh random bytes, as each new file needs.
+/// 48 fresh random bytes, which each new file needs.
 pub(crate) fn fresh_seed() -> io::Result<[u8; 48]> {
     let mut seed = [0; 48];
     File::open("/dev/urandom")?.read_exact(&mut seed)?;
     Ok(seed)
 }
 
-/// The age file of these bytes. Besides the library's errors, which are an [`Error`] inside, reading `/dev/urandom` may fail.
+/// Encrypts these bytes to an age file. The error is the library's, an [`Error`] inside an
+/// [`std::io::Error`], or that of reading `/dev/urandom`.
 pub fn encrypt(plain: &[u8], secret: Secret) -> io::Result<Vec<u8>> {
     let seed = fresh_seed()?;
     let mut report = Report::default();
     // SAFETY: it takes and returns numbers.
     let room = unsafe { agefile_sealed_len(plain.len() as u64) };
     let mut out = vec![0; room as usize];
-    // SAFETY: each pointer and length belong to one slice or struct, none is null, and `out` and `report` are borrowed alone.
+    // SAFETY: each pointer and length belong to one slice or struct, none is null, and `out` and
+    // `report` are borrowed alone.
     let code = unsafe {
         match secret {
             Secret::Key(key) => {
@@ -46,7 +48,7 @@ pub fn encrypt(plain: &[u8], secret: Secret) -> io::Result<Vec<u8>> {
     Ok(out)
 }
 
-/// The plaintext of an age file, whole.
+/// Decrypts an age file to its whole plaintext.
 pub fn decrypt(file: &[u8], secret: Secret) -> Result<Vec<u8>, Error> {
     let mut report = Report::default();
     // SAFETY: it takes and returns numbers.
@@ -83,15 +85,16 @@ pub struct Summary {
     pub mac: [u8; 32],
 }
 
-/// What one recipient left in a header.
+/// One stanza of a header.
 #[derive(Clone, Debug, PartialEq, Eq)]
 pub struct Stanza {
-    /// The arguments, the type being the first.
+    /// The arguments; the first is the type.
     pub args: Vec<String>,
     pub body_len: u64,
 }
 
-/// The header of an age file, of which the first 65,552 bytes suffice. It needs no passphrase or key.
+/// Reads the header of an age file, of which the first 65,552 bytes suffice. It needs no passphrase
+/// or key.
 pub fn inspect(file: &[u8]) -> Result<Summary, Error> {
     let front = &file[..file.len().min(FRONT)];
     let (mut summary, mut report) = (crate::ffi::Summary::default(), Report::default());
