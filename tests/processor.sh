@@ -11,12 +11,13 @@ if ! grep -qw avx2 /proc/cpuinfo 2>/dev/null || ! python3 -c 'import hashlib; ha
 fi
 
 mkdir -p copy/crates
-cp "$root/agep" "$root/crates.txt" copy/
+cp "$root/agep" "$root/build.sh" "$root/crates.txt" copy/
 for folder in "$root"/crates/*/; do
     name=$(basename "$folder")
     mkdir "copy/crates/$name"
     for part in src specs proofs out; do
-        [[ -d $folder/$part ]] && cp -a "$folder/$part" "copy/crates/$name/$part"
+        # Another script may be building the library for C meanwhile, which isn't needed here.
+        [[ -d $folder/$part && $name/$part != agefile/out ]] && cp -a "$folder/$part" "copy/crates/$name/$part"
     done
 done
 AGEP_CPU=x86-64-v3 ./copy/agep --version >out 2>err
