@@ -1,8 +1,10 @@
 #!/usr/bin/env bash
-# The cipher crate beside openssl, in one run: MB/s of user time, best and median, in chunks of 64 KiB.
-# Usage: bench/cipher.sh [MIB] [ROUNDS] [CPU]. CPU is what the program is built for, as x86-64-v3; left out, the
-# toolchain's default. Rounds are interleaved, so that a busy machine slows both alike. Openssl runs twice: as it is, with all that
-# the processor has, and held to the instructions of the level that the program is built for.
+# The cipher crate beside openssl, in one run: MB/s of user time, best and median, in chunks of 64
+# KiB.
+# Usage: bench/cipher.sh [MIB] [ROUNDS] [CPU]. CPU is what the program is built for, as x86-64-v3;
+# left out, the toolchain's default. Rounds are interleaved, so that a busy machine slows both
+# alike. Openssl runs twice: as it is, with all that the processor has, and held to the instructions
+# of the level that the program is built for.
 set -euo pipefail
 mib=${1:-256}
 rounds=${2:-7}
@@ -18,8 +20,9 @@ if ! (cd "$bench" && rt run ${cpu:+--cpu "$cpu"} -- seal 1 7) > "$scratch/build"
 fi
 cp "$bench/out/cipher_bench" "$scratch/program"
 
-# Poly1305's loop multiplies four blocks in 25 vectors: 25 pmuludq where a register holds four words of 64 bits, 50
-# where it holds two. Where the compiler no longer sees that the factors have 32 bits, there are three times as many.
+# Poly1305's loop multiplies four blocks in 25 vectors: 25 pmuludq where a register holds four words
+# of 64 bits, 50 where it holds two. Where the compiler no longer sees that the factors have 32
+# bits, there are three times as many.
 multiplications=$(objdump -d --no-show-raw-insn "$scratch/program" |
     awk '/^[0-9a-f]+ <.*>:$/ { inside = /fours::whole_fours/ } inside && /pmuludq/ { n++ } END { print n + 0 }')
 if [[ $multiplications != 25 && $multiplications != 50 ]]; then
@@ -42,7 +45,8 @@ esac
 
 ours() { rate "$scratch/program" "$1" "$mib" 7; }
 
-# openssl speed reads the user time itself; the authenticator alone is no algorithm of its, so a file goes through it
+# openssl speed reads the user time itself; the authenticator alone is no algorithm of its, so a
+# file goes through it
 theirs() {
     case $1 in
         poly1305) rate openssl mac -macopt "hexkey:$(printf '07%.0s' {1..32})" -in "$scratch/zeros" POLY1305 ;;

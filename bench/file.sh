@@ -1,6 +1,7 @@
 #!/bin/bash
-# Whole files: how fast agep encrypts and decrypts with a key, beside age with an X25519 key where that is installed, in the same run;
-# and ten bytes by a range, beside agep's own decryption, since age has no ranges.
+# Whole files: how fast agep encrypts and decrypts with a key, beside age with an X25519 key where
+# that is installed, in the same run; and ten bytes by a range, beside agep's own decryption, since
+# age has no ranges.
 # Usage: bench/file.sh [MIB [RUNS]]
 set -eu
 mib=${1:-256}
@@ -15,7 +16,8 @@ cd "$work"
 head -c "$((mib << 20))" /dev/zero >plain
 head -c 32 /dev/urandom >key
 
-# The throughput of some runs of this command, the best and the median, with the most memory that one took.
+# The throughput of some runs of this command, the best and the median, with the most memory that
+# one took.
 measure() {
     local name=$1 run seconds kib most=0
     shift

@@ -1,7 +1,7 @@
 #!/bin/bash
-# Measures `agep inspect` on headers of 1, 4 and 16 MiB in four shapes: time, peak memory, system calls.
-# It needs GNU time, and strace for the last two columns. A machine that does other work at the same
-# time shows longer times: the processor's seconds are in the columns that end in "cpu".
+# Measures `agep inspect` on headers of 1, 4 and 16 MiB in four shapes: time, peak memory, system
+# calls. It needs GNU time, and strace for the last two columns. A machine that does other work at
+# the same time shows longer times: the processor's seconds are in the columns that end in "cpu".
 set -eu
 root=$(cd "$(dirname "$0")/.." && pwd -P)
 agep=$root/crates/agep/out/agep

@@ -1,6 +1,7 @@
 #!/bin/bash
-# A new header: how fast agep rewrap copies a file from one key to another, beside cat and dd of the same file, in the same run. Between two
-# files cat copies inside the kernel (copy_file_range); dd reads and writes pieces of 64 KiB, as rewrap does.
+# A new header: how fast agep rewrap copies a file from one key to another, beside cat and dd of the
+# same file, in the same run. Between two files cat copies inside the kernel (copy_file_range); dd
+# reads and writes pieces of 64 KiB, as rewrap does.
 # Usage: bench/rewrap.sh [MIB [RUNS]]
 set -eu
 mib=${1:-1024}
@@ -16,7 +17,8 @@ head -c 32 /dev/urandom >key
 head -c 32 /dev/urandom >new.key
 head -c "$((mib << 20))" /dev/zero | "$agep" encrypt -k key >old.age
 
-# Adds the seconds of one run of this command to the file NAME.times, and the KiB that it had resident to NAME.kib.
+# Adds the seconds of one run of this command to the file NAME.times, and the KiB that it had
+# resident to NAME.kib.
 measure() {
     local name=$1 seconds kib
     shift
@@ -26,7 +28,8 @@ measure() {
     echo "$kib" >>"$name.kib"
 }
 
-# The throughput of these runs, the best and the median, with the most memory that one took, and the ratio of the best to cat's.
+# The throughput of these runs, the best and the median, with the most memory that one took, and the
+# ratio of the best to cat's.
 show() {
     local kib best
     kib=$(sort -n "$1.kib" | tail -n 1)
@@ -36,7 +39,8 @@ show() {
             name, m / t[1], m / t[int((NR + 1) / 2)], k / 1024, (peer > 0 ? peer : 0.01) / t[1] }'
 }
 
-# In turn, and to standard output, since agep syncs the file that -o names to its device, and cat doesn't; then both with the sync.
+# In turn, and to standard output, since agep syncs the file that -o names to its device, and cat
+# doesn't; then both with the sync.
 for ((run = 0; run < runs; run++)); do
     measure rewrap sh -c 'exec "$0" rewrap -k key -K new.key old.age >rewrap.age' "$agep"
     measure cat sh -c 'exec cat old.age >cat.age'

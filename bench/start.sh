@@ -1,6 +1,8 @@
 #!/bin/bash
-# How long the program takes to start: `agep --version`, beside `age --version` where that is installed, in the same run.
-# Usage: bench/start.sh [STARTS [ROUNDS]]. Milliseconds a start, the least and the median of some rounds, which are interleaved.
+# How long the program takes to start: `agep --version`, beside `age --version` where that is
+# installed, in the same run.
+# Usage: bench/start.sh [STARTS [ROUNDS]]. Milliseconds a start, the least and the median of some
+# rounds, which are interleaved.
 set -eu
 starts=${1:-100}
 rounds=${2:-7}

@@ -1,5 +1,26 @@
-# Sourced by the scripts beside it that run the built program. Builds it, works in a folder of its own, counts checks.
+# Sourced by the scripts beside it, each of which first lists its groups, functions of the script
+# that run in any order. Reads the words: the names of the groups to run, none for all, or --list.
+# Then builds the program, unless `program` is none, and works in a folder of its own.
 set -u
+
+# Ends the script unless its words are right.
+read_words() {
+    local word
+    if [[ $* == --list ]]; then
+        printf '%s\n' "${groups[@]}"
+        exit 0
+    fi
+    for word in "$@"; do
+        if [[ " ${groups[*]} " != *" $word "* ]]; then
+            echo "$0: no group is named $word; the groups: ${groups[*]}" >&2
+            exit 2
+        fi
+    done
+}
+
+read_words "$@"
+wanted=("$@")
+[[ $# -gt 0 ]] || wanted=("${groups[@]}")
 root=$(cd "$(dirname "${BASH_SOURCE[0]}")/.." && pwd -P)
 data=$root/tests/data
 agep=$root/crates/agep/out/agep
@@ -12,7 +33,8 @@ cd "$work" || exit 1
 passed=0
 failed=0
 
-# Counts the last command's success, after the words that name what it shows. They have no $(..), whose status would count.
+# Counts the last command's success, after the words that name what it shows. They have no $(..),
+# whose status would count.
 check() {
     if [[ $? -eq 0 ]]; then
         passed=$((passed + 1))
@@ -27,6 +49,25 @@ check() {
 finish() {
     echo "$passed passed, $failed failed"
     [[ $failed -eq 0 ]]
+}
+
+# Runs `set_up`, where the script has it, and the groups that the words name; then finishes.
+run_groups() {
+    local group
+    if declare -F set_up >/dev/null; then
+        set_up
+    fi
+    for group in "${groups[@]}"; do
+        [[ " ${wanted[*]} " != *" $group "* ]] || "$group"
+    done
+    finish
+}
+
+# Ends the script, with no check made.
+skip() {
+    echo "skipped: $1"
+    finish
+    exit
 }
 
 # Runs the program on these words, and keeps its status and what it says.
@@ -45,7 +86,8 @@ has_ended() {
     has_said "$1" "$2" && [[ ! -s out ]]
 }
 
-# Runs the program on these words with standard output closed before it begins, as a pipe whose reader is gone.
+# Runs the program on these words with standard output closed before it begins, as a pipe whose
+# reader is gone.
 run_into_closed_pipe() {
     mkfifo go
     (
@@ -66,7 +108,8 @@ has_refuser() {
 }
 
 # Runs the program on these words with each allocation refused in turn, until a run meets none. Each
-# either says that memory is out and shows nothing, or got on with less and answers as ever; so does the last.
+# either says that memory is out and shows nothing, or got on with less and answers as ever; so does
+# the last.
 each_allocation() {
     local usual answer refused=0 ended=0
     "$agep" "$@" >out 2>err
@@ -87,7 +130,7 @@ each_allocation() {
     check "$refused allocations refused in turn, $ended times out of memory: ${*//$data\//}"
 }
 
-if ! "$root/agep" --version >/dev/null; then
+if [[ ${program-} != none ]] && ! "$root/agep" --version >/dev/null; then
     echo "0 passed, 1 failed"
     exit 1
 fi

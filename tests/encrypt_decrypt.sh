@@ -1,10 +1,15 @@
 #!/bin/bash
-# Runs `agep encrypt` and `agep decrypt` as built: the bytes that they write, their lines and statuses, the order of their
-# checks, and what their output holds after a fault. The last line is 'N passed, M failed'.
+# Runs `agep encrypt` and `agep decrypt` as built: the bytes that they write, their lines and
+# statuses, the order of their checks, and what their output holds after a fault. The words are
+# groups to run, none for all. The last line is 'N passed, M failed'.
+groups=(
+    sizes by_reference first_bytes defaults passphrases keys bad_headers cut_files damaged_files
+    order outputs words bounds spellings memory
+)
 source "$(dirname "$0")/checks.bash"
 
-# The files that all of this works with. The seed is the bytes 0 to 47, the key the first 32 of them.
-make_files() {
+# The files that all groups work with. The seed is the bytes 0 to 47, the key the first 32 of them.
+set_up() {
     local i
     for i in {0..47}; do
         printf '%b' "\\x$(printf %02x "$i")"
@@ -38,8 +43,8 @@ has_written_front() {
     has_said 1 "agep: $2" && [[ $(wc -c <out) == "$1" ]] && cmp -s -n "$1" out long
 }
 
-# Whether the file `plain`, encrypted with these words, makes a file of this size, and comes back from it with the
-# first two of them; by names and through pipes.
+# Whether the file `plain`, encrypted with these words, makes a file of this size, and comes back
+# from it with the first two of them; by names and through pipes.
 comes_back() {
     local size=$1
     shift
@@ -200,10 +205,11 @@ bad_headers() {
     for row in 'header is cut short|' 'header is cut short|age-enc' 'not an age file|age-encryption.org/v2\n' \
         'bad header line 2|age-encryption.org/v1\n->\n' "bad header line 2|age-encryption.org/v1\n--- $body\n" \
         "header is too large|$(cat long.line)" "header is cut short|$(head -c 1023 long.line)"; do
-        printf '%b' "${row#*|}" >made
+        text=${row#*|}
+        printf '%b' "$text" >made
         decrypt -k key -H 1024 made
         has_ended 1 "agep: ${row%%|*}"
-        check "decrypt: ${row%%|*}"
+        check "decrypt: ${row%%|*}: ${#text} characters, ${text:0:40}"
     done
     decrypt -p pass -H 65533 "$data/recipients_668.age"
     has_ended 1 "agep: header is too large"
@@ -229,7 +235,8 @@ cut_files() {
     check "the first sign of the MAC changed"
 }
 
-# A file of two chunks, damaged behind its header: what is written is the plaintext of the chunks before the damage.
+# A file of two chunks, damaged behind its header: what is written is the plaintext of the chunks
+# before the damage.
 damaged_files() {
     local row size front fault
     encrypt -p pass -w 10 -s seed -o whole two_chunks
@@ -403,7 +410,8 @@ run_in_little_memory() {
     )
 }
 
-# The least and the greatest number of each option. scrypt at the work factor 30 would take a TiB, and is refused it.
+# The least and the greatest number of each option. scrypt at the work factor 30 would take a TiB,
+# and is refused it.
 bounds() {
     local words
     encrypt -k key -s seed -o made hello
@@ -481,20 +489,4 @@ memory() {
     each_allocation decrypt -k key made
 }
 
-make_files
-sizes
-by_reference
-first_bytes
-defaults
-passphrases
-keys
-bad_headers
-cut_files
-damaged_files
-order
-outputs
-words
-bounds
-spellings
-memory
-finish
+run_groups

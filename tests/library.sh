@@ -1,12 +1,16 @@
 #!/bin/bash
-# Builds and installs the library for C, and runs it from C under sanitizers, from Python and from Rust: its names, its codes, each of its calls,
-# refused allocations, threads, memory, and files that go to the program and to `age` and back. The last line is 'N passed, M failed'.
+# Builds and installs the library for C, and runs it from C under sanitizers, from Python and from
+# Rust: its names, its codes, each of its calls, refused allocations, threads, memory, and files
+# that go to the program and to `age` and back. The words are groups to run, none for all; what is
+# installed and built for them is checked in any case. The last line is 'N passed, M failed'.
+groups=(
+    names languages constants buffers steps refuse second_compiler threads programs faults with_age
+    memory document python rust
+)
 source "$(dirname "$0")/checks.bash"
 
 if ! command -v cc >/dev/null || ! command -v objcopy >/dev/null; then
-    echo "skipped: the library for C, since there is no C compiler, or no objcopy"
-    finish
-    exit
+    skip "the library for C, since there is no C compiler, or no objcopy"
 fi
 prefix=$work/prefix
 header=$root/include/agefile.h
@@ -77,8 +81,6 @@ names() {
 
 languages() {
     local standard
-    echo '#include <agefile.h>
-int main(void) { return *agefile_message(agefile_sealed_len(0) == 0); }' >header.c
     for standard in c99 c11; do
         cc "${warnings[@]}" -std=$standard -fsyntax-only header.c
         check "the header is $standard"
@@ -112,7 +114,6 @@ number_of() {
 }
 
 constants() {
-    codes_of_crate >codes
     sed -nE 's/^    AGEFILE_([A-Z_]+) = ([0-9]+),?$/\1 \2/p' "$header" | sort | cmp -s - codes && [[ $(wc -l <codes) == 24 ]]
     check "the header's codes are the crate's"
     [[ $(sed -nE 's/^const MAX_HEADER: usize = ([0-9_]+);/\1/p' "$root/crates/agefile/src/bounds.rt") == 65_536 ]] &&
@@ -129,10 +130,9 @@ constants() {
     check "the lengths in Python and Rust are the crate's"
     [[ $(number_of "$header" AGEFILE_HEADER_ROOM) -ge $(number_of "$root/crates/agefile/src/sizes.rt" FRONT) ]]
     check "AGEFILE_HEADER_ROOM holds a header that is written, and a nonce"
-    messages_of_faults | sort -n >faults
     [[ $(wc -l <faults) == 20 ]]
     check "each fault of the library has a code and a message"
-    ./convert messages >all && sed -n 2,21p all | cmp -s - <(sed -E 's/ ?\{0\} ?/ /; s/:? ?\{[01]\}//; s/:? $//' faults)
+    sed -n 2,21p all | cmp -s - <(sed -E 's/ ?\{0\} ?/ /; s/:? ?\{[01]\}//; s/:? $//' faults)
     check "the header's messages are the program's"
 }
 
@@ -151,6 +151,8 @@ tests_of() {
 # Builds the C programs. Where there are no sanitizers they are built without.
 c_programs() {
     local sanitizers=("-fsanitize=address,undefined" -fno-sanitize-recover=all) wrapped name
+    echo '#include <agefile.h>
+int main(void) { return *agefile_message(agefile_sealed_len(0) == 0); }' >header.c
     if ! cc "${warnings[@]}" "${sanitizers[@]}" -o header header.c "$archive" 2>err; then
         echo "skipped: sanitizers, which this C compiler lacks"
         sanitizers=()
@@ -177,7 +179,20 @@ c_programs() {
     check "the example builds over libagefile.so"
 }
 
-# The archive as Rattle's own compiler makes it: a fault of one of the two compilers shows. The other archive then stands there again.
+buffers() {
+    tests_of buffers
+}
+
+steps() {
+    tests_of steps
+}
+
+refuse() {
+    tests_of refuse
+}
+
+# The archive as Rattle's own compiler makes it: a fault of one of the two compilers shows. The
+# other archive then stands there again.
 second_compiler() {
     local archives=$root/crates/agefile/out name
     cp -p "$archives/libagefile.a" kept.a
@@ -198,7 +213,8 @@ threads() {
     check "four threads at once, $kib KiB of 128 KiB of stack taken, no signal's handler changed"
 }
 
-# Whether a plaintext goes from the C calls to the program and back under this secret, in the same files where the seed is the same.
+# Whether a plaintext goes from the C calls to the program and back under this secret, in the same
+# files where the seed is the same.
 goes_both_ways() {
     local kind
     # shellcheck disable=SC2086
@@ -217,9 +233,6 @@ goes_both_ways() {
 
 programs() {
     local size secret
-    head -c 32 /dev/urandom >key
-    head -c 48 /dev/urandom >seed
-    printf 'correct horse' >pass
     for size in $sizes; do
         seq 100000 | head -c "$size" >plain
         for secret in "-k key" "-p pass -w 3"; do
@@ -366,21 +379,17 @@ rust() {
     check_shown "Rust's tests"
 }
 
-installs
-names
-languages
-c_programs
-constants
-tests_of buffers
-tests_of steps
-tests_of refuse
-second_compiler
-threads
-programs
-faults
-with_age
-memory
-document
-python
-rust
-finish
+# The library, the C programs over it, and the files that the groups work with: `faults` has the
+# messages of the crate, and `all` those of the header.
+set_up() {
+    installs
+    c_programs
+    codes_of_crate >codes
+    messages_of_faults | sort -n >faults
+    ./convert messages >all
+    head -c 32 /dev/urandom >key
+    head -c 48 /dev/urandom >seed
+    printf 'correct horse' >pass
+}
+
+run_groups

@@ -1,10 +1,15 @@
 #!/bin/bash
-# Checks that the compiler refuses each program of tests/must_not_compile/ before any proof: the first line of its file is `// ` and the
-# error's name. Each is checked as a crate of its own over a copy of the libraries' sources. The last line is 'N passed, M failed'.
-set -u
-root=$(cd "$(dirname "$0")/.." && pwd -P)
-work=$(mktemp -d)
-trap 'rm -rf "$work"' EXIT
+# Checks that the compiler refuses each program of tests/must_not_compile/ before any proof: the
+# first line of its file is `// ` and the error's name. Each is checked as a crate of its own over a
+# copy of the libraries' sources. The words are programs to check, none for all. The last line is 'N
+# passed, M failed'.
+mapfile -t groups < <(
+    for file in "$(dirname "$0")"/must_not_compile/*.txt; do
+        basename "$file" .txt
+    done
+)
+program=none
+source "$(dirname "$0")/checks.bash"
 libraries="age_cipher age_kdf age_header age_recipient age_stream age_file"
 
 # The folder of a workspace of the libraries and this program.
@@ -24,35 +29,24 @@ make_workspace() {
     cp "$root/tests/must_not_compile/$1.txt" "$folder/crates/refused/src/lib.rt"
 }
 
-# What the compiler says of this program. With no library built it reads all sources first, and stops at an error in them.
-check_program() {
+# What the compiler says of this program. With no library built it reads all sources first, and
+# stops at an error in them.
+compile() {
     make_workspace "$1"
     cd "$work/$1/crates/refused" || exit 1
     timeout 120 rt check >"$work/$1.said" 2>&1 </dev/null
     echo $? >"$work/$1.status"
 }
 
-programs=()
-for file in "$root"/tests/must_not_compile/*.txt; do
-    name=$(basename "$file" .txt)
-    programs+=("$name")
-    (check_program "$name") &
+for name in "${wanted[@]}"; do
+    (compile "$name") &
 done
 wait
-
-passed=0
-failed=0
-for name in "${programs[@]}"; do
-    wanted=$(sed -n '1s,^// ,,p' "$root/tests/must_not_compile/$name.txt")
-    names=$(grep -oE 'error\[[a-z0-9-]+\]' "$work/$name.said" | sort -u)
-    if [[ -n $wanted && $names == "$wanted" && $(cat "$work/$name.status") != 0 ]] &&
-        grep -q 'no library was built' "$work/$name.said"; then
-        passed=$((passed + 1))
-        echo "ok: $name is refused: $wanted"
-    else
-        failed=$((failed + 1))
-        echo "FAILED: $name: the compiler says ${names:-no error}, and not $wanted"
-    fi
+for name in "${wanted[@]}"; do
+    error=$(sed -n '1s,^// ,,p' "$root/tests/must_not_compile/$name.txt")
+    said=$(grep -oE 'error\[[a-z0-9-]+\]' "$name.said" | sort -u)
+    [[ -n $error && $said == "$error" && $(cat "$name.status") != 0 ]] &&
+        grep -q 'no library was built' "$name.said"
+    check "$name is refused: $error, and the compiler says ${said:-no error}"
 done
-echo "$passed passed, $failed failed"
-[[ $failed -eq 0 ]]
+finish

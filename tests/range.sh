@@ -1,10 +1,12 @@
 #!/bin/bash
-# Runs `agep range` as built: the bytes that it writes, its lines and statuses, the order of its checks, and what it reads.
-# The last line is 'N passed, M failed'.
+# Runs `agep range` as built: the bytes that it writes, its lines and statuses, the order of its
+# checks, and what it reads. The words are groups to run, none for all. The last line is
+# 'N passed, M failed'.
+groups=(slices damaged_chunks refusals great_file system_calls allocations)
 source "$(dirname "$0")/checks.bash"
 
-# The files that all of this works with. The seed is the bytes 0 to 47, the key the first 32 of them.
-make_files() {
+# The files that all groups work with. The seed is the bytes 0 to 47, the key the first 32 of them.
+set_up() {
     local i
     for i in {0..47}; do
         printf '%b' "\\x$(printf %02x "$i")"
@@ -38,7 +40,8 @@ has_written() {
     has_said 0 "" && cmp -s out expected
 }
 
-# Whether the run before ended with this fault, and wrote so many bytes of `plain` from this place on.
+# Whether the run before ended with this fault, and wrote so many bytes of `plain` from this place
+# on.
 has_written_front() {
     tail -c "+$(($2 + 1))" plain | head -c "$3" >expected
     has_said 1 "agep: $1" && cmp -s out expected
@@ -212,16 +215,13 @@ system_calls() {
     check "an empty range: the last chunk alone is read"
 }
 
-make_files
-slices
-damaged_chunks
-refusals
-great_file
-system_calls
-if has_refuser; then
+allocations() {
+    if ! has_refuser; then
+        echo "skipped: refused allocations, since there is no C compiler"
+        return
+    fi
     each_allocation range -p pass 65530 12 made
     each_allocation range -k key 65530 12 key.age
-else
-    echo "skipped: refused allocations, since there is no C compiler"
-fi
-finish
+}
+
+run_groups

@@ -1,10 +1,13 @@
 #!/bin/bash
-# Runs the commands of README.md's console blocks one after another as they stand there, in a folder that looks like the clone, and compares
-# what each prints. The gate itself is not run, and what a build says is left out. Compares its blocks of code with the example's source.
-# The last line is 'N passed, M failed'.
+# Runs the commands of README.md's console blocks one after another as they stand there, in a folder
+# that looks like the clone, and compares what each prints. The gate itself is not run, and what a
+# build says is left out. Compares its blocks of code with the example's source. The words are
+# groups to run, none for all. The last line is 'N passed, M failed'.
+groups=(commands code)
 source "$(dirname "$0")/checks.bash"
 
-# Writes each command to the file command.N, and what it is to print to printed.N. A line that ends with &&, | or \ goes on in the next.
+# Writes each command to the file command.N, and what it is to print to printed.N. A line that ends
+# with &&, | or \ goes on in the next.
 split() {
     awk '
         /^```console$/ { inside = 1; next }
@@ -32,7 +35,8 @@ session() {
         export TMPDIR=$work
         for ((n = 1; n <= count; n++)); do
             grep -q '^\.ci/run' "$work/command.$n" && continue
-            # Some versions of bash would end with the last command of a file that is sourced in a subshell.
+            # Some versions of bash would end with the last command of a file that is sourced in a
+            # subshell.
             echo : >>"$work/command.$n"
             # shellcheck disable=SC1090
             source "$work/command.$n" >"$work/got.$n" 2>&1 </dev/null
@@ -59,22 +63,25 @@ code() {
     done <"$root/README.md"
 }
 
-split
-count=$(find . -name 'command.*' | wc -l)
-[[ $count -ge 10 ]]
-check "the README has $count commands"
-mkdir -p bin clone
-ln -s "$agep" bin/agep
-ln -s "$root"/* clone/
-session
-for ((n = 1; n <= count; n++)); do
-    title=$(head -n 1 "command.$n")
-    if [[ $title == .ci/run ]]; then
-        echo "skipped: $title"
-        continue
-    fi
-    cmp -s "got.$n" "printed.$n"
-    check "as printed: $title"
-done
-code
-finish
+commands() {
+    local title
+    split
+    count=$(find . -name 'command.*' | wc -l)
+    [[ $count -ge 10 ]]
+    check "the README has $count commands"
+    mkdir -p bin clone
+    ln -s "$agep" bin/agep
+    ln -s "$root"/* clone/
+    session
+    for ((n = 1; n <= count; n++)); do
+        title=$(head -n 1 "command.$n")
+        if [[ $title == .ci/run ]]; then
+            echo "skipped: $title"
+            continue
+        fi
+        cmp -s "got.$n" "printed.$n"
+        check "as printed: $title"
+    done
+}
+
+run_groups

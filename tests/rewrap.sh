@@ -1,6 +1,11 @@
 #!/bin/bash
-# Runs `agep rewrap` as built: the bytes that it writes, its lines and statuses, the order of its checks, which files it refuses, and its
-# memory. The last line is 'N passed, M failed'.
+# Runs `agep rewrap` as built: the bytes that it writes, its lines and statuses, the order of its
+# checks, which files it refuses, and its memory. The words are groups to run, none for all. The
+# last line is 'N passed, M failed'.
+groups=(
+    rows sizes by_reference header_limit payloads refused_files order same_files shared_input outputs
+    syncs streaming memory
+)
 source "$(dirname "$0")/checks.bash"
 
 # A header of a key's stanza, and of a passphrase's stanza with a work factor of two digits.
@@ -9,8 +14,8 @@ passphrase_header=150
 chunk=65536
 sealed_chunk=65552
 
-# The files that all of this works with. The seed is the bytes 0 to 47, the key the first 32 of them.
-make_files() {
+# The files that all groups work with. The seed is the bytes 0 to 47, the key the first 32 of them.
+set_up() {
     local i
     for i in {0..47}; do
         printf '%b' "\\x$(printf %02x "$i")"
@@ -153,7 +158,8 @@ out.write(text + b" " + signs(mac) + b"\n")
 write_payload(out, file_key, nonce, [b"hello\n"], 0)' >long.age 2>/dev/null
 }
 
-# The greatest header, of the old file. The new one of a passphrase or key has at most 156 bytes, so no -H is too small for it.
+# The greatest header, of the old file. The new one of a passphrase or key has at most 156 bytes, so
+# no -H is too small for it.
 header_limit() {
     rewrap -p pass -K new.key -H 65533 "$data/recipients_668.age"
     has_ended 1 "agep: header is too large"
@@ -303,7 +309,8 @@ order() {
     check "status 2: -P is an option of rewrap alone"
 }
 
-# Whether these words, whose OUT is a file that is read, are refused with this line, and that file is as it was.
+# Whether these words, whose OUT is a file that is read, are refused with this line, and that file
+# is as it was.
 is_refused() {
     local file=$1 line=$2
     shift 2
@@ -446,7 +453,8 @@ is_small() {
     [[ $? -eq 0 && -n $1 && $1 -gt 0 && $1 -le 8192 ]]
 }
 
-# What comes in goes out at once, and takes no more memory where there is more of it. The great file's chunks are a hole.
+# What comes in goes out at once, and takes no more memory where there is more of it. The great
+# file's chunks are a hole.
 streaming() {
     local kib
     if ! python3 -c 'import hashlib, os; hashlib.scrypt, os.O_DIRECT' 2>/dev/null; then
@@ -492,18 +500,4 @@ memory() {
     each_allocation rewrap -k key -K new.key -s seed key.age
 }
 
-make_files
-rows
-sizes
-by_reference
-header_limit
-payloads
-refused_files
-order
-same_files
-shared_input
-outputs
-syncs
-streaming
-memory
-finish
+run_groups

@@ -1,15 +1,16 @@
 #!/bin/bash
-# Runs `agep encrypt` and `agep decrypt` as built, for what holds of a program that works chunk by chunk: what comes out while the
-# input is still fed, its memory, its system calls. The last line is 'N passed, M failed'.
+# Runs `agep encrypt` and `agep decrypt` as built, for what holds of a program that works chunk by
+# chunk: what comes out while the input is still fed, its memory, its system calls. The words are
+# groups to run, none for all. The last line is 'N passed, M failed'.
+groups=(lockstep early_leave memory equal_allocations system_calls pieces damaged_file)
 source "$(dirname "$0")/checks.bash"
 
 if ! python3 -c 'import hashlib, os; hashlib.scrypt, os.O_DIRECT' 2>/dev/null; then
-    echo "skipped: python3 is missing"
-    finish
-    exit
+    skip "python3 is missing"
 fi
 
-# A header of a key's stanza with the payload's nonce, and of a passphrase's stanza at the work factor 10.
+# A header of a key's stanza with the payload's nonce, and of a passphrase's stanza at the work
+# factor 10.
 key_front=172
 passphrase_front=166
 chunk=65536
@@ -19,8 +20,8 @@ feed() {
     "$root/tests/feed.py" "$@"
 }
 
-# The files that all of this works with. The seed is the bytes 0 to 47, the key the first 32 of them.
-make_files() {
+# The files that all groups work with. The seed is the bytes 0 to 47, the key the first 32 of them.
+set_up() {
     local i
     for i in {0..47}; do
         printf '%b' "\\x$(printf %02x "$i")"
@@ -107,14 +108,15 @@ equal_allocations() {
     check "decrypt: as many allocations for 65,537 bytes as for 1,000,000"
 }
 
-# How many of these calls on this descriptor moved fewer bytes than a chunk, besides the first so many and the last so many.
+# How many of these calls on this descriptor moved fewer bytes than a chunk, besides the first so
+# many and the last so many.
 small_calls() {
     sed -n "s/^$1($2, .* = \([0-9]*\)\$/\1/p" trace | head -n "-$4" | tail -n "+$(($3 + 1))" |
         awk -v chunk="$chunk" '$1 < chunk { n++ } END { print n + 0 }'
 }
 
-# The reads are whole chunks but for the last, the one that finds the end, and two of `decrypt`, for the header and for what is left of the
-# first chunk; the writes but for the header and the last.
+# The reads are whole chunks but for the last, the one that finds the end, and two of `decrypt`, for
+# the header and for what is left of the first chunk; the writes but for the header and the last.
 system_calls() {
     local line first
     for line in "encrypt -k key -s seed" "decrypt -k key"; do
@@ -131,7 +133,8 @@ system_calls() {
     done
 }
 
-# Sizes of plaintext, and the size and SHA-256 of the file that tests/reference.py makes of the first so many bytes of `long`.
+# Sizes of plaintext, and the size and SHA-256 of the file that tests/reference.py makes of the
+# first so many bytes of `long`.
 files="
 65535 65717 0b3fff0941906a1673ddcd09e3ad0dcf096825af910b8c7f0ba662fed8e29d6c
 65536 65718 d82e5077d71d938ae1aef225d6538052aa8e1131b249136a7d4d6916de49defd
@@ -162,7 +165,8 @@ pieces() {
     done <<<"$files"
 }
 
-# A file of three chunks, the first of them damaged.
+# A file of three chunks, the first of them damaged. Of that file the header, the nonce, the first
+# chunk and one byte are read at most.
 damaged_file() {
     run encrypt -p pass -w 10 -s seed long
     { head -c "$passphrase_front" out && printf '\xff' && tail -c "+$((passphrase_front + 2))" out; } >damaged
@@ -175,21 +179,8 @@ damaged_file() {
     } <damaged
     has_ended 1 "agep: chunk 0 is damaged"
     check "its first chunk is damaged, and nothing is written"
-}
-
-# Of that file the header, the nonce, the first chunk and one byte are read at most.
-unread() {
     [[ $(cat unread) -ge 65568 ]]
     check "the damaged file: at least 65,568 bytes unread"
 }
 
-make_files
-lockstep
-early_leave
-memory
-equal_allocations
-system_calls
-pieces
-damaged_file
-unread
-finish
+run_groups

@@ -1,6 +1,9 @@
 #!/bin/bash
-# Compares what tells users of the program with the built program: the texts of help, the manual page, the completions, the change log and
-# ./install; and the planted bugs that docs/PROMISES.md names with those that are there. The last line is 'N passed, M failed'.
+# Compares what tells users of the program with the built program: the texts of help, the manual
+# page, the completions, the change log and ./install; and the planted bugs that docs/PROMISES.md
+# names with those that are there. The words are groups to run, none for all. The last line is
+# 'N passed, M failed'.
+groups=(helps examples manual completions versions installs planted_bugs)
 source "$(dirname "$0")/checks.bash"
 
 # The commands that help shows, but for help itself.
@@ -16,7 +19,7 @@ options_of() {
 # Help fits a terminal of 80 columns, and ends with the statuses and examples.
 helps() {
     local command
-    for command in "$@" ''; do
+    for command in "${all[@]}" ''; do
         # shellcheck disable=SC2086
         run $command --help
         has_said 0 "" && ! LC_ALL=C grep -q '.\{81\}' out && ! LC_ALL=C grep -q '[^ -~]' out
@@ -47,7 +50,7 @@ examples() {
         cp notes folder/
         head -c 1200000 /dev/zero >disk
     )
-    for command in "$@"; do
+    for command in "${all[@]}"; do
         (
             cd scratch || exit 1
             rm -rf x ./*.age
@@ -78,7 +81,7 @@ manual() {
     local command
     section SYNOPSIS >synopsis
     section OPTIONS >described
-    for command in "$@"; do
+    for command in "${all[@]}"; do
         awk -v command="agep $command" '/^\.B agep/ { shown = ($0 == ".B " command) } shown' synopsis |
             grep -oE -- '-[a-zA-Z]\b' | sort >got
         options_of "$command" | grep -v -e '^--' -e '^-h$' >expected
@@ -86,7 +89,7 @@ manual() {
         check "the manual page's synopsis has the options of $command"
     done
     grep -E '^\.BR -[a-zA-Z] ", " --' described | grep -oE -- '--?[a-zA-Z][a-z-]*' | sort >got
-    { for command in "$@" ''; do options_of "$command"; done; } | sort -u >expected
+    { for command in "${all[@]}" ''; do options_of "$command"; done; } | sort -u >expected
     cmp -s got expected
     check "the manual page describes each option once, by its letter and its name"
     grep -q "\"agep $version\"" "$root/agep.1"
@@ -136,7 +139,7 @@ completions() {
     check "the file for zsh has the commands"
     sed -n 's/.*__fish_use_subcommand -f -a \([a-z]*\) .*/\1/p' "$root/completions/agep.fish" | grep -vx help | sort | cmp -s - expected
     check "the file for fish has the commands"
-    for command in "$@"; do
+    for command in "${all[@]}"; do
         options_of "$command" >expected
         [[ -s expected ]] && by_bash agep "$command" - | cmp -s - expected
         check "bash offers the options of $command"
@@ -218,14 +221,11 @@ planted_bugs() {
     check "docs/PROMISES.md names each planted bug"
 }
 
-mapfile -t all < <(commands)
-[[ ${#all[@]} -ge 4 ]]
-check "help shows the commands"
-helps "${all[@]}"
-examples "${all[@]}"
-manual "${all[@]}"
-completions "${all[@]}"
-versions
-installs
-planted_bugs
-finish
+# The names of all commands.
+set_up() {
+    mapfile -t all < <(commands)
+    [[ ${#all[@]} -ge 4 ]]
+    check "help shows the commands"
+}
+
+run_groups

@@ -409,8 +409,8 @@ fn scrypt_overwrites_its_work_space(rt: HostRuntime) -> Result<(), AllocError> {
     Ok(())
 }
 
-/// The output is written, or is unchanged where the work space is refused. tests/steps.sh refuses
-/// it.
+/// The output is written, or is unchanged where the work space is refused.
+/// tests/refused_allocations.sh refuses it.
 #[test]
 fn scrypt_whole_or_out_of_memory(rt: HostRuntime) {
     let Some(params) = ScryptParams::new(4, 1, 1) else {

@@ -1,7 +1,7 @@
 #!/usr/bin/env python3
 """Decrypts files that were cut at each place, or changed at each place, and headers of great size, by the built program.
 
-usage: tests/damage.py AGEP
+usage: tests/damaged_files.py AGEP GROUP..
 
 Each line of a table is one check: what the program says at each of its places, and that it writes what stands before the damage and
 no more. A place at which it says something else is printed. The last line is 'N passed, M failed'.
@@ -205,11 +205,9 @@ def main():
     with open("passphrase", "wb") as passphrase:
         passphrase.write(PASSPHRASE)
     checks = Checks(sys.argv[1])
-    passphrase_file(checks)
-    keyed_file(checks)
-    file_with_another_stanza(checks)
-    two_chunks(checks)
-    great_headers(checks)
+    for group in (passphrase_file, keyed_file, file_with_another_stanza, two_chunks, great_headers):
+        if group.__name__ in sys.argv[2:]:
+            group(checks)
     print(f"{checks.passed} passed, {checks.failed} failed")
     return checks.failed > 0
 

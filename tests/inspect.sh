@@ -1,6 +1,11 @@
 #!/bin/bash
-# Runs the built program for what no proof says: what `inspect` prints, its lines and statuses, real files, pipes, devices,
-# its system calls, and the scripts ./agep and ./install. The last line is 'N passed, M failed'.
+# Runs the built program for what no proof says: what `inspect` prints, its lines and statuses, real
+# files, pipes, devices, its system calls, and the scripts ./agep and ./install. The words are
+# groups to run, none for all. The last line is 'N passed, M failed'.
+groups=(
+    tables bad_lines no_headers limits words real_files header_check devices devices_in_midstream
+    memory allocations system_calls scripts
+)
 source "$(dirname "$0")/checks.bash"
 
 inspect() {
@@ -243,8 +248,9 @@ devices() {
     check "a word that is no UTF-8"
 }
 
-# Whether the program, run on these words with the header as its input, says that a write failed while there is less room on
-# standard output than for its whole output, and ends well where there is just enough. It writes one byte at a time.
+# Whether the program, run on these words with the header as its input, says that a write failed
+# while there is less room on standard output than for its whole output, and ends well where there
+# is just enough. It writes one byte at a time.
 writes_to_its_end() {
     local room size=$1
     shift
@@ -359,17 +365,4 @@ scripts() {
     check "./install puts the program into PREFIX/bin"
 }
 
-tables
-bad_lines
-no_headers
-limits
-words
-real_files
-header_check
-devices
-devices_in_midstream
-memory
-allocations
-system_calls
-scripts
-finish
+run_groups

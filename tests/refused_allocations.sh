@@ -1,12 +1,13 @@
 #!/bin/bash
-# Runs tests of the libraries, as built, with each allocation refused in turn: scrypt, the calls in steps, and ranges. Each call succeeds or is
-# out of memory. The last line is 'N passed, M failed'.
+# Runs tests of the libraries, as built, with each allocation refused in turn: scrypt, the calls in
+# steps, and ranges. Each call succeeds or is out of memory. The words are groups to run, none for
+# all. The last line is 'N passed, M failed'.
+groups=(scrypt steps_and_ranges)
+program=none
 source "$(dirname "$0")/checks.bash"
 
 if ! has_refuser; then
-    echo "skipped: refused allocations, since there is no C compiler"
-    finish
-    exit
+    skip "refused allocations, since there is no C compiler"
 fi
 
 # Runs this test of a crate until a run meets no refusal, after at least so many that did.
@@ -24,6 +25,12 @@ each_refusal() {
     check "$crate: $name with $refused allocations refused in turn"
 }
 
-each_refusal age_kdf tests::scrypt_whole_or_out_of_memory 1
-each_refusal age_file tests::failing::whole_or_out_of_memory 20
-finish
+scrypt() {
+    each_refusal age_kdf tests::scrypt_whole_or_out_of_memory 1
+}
+
+steps_and_ranges() {
+    each_refusal age_file tests::failing::whole_or_out_of_memory 20
+}
+
+run_groups

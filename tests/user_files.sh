@@ -1,10 +1,14 @@
 #!/bin/bash
-# Runs the built program for what keeps a user's files: what becomes of an OUT that was there, which files are refused to be both read
-# and written, modes, syncing, and names in messages. The last line is 'N passed, M failed'.
+# Runs the built program for what keeps a user's files: what becomes of an OUT that was there, which
+# files are refused to be both read and written, modes, syncing, and names in messages. The words
+# are groups to run, none for all. The last line is 'N passed, M failed'.
+groups=(
+    refused_work interrupted_work done_work other_outputs same_files shared_input modes syncs names
+)
 source "$(dirname "$0")/checks.bash"
 
-# The files that all of this works with. The seed is the bytes 0 to 47, the key the first 32 of them.
-make_files() {
+# The files that all groups work with. The seed is the bytes 0 to 47, the key the first 32 of them.
+set_up() {
     local i
     for i in {0..47}; do
         printf '%b' "\\x$(printf %02x "$i")"
@@ -97,7 +101,8 @@ interrupted_work() {
     done
 }
 
-# What an OUT held is gone with the first byte of output, or where the work has ended well with none.
+# What an OUT held is gone with the first byte of output, or where the work has ended well with
+# none.
 done_work() {
     make_out_file
     run encrypt -k key -s seed -o out_file hello
@@ -136,7 +141,8 @@ other_outputs() {
     check "a pipe as OUT, by the name /dev/stdout"
 }
 
-# Whether these words, whose OUT is a file that is read, are refused with this line, and that file is as it was.
+# Whether these words, whose OUT is a file that is read, are refused with this line, and that file
+# is as it was.
 is_refused() {
     local file=$1 line=$2
     shift 2
@@ -315,7 +321,8 @@ syncs() {
     check "after a fault OUT is not synced"
 }
 
-# Control characters of a name are escaped: a line stays one line, and the terminal gets none of them.
+# Control characters of a name are escaped: a line stays one line, and the terminal gets none of
+# them.
 names() {
     local row name line
     for row in 'a\nb|a\\nb' 'a\rb|a\\rb' 'a\tb|a\\tb' '\x1b[31mred\x1b[m|\\x1b[31mred\\x1b[m' '\x01\x02|\\x01\\x02' \
@@ -340,14 +347,4 @@ names() {
     check "OUT is also IN, and one line"
 }
 
-make_files
-refused_work
-interrupted_work
-done_work
-other_outputs
-same_files
-shared_input
-modes
-syncs
-names
-finish
+run_groups
