@@ -39,7 +39,8 @@ pub fn decrypt<S: Source, W: Sink>(
 ) -> Result<Done, Fault>
     ensures answer { let answers : Answering =
         λ stanzas. map (λ i. meaning i stanzas) identities.now in
-        Decrypts limits.now answers (S.to_come input.old) (W.taken out.old) (W.taken out.new) result }
+        Decrypts limits.now answers
+        (S.to_come input.old) (W.taken out.old) (W.taken out.new) result }
     ensures quiet { IfErr result
         (λ fault. IsLate fault ⊎ Keeps (W.taken out.old) (W.taken out.new)) }
     ensures reads { CountsRead (S.failed input.old) (S.failed input.new) result }
