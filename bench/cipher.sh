@@ -1,10 +1,9 @@
 #!/usr/bin/env bash
-# The cipher crate beside openssl, in one run: MB/s of user time, best and median, in chunks of 64
-# KiB.
-# Usage: bench/cipher.sh [MIB] [ROUNDS] [CPU]. CPU is what the program is built for, as x86-64-v3;
-# left out, the toolchain's default. Rounds are interleaved, so that a busy machine slows both
-# alike. Openssl runs twice: as it is, with all that the processor has, and held to the instructions
-# of the level that the program is built for.
+# Compares the cipher crate with openssl in one run: MB/s of user time, best and median, in chunks
+# of 64 KiB. Usage: bench/cipher.sh [MIB] [ROUNDS] [CPU]. CPU is the level to build for, such as
+# x86-64-v3; the default is the toolchain's. Rounds are interleaved, so that a busy machine slows
+# both alike. Openssl runs twice: with all instructions of the processor, and limited to those of
+# the level that the program is built for.
 set -euo pipefail
 mib=${1:-256}
 rounds=${2:-7}

@@ -1,7 +1,7 @@
 #!/bin/bash
-# Whole files: how fast agep encrypts and decrypts with a key, beside age with an X25519 key where
-# that is installed, in the same run; and ten bytes by a range, beside agep's own decryption, since
-# age has no ranges.
+# Whole files: the rates at which agep encrypts and decrypts with a key, compared with age and an
+# X25519 key if age is installed, in the same run. Also the time of a range of ten bytes, compared
+# with agep's own decryption, since age has no ranges.
 # Usage: bench/file.sh [MIB [RUNS]]
 set -eu
 mib=${1:-256}

@@ -1,6 +1,7 @@
 #!/bin/bash
-# The steps of the library for C: how fast its example c/stream.c encrypts and decrypts with a key,
-# beside agep in the same run. Both are built for the same processor, and write to /dev/null.
+# The steps of the library for C: the rates at which its example c/stream.c encrypts and decrypts
+# with a key, compared with agep in the same run. Both are built for the same processor, and write
+# to /dev/null.
 # Usage: bench/library.sh [MIB [RUNS]]
 set -eu
 mib=${1:-512}

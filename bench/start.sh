@@ -1,8 +1,7 @@
 #!/bin/bash
-# How long the program takes to start: `agep --version`, beside `age --version` where that is
-# installed, in the same run.
-# Usage: bench/start.sh [STARTS [ROUNDS]]. Milliseconds a start, the least and the median of some
-# rounds, which are interleaved.
+# The time that the program takes to start: `agep --version`, compared with `age --version` if that
+# is installed, in the same run. Usage: bench/start.sh [STARTS [ROUNDS]]. Prints milliseconds a
+# start, the least and the median of interleaved rounds.
 set -eu
 starts=${1:-100}
 rounds=${2:-7}

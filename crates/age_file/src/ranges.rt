@@ -24,8 +24,8 @@ struct Front<'a, D> {
     at: u64,
 }
 
-/// Reads the header at the start of a source. The ghost arguments are its contents and the number
-/// of bytes that had been read.
+/// Reads the header at the start of a source. `K` has the source's contents, and the number of
+/// bytes that had been read from it before.
 fn front_of<'a, D: ReadAt, K: Origin>(
     alloc: Global,
     dev: &'a mut D,
