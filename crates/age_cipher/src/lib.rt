@@ -21,6 +21,8 @@ mod limb_lanes;
 mod limbs;
 mod poly1305;
 mod poly1305_fours;
+#[cfg(test)]
+mod test_vectors;
 
 pub use crate::aead::{MAX_TEXT, open_in_place, seal_in_place};
 pub use crate::chacha20::chacha20_xor;
