@@ -30,9 +30,17 @@ pub record Made (limits : Bounds) (k : FileKey) (given : Result (List StanzaPart
   pub stanzas : List StanzaParts
   pub heading : IsHeading limits k given stanzas text
 
-pub made : (limits : Bounds) (k : FileKey) (given : Result (List StanzaParts) Fault → Type 0) (stanzas : List StanzaParts) (mac text written : List ℕ)
-    → mac ≡ header_mac k.0 stanzas → IsHeading limits k given stanzas text → Head stanzas mac written → Made limits k given written
-made limits k given stanzas mac text written is heading head =
+-- what `header_for` says of the header that it made
+abbrev pub HeaderMade : Bounds → FileKey → (Result (List StanzaParts) Fault → Type 0) → List StanzaParts → List ℕ → Type 0
+HeaderMade limits k given stanzas mac = (mac ≡ header_mac k.0 stanzas) × ((text : List ℕ) × IsHeading limits k given stanzas text)
+
+-- what `write_front` says of the text of that header, `Puts` being what it wrote
+abbrev pub FrontWritten : List StanzaParts → List ℕ → (List ℕ → Type 0) → Type 0
+FrontWritten stanzas mac Puts = (text : List ℕ) × Head stanzas mac text × Puts text
+
+pub made : (limits : Bounds) (k : FileKey) (given : Result (List StanzaParts) Fault → Type 0) (stanzas : List StanzaParts) (mac written : List ℕ)
+    → HeaderMade limits k given stanzas mac → Head stanzas mac written → Made limits k given written
+made limits k given stanzas mac written (is, (text, heading)) head =
     let same : text ≡ written = one_text stanzas (header_mac k.0 stanzas) text written heading.head (subst (λ (m : List ℕ). Head stanzas m written) is head) in
     record { stanzas = stanzas; heading = subst (λ (t : List ℕ). IsHeading limits k given stanzas t) same heading }
 
@@ -48,9 +56,10 @@ encrypts_refused limits fresh given None old new = ([], tt)
 encrypts_refused limits fresh given (Some plain) old new = tt
 
 -- a beginning of the header and the nonce was written
-pub encrypts_begun : (limits : Bounds) (fresh : Fresh) (given : Result (List StanzaParts) Fault → Type 0) (text : List ℕ) (from old new : Option (List ℕ))
-    → Made limits fresh.file_key given text → WritesPart old new (text ++ fresh.nonce) → EncryptsGiven limits fresh given from old new (Err Write)
-encrypts_begun limits fresh given text from old new m part =
+pub encrypts_begun : (limits : Bounds) (fresh : Fresh) (given : Result (List StanzaParts) Fault → Type 0) (stanzas : List StanzaParts) (mac : List ℕ) (from old new : Option (List ℕ))
+    → HeaderMade limits fresh.file_key given stanzas mac → FrontWritten stanzas mac (λ text. WritesPart old new (text ++ fresh.nonce)) → EncryptsGiven limits fresh given from old new (Err Write)
+encrypts_begun limits fresh given stanzas mac from old new header (text, head, part) =
+    let m = made limits fresh.file_key given stanzas mac text header head in
     let plain = may-some from in
     let front : List ℕ = text ++ fresh.nonce in
     let rest : List ℕ = concat (sealed_chunks fresh.file_key fresh.nonce plain.0) in
@@ -115,7 +124,7 @@ cut_short limits fresh given text plain a b c m front many rest =
     )
 
 -- a sealer that was just made
-pub from_start : (s : SealerState) (key : List ℕ) (m max : ℕ) (from to b c : Option (List ℕ)) (r : Result Done StreamFault) → s ≡ at_start key m → m ≡ max → IfNone s.fault (SealsAll s from to b c r) → SealsAll (at_start key max) from to b c r
+from_start : (s : SealerState) (key : List ℕ) (m max : ℕ) (from to b c : Option (List ℕ)) (r : Result Done StreamFault) → s ≡ at_start key m → m ≡ max → IfNone s.fault (SealsAll s from to b c r) → SealsAll (at_start key max) from to b c r
 from_start s key m max from to b c r is same h = subst (λ n. SealsAll (at_start key n) from to b c r) same (subst (λ x. IfNone x.fault (SealsAll x from to b c r)) is h)
 
 -- of a clause of a sealer that was just made, what it says where no fault is kept
@@ -123,7 +132,7 @@ pub just_made : (P : Type 0) (s : SealerState) (key : List ℕ) (m : ℕ) → s 
 just_made P s key m is h = subst (λ (x : SealerState). IfNone x.fault P) is h
 
 -- the payload after the header and the nonce
-pub encrypts_payload : (limits : Bounds) (fresh : Fresh) (given : Result (List StanzaParts) Fault → Type 0) (text : List ℕ) (from to a b c : Option (List ℕ)) (r : Result Done StreamFault) → length fresh.nonce ≡ 16
+encrypts_payload : (limits : Bounds) (fresh : Fresh) (given : Result (List StanzaParts) Fault → Type 0) (text : List ℕ) (from to a b c : Option (List ℕ)) (r : Result Done StreamFault) → length fresh.nonce ≡ 16
     → Made limits fresh.file_key given text → Appends a b (text ++ fresh.nonce) → SealsAll (at_start (payload_key fresh.file_key fresh.nonce) limits.max_chunks) from to b c r
     → EncryptsGiven limits fresh given from a c (file_result r)
 encrypts_payload limits fresh given text from to a b c (Ok done) sixteen m front (plain, may, rest, fits, bytes, count) =
@@ -143,20 +152,30 @@ encrypts_payload limits fresh given text from to a b c (Err fault) sixteen m fro
     go (stream.EmptyFinal i) h = absurd h
     go (stream.BadChunk i) h = absurd h
 
+-- the header, the nonce and the payload, by the sealer that was just made
+pub encrypts_sealed : (limits : Bounds) (fresh : Fresh) (given : Result (List StanzaParts) Fault → Type 0) (stanzas : List StanzaParts) (mac : List ℕ) (from to a b c : Option (List ℕ)) (s : SealerState) (max : ℕ) (r : Result Done StreamFault)
+    → HeaderMade limits fresh.file_key given stanzas mac → FrontWritten stanzas mac (λ text. Appends a b (text ++ fresh.nonce)) → length fresh.nonce ≡ 16
+    → s ≡ at_start (payload_key fresh.file_key fresh.nonce) max → max ≡ limits.max_chunks → IfNone s.fault (SealsAll s from to b c r) → EncryptsGiven limits fresh given from a c (file_result r)
+encrypts_sealed limits fresh given stanzas mac from to a b c s max r header (text, head, front) sixteen is same seals =
+    encrypts_payload limits fresh given text from to a b c r sixteen (made limits fresh.file_key given stanzas mac text header head) front
+    (from_start s (payload_key fresh.file_key fresh.nonce) max limits.max_chunks from to b c r is same seals)
+
 -- ---- what was taken
 
-pub takes_begun : (limits : Bounds) (fresh : Fresh) (given : Result (List StanzaParts) Fault → Type 0) (text : List ℕ) (from old new : Option (List ℕ)) → Made limits fresh.file_key given text
-    → WritesPart old new (text ++ fresh.nonce) → TakesOf limits fresh given from from old new Write
-takes_begun limits fresh given text from old new m part = record {
-  stanzas = m.stanzas;
-  text = text;
-  heading = m.heading;
-  written = take part.0 (text ++ fresh.nonce);
-  gained = part.1;
-  n = 0;
-  whole = omega arith;
-  gave = ([], Consumes-nil from, omega arith);
-}
+pub takes_begun : (limits : Bounds) (fresh : Fresh) (given : Result (List StanzaParts) Fault → Type 0) (stanzas : List StanzaParts) (mac : List ℕ) (from old new : Option (List ℕ))
+    → HeaderMade limits fresh.file_key given stanzas mac → FrontWritten stanzas mac (λ text. WritesPart old new (text ++ fresh.nonce)) → TakesOf limits fresh given from from old new Write
+takes_begun limits fresh given stanzas mac from old new header (text, head, part) =
+    let m = made limits fresh.file_key given stanzas mac text header head in
+    record {
+      stanzas = m.stanzas;
+      text = text;
+      heading = m.heading;
+      written = take part.0 (text ++ fresh.nonce);
+      gained = part.1;
+      n = 0;
+      whole = omega arith;
+      gave = ([], Consumes-nil from, omega arith);
+    }
 
 took : (limits : Bounds) (fresh : Fresh) (given : Result (List StanzaParts) Fault → Type 0) (text : List ℕ) (from to a b c : Option (List ℕ)) (chunk : ℕ) (fault : StreamFault) → length fresh.nonce ≡ 16
     → Made limits fresh.file_key given text → Appends a b (text ++ fresh.nonce) → Stopped (payload_key fresh.file_key fresh.nonce) limits.max_chunks 0 chunk [] from to b c fault
@@ -175,7 +194,7 @@ took limits fresh given text from to a b c chunk fault sixteen m front s gave =
       gave = (gave.0, gave.1, omega (arith, gave.2));
     }
 
-pub takes_payload : (limits : Bounds) (fresh : Fresh) (given : Result (List StanzaParts) Fault → Type 0) (text : List ℕ) (from to a b c : Option (List ℕ)) (fault : StreamFault) → length fresh.nonce ≡ 16
+takes_payload : (limits : Bounds) (fresh : Fresh) (given : Result (List StanzaParts) Fault → Type 0) (text : List ℕ) (from to a b c : Option (List ℕ)) (fault : StreamFault) → length fresh.nonce ≡ 16
     → Made limits fresh.file_key given text → Appends a b (text ++ fresh.nonce) → SealsAll (at_start (payload_key fresh.file_key fresh.nonce) limits.max_chunks) from to b c (Err fault)
     → TakesOf limits fresh given from to a c (of_stream fault)
 takes_payload limits fresh given text from to a b c stream.Read sixteen m front s = tt
@@ -212,3 +231,10 @@ refuses_none limits fresh given from to b c stream.NonceTruncated h = absurd h.1
 refuses_none limits fresh given from to b c (stream.ChunkShort i) h = absurd h.1.stops
 refuses_none limits fresh given from to b c (stream.EmptyFinal i) h = absurd h.1.stops
 refuses_none limits fresh given from to b c (stream.BadChunk i) h = absurd h.1.stops
+
+pub takes_sealed : (limits : Bounds) (fresh : Fresh) (given : Result (List StanzaParts) Fault → Type 0) (stanzas : List StanzaParts) (mac : List ℕ) (from to a b c : Option (List ℕ)) (s : SealerState) (max : ℕ) (fault : StreamFault)
+    → HeaderMade limits fresh.file_key given stanzas mac → FrontWritten stanzas mac (λ text. Appends a b (text ++ fresh.nonce)) → length fresh.nonce ≡ 16
+    → s ≡ at_start (payload_key fresh.file_key fresh.nonce) max → max ≡ limits.max_chunks → IfNone s.fault (SealsAll s from to b c (Err fault)) → TakesOf limits fresh given from to a c (of_stream fault)
+takes_sealed limits fresh given stanzas mac from to a b c s max fault header (text, head, front) sixteen is same seals =
+    takes_payload limits fresh given text from to a b c fault sixteen (made limits fresh.file_key given stanzas mac text header head) front
+    (from_start s (payload_key fresh.file_key fresh.nonce) max limits.max_chunks from to b c (Err fault) is same seals)

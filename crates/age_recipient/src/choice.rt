@@ -58,14 +58,9 @@ fn first_decided(
 {
     let mut rest = Unwrapped::NotMine;
     for identity in identities {
-        match ask(alloc, identity, stanzas)? {
-            Unwrapped::NotMine => continue,
-            Unwrapped::Failed => {
-                rest = Unwrapped::Failed;
-                continue;
-            }
-            Unwrapped::Key(key) => return Ok(Unwrapped::Key(key)),
-            Unwrapped::Malformed(fault) => return Ok(Unwrapped::Malformed(fault)),
+        match rest.and_then(ask(alloc, identity, stanzas)?) {
+            Ok(next) => rest = next,
+            Err(decision) => return Ok(decision),
         }
     }
     Ok(rest)

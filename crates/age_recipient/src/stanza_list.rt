@@ -34,14 +34,9 @@ pub(crate) fn first_opened<O: Opener>(
 {
     let mut rest = Unwrapped::NotMine;
     for stanza in stanzas {
-        match opener.open(alloc, stanza)? {
-            Unwrapped::NotMine => continue,
-            Unwrapped::Failed => {
-                rest = Unwrapped::Failed;
-                continue;
-            }
-            Unwrapped::Key(key) => return Ok(Unwrapped::Key(key)),
-            Unwrapped::Malformed(fault) => return Ok(Unwrapped::Malformed(fault)),
+        match rest.and_then(opener.open(alloc, stanza)?) {
+            Ok(next) => rest = next,
+            Err(decision) => return Ok(decision),
         }
     }
     Ok(rest)

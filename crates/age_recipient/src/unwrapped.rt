@@ -1,3 +1,6 @@
+ghost use Rattle.std.specs.Prelude.{◌≡◌, List, ◌∷◌, IfOk, IfErr};
+ghost use Rattle.age_recipient.specs.Answer.{decided_from};
+
 use crate::key::FileKey;
 use thiserror::Error;
 
@@ -34,4 +37,23 @@ pub enum Unwrapped {
     Key(FileKey),
     /// A stanza of its type is malformed.
     Malformed(StanzaFault),
+}
+
+impl Unwrapped {
+    /// What this answer and the next one make together.
+    ///
+    /// # Errors
+    /// The next one where it decides: no later answer counts then.
+    pub(crate) fn and_then(self, next: Unwrapped) -> Result<Unwrapped, Unwrapped>
+        ensures continues { IfOk result (λ both.
+            (more : List Unwrapped) → decided_from self (next ∷ more) ≡ decided_from both more) }
+        ensures decides { IfErr result (λ decision.
+            (more : List Unwrapped) → decided_from self (next ∷ more) ≡ decision) }
+    {
+        match next {
+            Unwrapped::NotMine => Ok(self),
+            Unwrapped::Failed => Ok(next),
+            Unwrapped::Key(_) | Unwrapped::Malformed(_) => Err(next),
+        }
+    }
 }

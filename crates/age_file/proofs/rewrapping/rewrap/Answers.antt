@@ -34,21 +34,19 @@ returns-in-Err-write_header-clause-answer g c =
     let given = λ (key : FileKey). Gathered (map (λ r. (goal.Recipient-dyn g (r.vtable, r.value)).wraps r.value key) c.args.recipients.now)
     (map (λ r. (goal.Recipient-dyn g (r.vtable, r.value)).the_labels r.value) c.args.recipients.now) in
     let answers = λ (stanzas : List StanzaParts). map (λ i. (goal.Identity-dyn g (i.vtable, i.value)).meaning i.value stanzas) c.args.identities.now in
-    let heading = c.in-Ok-header_for.ensures.ok in
     let wrote = c.in-Err-write_header.ensures.text in
     begun_rewraps c.args.limits.now answers given _ _ _ _ c.in-Ok.header c.in-Ok-unlock_header.key wrote.0 (headed _ _ _ _ c.in-Ok.ensures.verdict)
-    (key_found answers c.in-Ok.header _ c.in-Ok-unlock_header.ensures.key) (made _ _ (given c.in-Ok-unlock_header.key) _ _ _ wrote.0 heading.0 heading.1.1 wrote.1) wrote.2
+    (key_found answers c.in-Ok.header _ c.in-Ok-unlock_header.ensures.key) (made _ _ (given c.in-Ok-unlock_header.key) _ _ wrote.0 c.in-Ok-header_for.ensures.ok wrote.1) wrote.2
 
 pub returns-clause-answer : goal.returns-clause-answer
 returns-clause-answer g c =
     let given = λ (key : FileKey). Gathered (map (λ r. (goal.Recipient-dyn g (r.vtable, r.value)).wraps r.value key) c.args.recipients.now)
     (map (λ r. (goal.Recipient-dyn g (r.vtable, r.value)).the_labels r.value) c.args.recipients.now) in
     let answers = λ (stanzas : List StanzaParts). map (λ i. (goal.Identity-dyn g (i.vtable, i.value)).meaning i.value stanzas) c.args.identities.now in
-    let heading = c.in-Ok-header_for.ensures.ok in
     let wrote = c.in-Ok-write_header.ensures.text in
     copied_rewraps c.args.limits.now answers given _ (g.S.Source.to_come c.inspect.new.input) _ (g.W.Sink.taken c.write_header.new.out) _ c.in-Ok.header c.in-Ok-unlock_header.key wrote.0
     c.copy_all.result (headed _ _ _ _ c.in-Ok.ensures.verdict) (key_found answers c.in-Ok.header _ c.in-Ok-unlock_header.ensures.key)
-    (made _ _ (given c.in-Ok-unlock_header.key) _ _ _ wrote.0 heading.0 heading.1.1 wrote.1) wrote.2 c.copy_all.ensures.copies
+    (made _ _ (given c.in-Ok-unlock_header.key) _ _ wrote.0 c.in-Ok-header_for.ensures.ok wrote.1) wrote.2 c.copy_all.ensures.copies
 
 pub returns-clause-quiet : goal.returns-clause-quiet
 returns-clause-quiet g c = copies_late _ _ _ _ c.copy_all.result c.copy_all.ensures.copies
