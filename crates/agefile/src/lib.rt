@@ -31,8 +31,6 @@ mod sizes;
 mod start;
 mod state;
 #[cfg(test)]
-mod step_tests;
-#[cfg(test)]
 mod tests;
 pub mod there_and_back;
 mod writer;

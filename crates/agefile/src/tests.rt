@@ -1,6 +1,8 @@
 //! Each export over whole buffers once where it succeeds and where it fails, which no contract says
 //! to happen.
 
+mod steps;
+
 use crate::decrypting::{agefile_decrypt_key, agefile_decrypt_passphrase};
 use crate::encrypting::{agefile_encrypt_key, agefile_encrypt_passphrase};
 use crate::inspecting::{StanzaSummary, Summary, agefile_inspect, agefile_stanza};

@@ -1,5 +1,6 @@
 //! The steps of a whole file once where they succeed, and where each call is refused.
 
+use super::{KEY, SEED, front};
 use crate::decrypting::agefile_decrypt_key;
 use crate::encrypting::{agefile_encrypt_key, agefile_encrypt_passphrase};
 use crate::reader::{
@@ -9,12 +10,9 @@ use crate::report::Report;
 use crate::writer::{
     Writer, agefile_writer_chunk, agefile_writer_open_key, agefile_writer_open_passphrase,
 };
+use std::alloc::Global;
 use std::process::Abort;
 use std::test::Fail;
-
-const KEY: [u8; 32] = [4; 32];
-
-const SEED: [u8; 48] = [7; 48];
 
 fn reader() -> Reader {
     Reader {
@@ -32,14 +30,6 @@ fn writer() -> Writer {
     }
 }
 
-/// The first bytes of a buffer.
-fn front(bytes: &[u8], len: usize) -> &[u8] {
-    if len > bytes.len() {
-        return bytes;
-    }
-    &bytes[..len]
-}
-
 /// Changes the last bit of a buffer.
 fn flip(bytes: &mut [u8]) {
     if let Some(last) = bytes.last_mut() {
@@ -48,7 +38,7 @@ fn flip(bytes: &mut [u8]) {
 }
 
 /// Whether a call returned this code and length.
-fn is_answer(code: u32, report: &Report, wanted: u32, len: u64) -> bool {
+fn has_returned(code: u32, report: &Report, wanted: u32, len: u64) -> bool {
     code == wanted && report.len == len && report.place == 0 && report.detail == 0
 }
 
@@ -58,18 +48,18 @@ fn writer_writes_the_file_of_encrypt(rt: HostRuntime) -> Result<(), Fail> {
     let (mut file, mut whole) = ([0; 193], [0; 193]);
     let (head, chunk) = file.split_at_mut(172);
     let code = agefile_writer_chunk(&mut writer, chunk, true, &mut report);
-    assert!(rt; is_answer(code, &report, 23, 0));
+    assert!(rt; has_returned(code, &report, 23, 0));
     let code = agefile_writer_open_key(rt.alloc(), &KEY, &SEED, head, &mut writer, &mut report);
-    assert!(rt; is_answer(code, &report, 0, 172));
+    assert!(rt; has_returned(code, &report, 0, 172));
     chunk.copy_from_slice(b"hello................");
     let code = agefile_writer_chunk(&mut writer, chunk, false, &mut report);
-    assert!(rt; is_answer(code, &report, 23, 0));
+    assert!(rt; has_returned(code, &report, 23, 0));
     let code = agefile_writer_chunk(&mut writer, chunk, true, &mut report);
-    assert!(rt; is_answer(code, &report, 0, 21));
+    assert!(rt; has_returned(code, &report, 0, 21));
     let code = agefile_writer_chunk(&mut writer, chunk, true, &mut report);
-    assert!(rt; is_answer(code, &report, 23, 0));
+    assert!(rt; has_returned(code, &report, 23, 0));
     let code = agefile_encrypt_key(rt.alloc(), b"hello", &KEY, &SEED, &mut whole, &mut report);
-    assert!(rt; is_answer(code, &report, 0, 193));
+    assert!(rt; has_returned(code, &report, 0, 193));
     assert!(rt; file.as_slice() == whole.as_slice());
     Ok(())
 }
@@ -79,20 +69,20 @@ fn reader_reads_the_text_of_decrypt(rt: HostRuntime) -> Result<(), Fail> {
     let (mut report, mut reader) = (Report::default(), reader());
     let (mut file, mut text) = ([0; 193], [0; 5]);
     let code = agefile_encrypt_key(rt.alloc(), b"hello", &KEY, &SEED, &mut file, &mut report);
-    assert!(rt; is_answer(code, &report, 0, 193));
+    assert!(rt; has_returned(code, &report, 0, 193));
     let code = agefile_decrypt_key(rt.alloc(), &file, &KEY, &mut text, &mut report);
-    assert!(rt; is_answer(code, &report, 0, 5));
+    assert!(rt; has_returned(code, &report, 0, 5));
     assert!(rt; text.as_slice() == b"hello".as_slice());
     let code = agefile_reader_open_key(rt.alloc(), &file, &KEY, &mut reader, &mut report);
-    assert!(rt; is_answer(code, &report, 0, 172));
+    assert!(rt; has_returned(code, &report, 0, 172));
     let (_, chunk) = file.split_at_mut(172);
     let code = agefile_reader_chunk(&mut reader, chunk, false, &mut report);
-    assert!(rt; is_answer(code, &report, 23, 0));
+    assert!(rt; has_returned(code, &report, 23, 0));
     let code = agefile_reader_chunk(&mut reader, chunk, true, &mut report);
-    assert!(rt; is_answer(code, &report, 0, 5));
+    assert!(rt; has_returned(code, &report, 0, 5));
     assert!(rt; front(chunk, 5) == b"hello".as_slice());
     let code = agefile_reader_chunk(&mut reader, chunk, true, &mut report);
-    assert!(rt; is_answer(code, &report, 23, 0));
+    assert!(rt; has_returned(code, &report, 23, 0));
     Ok(())
 }
 
@@ -109,7 +99,7 @@ fn passphrase_writer_refuses_bad_arguments(rt: HostRuntime) -> Result<(), Fail> 
         &mut writer,
         &mut report,
     );
-    assert!(rt; is_answer(code, &report, 22, 0));
+    assert!(rt; has_returned(code, &report, 22, 0));
     let code = agefile_writer_open_passphrase(
         rt.alloc(),
         b"pass",
@@ -119,60 +109,64 @@ fn passphrase_writer_refuses_bad_arguments(rt: HostRuntime) -> Result<(), Fail> 
         &mut writer,
         &mut report,
     );
-    assert!(rt; is_answer(code, &report, 21, 165));
+    assert!(rt; has_returned(code, &report, 21, 165));
     assert!(rt; writer.state == 0);
     Ok(())
 }
 
-#[test]
-fn passphrase_reader_refuses_and_reads(rt: HostRuntime) -> Result<(), Fail> {
-    let (mut report, mut reader) = (Report::default(), reader());
-    let mut out = [0; 186];
+/// The file of `hello` for the passphrase `pass`, whose header and nonce are 165 bytes.
+fn passphrase_file(rt: &impl Abort, alloc: Global) -> [u8; 186] {
+    let mut report = Report::default();
+    let mut file = [0; 186];
     let code = agefile_encrypt_passphrase(
-        rt.alloc(),
+        alloc,
         b"hello",
         b"pass",
         1,
         &SEED,
-        &mut out,
+        &mut file,
         &mut report,
     );
-    assert!(rt; is_answer(code, &report, 0, 186));
-    let code = agefile_reader_open_passphrase(
-        rt.alloc(),
-        &out,
-        b"pass",
-        31,
-        &mut reader,
-        &mut report,
-    );
-    assert!(rt; is_answer(code, &report, 22, 0));
-    let code = agefile_reader_open_passphrase(
-        rt.alloc(),
-        front(&out, 164),
-        b"pass",
-        1,
-        &mut reader,
-        &mut report,
-    );
-    assert!(rt; is_answer(code, &report, 10, 0));
+    assert!(rt; has_returned(code, &report, 0, 186));
+    file
+}
+
+/// What opening a reader with the passphrase `pass` returns.
+fn open_passphrase(
+    alloc: Global,
+    file: &[u8],
+    max_work: u8,
+    reader: &mut Reader,
+    report: &mut Report,
+) -> u32 {
+    agefile_reader_open_passphrase(alloc, file, b"pass", max_work, reader, report)
+}
+
+#[test]
+fn passphrase_reader_refuses_bad_arguments(rt: HostRuntime) -> Result<(), Fail> {
+    let (mut report, mut reader) = (Report::default(), reader());
+    let file = passphrase_file(&rt, rt.alloc());
+    let code = open_passphrase(rt.alloc(), &file, 31, &mut reader, &mut report);
+    assert!(rt; has_returned(code, &report, 22, 0));
+    let code = open_passphrase(rt.alloc(), front(&file, 164), 1, &mut reader, &mut report);
+    assert!(rt; has_returned(code, &report, 10, 0));
     assert!(rt; reader.state == 0);
-    let code = agefile_reader_open_passphrase(
-        rt.alloc(),
-        &out,
-        b"pass",
-        1,
-        &mut reader,
-        &mut report,
-    );
-    assert!(rt; is_answer(code, &report, 0, 165));
-    let (_, chunk) = out.split_at_mut(165);
+    Ok(())
+}
+
+#[test]
+fn passphrase_reader_stops_at_a_damaged_chunk(rt: HostRuntime) -> Result<(), Fail> {
+    let (mut report, mut reader) = (Report::default(), reader());
+    let mut file = passphrase_file(&rt, rt.alloc());
+    let code = open_passphrase(rt.alloc(), &file, 1, &mut reader, &mut report);
+    assert!(rt; has_returned(code, &report, 0, 165));
+    let (_, chunk) = file.split_at_mut(165);
     flip(chunk);
     let code = agefile_reader_chunk(&mut reader, chunk, true, &mut report);
-    assert!(rt; is_answer(code, &report, 13, 0));
+    assert!(rt; has_returned(code, &report, 13, 0));
     flip(chunk);
     let code = agefile_reader_chunk(&mut reader, chunk, true, &mut report);
-    assert!(rt; is_answer(code, &report, 23, 0));
+    assert!(rt; has_returned(code, &report, 23, 0));
     Ok(())
 }
 
@@ -188,22 +182,22 @@ fn reader_reads_two_chunks_of_writer(rt: HostRuntime) -> Result<(), Fail> {
         &mut writer,
         &mut report,
     );
-    assert!(rt; is_answer(code, &report, 0, 172));
+    assert!(rt; has_returned(code, &report, 0, 172));
     let (mut full, mut last) = (vec![in rt.alloc(); 1; 65_552]?, [2; 17]);
     let code = agefile_writer_chunk(&mut writer, full.as_mut_slice(), false, &mut report);
-    assert!(rt; is_answer(code, &report, 0, 65_552));
+    assert!(rt; has_returned(code, &report, 0, 65_552));
     let (empty, _) = last.split_at_mut(16);
     let code = agefile_writer_chunk(&mut writer, empty, true, &mut report);
-    assert!(rt; is_answer(code, &report, 23, 0));
+    assert!(rt; has_returned(code, &report, 23, 0));
     let code = agefile_writer_chunk(&mut writer, &mut last, true, &mut report);
-    assert!(rt; is_answer(code, &report, 0, 17));
+    assert!(rt; has_returned(code, &report, 0, 17));
     let code = agefile_reader_open_key(rt.alloc(), &head, &KEY, &mut reader, &mut report);
-    assert!(rt; is_answer(code, &report, 0, 172));
+    assert!(rt; has_returned(code, &report, 0, 172));
     let code = agefile_reader_chunk(&mut reader, full.as_mut_slice(), false, &mut report);
-    assert!(rt; is_answer(code, &report, 0, 65_536));
+    assert!(rt; has_returned(code, &report, 0, 65_536));
     assert!(rt; front(full.as_slice(), 2) == [1, 1].as_slice());
     let code = agefile_reader_chunk(&mut reader, &mut last, true, &mut report);
-    assert!(rt; is_answer(code, &report, 0, 1));
+    assert!(rt; has_returned(code, &report, 0, 1));
     assert!(rt; front(&last, 1) == [2].as_slice());
     Ok(())
 }
