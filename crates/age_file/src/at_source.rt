@@ -1,6 +1,5 @@
 //! Sequential reading of a `ReadAt` from its first byte.
 ghost use Rattle.std.specs.Prelude.{◌≡◌, ◌+◌, ◌≤◌, drop, option_map};
-ghost use Rattle.age_header.specs.Device.{Known};
 ghost use Rattle.age_file.specs.Ranges.{AtState, IsWithin};
 
 use age_header::{DeviceFault, Source};

@@ -1,7 +1,6 @@
 //! A file that is written in steps: its header, then its payload piece by piece.
 
-ghost use Rattle.std.specs.Prelude.{◌≡◌, ◌⊎◌, List, ℕ, map, IfOk, IfErr};
-ghost use Rattle.age_header.specs.Device.{Bytes};
+ghost use Rattle.std.specs.Prelude.{◌≡◌, ◌⊎◌, map, IfOk, IfErr};
 ghost use Rattle.age_header.specs.Mac.{header_mac};
 ghost use Rattle.age_stream.specs.Payload.{payload_key};
 ghost use Rattle.age_stream.specs.Sealing.{at_start};

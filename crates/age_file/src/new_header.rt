@@ -1,6 +1,6 @@
 //! The header of a new file.
 
-ghost use Rattle.std.specs.Prelude.{◌≡◌, ◌≤◌, ℕ, List, Some, None, map, IfOk, IfErr};
+ghost use Rattle.std.specs.Prelude.{◌≡◌, ◌≤◌, Some, None, map, IfOk, IfErr};
 ghost use Rattle.age_header.specs.Device.{Bytes};
 ghost use Rattle.age_header.specs.Mac.{header_mac};
 ghost use Rattle.age_recipient.specs.Labels.{MayLabel};

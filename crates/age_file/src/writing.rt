@@ -1,6 +1,6 @@
 //! Writing a file.
 
-ghost use Rattle.std.specs.Prelude.{◌≡◌, ◌⊎◌, ◌++◌, List, ℕ, map, IfErr};
+ghost use Rattle.std.specs.Prelude.{◌≡◌, ◌⊎◌, ◌++◌, map, IfErr};
 ghost use Rattle.std.specs.Io.KnownBytes.{Keeps};
 ghost use Rattle.age_header.specs.Device.{Bytes, Counts, Writes};
 ghost use Rattle.age_header.specs.Header.{Head};

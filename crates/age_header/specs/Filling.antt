@@ -1,6 +1,5 @@
 -- What filling a buffer from a source leaves in the buffer.
-use Rattle.std.specs.Prelude.{ℕ, List, ◌++◌, ◌≡◌, ◌≤◌, ◌<◌, ◌+◌, length, take}
-use Rattle.std.specs.declared.option.Option.{Option}
+use Rattle.std.specs.Prelude.{ℕ, ◌++◌, ◌≡◌, ◌≤◌, ◌<◌, ◌+◌, length, take}
 use Rattle.std.specs.Io.KnownBytes.{Consumes, IsAtEnd}
 use Rattle.age_header.specs.Device.{Known}
 use Rattle.age_kdf.specs.Bytes.{Bytes}

@@ -1,5 +1,5 @@
 -- The MAC of a header (C2SP age.md, "Header MAC").
-use Rattle.std.specs.Prelude.{ℕ, List, [], codes}
+use Rattle.std.specs.Prelude.{List, [], codes}
 use Rattle.age_kdf.specs.Bytes.{Bytes}
 use Rattle.age_kdf.specs.Hmac.{hmac}
 use Rattle.age_kdf.specs.Hkdf.{hkdf}

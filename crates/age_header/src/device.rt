@@ -1,7 +1,7 @@
 //! Devices: what bytes are read from and written to. A device counts its failures, so that a caller
 //! can tell an I/O error from a fault of the bytes. Its contents may be known to proofs.
 
-ghost use Rattle.std.specs.Prelude.{◌≡◌, ◌<◌, ◌≤◌, ◌+◌, ◌-◌, ◌^◌, ℕ, List, Some, length, min, vec_capacity, vec_len, IfOk, OnErr};
+ghost use Rattle.std.specs.Prelude.{◌≡◌, ◌<◌, ◌≤◌, ◌+◌, ◌-◌, ◌^◌, ℕ, Some, length, min, vec_capacity, vec_len, IfOk, OnErr};
 ghost use Rattle.std.specs.declared.option.Option.{Option};
 ghost use Rattle.std.specs.Io.{ReadsAtMost};
 ghost use Rattle.age_header.specs.Device.{Known, Counts, Gives, Takes, Writes};

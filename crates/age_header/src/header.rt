@@ -1,5 +1,4 @@
-ghost use Rattle.std.specs.Prelude.{◌≡◌, ◌≢◌, ◌-◌, ◌^◌, [], ℕ, List, length, min, IfSome, IfNone};
-ghost use Rattle.age_kdf.specs.Bytes.{Bytes};
+ghost use Rattle.std.specs.Prelude.{◌≡◌, ◌≢◌, ◌-◌, ◌^◌, [], length, min, IfSome, IfNone};
 
 use crate::base64_no_pad;
 use crate::size::stanza_len;

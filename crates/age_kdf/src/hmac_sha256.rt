@@ -1,9 +1,8 @@
 // The state of an HMAC-SHA-256 computation (RFC 2104), which can be copied between two pieces of
 // the text.
 
-ghost use Rattle.std.specs.Prelude.{◌≡◌, ℕ, ◌≤◌, ◌++◌, List, [], map, length, drop, bit_xor};
+ghost use Rattle.std.specs.Prelude.{◌≡◌, ◌≤◌, ◌++◌, [], map, length, drop, bit_xor};
 ghost use Rattle.std.specs.List.{flat_map};
-ghost use Rattle.age_kdf.specs.Bytes.{Bytes};
 ghost use Rattle.age_kdf.specs.Hmac.{hmac, block_key};
 
 use sha2::{Digest, Sha256};

@@ -1,6 +1,6 @@
 // Outputs that are a prefix of a sequence of blocks of 32 bytes.
 
-ghost use Rattle.std.specs.Prelude.{◌≡◌, ℕ, ◌+◌, ◌*◌, ◌<◌, ◌++◌, List, length, take};
+ghost use Rattle.std.specs.Prelude.{◌≡◌, ◌+◌, ◌*◌, ◌<◌, ◌++◌, length, take};
 ghost use Rattle.age_kdf.specs.Bytes.{Bytes};
 
 /// Writes block `i`, or as much of its start as there is room for: if `out` held the blocks of

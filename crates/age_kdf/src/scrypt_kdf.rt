@@ -1,6 +1,6 @@
 // scrypt (RFC 7914, section 6), in a work space that is passed, or that it allocates.
 
-ghost use Rattle.std.specs.Prelude.{◌≡◌, ℕ, ◌+◌, ◌*◌, ◌^◌, ◌≤◌, ◌++◌, List, [], length, OnErr, OnOk};
+ghost use Rattle.std.specs.Prelude.{◌≡◌, ◌+◌, ◌*◌, ◌^◌, ◌≤◌, ◌++◌, [], length, OnErr, OnOk};
 ghost use Rattle.age_kdf.specs.Bytes.{Bytes};
 ghost use Rattle.age_kdf.specs.Pbkdf2.{pbkdf2, longest_output};
 ghost use Rattle.age_kdf.specs.Params.{work_words};

@@ -1,7 +1,6 @@
 //! Labels: which recipients go together in one file.
 
 ghost use Rattle.std.specs.Prelude.{◌≡◌, map, IfOk};
-ghost use Rattle.age_kdf.specs.Bytes.{Bytes};
 ghost use Rattle.age_recipient.specs.Labels.{IsSetOf, go_together};
 
 use std::alloc::{AllocError, Global};

@@ -1,5 +1,5 @@
 //! Reading a payload chunk by chunk from a caller's source.
-ghost use Rattle.std.specs.Prelude.{◌≡◌, ◌⊎◌, ◌≤◌, ◌^◌, ℕ, List, [], Ok, Err, Some, None, IfOk, IfErr, IfSome, IfNone, IsErrOf, ⊤};
+ghost use Rattle.std.specs.Prelude.{◌≡◌, ◌⊎◌, ◌≤◌, ◌^◌, [], Ok, Err, Some, None, IfOk, IfErr, IfSome, IfNone, IsErrOf, ⊤};
 ghost use Rattle.std.specs.Borrow.{sem, follows_so};
 ghost use Rattle.age_header.specs.Device.{GaveAtMost};
 ghost use Rattle.age_stream.specs.Counts.{CountsRead, CountsWrite};
@@ -7,7 +7,6 @@ ghost use Rattle.age_stream.specs.Opening.{Advances, EndsAt, Starts, WritesAll};
 ghost use Rattle.age_stream.specs.Reader.{Lends, MissesNonce, lent};
 ghost use mathlib.Core.Option.{none};
 ghost use mir.Syntax.{named};
-ghost use Rattle.age_stream.specs.Sizes.{most_chunks, nonce_size};
 
 use crate::buffer::ChunkBuf;
 use crate::done::Done;

@@ -1,5 +1,5 @@
 //! Sealing a payload's chunks, one after another.
-ghost use Rattle.std.specs.Prelude.{◌≡◌, ◌⊎◌, ◌<◌, ◌≤◌, ◌+◌, ◌-◌, ◌^◌, ◌++◌, ℕ, List, [], length, take, Some, None, Ok, Err, IfOk, OnOk, OnErr, IfErr, IfSome, IfNone, MatchResult};
+ghost use Rattle.std.specs.Prelude.{◌≡◌, ◌⊎◌, ◌<◌, ◌≤◌, ◌+◌, ◌-◌, ◌^◌, ◌++◌, [], length, take, Some, None, Ok, Err, IfOk, OnOk, OnErr, IfErr, IfSome, IfNone, MatchResult};
 ghost use Rattle.std.specs.Io.KnownBytes.{Appends, IsAtEnd};
 ghost use Rattle.age_cipher.specs.Sealing.{sealed};
 ghost use Rattle.age_header.specs.Device.{Counts, Writes};

@@ -1,6 +1,6 @@
 //! Reading a file's header.
 
-ghost use Rattle.std.specs.Prelude.{◌≡◌, ◌⊎◌, ℕ, List, take, Some, IfOk};
+ghost use Rattle.std.specs.Prelude.{◌≡◌, ◌⊎◌, take, Some, IfOk};
 ghost use Rattle.std.specs.String.{string_bytes};
 ghost use Rattle.age_kdf.specs.Bytes.{Bytes};
 ghost use Rattle.agefile.specs.Answer.{GivesUp};

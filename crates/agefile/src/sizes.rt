@@ -1,6 +1,6 @@
 //! The sizes of buffers that suffice.
 
-ghost use Rattle.std.specs.Prelude.{◌≡◌, ◌-◌, ◌^◌, ◌<◌, ◌≤◌, ℕ, List, length, min};
+ghost use Rattle.std.specs.Prelude.{◌≡◌, ◌-◌, ◌^◌, ◌<◌, ◌≤◌, ℕ, length, min};
 ghost use Rattle.age_kdf.specs.Bytes.{Bytes};
 ghost use Rattle.age_recipient.specs.KeyedStanza.{keyed_stanza};
 ghost use Rattle.age_recipient.specs.PassphraseHolders.{WorkFits};

@@ -1,7 +1,7 @@
 //! Decrypting undoes encrypting: a law over the definitions alone, which is the contract of a
 //! function that does nothing.
 
-ghost use Rattle.std.specs.Prelude.{ℕ, List};
+ghost use Rattle.std.specs.Prelude.{ℕ};
 ghost use Rattle.age_kdf.specs.Bytes.{Bytes};
 ghost use Rattle.age_recipient.specs.KeyedHolders.{key_unwraps};
 ghost use Rattle.age_recipient.specs.KeyedStanza.{keyed_stanza};

@@ -1,6 +1,6 @@
 //! Encrypting for one recipient and decrypting with one identity, in memory.
 
-ghost use Rattle.std.specs.Prelude.{◌≡◌, ℕ, List, [], ◌∷◌, Ok, IfOk, IfErr};
+ghost use Rattle.std.specs.Prelude.{◌≡◌, List, [], ◌∷◌, Ok, IfOk, IfErr};
 ghost use Rattle.age_file.specs.AgeFile.{AgeFile};
 ghost use Rattle.age_file.specs.Verdict.{IsVerdict};
 ghost use Rattle.age_file.specs.Words.{Bytes, StanzaParts, whole};

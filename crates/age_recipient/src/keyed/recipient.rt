@@ -1,7 +1,6 @@
 //! The recipient and the identity of a secret of 32 bytes.
 
 ghost use Rattle.std.specs.Prelude.{◌≡◌};
-ghost use Rattle.age_kdf.specs.Bytes.{Bytes};
 
 use super::stanza::{keyed_answer, keyed_stanza};
 use crate::identity::Identity;
