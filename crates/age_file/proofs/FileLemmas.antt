@@ -24,6 +24,7 @@ use Rattle.age_stream.proofs.PayloadLemmas.{ok-payload, payload-ok}
 use Rattle.age_file.specs.declared.fault.Fault.{Fault}
 use Rattle.age_file.specs.declared.fault.Fault.TheVariants.{MixedPassphrase, BadMac, OutOfMemory}
 use Rattle.age_file.specs.AgeFile.{Bounds, AgeFile, is_mixed}
+use Rattle.age_file.specs.Rewrap.{parts_of}
 use Rattle.age_file.specs.Verdict.{of_header, of_stream, Answering, checked, unlocked, read_under, judged, IsVerdict}
 
 -- what is read whole does not stop
@@ -90,20 +91,16 @@ checked-unlocked answers h chosen r alone c (inl memory) = inl memory
 checked-unlocked answers h chosen r alone (inl memory) (inr is) = inl (is ∙ ap (checked h) memory)
 checked-unlocked answers h chosen r alone (inr chose) (inr is) = inr (is ∙ ap (checked h) chose ∙ sym (cond-false (is_mixed h.stanzas) _ _ alone))
 
--- the stanzas and the MAC of a header that was found
-abbrev pub parts : Found → HeaderParts
-parts found = record { stanzas = found.stanzas; mac = found.mac }
-
 -- what follows the header that begins a text
 pub behind : (b : List ℕ) (max : ℕ) (found : Found) (begins : BeginsWith b max found) → drop (length found.text) b ≡ begins.rest
 behind b max found begins = ap (drop (length found.text)) begins.front ∙ drop_at found.text begins.rest (length found.text) refl
 
 under-file : (limits : Bounds) (answers : Answering) (b p : List ℕ) (found : Found) → BeginsWith b limits.max_header found
-    → (c : Result FileKey Fault) → unlocked answers (parts found) ≡ c → whole p ≡ read_under limits (drop (length found.text) b) c → IsChosenFile limits answers p b
+    → (c : Result FileKey Fault) → unlocked answers (parts_of found) ≡ c → whole p ≡ read_under limits (drop (length found.text) b) c → IsChosenFile limits answers p b
 under-file limits answers b p found begins (Err f) is h = absurd (never_stops p f h)
 under-file limits answers b p found begins (Ok k) is h =
     let rest : List ℕ = drop (length found.text) b in
-    let has = unlocked-key answers (parts found) k is in
+    let has = unlocked-key answers (parts_of found) k is in
     let body = ok-payload k rest p limits.max_chunks (renamed-whole p (payload_reading k limits.max_chunks rest) h) in
     record {
       stanzas = found.stanzas;
@@ -125,7 +122,7 @@ judged-file : (limits : Bounds) (answers : Answering) (b p : List ℕ) (r : Resu
     → whole p ≡ judged limits answers b r → IsChosenFile limits answers p b
 judged-file limits answers b p (Err f) v h = absurd (never_stops p (of_header f) h)
 judged-file limits answers b p (Ok found) v h =
-    under-file limits answers b p found (headers.begins_found b limits.max_header found v) (unlocked answers (parts found)) refl h
+    under-file limits answers b p found (headers.begins_found b limits.max_header found v) (unlocked answers (parts_of found)) refl h
 
 -- an age file for the chosen key reads whole
 pub file-whole : (limits : Bounds) (answers : Answering) (b p : List ℕ) (stanzas : List StanzaParts) (k : FileKey) → AgeFile limits k stanzas p b
@@ -141,7 +138,7 @@ file-whole limits answers b p stanzas k file chosen =
     record {
       header = Ok found;
       header_verdict = headers.found_begins b limits.max_header found begins;
-      is = sym (ap (read_under limits (drop (length file.header) b)) (key-unlocked answers (parts found) k (record { unmixed = file.unmixed; chosen = chosen; mac = refl }))
+      is = sym (ap (read_under limits (drop (length file.header) b)) (key-unlocked answers (parts_of found) k (record { unmixed = file.unmixed; chosen = chosen; mac = refl }))
           ∙ ap renamed reads);
     }
 

@@ -58,7 +58,7 @@ fn first_decided(
 {
     let mut rest = Unwrapped::NotMine;
     for identity in identities {
-        match rest.and_then(ask(alloc, identity, stanzas)?) {
+        match rest.followed_by(ask(alloc, identity, stanzas)?) {
             Ok(next) => rest = next,
             Err(decision) => return Ok(decision),
         }

@@ -34,7 +34,7 @@ pub(crate) fn first_opened<O: Opener>(
 {
     let mut rest = Unwrapped::NotMine;
     for stanza in stanzas {
-        match rest.and_then(opener.open(alloc, stanza)?) {
+        match rest.followed_by(opener.open(alloc, stanza)?) {
             Ok(next) => rest = next,
             Err(decision) => return Ok(decision),
         }

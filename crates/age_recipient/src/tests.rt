@@ -29,7 +29,7 @@ const BODY: [u8; 32] = [
 ];
 
 /// What this passphrase with maximum 22 makes of one stanza.
-fn answer(
+fn unwrapped_stanza(
     rt: &impl Abort,
     alloc: Global,
     pass: &[u8],
@@ -140,7 +140,7 @@ fn scrypt_stanza_is_checked_in_order(rt: HostRuntime) -> Result<(), Fail> {
         ),
     ];
     for (name, args, body, fault) in malformed {
-        let found = answer(&rt, rt.alloc(), b"correct horse", args, body)?;
+        let found = unwrapped_stanza(&rt, rt.alloc(), b"correct horse", args, body)?;
         assert!(rt; found == Unwrapped::Malformed(fault), "{name}");
     }
     Ok(())
@@ -158,7 +158,7 @@ fn long_work_factors_are_malformed(rt: HostRuntime) -> Result<(), Fail> {
             text.push_str("0")?;
         }
         let args = ["scrypt", SALT_TEXT, text.as_str()];
-        let found = answer(&rt, alloc, b"", &args, &BODY)?;
+        let found = unwrapped_stanza(&rt, alloc, b"", &args, &BODY)?;
         assert!(rt; found == Unwrapped::Malformed(fault), "first digit {first}");
     }
     Ok(())
@@ -179,11 +179,11 @@ fn passphrase_wraps_and_unwraps_the_known_stanza(rt: HostRuntime) -> Result<(), 
     assert_eq!(rt; line.as_str(), "scrypt ICEiIyQlJicoKSorLC0uLw 10 ");
     assert_eq!(rt; stanza.body(), BODY.as_slice());
     let args = ["scrypt", SALT_TEXT, "10"];
-    let right = answer(&rt, alloc, b"correct horse", &args, &BODY)?;
+    let right = unwrapped_stanza(&rt, alloc, b"correct horse", &args, &BODY)?;
     assert!(rt; right == Unwrapped::Key(KEY));
-    let wrong = answer(&rt, alloc, b"correct hors", &args, &BODY)?;
+    let wrong = unwrapped_stanza(&rt, alloc, b"correct hors", &args, &BODY)?;
     assert!(rt; wrong == Unwrapped::Failed);
-    let other = answer(&rt, alloc, b"correct horse", &["X25519", "x"], &BODY)?;
+    let other = unwrapped_stanza(&rt, alloc, b"correct horse", &["X25519", "x"], &BODY)?;
     assert!(rt; other == Unwrapped::NotMine);
     Ok(())
 }
@@ -201,7 +201,7 @@ fn passphrase_unwraps_a_stanza_of_age(rt: HostRuntime) -> Result<(), Fail> {
         0x40,
     ];
     let args = ["scrypt", "loABIY+WayWGShmB4h1/bw", "18"];
-    let found = answer(&rt, rt.alloc(), b"correct horse", &args, &body)?;
+    let found = unwrapped_stanza(&rt, rt.alloc(), b"correct horse", &args, &body)?;
     assert!(rt; found == Unwrapped::Key(FileKey(key)));
     Ok(())
 }

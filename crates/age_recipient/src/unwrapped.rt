@@ -44,7 +44,7 @@ impl Unwrapped {
     ///
     /// # Errors
     /// The next one where it decides: no later answer counts then.
-    pub(crate) fn and_then(self, next: Unwrapped) -> Result<Unwrapped, Unwrapped>
+    pub(crate) fn followed_by(self, next: Unwrapped) -> Result<Unwrapped, Unwrapped>
         ensures continues { IfOk result (λ both.
             (more : List Unwrapped) → decided_from self (next ∷ more) ≡ decided_from both more) }
         ensures decides { IfErr result (λ decision.

@@ -6,7 +6,7 @@ mod ranges;
 use crate::{ChunkBuf, Done, StreamFault, StreamReader, StreamWriter, chunk_nonce};
 use age_header::{MemSink, MemSource, Sink};
 use age_recipient::FileKey;
-use devices::{Full, Short};
+use devices::{LimitedSink, ShortReads};
 use std::alloc::{AllocError, Global};
 use std::test::Fail;
 
@@ -70,7 +70,7 @@ fn written(
 /// The plaintext of a payload, read from a source that gives this many bytes at a time, and the
 /// number of its chunks.
 fn read(alloc: Global, payload: &[u8], most: usize) -> Result<(Vec<u8>, u64), Fail> {
-    let mut source = Short::new(payload, most);
+    let mut source = ShortReads::new(payload, most);
     let mut reader = StreamReader::new(alloc, &KEY, &mut source, MOST)?;
     let mut text = Vec::new(alloc);
     for chunks in 0..u64::MAX {
@@ -192,7 +192,7 @@ fn chunks_are_counted_at_their_ends(rt: HostRuntime) -> Result<(), Fail> {
 fn writer_returns_a_failed_write_again(rt: HostRuntime) -> Result<(), Fail> {
     let alloc = rt.alloc();
     let plain = sevens(alloc, 65_537)?;
-    let mut sink = Full::new(16);
+    let mut sink = LimitedSink::new(16);
     let mut writer = StreamWriter::new(alloc, &KEY, &NONCE, &mut sink, MOST)?;
     let first = writer.write_piece(plain.as_slice());
     let second = writer.write_piece(plain.as_slice());

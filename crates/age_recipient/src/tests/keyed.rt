@@ -22,7 +22,7 @@ const BODY: [u8; 32] = [
 ];
 
 /// What this secret makes of these stanzas.
-fn answer(
+fn unwrapped_stanzas(
     rt: &impl Abort,
     alloc: Global,
     secret: [u8; 32],
@@ -95,7 +95,7 @@ fn keyed_stanza_is_checked_in_order(rt: HostRuntime) -> Result<(), Fail> {
     ];
     for (name, stanzas, expected) in found {
         assert!(rt;
-            answer(&rt, rt.alloc(), SECRET, stanzas)? == expected,
+            unwrapped_stanzas(&rt, rt.alloc(), SECRET, stanzas)? == expected,
             "{name}"
         );
     }

@@ -7,41 +7,41 @@ use std::test::Fail;
 
 const KEY: FileKey = FileKey([9; 16]);
 
-/// A caller's identity, which has one answer whatever the stanzas are, or wants memory.
+/// A caller's identity, which has one answer whatever the stanzas are, or is out of memory.
 #[derive(Drop)]
-struct Fixed {
+struct FixedIdentity {
     answer: Unwrapped,
-    wants_memory: bool,
+    is_out_of_memory: bool,
 }
 
-impl Identity for Fixed {
+impl Identity for FixedIdentity {
     ghost meaning = { λ fixed _. fixed.answer };
 
     fn unwrap(&self, _alloc: Global, _stanzas: &[Stanza]) -> Result<Unwrapped, AllocError> {
-        if self.wants_memory {
+        if self.is_out_of_memory {
             return Err(AllocError);
         }
         Ok(self.answer)
     }
 }
 
-/// What identities with these answers come to; None stands for one that wants memory.
+/// What identities with these answers come to; None stands for one that is out of memory.
 fn choice_of(
     alloc: Global,
     answers: &[Option<Unwrapped>],
 ) -> Result<Result<FileKey, UnlockFault>, Fail> {
     let mut identities: Vec<Box<dyn Identity>> = Vec::new(alloc);
     for answer in answers {
-        let fixed = Fixed {
+        let fixed = FixedIdentity {
             answer: answer.unwrap_or(Unwrapped::NotMine),
-            wants_memory: answer.is_none(),
+            is_out_of_memory: answer.is_none(),
         };
         identities.push(Box::new(alloc, fixed)?)?;
     }
     Ok(unlock(alloc, identities.as_slice(), &[]))
 }
 
-/// The last identities of some lists want memory, which shows that they are not asked.
+/// The last identities of some lists are out of memory, which shows that they are not asked.
 #[test]
 fn first_deciding_identity_ends_the_search(rt: HostRuntime) -> Result<(), Fail> {
     let not_mine = Some(Unwrapped::NotMine);

@@ -8,18 +8,18 @@ use std::io::{Read, Seek, SeekFrom};
 
 /// Gives at most so many of these bytes at a time. Its contents are not known to proofs.
 #[derive(Drop)]
-pub(super) struct Short<'a> {
+pub(super) struct ShortReads<'a> {
     rest: &'a [u8],
     most: usize,
 }
 
-impl<'a> Short<'a> {
-    pub(super) fn new(bytes: &'a [u8], most: usize) -> Short<'a> {
-        Short { rest: bytes, most }
+impl<'a> ShortReads<'a> {
+    pub(super) fn new(bytes: &'a [u8], most: usize) -> ShortReads<'a> {
+        ShortReads { rest: bytes, most }
     }
 }
 
-impl<'a> Source for Short<'a> {
+impl<'a> Source for ShortReads<'a> {
     ghost use Rattle.std.specs.Prelude.{None};
 
     ghost failed = { λ _. 0 };
@@ -42,15 +42,15 @@ impl<'a> Source for Short<'a> {
 /// Takes pieces while there is room for this many bytes, and counts how often it is asked. Its
 /// contents are not known to proofs.
 #[derive(Drop)]
-pub(super) struct Full {
+pub(super) struct LimitedSink {
     room: usize,
     pub(super) asked: u64,
     failures: u64,
 }
 
-impl Full {
-    pub(super) fn new(room: usize) -> Full {
-        Full {
+impl LimitedSink {
+    pub(super) fn new(room: usize) -> LimitedSink {
+        LimitedSink {
             room,
             asked: 0,
             failures: 0,
@@ -58,7 +58,7 @@ impl Full {
     }
 }
 
-impl Sink for Full {
+impl Sink for LimitedSink {
     ghost use Rattle.std.specs.Prelude.{None};
 
     ghost failed = { λ s. s.failures };
@@ -83,16 +83,16 @@ impl Sink for Full {
 /// Holds these bytes, counts its reads, and fails at the read with this number, counted from 1. Its
 /// contents are not known to proofs.
 #[derive(Drop)]
-pub(super) struct Counted<'a> {
+pub(super) struct CountingReadAt<'a> {
     bytes: MemAt<'a>,
     reads: &'a Cell<u64>,
     failing: u64,
     failures: u64,
 }
 
-impl<'a> Counted<'a> {
-    pub(super) fn new(bytes: &'a [u8], reads: &'a Cell<u64>, failing: u64) -> Counted<'a> {
-        Counted {
+impl<'a> CountingReadAt<'a> {
+    pub(super) fn new(bytes: &'a [u8], reads: &'a Cell<u64>, failing: u64) -> CountingReadAt<'a> {
+        CountingReadAt {
             bytes: MemAt::new(bytes),
             reads,
             failing,
@@ -101,7 +101,7 @@ impl<'a> Counted<'a> {
     }
 }
 
-impl<'a> ReadAt for Counted<'a> {
+impl<'a> ReadAt for CountingReadAt<'a> {
     ghost use Rattle.std.specs.Prelude.{None};
 
     ghost bytes = { λ _. None };
@@ -136,24 +136,24 @@ impl<'a> ReadAt for Counted<'a> {
 
 /// Reads at most one byte at a time.
 #[derive(Drop)]
-pub(super) struct Slow<F> {
+pub(super) struct SlowFile<F> {
     file: F,
 }
 
-impl<F> Slow<F> {
-    pub(super) fn new(file: F) -> Slow<F> {
-        Slow { file }
+impl<F> SlowFile<F> {
+    pub(super) fn new(file: F) -> SlowFile<F> {
+        SlowFile { file }
     }
 }
 
-impl<F: Read> Read for Slow<F> {
+impl<F: Read> Read for SlowFile<F> {
     fn read(&mut self, buf: &mut [u8]) -> io::Result<usize> {
         let (front, _) = buf.split_at_mut(buf.len().min(1));
         self.file.read(front)
     }
 }
 
-impl<F: Seek> Seek for Slow<F> {
+impl<F: Seek> Seek for SlowFile<F> {
     fn seek(&mut self, to: SeekFrom) -> io::Result<u64> {
         self.file.seek(to)
     }

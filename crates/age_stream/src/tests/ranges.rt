@@ -1,6 +1,6 @@
 //! Ranges of a plaintext, over memory, over a file, and over sources that are slow or fail.
 
-use super::devices::{Counted, Slow};
+use super::devices::{CountingReadAt, SlowFile};
 use super::{EMPTY, KEY, plain_of, written};
 use crate::{FileAt, MemAt, RangeReader, ReadAt, StreamFault};
 use std::alloc::Global;
@@ -88,7 +88,7 @@ fn ranges_of_a_file_are_slices(rt: HostRuntime) -> Result<(), Fail> {
     fs::write(&rt, "ranges.tmp", bytes.as_slice())?;
     let mut whole = FileAt::new(File::open(&rt, "ranges.tmp")?);
     rows(&rt, rt.alloc(), &mut whole)?;
-    let mut slow = FileAt::new(Slow::new(File::open(&rt, "ranges.tmp")?));
+    let mut slow = FileAt::new(SlowFile::new(File::open(&rt, "ranges.tmp")?));
     rows(&rt, rt.alloc(), &mut slow)?;
     fs::remove_file(&rt, "ranges.tmp")?;
     assert_eq!(rt; whole.given(), slow.given());
@@ -102,7 +102,7 @@ fn each_opened_chunk_costs_one_read(rt: HostRuntime) -> Result<(), Fail> {
     let alloc = rt.alloc();
     let bytes = payload_of(alloc, 140_000)?;
     let reads = Cell::new(0);
-    let mut dev = Counted::new(bytes.as_slice(), &reads, 0);
+    let mut dev = CountingReadAt::new(bytes.as_slice(), &reads, 0);
     let mut reader = RangeReader::open(alloc, &KEY, &mut dev, 9, 3)?;
     for (place, n, opened) in ROWS {
         range(&rt, alloc, &mut reader, place, Ok(n), n)?;
@@ -120,7 +120,7 @@ fn failed_read_leaves_the_chunks_before_it(rt: HostRuntime) -> Result<(), Fail> 
     let bytes = payload_of(alloc, 140_000)?;
     for failing in 1..6 {
         let reads = Cell::new(0);
-        let mut dev = Counted::new(bytes.as_slice(), &reads, failing);
+        let mut dev = CountingReadAt::new(bytes.as_slice(), &reads, failing);
         match RangeReader::open(alloc, &KEY, &mut dev, 9, 3) {
             Ok(mut reader) => {
                 let filled = match failing {
