@@ -33,6 +33,14 @@ is_current() {
     [ -z "$newer" ]
 }
 
+# Ends the script where the toolchain is missing: need_rt WHO WHAT.
+need_rt() {
+    if ! command -v rt >/dev/null; then
+        echo "$1: to build the $2, the command rt of the Rattle toolchain is needed" >&2
+        exit 1
+    fi
+}
+
 # Marks what was built with a text, as old as this file: mark MARK TEXT BEGAN.
 mark() {
     echo "$2" >"$1"

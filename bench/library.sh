@@ -10,6 +10,7 @@ root=$(cd "$(dirname "$0")/.." && pwd -P)
 work=$(mktemp -d)
 trap 'rm -rf "$work"' EXIT
 cd "$work"
+"$root/agep" --version >/dev/null
 "$root/install-library" prefix >/dev/null
 agep=$root/crates/agep/out/agep
 cc -O2 -Iprefix/include -o stream "$root/c/stream.c" prefix/lib/libagefile.a

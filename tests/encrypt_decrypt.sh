@@ -209,7 +209,8 @@ bad_headers() {
         printf '%b' "$text" >made
         decrypt -k key -H 1024 made
         has_ended 1 "agep: ${row%%|*}"
-        check "decrypt: ${row%%|*}: ${#text} characters, ${text:0:40}"
+        text="${#text} characters, ${text:0:40}"
+        check "decrypt: ${row%%|*}: ${text//$'\n'/\\n}"
     done
     decrypt -p pass -H 65533 "$data/recipients_668.age"
     has_ended 1 "agep: header is too large"
