@@ -1,5 +1,5 @@
 -- Copying all that a source still gives.
-use Rattle.std.specs.Prelude.{◌≡◌, ℕ, ◌^◌, ◌≤◌, Bool, true, false, List, length, Option, Result, Ok, Err}
+use Rattle.std.specs.Prelude.{◌≡◌, ℕ, ◌^◌, ◌≤◌, Bool, true, false, length, Result, Ok, Err}
 use Rattle.std.specs.Io.KnownBytes.{Appends, Consumes, IsAtEnd}
 use Rattle.age_header.specs.Device.{Bytes, Known, MayGive, WritesPart}
 use Rattle.age_file.specs.declared.fault.Fault.{Fault}

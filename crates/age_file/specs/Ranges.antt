@@ -1,5 +1,5 @@
 -- Opening a file for ranges of its plaintext.
-use Rattle.std.specs.Prelude.{◌≡◌, ◌⊎◌, ℕ, ◌+◌, ◌≤◌, List, length, drop, IfSome, ⊤, Option, Some, Result, Ok, Err}
+use Rattle.std.specs.Prelude.{◌≡◌, ◌⊎◌, ℕ, ◌+◌, ◌≤◌, length, drop, IfSome, ⊤, Some, Result, Ok, Err}
 use Rattle.std.specs.Result.{result_map_both}
 use Rattle.age_header.specs.Device.{Bytes, Known}
 use Rattle.age_header.specs.declared.fault.HeaderFault.{HeaderFault}

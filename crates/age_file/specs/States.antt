@@ -1,6 +1,6 @@
 -- A file that is written, or read, in steps: what is kept between the steps, and what each does to
 -- its device.
-use Rattle.std.specs.Prelude.{◌≡◌, ◌⊎◌, ℕ, true, List, ◌++◌, Option, Result, Ok, Err}
+use Rattle.std.specs.Prelude.{◌≡◌, ◌⊎◌, ℕ, true, ◌++◌, Result, Ok, Err}
 use Rattle.std.specs.Io.KnownBytes.{Appends}
 use denote.Ref.{MutBor}
 use Rattle.age_header.specs.Device.{Bytes, Known, WritesPart}

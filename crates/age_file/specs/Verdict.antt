@@ -1,6 +1,6 @@
 -- What bytes are to given identities and limits: a plaintext, or the first fault and the plaintext
 -- before it.
-use Rattle.std.specs.Prelude.{◌≡◌, ℕ, List, length, drop, option_map, Result, Ok, Err, if◌then◌else◌}
+use Rattle.std.specs.Prelude.{◌≡◌, List, length, drop, option_map, Result, Ok, Err, if◌then◌else◌}
 use Rattle.std.specs.Str.{bytes_eq}
 use Rattle.age_header.specs.Device.{Bytes}
 use Rattle.age_header.specs.declared.fault.HeaderFault.{HeaderFault}

@@ -6,7 +6,8 @@ ghost use Rattle.age_stream.specs.Reader.{opener_of, source_of};
 ghost use Rattle.age_stream.specs.Writer.{device_of, fault_of};
 ghost use Rattle.age_file.specs.AgeFile.{is_mixed};
 ghost use Rattle.age_file.specs.Inspect.{Inspects};
-ghost use Rattle.age_file.specs.Verdict.{unlocked};
+ghost use Rattle.age_file.specs.Verdict.{unlocked, Answering};
+ghost use Rattle.age_stream.specs.Sizes.{nonce_size};
 
 use crate::fault::Fault;
 use crate::fault_names::stream_fault;

@@ -1,12 +1,8 @@
 -- The first answer that decides, one answer after the other.
-use Rattle.std.proofs.Common.{◌≡◌, ℕ, ◌+◌, ◌<◌, List, ◌∷◌, map, drop, length, get_or, refl, sym, ◌∙◌, ap, true, false, Some, None, nat_eq, if◌then◌else◌}
-use Rattle.std.proofs.lemmas.Bool.{eqb-true}
+use Rattle.std.proofs.Common.{◌≡◌, ℕ, ◌+◌, ◌<◌, List, ◌∷◌, map, drop, length, get_or, sym, ◌∙◌, ap}
 use Rattle.std.proofs.lemmas.List.{drop_more, drop-map}
-use Rattle.std.specs.declared.option.Option.{Option}
-use Rattle.age_header.specs.Header.{StanzaParts}
 use Rattle.age_recipient.specs.declared.unwrapped.Unwrapped.{Unwrapped}
 use Rattle.age_recipient.specs.Answer.{decided_from}
-use Rattle.age_recipient.specs.Salt.{salt_of}
 
 -- what is decided by what is left, at an element whose answer is known
 pub decided_step : {A : Type 0} (f : A → Unwrapped) (xs : List A) (i : ℕ) (x : A) (rest a : Unwrapped) → i < length xs → x ≡ get_or xs i x → a ≡ f x

@@ -1,7 +1,7 @@
 -- How a stanza of this project's own kinds holds the file key (C2SP age.md, "The scrypt recipient
 -- type"): sealed with ChaCha20-Poly1305 under a wrap key, a nonce of twelve zero bytes, and no
 -- associated data.
-use Rattle.std.specs.Prelude.{ℕ, ◌+◌, List, [], replicate}
+use Rattle.std.specs.Prelude.{ℕ, ◌+◌, [], replicate}
 use Rattle.std.specs.declared.option.Option.{Option}
 use Rattle.std.specs.declared.option.Option.TheVariants.{None, Some}
 use Rattle.age_kdf.specs.Bytes.{Bytes}

@@ -1,6 +1,6 @@
 -- What a read at an offset gives of the contents of a source, and what it does to the source's
 -- counts.
-use Rattle.std.specs.Prelude.{◌≡◌, ℕ, ◌+◌, ◌-◌, ◌^◌, ◌<◌, ◌≤◌, min, List, length, take, drop, ⊤, IfSome, IfOk, MatchResult, Option, Some, None, Result}
+use Rattle.std.specs.Prelude.{◌≡◌, ℕ, ◌+◌, ◌-◌, ◌^◌, ◌<◌, ◌≤◌, min, length, take, drop, ⊤, IfSome, IfOk, MatchResult, Option, Some, None, Result}
 use Rattle.age_header.specs.Device.{Known}
 use Rattle.age_kdf.specs.Bytes.{Bytes}
 

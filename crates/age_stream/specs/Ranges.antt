@@ -1,5 +1,5 @@
 -- A reader of ranges between two calls, and what its calls do.
-use Rattle.std.specs.Prelude.{ℕ, List, [], ◌+◌, ◌-◌, ◌*◌, ◌/◌, ◌^◌, ◌<◌, ◌≤◌, ◌≡◌, ◌⊎◌, length, take, drop, min, nat_eq, unwrap_or, IsSome, IfSome, MatchResult, ⊤, Bool, false, Option, Some, None, Result, Ok, Err, if◌then◌else◌}
+use Rattle.std.specs.Prelude.{ℕ, [], ◌+◌, ◌-◌, ◌*◌, ◌/◌, ◌^◌, ◌<◌, ◌≤◌, ◌≡◌, ◌⊎◌, length, take, drop, min, nat_eq, unwrap_or, IsSome, IfSome, MatchResult, ⊤, Bool, false, Option, Some, None, Result, Ok, Err, if◌then◌else◌}
 use Rattle.age_cipher.specs.Bytes.{Key}
 use Rattle.age_header.specs.Device.{Known}
 use Rattle.age_kdf.specs.Bytes.{Bytes}

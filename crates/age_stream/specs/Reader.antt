@@ -1,5 +1,5 @@
 -- A reader of a payload: what its constructors and its calls do.
-use Rattle.std.specs.Prelude.{ℕ, List, ◌≡◌, ◌⊎◌, IfErr, IsErrOf, Bool, true, false, Option, None, Some, Result, Ok, Err}
+use Rattle.std.specs.Prelude.{ℕ, ◌≡◌, ◌⊎◌, IfErr, IsErrOf, Bool, true, false, Option, None, Some, Result, Ok, Err}
 use denote.Ref.{MutBor}
 use Rattle.age_header.specs.Device.{Known, GaveAtMost}
 use Rattle.age_recipient.specs.declared.key.FileKey.{FileKey}

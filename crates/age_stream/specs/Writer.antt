@@ -1,5 +1,5 @@
 -- A writer of a payload: what its constructors and its calls do to its sink.
-use Rattle.std.specs.Prelude.{ℕ, List, ◌≡◌, ◌≤◌, ◌<◌, ◌≢◌, length, MatchResult, Option, None, Some, Result}
+use Rattle.std.specs.Prelude.{ℕ, ◌≡◌, ◌≤◌, ◌<◌, ◌≢◌, length, MatchResult, None, Some, Result}
 use Rattle.age_kdf.specs.Bytes.{Bytes}
 use denote.Ref.{MutBor}
 use Rattle.age_header.specs.Device.{Known, WritesPart}

@@ -7,6 +7,7 @@ ghost use Rattle.age_stream.specs.Opening.{Advances, EndsAt, Starts, WritesAll};
 ghost use Rattle.age_stream.specs.Reader.{Lends, MissesNonce, lent};
 ghost use mathlib.Core.Option.{none};
 ghost use mir.Syntax.{named};
+ghost use Rattle.age_stream.specs.Sizes.{most_chunks, nonce_size};
 
 use crate::buffer::ChunkBuf;
 use crate::done::Done;

@@ -1,5 +1,5 @@
 -- A reader of sealed chunks, which its caller holds between two calls.
-use Rattle.std.specs.Prelude.{◌≡◌, ◌⊎◌, ℕ, ◌+◌, ◌++◌, ◌&&◌, Bool, true, false, List, length, drop, replicate, nat_eq, nat_le, Some, None, Result, Ok, Err, if◌then◌else◌}
+use Rattle.std.specs.Prelude.{◌≡◌, ◌⊎◌, ℕ, ◌+◌, ◌++◌, ◌&&◌, Bool, true, false, length, drop, replicate, nat_eq, nat_le, Some, None, Result, Ok, Err, if◌then◌else◌}
 use Rattle.age_kdf.specs.Bytes.{Bytes}
 use Rattle.age_stream.specs.declared.fault.StreamFault.{StreamFault}
 use Rattle.age_stream.specs.Reading.{outcome}

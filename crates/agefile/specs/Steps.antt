@@ -1,5 +1,5 @@
 -- What the steps of readers and writers share.
-use Rattle.std.specs.Prelude.{◌≡◌, ℕ, List, None}
+use Rattle.std.specs.Prelude.{◌≡◌, ℕ, None}
 use Rattle.age_kdf.specs.Bytes.{Bytes}
 use Rattle.agefile.specs.declared.report.Report.{Report}
 use Rattle.agefile.specs.Report.{report_of}
