@@ -11,7 +11,7 @@ use Rattle.age_cli.specs.declared.inspect.Check.TheVariants as check
 
 -- nothing where no file key was given, else good exactly where the MAC is the one of the stanzas
 -- under that key
-abbrev pub check_of : Option Bytes → HeaderParts → Check
+abbrev pub check_of : (key : Option Bytes) (header : HeaderParts) → Check
 check_of None header = check.None
 check_of (Some key) header =
     if bytes_eq header.mac (header_mac key header.stanzas) then check.Good else check.Bad

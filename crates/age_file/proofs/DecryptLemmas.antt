@@ -25,7 +25,7 @@ use Rattle.age_stream.specs.Reading.{Reading, payload_reading, stops}
 use Rattle.age_file.specs.declared.fault.Fault.{Fault}
 use Rattle.age_file.specs.declared.fault.Fault.TheVariants.{NotAge, BadLine, HeaderTruncated, HeaderTooLarge, MixedPassphrase, NoMatch, WrongKey, Malformed, BadMac, NonceTruncated, ChunkShort, EmptyFinal, BadChunk, TooManyChunks, Read, Write, OutOfMemory, NoRecipients, Refused, IncompatibleRecipients}
 use Rattle.age_file.specs.AgeFile.{Bounds}
-use Rattle.age_file.specs.Decrypt.{BeginsVerdict, Decrypts, DecryptsText, GivesVerdict, Takes, TookThrough, payload_pieces}
+use Rattle.age_file.specs.Decrypt.{BeginsVerdict, Decrypts, DecryptsText, GivesVerdict, TookUpTo, TookThrough, payload_pieces}
 use Rattle.age_file.specs.Device.{CountsRead}
 use Rattle.age_file.specs.Inspect.{Inspects}
 use Rattle.age_file.proofs.PayloadLemmas.{WritesPayload, nonce-writes}
@@ -239,7 +239,7 @@ took-piece limits come mid to old new h i fault n e le =
     }
 
 ends-takes : (limits : Bounds) (come mid to old new : Option (List ℕ)) (h : HeaderParts) (i : IsHeaded limits come mid h) (fault : StreamFault) → EndsAt limits.max_chunks 16 mid to old new fault
-    → Takes limits come to old new (of_stream fault)
+    → TookUpTo limits come to old new (of_stream fault)
 ends-takes limits come mid to old new h i stream.Read e = tt
 ends-takes limits come mid to old new h i stream.Memory e = tt
 ends-takes limits come mid to old new h i stream.NonceTruncated e = tt
@@ -248,7 +248,7 @@ ends-takes limits come mid to old new h i stream.Write e = go e.at
     not-piece : IsAtPiece limits.max_chunks e.piece stream.Write → ⊥
     not-piece x = x
 
-    go : ((◌≡◌ {A = StreamFault} stream.Write stream.Write) × (65536 * e.piece ≤ length e.text)) ⊎ IsAtPiece limits.max_chunks e.piece stream.Write → Takes limits come to old new Write
+    go : ((◌≡◌ {A = StreamFault} stream.Write stream.Write) × (65536 * e.piece ≤ length e.text)) ⊎ IsAtPiece limits.max_chunks e.piece stream.Write → TookUpTo limits come to old new Write
     go (inl (is, le)) = (e.text, e.written, took-piece limits come mid to old new h i stream.Write (length e.text / 65536) e (omega arith))
     go (inr at) = absurd (not-piece at)
 ends-takes limits come mid to old new h i (stream.ChunkShort j) e = go e.at
@@ -285,6 +285,6 @@ ends-takes limits come mid to old new h i stream.TooManyChunks e = go e.at
     go (inr at) = took-piece limits come mid to old new h i stream.TooManyChunks limits.max_chunks e (omega (arith, at))
 
 pub payload-takes : (limits : Bounds) (come mid to old new : Option (List ℕ)) (h : HeaderParts) (fault : StreamFault) → Inspects limits come mid (Ok h)
-    → (fault ≡ stream.Read) ⊎ EndsAt limits.max_chunks 16 mid to old new fault → Takes limits come to old new (of_stream fault)
-payload-takes limits come mid to old new h fault i (inl e) = subst (λ f. Takes limits come to old new (of_stream f)) (sym e) tt
+    → (fault ≡ stream.Read) ⊎ EndsAt limits.max_chunks 16 mid to old new fault → TookUpTo limits come to old new (of_stream fault)
+payload-takes limits come mid to old new h fault i (inl e) = subst (λ f. TookUpTo limits come to old new (of_stream f)) (sym e) tt
 payload-takes limits come mid to old new h fault i (inr e) = ends-takes limits come mid to old new h (headed limits come mid h i) fault e

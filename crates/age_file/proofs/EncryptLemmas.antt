@@ -21,7 +21,7 @@ use Rattle.age_file.specs.declared.fault.Fault.TheVariants.{TooManyChunks, Read,
 use Rattle.age_file.specs.declared.limits.Fresh.{Fresh}
 use Rattle.age_file.specs.AgeFile.{Bounds}
 use Rattle.age_file.specs.Device.{IsLate}
-use Rattle.age_file.specs.NewFile.{BegunFile, EncryptsGiven, EncryptsText, IsHeading, RefusesFirst, TakesOf, TookChunks}
+use Rattle.age_file.specs.NewFile.{BegunFile, EncryptsGiven, EncryptsText, IsHeading, RefusesFirst, TookOf, TookChunks}
 use Rattle.age_file.specs.Verdict.{of_stream}
 use Rattle.age_file.proofs.DecryptLemmas.{file_result}
 
@@ -163,7 +163,7 @@ encrypts_sealed limits fresh given stanzas mac from to a b c s max r header (tex
 -- ---- what was taken
 
 pub takes_begun : (limits : Bounds) (fresh : Fresh) (given : Result (List StanzaParts) Fault → Type 0) (stanzas : List StanzaParts) (mac : List ℕ) (from old new : Option (List ℕ))
-    → HeaderMade limits fresh.file_key given stanzas mac → FrontWritten stanzas mac (λ text. WritesPart old new (text ++ fresh.nonce)) → TakesOf limits fresh given from from old new Write
+    → HeaderMade limits fresh.file_key given stanzas mac → FrontWritten stanzas mac (λ text. WritesPart old new (text ++ fresh.nonce)) → TookOf limits fresh given from from old new Write
 takes_begun limits fresh given stanzas mac from old new header (text, head, part) =
     let m = made limits fresh.file_key given stanzas mac text header head in
     record {
@@ -196,7 +196,7 @@ took limits fresh given text from to a b c chunk fault sixteen m front s gave =
 
 takes_payload : (limits : Bounds) (fresh : Fresh) (given : Result (List StanzaParts) Fault → Type 0) (text : List ℕ) (from to a b c : Option (List ℕ)) (fault : StreamFault) → length fresh.nonce ≡ 16
     → Made limits fresh.file_key given text → Appends a b (text ++ fresh.nonce) → SealsAll (at_start (payload_key fresh.file_key fresh.nonce) limits.max_chunks) from to b c (Err fault)
-    → TakesOf limits fresh given from to a c (of_stream fault)
+    → TookOf limits fresh given from to a c (of_stream fault)
 takes_payload limits fresh given text from to a b c stream.Read sixteen m front s = tt
 takes_payload limits fresh given text from to a b c stream.Memory sixteen m front s = tt
 takes_payload limits fresh given text from to a b c stream.NonceTruncated sixteen m front s = tt
@@ -234,7 +234,7 @@ refuses_none limits fresh given from to b c (stream.BadChunk i) h = absurd h.1.s
 
 pub takes_sealed : (limits : Bounds) (fresh : Fresh) (given : Result (List StanzaParts) Fault → Type 0) (stanzas : List StanzaParts) (mac : List ℕ) (from to a b c : Option (List ℕ)) (s : SealerState) (max : ℕ) (fault : StreamFault)
     → HeaderMade limits fresh.file_key given stanzas mac → FrontWritten stanzas mac (λ text. Appends a b (text ++ fresh.nonce)) → length fresh.nonce ≡ 16
-    → s ≡ at_start (payload_key fresh.file_key fresh.nonce) max → max ≡ limits.max_chunks → IfNone s.fault (SealsAll s from to b c (Err fault)) → TakesOf limits fresh given from to a c (of_stream fault)
+    → s ≡ at_start (payload_key fresh.file_key fresh.nonce) max → max ≡ limits.max_chunks → IfNone s.fault (SealsAll s from to b c (Err fault)) → TookOf limits fresh given from to a c (of_stream fault)
 takes_sealed limits fresh given stanzas mac from to a b c s max fault header (text, head, front) sixteen is same seals =
     takes_payload limits fresh given text from to a b c fault sixteen (made limits fresh.file_key given stanzas mac text header head) front
     (from_start s (payload_key fresh.file_key fresh.nonce) max limits.max_chunks from to b c (Err fault) is same seals)

@@ -14,23 +14,23 @@ use Rattle.age_file.specs.Verdict.{Answering, IsVerdict}
 use Rattle.age_stream.specs.Sizes.{nonce_size, chunk_size, sealed_chunk_size}
 
 -- the pieces of what follows the header and the nonce
-abbrev pub payload_pieces : Bytes → Result Found HeaderFault → List Bytes
+abbrev pub payload_pieces : (b : Bytes) (header : Result Found HeaderFault) → List Bytes
 payload_pieces b (Ok found) = pieces (drop nonce_size (drop (length found.text) b))
 payload_pieces b (Err fault) = []
 
 -- a verdict's fault is returned, or where it has none the length of its plaintext and the number of
 -- pieces
-abbrev pub Tells : (verdict : Reading Fault) (n : ℕ) (result : Result Done Fault) → Type 0
-Tells verdict n (Ok done) =
+abbrev pub ReturnsVerdict : (verdict : Reading Fault) (n : ℕ) (result : Result Done Fault) → Type 0
+ReturnsVerdict verdict n (Ok done) =
     (verdict.fault ≡ None) × (done.bytes ≡ length verdict.front) × (done.chunks ≡ n)
-Tells verdict n (Err fault) = verdict.fault ≡ Some fault
+ReturnsVerdict verdict n (Err fault) = verdict.fault ≡ Some fault
 
 -- the verdict on b is returned, and its plaintext was written
 abbrev pub GivesVerdict : (limits : Bounds) (answers : Answering) (b : Bytes) (old new : Known)
     (r : Result Done Fault) → Type 0
 GivesVerdict limits answers b old new r =
     (verdict : Reading Fault) × (is : IsVerdict limits answers b verdict)
-    × Tells verdict (length (payload_pieces b is.header)) r × Appends old new verdict.front
+    × ReturnsVerdict verdict (length (payload_pieces b is.header)) r × Appends old new verdict.front
 
 -- the verdict's plaintext was begun
 abbrev pub BeginsVerdict : (limits : Bounds) (answers : Answering) (b : Bytes) (old new : Known)
@@ -56,22 +56,22 @@ Decrypts limits answers (Some b) old new r = DecryptsText limits answers b old n
 
 -- of a source that may have given b at most the header, the nonce, the pieces through number i and
 -- one byte were taken
-pub record TookThrough (limits : Bounds) (i : ℕ) (come rest : Known) : Type 0 where
+pub record TookThrough (limits : Bounds) (i : ℕ) (from to : Known) : Type 0 where
   pub b : Bytes
-  pub may : MayGive come b
+  pub may : MayGive from b
   pub found : Found
   pub header : HeaderVerdict b limits.max_header (Ok found)
-  pub gave : GaveAtMost (length found.text + (nonce_size + (sealed_chunk_size * (i + 1) + 1))) come
-      rest
+  pub gave : GaveAtMost (length found.text + (nonce_size + (sealed_chunk_size * (i + 1) + 1))) from
+      to
 
 -- How much of the source was taken where decrypting ended at a piece, or at a write after so many
 -- written bytes.
-abbrev pub Takes : (limits : Bounds) (come rest old new : Known) (fault : Fault) → Type 0
-Takes limits come rest old new (ChunkShort i) = TookThrough limits i come rest
-Takes limits come rest old new (EmptyFinal i) = TookThrough limits i come rest
-Takes limits come rest old new (BadChunk i) = TookThrough limits i come rest
-Takes limits come rest old new TooManyChunks = TookThrough limits limits.max_chunks come rest
-Takes limits come rest old new Write =
+abbrev pub TookUpTo : (limits : Bounds) (from to old new : Known) (fault : Fault) → Type 0
+TookUpTo limits from to old new (ChunkShort i) = TookThrough limits i from to
+TookUpTo limits from to old new (EmptyFinal i) = TookThrough limits i from to
+TookUpTo limits from to old new (BadChunk i) = TookThrough limits i from to
+TookUpTo limits from to old new TooManyChunks = TookThrough limits limits.max_chunks from to
+TookUpTo limits from to old new Write =
     (written : Bytes) × Appends old new written
-    × TookThrough limits (length written / chunk_size) come rest
-Takes limits come rest old new _ = ⊤
+    × TookThrough limits (length written / chunk_size) from to
+TookUpTo limits from to old new _ = ⊤

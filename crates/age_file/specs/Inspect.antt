@@ -14,7 +14,7 @@ file_result (Ok header) = Ok header
 file_result (Err fault) = Err (of_header fault)
 
 -- what a reader of headers returns under these limits
-abbrev pub Inspects : (limits : Bounds) (old new : Known) (r : Result HeaderParts Fault) → Type 0
-Inspects limits old new r =
+abbrev pub Inspects : (limits : Bounds) (from to : Known) (r : Result HeaderParts Fault) → Type 0
+Inspects limits from to r =
     (answer : Result HeaderParts HeaderFault) × (r ≡ file_result answer)
-    × ReadsHeader old new limits.max_header answer
+    × ReadsHeader from to limits.max_header answer

@@ -18,26 +18,28 @@ use Rattle.age_file.specs.AgeFile.{AgeFile, Bounds, is_mixed}
 use Rattle.age_stream.specs.Sizes.{nonce_size, chunk_size, sealed_chunk_size}
 
 -- these stanzas, then those that follow
-abbrev pub before : List StanzaParts → Result (List StanzaParts) Fault
+abbrev pub before : (stanzas : List StanzaParts) (more : Result (List StanzaParts) Fault)
     → Result (List StanzaParts) Fault
 before stanzas (Ok more) = Ok (stanzas ++ more)
 before stanzas (Err fault) = Err fault
 
 -- what the recipients from number i on give in order: their stanzas joined, or the first refusal
-abbrev pub gathered_from : ℕ → List (Result (List StanzaParts) ℕ) → Result (List StanzaParts) Fault
+abbrev pub gathered_from : (i : ℕ) (wrapped : List (Result (List StanzaParts) ℕ))
+    → Result (List StanzaParts) Fault
 gathered_from i [] = Ok []
 gathered_from i (Ok stanzas ∷ more) = before stanzas (gathered_from (i + 1) more)
 gathered_from i (Err code ∷ more) = Err (Refused i code)
 
 -- the stanzas, unless a recipient's labels do not go together with those of recipient 0
-abbrev pub together : Result (List StanzaParts) Fault → Option ℕ → Result (List StanzaParts) Fault
+abbrev pub together : (given : Result (List StanzaParts) Fault) (place : Option ℕ)
+    → Result (List StanzaParts) Fault
 together (Err fault) place = Err fault
 together (Ok stanzas) (Some i) = Err (IncompatibleRecipients i)
 together (Ok stanzas) None = Ok stanzas
 
 -- of labels that recipients with these meanings may return, the first recipient that does not go
 -- together with recipient 0
-abbrev pub IsApart : List Labels → Option ℕ → Type 0
+abbrev pub IsApart : (meant : List Labels) (place : Option ℕ) → Type 0
 IsApart meant place =
     (labels : List Labels) × AllZip MayLabel meant labels × (place ≡ incompatible labels)
 
@@ -76,7 +78,7 @@ pub record IsTooLarge (limits : Bounds) (k : FileKey)
 -- the first fault for which there is no header: a refusal, recipients that do not go together, no
 -- stanza at all, a `scrypt` stanza beside another, too great a length
 abbrev pub IsRefusal : (limits : Bounds) (k : FileKey)
-    (given : (Result (List StanzaParts) Fault → Type 0)) (fault : Fault) → Type 0
+    (given : Result (List StanzaParts) Fault → Type 0) (fault : Fault) → Type 0
 IsRefusal limits k given (Refused i code) = given (Err (Refused i code))
 IsRefusal limits k given (IncompatibleRecipients i) = given (Err (IncompatibleRecipients i))
 IsRefusal limits k given NoRecipients = given (Ok [])
@@ -123,7 +125,7 @@ pub record BegunFile (limits : Bounds) (fresh : Fresh)
 -- What `encrypt` returns and writes, `given` being what the recipients give, and the source giving
 -- `plain`.
 abbrev pub EncryptsText : (limits : Bounds) (fresh : Fresh)
-    (given : (Result (List StanzaParts) Fault → Type 0)) (plain : Bytes) (old new : Known)
+    (given : Result (List StanzaParts) Fault → Type 0) (plain : Bytes) (old new : Known)
     (result : Result Done Fault) → Type 0
 EncryptsText limits fresh given plain old new (Ok done) =
     (gained : Bytes) × NewFile limits fresh given plain gained × Appends old new gained
@@ -138,7 +140,7 @@ EncryptsText limits fresh given plain old new (Err fault) = ⊤
 
 -- The same of a source whose bytes may be unknown: then of some bytes.
 abbrev pub EncryptsGiven : (limits : Bounds) (fresh : Fresh)
-    (given : (Result (List StanzaParts) Fault → Type 0)) (from old new : Known)
+    (given : Result (List StanzaParts) Fault → Type 0) (from old new : Known)
     (r : Result Done Fault) → Type 0
 EncryptsGiven limits fresh given None old new r =
     (plain : Bytes) × EncryptsText limits fresh given plain old new r
@@ -147,7 +149,7 @@ EncryptsGiven limits fresh given (Some plain) old new r =
 
 -- a fault with which no header was made names the first reason; any other result says nothing of it
 abbrev pub RefusesFirst : (limits : Bounds) (k : FileKey)
-    (given : (Result (List StanzaParts) Fault → Type 0)) (fault : Fault) → Type 0
+    (given : Result (List StanzaParts) Fault → Type 0) (fault : Fault) → Type 0
 RefusesFirst limits k given TooManyChunks = ⊤
 RefusesFirst limits k given Read = ⊤
 RefusesFirst limits k given Write = ⊤
@@ -155,16 +157,16 @@ RefusesFirst limits k given OutOfMemory = ⊤
 RefusesFirst limits k given fault = IsRefusal limits k given fault
 
 -- what is returned of the stanzas of all recipients
-abbrev pub WrapsAll : Result (List StanzaParts) Fault → Result (Vec StanzaParts Global) Fault
-    → Type 0
+abbrev pub WrapsAll : (wrapped : Result (List StanzaParts) Fault)
+    (result : Result (Vec StanzaParts Global) Fault) → Type 0
 WrapsAll wrapped (Ok stanzas) = wrapped ≡ Ok stanzas.items
 WrapsAll wrapped (Err fault) =
     (fault ≡ OutOfMemory)
     ⊎ ((i : ℕ) × (code : ℕ) × (fault ≡ Refused i code) × (wrapped ≡ Err (Refused i code)))
 
 -- what gathering the stanzas of recipients returns
-abbrev pub Gathers : (Result (List StanzaParts) Fault → Type 0)
-    → Result (Vec StanzaParts Global) Fault → Type 0
+abbrev pub Gathers : (given : Result (List StanzaParts) Fault → Type 0)
+    (result : Result (Vec StanzaParts Global) Fault) → Type 0
 Gathers given (Ok stanzas) = given (Ok stanzas.items)
 Gathers given (Err fault) = (fault ≡ OutOfMemory)
     ⊎ (((i : ℕ) × (code : ℕ) × (fault ≡ Refused i code) × given (Err (Refused i code)))
@@ -172,7 +174,7 @@ Gathers given (Err fault) = (fault ≡ OutOfMemory)
 
 -- with which faults no header is made, and why
 abbrev pub FailsHeading : (limits : Bounds) (k : FileKey)
-    (given : (Result (List StanzaParts) Fault → Type 0)) (fault : Fault) → Type 0
+    (given : Result (List StanzaParts) Fault → Type 0) (fault : Fault) → Type 0
 FailsHeading limits k given fault =
     (fault ≡ OutOfMemory)
     ⊎ (((i : ℕ) × (code : ℕ) × (fault ≡ Refused i code) × IsRefusal limits k given (Refused i code))
@@ -199,10 +201,10 @@ pub record TookChunks (limits : Bounds) (fresh : Fresh)
   pub gave : GaveAtMost (chunk_size * (n + 2)) from to
 
 -- how much of the source was taken where encrypting ended at a write, or with too many chunks
-abbrev pub TakesOf : (limits : Bounds) (fresh : Fresh)
-    (given : (Result (List StanzaParts) Fault → Type 0)) (from to old new : Known) (fault : Fault)
+abbrev pub TookOf : (limits : Bounds) (fresh : Fresh)
+    (given : Result (List StanzaParts) Fault → Type 0) (from to old new : Known) (fault : Fault)
     → Type 0
-TakesOf limits fresh given from to old new TooManyChunks =
+TookOf limits fresh given from to old new TooManyChunks =
     TookChunks limits fresh given from to old new
-TakesOf limits fresh given from to old new Write = TookChunks limits fresh given from to old new
-TakesOf limits fresh given from to old new _ = ⊤
+TookOf limits fresh given from to old new Write = TookChunks limits fresh given from to old new
+TookOf limits fresh given from to old new _ = ⊤

@@ -9,7 +9,7 @@ use Rattle.age_recipient.specs.declared.key.FileKey.{FileKey}
 use Rattle.age_stream.specs.Ranges.{IsOpened, RangeState}
 use Rattle.age_stream.specs.Slice.{last_piece, range_outcome}
 use Rattle.age_file.specs.declared.fault.Fault.{Fault}
-use Rattle.age_file.specs.declared.fault.Fault.TheVariants.{NoRecipients, OutOfMemory, Read, Refused, Write}
+use Rattle.age_file.specs.declared.fault.Fault.TheVariants.{IncompatibleRecipients, NoRecipients, OutOfMemory, Read, Refused, Write}
 use Rattle.age_file.specs.AgeFile.{Bounds}
 use Rattle.age_file.specs.Verdict.{Answering, of_header, of_stream, unlocked}
 use Rattle.age_stream.specs.Sizes.{nonce_size}
@@ -28,6 +28,7 @@ IsWithin told at = IfSome told (λ bytes. at ≤ length bytes)
 -- a fault with which opening a file for ranges may end
 abbrev pub IsOpenFault : Fault → Type 0
 IsOpenFault NoRecipients = ⊥
+IsOpenFault (IncompatibleRecipients i) = ⊥
 IsOpenFault (Refused i code) = ⊥
 IsOpenFault Write = ⊥
 IsOpenFault _ = ⊤

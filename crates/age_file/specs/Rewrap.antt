@@ -35,14 +35,14 @@ pub record Rewrapped (limits : Bounds) (answers : Answering) (b c : Bytes) : Typ
 
 -- with the stanzas that the recipients give for the file key
 abbrev pub IsRewrapped : (limits : Bounds) (answers : Answering)
-    (given : (FileKey → Result (List StanzaParts) Fault → Type 0)) (b c : Bytes) → Type 0
+    (given : FileKey → Result (List StanzaParts) Fault → Type 0) (b c : Bytes) → Type 0
 IsRewrapped limits answers given b c =
     (new : Rewrapped limits answers b c) × given new.key (Ok new.stanzas)
 
 -- the first fault of b's header up to the MAC, or else of the new header
 abbrev pub IsRefusedBy : (limits : Bounds) (answers : Answering)
-    (given : (FileKey → Result (List StanzaParts) Fault → Type 0))
-    (result : Result Found HeaderFault) (fault : Fault) → Type 0
+    (given : FileKey → Result (List StanzaParts) Fault → Type 0) (result : Result Found HeaderFault)
+    (fault : Fault) → Type 0
 IsRefusedBy limits answers given (Err e) fault = fault ≡ of_header e
 IsRefusedBy limits answers given (Ok found) fault =
     (unlocked answers (parts_of found) ≡ Err fault)
@@ -50,7 +50,7 @@ IsRefusedBy limits answers given (Ok found) fault =
     × IsRefusal limits key (given key) fault)
 
 abbrev pub RefusesRewrap : (limits : Bounds) (answers : Answering)
-    (given : (FileKey → Result (List StanzaParts) Fault → Type 0)) (b : Bytes) (fault : Fault)
+    (given : FileKey → Result (List StanzaParts) Fault → Type 0) (b : Bytes) (fault : Fault)
     → Type 0
 RefusesRewrap limits answers given b fault =
     (header : Result Found HeaderFault) × HeaderVerdict b limits.max_header header
@@ -58,14 +58,14 @@ RefusesRewrap limits answers given b fault =
 
 -- a beginning of the rewrapped file was written
 abbrev pub BeginsRewrapped : (limits : Bounds) (answers : Answering)
-    (given : (FileKey → Result (List StanzaParts) Fault → Type 0)) (b : Bytes) (old new : Known)
+    (given : FileKey → Result (List StanzaParts) Fault → Type 0) (b : Bytes) (old new : Known)
     → Type 0
 BeginsRewrapped limits answers given b old new =
     (c : Bytes) × IsRewrapped limits answers given b c × WritesPart old new c
 
 -- What is returned where b was to come, and what is written.
 abbrev pub RewrapsText : (limits : Bounds) (answers : Answering)
-    (given : (FileKey → Result (List StanzaParts) Fault → Type 0)) (b : Bytes) (old new : Known)
+    (given : FileKey → Result (List StanzaParts) Fault → Type 0) (b : Bytes) (old new : Known)
     (result : Result (Unit {0}) Fault) → Type 0
 RewrapsText limits answers given b old new (Ok done) =
     (c : Bytes) × IsRewrapped limits answers given b c × Appends old new c
@@ -80,7 +80,7 @@ RewrapsText limits answers given b old new (Err fault) = RefusesRewrap limits an
 
 -- The same of a source whose bytes may be unknown: then of some bytes.
 abbrev pub Rewraps : (limits : Bounds) (answers : Answering)
-    (given : (FileKey → Result (List StanzaParts) Fault → Type 0)) (from old new : Known)
+    (given : FileKey → Result (List StanzaParts) Fault → Type 0) (from old new : Known)
     (r : Result (Unit {0}) Fault) → Type 0
 Rewraps limits answers given None old new r =
     (b : Bytes) × RewrapsText limits answers given b old new r

@@ -52,12 +52,12 @@ abbrev pub Answering : Type 0
 Answering = List StanzaParts → List Unwrapped
 
 -- the key that was chosen, where the header's MAC is the one under it
-abbrev pub checked : HeaderParts → Result FileKey UnlockFault → Result FileKey Fault
+abbrev pub checked : (h : HeaderParts) (chosen : Result FileKey UnlockFault) → Result FileKey Fault
 checked h (Err fault) = Err (of_unlock fault)
 checked h (Ok k) = if bytes_eq h.mac (header_mac k.0 h.stanzas) then Ok k else Err BadMac
 
 -- the file key of a header, or the first fault up to the MAC
-abbrev pub unlocked : Answering → HeaderParts → Result FileKey Fault
+abbrev pub unlocked : (answers : Answering) (h : HeaderParts) → Result FileKey Fault
 unlocked answers h =
     if is_mixed h.stanzas then Err MixedPassphrase
     else checked h (choice (answers h.stanzas))

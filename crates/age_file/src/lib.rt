@@ -19,6 +19,10 @@
 //! identities. The contracts and the laws in `laws` cite it. The terms are defined in
 //! docs/DESIGN.md, "Words".
 //!
+//! `fault` has the texts of the errors, and `limits` the ranges of the limits. The chunk size is in
+//! `age_stream` (`specs/Sizes.antt`), the range of work factors in `age_recipient`
+//! (`specs/PassphraseHolders.antt`).
+//!
 //! Limits: those of `Limits`. A source is read to its end. What was written before an error is
 //! genuine, but incomplete.
 #![tactic(auto)]

@@ -2,7 +2,7 @@
 
 ghost use Rattle.std.specs.Prelude.{◌⊎◌, map, IfErr};
 ghost use Rattle.std.specs.Io.KnownBytes.{Keeps};
-ghost use Rattle.age_file.specs.Decrypt.{Decrypts, Takes};
+ghost use Rattle.age_file.specs.Decrypt.{Decrypts, TookUpTo};
 ghost use Rattle.age_file.specs.Device.{CountsRead, CountsWrite, IsLate};
 ghost use Rattle.age_file.specs.Verdict.{Answering};
 
@@ -45,7 +45,7 @@ pub fn decrypt<S: Source, W: Sink>(
         (λ fault. IsLate fault ⊎ Keeps (W.taken out.old) (W.taken out.new)) }
     ensures reads { CountsRead (S.failed input.old) (S.failed input.new) result }
     ensures writes { CountsWrite (W.failed out.old) (W.failed out.new) result }
-    ensures took { IfErr result (Takes limits.now (S.to_come input.old) (S.to_come input.new)
+    ensures took { IfErr result (TookUpTo limits.now (S.to_come input.old) (S.to_come input.new)
         (W.taken out.old) (W.taken out.new)) }
 {
     let header = match inspect(alloc, input, limits) {

@@ -26,7 +26,7 @@ use std::alloc::Global;
 /// `BadMac`; then of the new header, as `encrypt` says: `Refused`, `IncompatibleRecipients`,
 /// `NoRecipients`, `MixedPassphrase`, `HeaderTooLarge`. On these, and on `OutOfMemory`, nothing was
 /// written. `Read` and `Write` if a device failed: a prefix of the new file was written.
-/// `TooManyChunks` if the source returns more than 2^105 bytes, which no payload has.
+/// `TooManyChunks` if the source returns 2^105 bytes or more, which no payload has.
 pub fn rewrap<S: Source, W: Sink>(
     alloc: Global,
     input: &mut S,

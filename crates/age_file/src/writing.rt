@@ -5,7 +5,7 @@ ghost use Rattle.std.specs.Io.KnownBytes.{Keeps};
 ghost use Rattle.age_header.specs.Device.{Bytes, Counts, Writes};
 ghost use Rattle.age_header.specs.Header.{Head};
 ghost use Rattle.age_file.specs.Device.{CountsRead, CountsWrite, IsLate};
-ghost use Rattle.age_file.specs.NewFile.{EncryptsGiven, RefusesFirst, Gathered, TakesOf};
+ghost use Rattle.age_file.specs.NewFile.{EncryptsGiven, RefusesFirst, Gathered, TookOf};
 
 use crate::fault::Fault;
 use crate::fault_names::stream_fault;
@@ -53,7 +53,7 @@ pub fn encrypt<S: Source, W: Sink>(
     ensures writes { CountsWrite (W.failed out.old) (W.failed out.new) result }
     ensures took { let given = Gathered (map (λ r. wraps r fresh.now.file_key) recipients.now)
         (map (λ r. the_labels r) recipients.now) in
-        IfErr result (TakesOf limits.now fresh.now given
+        IfErr result (TookOf limits.now fresh.now given
         (S.to_come plain.old) (S.to_come plain.new) (W.taken out.old) (W.taken out.new)) }
 {
     let header = header_for(alloc, recipients, &fresh.file_key, limits)?;

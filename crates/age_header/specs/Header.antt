@@ -65,7 +65,7 @@ pub record IsStanza (s : StanzaParts) (text : Bytes) : Type 0 where
   pub spelled : text ≡ argument_line s.args ++ flat_map line full ++ line last
 
 -- the texts of stanzas, one after the other
-abbrev pub AreStanzas : List StanzaParts → Bytes → Type 0
+abbrev pub AreStanzas : (stanzas : List StanzaParts) (text : Bytes) → Type 0
 AreStanzas [] text = text ≡ []
 AreStanzas (s ∷ ss) text =
     (x : Bytes) × (y : Bytes) × IsStanza s x × AreStanzas ss y × (text ≡ x ++ y)

@@ -9,7 +9,7 @@ use Rattle.age_header.specs.declared.lines.LineEnd.{LineEnd}
 use Rattle.age_header.specs.declared.lines.LineEnd.TheVariants.{Lf, Input, Room}
 
 -- the bytes that a line took
-abbrev pub taken : Bytes → LineEnd → Bytes
+abbrev pub taken : (text : Bytes) (end : LineEnd) → Bytes
 taken text Lf = text ++ 10 ∷ []
 taken text Input = text
 taken text Room = text

@@ -7,7 +7,7 @@ use Rattle.age_header.specs.Steps.{State, between, within}
 use Rattle.age_header.specs.declared.progress.Progress.TheInside.{Inside}
 
 -- with no stanza open, between two
-abbrev state_with : List StanzaParts → Option StanzaParts → State
+abbrev state_with : (ss : List StanzaParts) (begun : Option StanzaParts) → State
 state_with ss None = between ss
 state_with ss (Some s) = within ss s.args s.body
 

@@ -21,18 +21,18 @@ Refuses b max fault = IsFault b max fault
 
 -- What a reader under a limit of max bytes returns where b comes: its verdict. Where that is a
 -- header, just the header's bytes are taken.
-abbrev pub ReadsHeaderOf : (b : Bytes) (old new : Known) (max : ℕ)
+abbrev pub ReadsHeaderOf : (b : Bytes) (from to : Known) (max : ℕ)
     (result : Result HeaderParts HeaderFault) → Type 0
-ReadsHeaderOf b old new max (Ok h) =
+ReadsHeaderOf b from to max (Ok h) =
     (text : Bytes)
     × HeaderVerdict b max (Ok (record { stanzas = h.stanzas; mac = h.mac; text = text }))
-    × Consumes old new text
-ReadsHeaderOf b old new max (Err fault) = Refuses b max fault
+    × Consumes from to text
+ReadsHeaderOf b from to max (Err fault) = Refuses b max fault
 
 -- The same of a source: of the bytes that were to come, or of some bytes where they are unknown.
-abbrev pub ReadsHeader : (old new : Known) (max : ℕ) (r : Result HeaderParts HeaderFault) → Type 0
-ReadsHeader None new max r = (b : Bytes) × ReadsHeaderOf b None new max r
-ReadsHeader (Some b) new max r = ReadsHeaderOf b (Some b) new max r
+abbrev pub ReadsHeader : (from to : Known) (max : ℕ) (r : Result HeaderParts HeaderFault) → Type 0
+ReadsHeader None to max r = (b : Bytes) × ReadsHeaderOf b None to max r
+ReadsHeader (Some b) to max r = ReadsHeaderOf b (Some b) to max r
 
 -- the count of failures rises by one where the result is Read, and else stays
 abbrev pub CountsRead : {A : Type 0} (old new : ℕ) (result : Result A HeaderFault) → Type 0

@@ -14,7 +14,7 @@ pub record IsPlain (e : GeneralPurpose) : Type 0 where
   pub characters : engine_symbols e ≡ alphabet
 
 -- n full lines, and a last line
-unfoldable pub body_lines : ℕ → Bytes → Bytes
+unfoldable pub body_lines : (n : ℕ) (body : Bytes) → Bytes
 body_lines zero body = line (base64_of body)
 body_lines (suc n) body =
     line (base64_of (take bytes_of_a_line body)) ++ body_lines n (drop bytes_of_a_line body)

@@ -5,7 +5,7 @@ use Rattle.age_kdf.specs.Bytes.{Words}
 use Rattle.age_kdf.specs.Salsa.{salsa8}
 
 -- B[i]: block i of a list of words
-abbrev pub block : Words → ℕ → Words
+abbrev pub block : (b : Words) (i : ℕ) → Words
 block b i = take 16 (drop (16 * i) b)
 
 -- X on the 2 * r blocks of b after i steps: at first the last block, then Salsa20/8 of X xor B[i].
@@ -25,5 +25,5 @@ odds r b zero = []
 odds r b (suc n) = odds r b n ++ mixed r b (2 * n + 2)
 
 -- the even Y, then the odd ones
-unfoldable pub block_mix : ℕ → Words → Words
+unfoldable pub block_mix : (r : ℕ) (b : Words) → Words
 block_mix r b = evens r b r ++ odds r b r

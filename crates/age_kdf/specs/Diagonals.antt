@@ -29,7 +29,7 @@ spread s =
     ∷ lane s 3 0 ∷ lane s 2 1 ∷ lane s 1 2 ∷ lane s 0 3 ∷ []
 
 -- four lanes, each moved down by n places
-abbrev pub turned : ℕ → Words → Words
+abbrev pub turned : (n : ℕ) (v : Words) → Words
 turned n v =
     slice_index v (n % 4) ∷ slice_index v ((n + 1) % 4) ∷ slice_index v ((n + 2) % 4)
     ∷ slice_index v ((n + 3) % 4) ∷ []

@@ -12,7 +12,7 @@ abbrev pub block_key : Bytes → Bytes
 block_key key = short_key key ++ replicate (64 - length (short_key key)) 0
 
 -- K XOR the pad that repeats one byte
-abbrev pub padded_key : Bytes → ℕ → Bytes
+abbrev pub padded_key : (key : Bytes) (byte : ℕ) → Bytes
 padded_key key byte = map (λ k. bit_xor k byte) (block_key key)
 
 -- the bytes that ipad and opad repeat

@@ -31,7 +31,7 @@ unfoldable pub rows : Words → Words
 rows x = quarter 15 12 13 14 (quarter 10 11 8 9 (quarter 5 6 7 4 (quarter 0 1 2 3 x)))
 
 -- n double rounds
-unfoldable pub double_rounds : ℕ → Words → Words
+unfoldable pub double_rounds : (n : ℕ) (x : Words) → Words
 double_rounds zero x = x
 double_rounds (suc n) x = rows (columns (double_rounds n x))
 

@@ -10,7 +10,7 @@ use Rattle.age_recipient.specs.declared.unwrapped.Unwrapped.TheVariants.{NotMine
 
 -- The first answer that is a key or a malformed stanza; where none is, `rest`, which is `Failed`
 -- once one of them was.
-abbrev pub decided_from : Unwrapped → List Unwrapped → Unwrapped
+abbrev pub decided_from : (rest : Unwrapped) (answers : List Unwrapped) → Unwrapped
 decided_from rest [] = rest
 decided_from rest (Key key ∷ more) = Key key
 decided_from rest (Malformed fault ∷ more) = Malformed fault
@@ -22,11 +22,11 @@ abbrev pub decided : List Unwrapped → Unwrapped
 decided answers = decided_from NotMine answers
 
 -- of the arguments of a stanza of this type those after the type
-abbrev pub behind_type : Bytes → List Bytes → Option (List Bytes)
-behind_type kind [] = None
-behind_type kind (first ∷ rest) = if bytes_eq first kind then Some rest else None
+abbrev pub after_type : (kind : Bytes) (args : List Bytes) → Option (List Bytes)
+after_type kind [] = None
+after_type kind (first ∷ rest) = if bytes_eq first kind then Some rest else None
 
 -- what a stanza gives by its arguments after the type; one of another type is not this identity's
-abbrev pub typed_answer : (List Bytes → Unwrapped) → Option (List Bytes) → Unwrapped
+abbrev pub typed_answer : (answer : List Bytes → Unwrapped) (args : Option (List Bytes)) → Unwrapped
 typed_answer answer None = NotMine
 typed_answer answer (Some args) = answer args

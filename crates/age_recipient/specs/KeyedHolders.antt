@@ -15,9 +15,9 @@ pub record KeySecret : Type 0 where
   pub salt : Bytes
 
 -- a recipient gives one stanza for each file key
-abbrev pub key_wraps : KeySecret → FileKey → Result (List StanzaParts) ℕ
+abbrev pub key_wraps : (r : KeySecret) (file_key : FileKey) → Result (List StanzaParts) ℕ
 key_wraps r file_key = Ok (keyed_stanza r.key r.salt file_key ∷ [])
 
 -- an identity goes through the stanzas in order
-abbrev pub key_unwraps : Bytes → List StanzaParts → Unwrapped
+abbrev pub key_unwraps : (key : Bytes) (stanzas : List StanzaParts) → Unwrapped
 key_unwraps key stanzas = decided (map (keyed_answer key) stanzas)

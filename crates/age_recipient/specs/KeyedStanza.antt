@@ -10,7 +10,7 @@ use Rattle.age_recipient.specs.declared.key.FileKey.{FileKey}
 use Rattle.age_recipient.specs.declared.unwrapped.StanzaFault.TheVariants.{ArgCount, Salt, BodyLength}
 use Rattle.age_recipient.specs.declared.unwrapped.Unwrapped.{Unwrapped}
 use Rattle.age_recipient.specs.declared.unwrapped.Unwrapped.TheVariants.{Malformed}
-use Rattle.age_recipient.specs.Answer.{behind_type, typed_answer}
+use Rattle.age_recipient.specs.Answer.{after_type, typed_answer}
 use Rattle.age_recipient.specs.Salt.{salt_of}
 use Rattle.age_recipient.specs.Sealing.{sealed_key, unsealed, sealed_key_size}
 
@@ -38,7 +38,7 @@ arguments_answer key (salt ∷ []) body = salted_answer key body (salt_of (decod
 arguments_answer key _ body = Malformed ArgCount
 
 -- what one stanza gives
-unfoldable pub keyed_answer : Bytes → StanzaParts → Unwrapped
+unfoldable pub keyed_answer : (key : Bytes) (stanza : StanzaParts) → Unwrapped
 keyed_answer key stanza =
     typed_answer (λ args. arguments_answer key args stanza.body)
-    (behind_type (codes "example.org/key") stanza.args)
+    (after_type (codes "example.org/key") stanza.args)

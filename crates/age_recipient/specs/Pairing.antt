@@ -24,7 +24,7 @@ use Rattle.age_recipient.specs.Salt.{IsSalt, salt_of}
 use Rattle.age_recipient.specs.Sealing.{sealed_key, unsealed, zero_nonce}
 
 -- f holds of each number below n
-abbrev all_below : (ℕ → Bool) → ℕ → Bool
+abbrev all_below : (f : ℕ → Bool) (n : ℕ) → Bool
 all_below f zero = true
 all_below f (suc n) = f n && all_below f n
 
@@ -44,7 +44,7 @@ all_below_at f (suc n) k e low =
     ]
 
 -- a text is a work factor, and spells this number
-abbrev is_spelled : Bytes → ℕ → Bool
+abbrev is_spelled : (text : Bytes) (n : ℕ) → Bool
 is_spelled text n = is_work_factor text && nat_eq (number_from 0 text) n
 
 -- the digits of a number above 0, as text

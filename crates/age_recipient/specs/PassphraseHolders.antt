@@ -37,14 +37,14 @@ pub record PairFits (work max : ℕ) : Type 0 where
   pub top : max ≤ most_work
 
 -- a work factor is refused exactly where it does not fit
-abbrev pub IsPassError : Type 0 → PassError → Type 0
+abbrev pub IsPassError : (fits : Type 0) (error : PassError) → Type 0
 IsPassError fits WorkFactor = fits → ⊥
 IsPassError fits Memory = fits
 
 -- a recipient gives one stanza for each key
-abbrev pub pass_wraps : PassSecret → FileKey → Result (List StanzaParts) ℕ
+abbrev pub pass_wraps : (r : PassSecret) (key : FileKey) → Result (List StanzaParts) ℕ
 pass_wraps r key = Ok (pass_stanza r.pass r.work r.salt key ∷ [])
 
 -- an identity goes through the stanzas in order
-abbrev pub pass_unwraps : PassGuess → List StanzaParts → Unwrapped
+abbrev pub pass_unwraps : (i : PassGuess) (stanzas : List StanzaParts) → Unwrapped
 pass_unwraps i stanzas = decided (map (pass_answer i.pass i.max) stanzas)

@@ -12,7 +12,7 @@ use Rattle.age_recipient.specs.declared.key.FileKey.{FileKey}
 use Rattle.age_recipient.specs.declared.unwrapped.StanzaFault.TheVariants.{ArgCount, Salt, WorkFactorText, WorkFactorTooHigh, BodyLength}
 use Rattle.age_recipient.specs.declared.unwrapped.Unwrapped.{Unwrapped}
 use Rattle.age_recipient.specs.declared.unwrapped.Unwrapped.TheVariants.{Malformed}
-use Rattle.age_recipient.specs.Answer.{behind_type, typed_answer}
+use Rattle.age_recipient.specs.Answer.{after_type, typed_answer}
 use Rattle.age_recipient.specs.Salt.{salt_of}
 use Rattle.age_recipient.specs.Sealing.{sealed_key, unsealed, sealed_key_size}
 
@@ -38,7 +38,7 @@ is_work_factor [] = false
 is_work_factor (c ∷ digits) = nat_le 49 c && nat_le c 57 && list_all is_digit digits
 
 -- the number that decimal digits spell after n
-abbrev pub number_from : ℕ → Bytes → ℕ
+abbrev pub number_from : (n : ℕ) (digits : Bytes) → ℕ
 number_from n [] = n
 number_from n (c ∷ digits) = number_from (n * 10 + (c - 48)) digits
 
@@ -64,4 +64,4 @@ arguments_answer pass max _ body = Malformed ArgCount
 unfoldable pub pass_answer : (pass : Bytes) (max : ℕ) (stanza : StanzaParts) → Unwrapped
 pass_answer pass max stanza =
     typed_answer (λ args. arguments_answer pass max args stanza.body)
-    (behind_type (codes "scrypt") stanza.args)
+    (after_type (codes "scrypt") stanza.args)

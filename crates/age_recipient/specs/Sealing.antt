@@ -21,7 +21,7 @@ abbrev pub sealed_key_size : ℕ
 sealed_key_size = file_key_size + tag_size
 
 -- the body that holds this file key
-abbrev pub sealed_key : Bytes → FileKey → Bytes
+abbrev pub sealed_key : (wrap_key : Bytes) (key : FileKey) → Bytes
 sealed_key wrap_key key = sealed wrap_key zero_nonce [] key.0
 
 -- the key that was found, or a failure

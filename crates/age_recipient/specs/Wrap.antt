@@ -9,8 +9,8 @@ use Rattle.age_recipient.specs.declared.recipient.WrapFault.{WrapFault}
 use Rattle.age_recipient.specs.declared.recipient.WrapFault.TheVariants.{Refused, Memory}
 
 -- the result is the meaning, or memory was refused
-abbrev pub WrapsAs : Result (List StanzaParts) ℕ → Result (Vec StanzaParts Global) WrapFault
-    → Type 0
+abbrev pub WrapsAs : (meaning : Result (List StanzaParts) ℕ)
+    (result : Result (Vec StanzaParts Global) WrapFault) → Type 0
 WrapsAs meaning (Ok stanzas) = meaning ≡ Ok stanzas.items
 WrapsAs meaning (Err (Refused code)) = meaning ≡ Err code
 WrapsAs meaning (Err Memory) = ⊤

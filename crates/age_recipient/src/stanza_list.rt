@@ -3,7 +3,7 @@
 ghost use Rattle.std.specs.Prelude.{◌≡◌, map, option_map, IfOk};
 ghost use Rattle.std.specs.String.{string_bytes};
 ghost use Rattle.age_header.specs.Base64.{decoded};
-ghost use Rattle.age_recipient.specs.Answer.{behind_type, decided};
+ghost use Rattle.age_recipient.specs.Answer.{after_type, decided};
 ghost use Rattle.age_recipient.specs.Salt.{salt_of};
 
 use crate::unwrapped::Unwrapped;
@@ -43,9 +43,9 @@ pub(crate) fn first_opened<O: Opener>(
 }
 
 /// The arguments after the type, if the stanza is of this type.
-pub(crate) fn behind_type<'a>(stanza: &'a Stanza, kind: &str) -> Option<&'a [String]>
+pub(crate) fn after_type<'a>(stanza: &'a Stanza, kind: &str) -> Option<&'a [String]>
     ensures { option_map (λ args. map string_bytes args.now) result
-        ≡ behind_type kind.now stanza.now.args }
+        ≡ after_type kind.now stanza.now.args }
 {
     let Some((first, rest)) = stanza.args().split_first() else {
         return None;

@@ -3,7 +3,7 @@ use Rattle.std.proofs.Common.{◌≡◌, ℕ, List, ◌++◌, ◌+◌, ◌-◌, 
 use Rattle.std.proofs.lemmas.Bool.{eqb-true, false_from_ne_true}
 use Rattle.std.proofs.lemmas.List.{length-take-le, length-drop, drop-drop, take_at, drop_at, length-append}
 use Rattle.age_stream.specs.declared.layout.Layout.{Layout}
-use Rattle.age_stream.specs.Ranges.{opens_to, fresh, is_kept, sealed_span}
+use Rattle.age_stream.specs.Ranges.{opens_to, first_to_open, is_kept, sealed_span}
 use Rattle.age_stream.specs.Slice.{opening, text_len, IsSlice}
 use Rattle.age_stream.proofs.SliceLemmas.{slice-on}
 
@@ -54,9 +54,9 @@ counts-on true new old start i0 i h lt e = omega arith
 counts-on false new old start i0 i h lt e = omega arith
 
 pub counts-at_first : (index index0 : Option ℕ) (new old start at i : ℕ) → index ≡ index0 → i ≡ at / 65536 → min (old + (if is_kept index i then 0 else 1)) (2 ^ 64 - 1) ≤ new → old ≡ start
-    → min (start + (i + 1 - fresh index0 at)) (2 ^ 64 - 1) ≤ new
+    → min (start + (i + 1 - first_to_open index0 at)) (2 ^ 64 - 1) ≤ new
 counts-at_first index index0 new old start at i e is h same =
-    subst (λ x. min (start + (x + 1 - fresh index0 at)) (2 ^ 64 - 1) ≤ new) (sym is)
+    subst (λ x. min (start + (x + 1 - first_to_open index0 at)) (2 ^ 64 - 1) ≤ new) (sym is)
     (counts-first (is_kept index0 (at / 65536)) new old start (at / 65536)
     (subst (λ x. min (old + (if is_kept x (at / 65536) then 0 else 1)) (2 ^ 64 - 1) ≤ new) e (subst (λ x. min (old + (if is_kept index x then 0 else 1)) (2 ^ 64 - 1) ≤ new) is h)) same)
 
@@ -79,16 +79,16 @@ given-later true false new old start i0 i layout h lt within e = let covers : la
 given-later false true new old start i0 i layout h lt within e = let covers : layout.plain ≤ 65536 * layout.count = layout.covers in omega arith
 given-later false false new old start i0 i layout h lt within e = let covers : layout.plain ≤ 65536 * layout.count = layout.covers in omega arith
 
-pub opened-at_first : (index index0 : Option ℕ) (new old start at i : ℕ) → index ≡ index0 → i ≡ at / 65536 → new + (if is_kept index i then 1 else 0) ≤ old + 1 → old ≡ start → new ≤ start + (i + 1 - fresh index0 at)
+pub opened-at_first : (index index0 : Option ℕ) (new old start at i : ℕ) → index ≡ index0 → i ≡ at / 65536 → new + (if is_kept index i then 1 else 0) ≤ old + 1 → old ≡ start → new ≤ start + (i + 1 - first_to_open index0 at)
 opened-at_first index index0 new old start at i e is h same =
-    subst (λ x. new ≤ start + (x + 1 - fresh index0 at)) (sym is)
+    subst (λ x. new ≤ start + (x + 1 - first_to_open index0 at)) (sym is)
     (opened-first (is_kept index0 (at / 65536)) new old start (at / 65536)
     (subst (λ x. new + (if is_kept x (at / 65536) then 1 else 0) ≤ old + 1) e (subst (λ x. new + (if is_kept index x then 1 else 0) ≤ old + 1) is h)) same)
 
 pub given-at_first : (index index0 : Option ℕ) (new old start at i : ℕ) (layout : Layout) → index ≡ index0 → i ≡ at / 65536 → new ≤ old + (if is_kept index i then 0 else text_len layout.plain i + 16) → old ≡ start
-    → 65536 * i < layout.plain → new ≤ start + sealed_span layout (fresh index0 at) (i + 1)
+    → 65536 * i < layout.plain → new ≤ start + sealed_span layout (first_to_open index0 at) (i + 1)
 given-at_first index index0 new old start at i layout e is h same lt =
-    subst (λ x. new ≤ start + sealed_span layout (fresh index0 at) (x + 1)) (sym is)
+    subst (λ x. new ≤ start + sealed_span layout (first_to_open index0 at) (x + 1)) (sym is)
     (given-first (is_kept index0 (at / 65536)) new old start (at / 65536) layout
     (subst (λ x. new ≤ old + (if is_kept x (at / 65536) then 0 else text_len layout.plain (at / 65536) + 16)) e (subst (λ x. new ≤ old + (if is_kept index x then 0 else text_len layout.plain x + 16)) is h)) same
     (subst (λ x. 65536 * x < layout.plain) is lt))

@@ -15,8 +15,10 @@ abbrev pub CountsWriteFault : (old new : ℕ) (fault : StreamFault) → Type 0
 CountsWriteFault old new Write = new ≡ min (old + 1) (2 ^ 64 - 1)
 CountsWriteFault old new _ = new ≡ old
 
+-- the same of a result; an Ok leaves the count of failed reads
 abbrev pub CountsRead : {A : Type 0} (old new : ℕ) (r : Result A StreamFault) → Type 0
 CountsRead old new r = MatchResult r (λ _. new ≡ old) (CountsReadFault old new)
 
+-- the same of writes
 abbrev pub CountsWrite : {A : Type 0} (old new : ℕ) (r : Result A StreamFault) → Type 0
 CountsWrite old new r = MatchResult r (λ _. new ≡ old) (CountsWriteFault old new)

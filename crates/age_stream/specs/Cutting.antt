@@ -4,7 +4,7 @@ use Rattle.std.specs.List.{concat}
 use Rattle.age_kdf.specs.Bytes.{Bytes}
 
 -- each list but the last has `size` bytes, the last has 1 to `size`
-abbrev pub IsFilled : ℕ → List Bytes → Type 0
+abbrev pub IsFilled : (size : ℕ) (parts : List Bytes) → Type 0
 IsFilled size [] = ⊥
 IsFilled size (c ∷ []) = (0 < length c) × (length c ≤ size)
 IsFilled size (c ∷ d ∷ more) = (length c ≡ size) × IsFilled size (d ∷ more)
@@ -22,5 +22,5 @@ cut_into size held (x ∷ text) =
     else held ∷ cut_into size (x ∷ []) text
 
 -- the one cut of a text, as `one_cut` says
-abbrev pub cut : ℕ → Bytes → List Bytes
+abbrev pub cut : (size : ℕ) (text : Bytes) → List Bytes
 cut size text = cut_into size [] text

@@ -11,7 +11,7 @@ use Rattle.age_stream.specs.declared.fault.StreamFault.TheVariants.{NonceTruncat
 use Rattle.age_stream.specs.declared.opening.Piece.{Piece}
 use Rattle.age_stream.specs.Payload.{payload_key, pieces}
 use Rattle.age_stream.specs.Reading.{Reading, after_first, first_outcome, reading_from, whole}
-use Rattle.age_stream.specs.Sizes.{nonce_size, chunk_size, sealed_chunk_size, most_chunks}
+use Rattle.age_stream.specs.Sizes.{nonce_size, chunk_size, sealed_chunk_size, most_chunks, chunk_buf_size}
 
 -- An opener: its key and limit, the number of the next piece, the bytes of it that were read
 -- already (None after the last piece), the text that was opened last, and the fault that it keeps.
@@ -24,12 +24,12 @@ pub record OpenerState : Type 0 where
   pub fault : Option StreamFault
 
 -- before piece 0
-abbrev pub at_start : Bytes → ℕ → OpenerState
+abbrev pub at_start : (key : Key) (max : ℕ) → OpenerState
 at_start key max =
     record { key = key; max_chunks = max; index = 0; held = Some []; text = []; fault = None }
 
 -- bytes that were read ahead, where another piece follows
-abbrev pub held_of : Bool → Bytes → Option Bytes
+abbrev pub held_of : (more : Bool) (ahead : Bytes) → Option Bytes
 held_of more ahead = if more then Some ahead else None
 
 -- how many bytes were read ahead
@@ -38,7 +38,7 @@ ahead_len None = 0
 ahead_len (Some ahead) = length ahead
 
 -- what is left of a payload where `held` was read already and d is to come
-abbrev pub left_of : Option Bytes → Bytes → Option Bytes
+abbrev pub left_of : (held : Option Bytes) (d : Bytes) → Option Bytes
 left_of held d = option_map (λ h. h ++ d) held
 
 -- The first piece of what is left is opened as piece i, or its fault returned; after the last there
@@ -58,29 +58,32 @@ IsAtPiece max i (BadChunk j) = j ≡ i
 IsAtPiece max i TooManyChunks = i ≡ max
 IsAtPiece max i _ = ⊥
 
--- what stays, and what is kept and counted
-abbrev pub goes_on : Bool → ℕ → ℕ
+-- the number of the next piece: one more if a piece was opened
+abbrev pub goes_on : (some : Bool) (i : ℕ) → ℕ
 goes_on some i = if some then i + 1 else i
 
-abbrev pub Keeps : (old new : OpenerState) (result : Result Bool StreamFault) → Type 0
-Keeps old new (Ok some) =
+-- After a call: on Ok no fault is kept, and bytes that were read ahead mean that the chunk was
+-- full. On Err the fault is kept, and the text is empty.
+abbrev pub KeepsState : (old new : OpenerState) (result : Result Bool StreamFault) → Type 0
+KeepsState old new (Ok some) =
     (new.fault ≡ None) × (new.index ≡ goes_on some old.index)
     × (some ≡ true → old.index < old.max_chunks)
     × IfSome new.held (λ ahead. (length ahead ≡ 1) × (length new.text ≡ chunk_size))
-Keeps old new (Err fault) =
+KeepsState old new (Err fault) =
     (new.fault ≡ Some fault) × (new.text ≡ []) × IsAtPiece old.max_chunks old.index fault
 
 -- One call of an opener that keeps no fault, on a source that could give `from` before it and can
--- give `to` after it. Whatever comes after the call, something came before it that the call fits
--- to.
+-- give `to` after it. For each d that the source may still give, there is a c that it may have
+-- given before the call, such that the first piece of what was held and c was opened, and what is
+-- left is what is now held and d.
 pub record Advances (old new : OpenerState) (from to : Known)
     (r : Result Bool StreamFault) : Type 0 where
   pub key : new.key ≡ old.key
   pub max_chunks : new.max_chunks ≡ old.max_chunks
   pub small : old.max_chunks ≤ most_chunks
-  pub keeps : Keeps old new r
+  pub keeps : KeepsState old new r
   pub ahead : ahead_len old.held ≤ 1
-  pub gave : GaveAtMost (65553 - ahead_len old.held) from to
+  pub gave : GaveAtMost (chunk_buf_size - ahead_len old.held) from to
   pub opens : (d : Bytes) → MayGive to d
       → (c : Bytes) × MayGive from c
       × OpensNext old.key old.max_chunks old.index (left_of old.held c) (left_of new.held d)
@@ -135,14 +138,15 @@ WritesAll s from old new r =
     (length (pieces_left (left_of s.held c))) old new r
 
 -- A fault of a piece or of a write: at which piece it was met, what had been written, and how much
--- of the source had been taken.
-pub record EndsAt (max more : ℕ) (from to old new : Known) (fault : StreamFault)
+-- of the source had been taken. So many bytes were taken before the pieces: 16 where the nonce
+-- counts.
+pub record EndsAt (max before : ℕ) (from to old new : Known) (fault : StreamFault)
     : Type 0 where
   pub piece : ℕ
   pub text : Bytes
   pub written : Appends old new text
   pub at : ((fault ≡ Write) × (chunk_size * piece ≤ length text)) ⊎ IsAtPiece max piece fault
-  pub gave : GaveAtMost (more + (sealed_chunk_size * (piece + 1) + 1)) from to
+  pub gave : GaveAtMost (before + (sealed_chunk_size * (piece + 1) + 1)) from to
 
 -- a piece's outcome is returned, and its text is at the start of the buffer
 abbrev pub GivesText : (outcome : Result Bytes StreamFault) (after : Bytes)

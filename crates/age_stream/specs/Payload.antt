@@ -2,7 +2,7 @@
 use Rattle.std.specs.Prelude.{ℕ, ◌+◌, List, [], ◌∷◌, ◌++◌, Bool, true, false, if◌then◌else◌, codes}
 use Rattle.std.specs.Int.{bytes_high_first}
 use Rattle.std.specs.List.{concat}
-use Rattle.age_cipher.specs.Bytes.{Key}
+use Rattle.age_cipher.specs.Bytes.{Key, Nonce}
 use Rattle.age_kdf.specs.Bytes.{Bytes}
 use Rattle.age_cipher.specs.Sealing.{sealed}
 use Rattle.age_kdf.specs.Hkdf.{hkdf}
@@ -21,7 +21,7 @@ pieces rest = cut sealed_chunk_size rest
 
 -- the nonce of chunk i: its number in eleven big-endian bytes, then 1 for the last chunk and 0 for
 -- the others
-unfoldable pub chunk_nonce : ℕ → Bool → Bytes
+unfoldable pub chunk_nonce : (i : ℕ) (last : Bool) → Nonce
 chunk_nonce i last = bytes_high_first 11 i ++ (if last then 1 else 0) ∷ []
 
 -- nothing follows
@@ -36,7 +36,7 @@ sealed_from key i (chunk ∷ more) =
     sealed key (chunk_nonce i (is_end more)) [] chunk ∷ sealed_from key (i + 1) more
 
 -- the key of the chunks
-unfoldable pub payload_key : FileKey → Bytes → Bytes
+unfoldable pub payload_key : (k : FileKey) (nonce : Bytes) → Key
 payload_key k nonce = hkdf k.0 nonce (codes "payload") 32
 
 -- the sealed chunks of a plaintext

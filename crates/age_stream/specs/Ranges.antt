@@ -30,7 +30,7 @@ abbrev pub opens_to : (told : Known) (layout : Layout) (i : ℕ) → Option Byte
 opens_to told layout i = opening layout.key (bytes_from told layout.first) i
 
 -- the text of chunk i, while it is the kept one
-abbrev pub kept_text : RangeState → ℕ → Bytes
+abbrev pub kept_text : (s : RangeState) (i : ℕ) → Bytes
 kept_text s i = take (text_len s.layout.plain i) s.buf
 
 -- the source's contents are known, and end with the last piece
@@ -63,13 +63,13 @@ IsLost told s i fault =
     (fault ≡ Read) ⊎ ((fault ≡ BadChunk i) × (IsSound told s → opens_to told s.layout i ≡ None))
 
 -- chunk i is the kept one
-abbrev pub is_kept : Option ℕ → ℕ → Bool
+abbrev pub is_kept : (index : Option ℕ) (i : ℕ) → Bool
 is_kept None i = false
 is_kept (Some k) i = nat_eq k i
 
--- the first chunk of a range from `at` on that has to be opened
-abbrev pub fresh : Option ℕ → ℕ → ℕ
-fresh index at = at / chunk_size + (if is_kept index (at / chunk_size) then 1 else 0)
+-- the first chunk of a range from `at` on that is not the kept one
+abbrev pub first_to_open : (index : Option ℕ) (at : ℕ) → ℕ
+first_to_open index at = at / chunk_size + (if is_kept index (at / chunk_size) then 1 else 0)
 
 -- the chunks opened so far are now at least n more; the count stays at the largest u64
 abbrev pub Counts : (s : RangeState) (opened n : ℕ) → Type 0
@@ -84,7 +84,7 @@ pub record Stops (told : Known) (s : RangeState) (at n : ℕ) (old new : Bytes)
   pub to : chunk_size * chunk < at + n
   pub filled : Fills told s at (chunk_size * chunk - at) old new
   pub lost : IsLost told s chunk fault
-  pub counts : Counts s opened (chunk + 1 - fresh s.index at)
+  pub counts : Counts s opened (chunk + 1 - first_to_open s.index at)
 
 -- how many sealed bytes the chunks from number `from` to before `end` have
 abbrev pub sealed_span : (layout : Layout) (from end : ℕ) → ℕ

@@ -18,14 +18,14 @@ MissesNonce key max from to before after fault =
     Starts key max from to (Err fault) × CountsReadFault before after fault
     × ((fault ≡ Read) ⊎ GaveAtMost nonce_size from to)
 
--- whether a piece was lent, or the fault
+-- the result as a Bool: true if a chunk was lent, false after the last
 abbrev pub lent : {A : Type 0} → Result (Option A) StreamFault → Result Bool StreamFault
 lent (Ok None) = Ok false
 lent (Ok (Some piece)) = Ok true
 lent (Err fault) = Err fault
 
--- One call of a reader that keeps no fault, which asks its source at most for the next piece: a
--- failed read is counted, and a fault is kept. Else the call is one of its opener.
+-- One call of a reader that keeps no fault: a failed read is counted, and a fault is kept. Unless
+-- the fault is Read, its opener made the step `Advances`.
 abbrev pub Lends : (old new : OpenerState) (from to : Known) (before after : ℕ)
     (r : Result Bool StreamFault) → Type 0
 Lends old new from to before after r =

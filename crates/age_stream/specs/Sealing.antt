@@ -23,7 +23,7 @@ pub record SealerState : Type 0 where
   pub fault : Option StreamFault
 
 -- before chunk 0
-abbrev pub at_start : Bytes → ℕ → SealerState
+abbrev pub at_start : (key : Key) (max : ℕ) → SealerState
 at_start key max = record { key = key; max_chunks = max; index = 0; held = []; fault = None }
 
 -- the sealed chunks from number i on, where `held` is held and `text` still comes
@@ -31,11 +31,12 @@ abbrev pub sealed_after : (key : Key) (i : ℕ) (held text : Bytes) → List Byt
 sealed_after key i held text = sealed_from key i (cut_into chunk_size held text)
 
 -- what a sealer writes if `text` still comes
-abbrev pub sealed_rest : SealerState → Bytes → Bytes
+abbrev pub sealed_rest : (s : SealerState) (text : Bytes) → Bytes
 sealed_rest s text = concat (sealed_after s.key s.index s.held text)
 
--- `text` came, `now` is held: the chunks `gone` went out, and whatever still comes the chunks that
--- follow are as before
+-- A sealer that held `held` before chunk i took `text`, and now holds `now` before chunk j. The
+-- sealed chunks `gone` were written. Whatever `more` follows, the sealed chunks of it all are
+-- `gone` and then those of the new state.
 pub record Fed (key : Key) (i j : ℕ) (held text now : Bytes) (old new : Known)
     : Type 0 where
   pub gone : List Bytes

@@ -14,6 +14,10 @@ chunk_size = 65536
 abbrev pub sealed_chunk_size : ℕ
 sealed_chunk_size = chunk_size + tag_size
 
+-- the buffer of a sealer or an opener: a sealed chunk and the byte after it
+abbrev pub chunk_buf_size : ℕ
+chunk_buf_size = sealed_chunk_size + 1
+
 -- how many chunks a counter of eleven bytes can number
 abbrev pub most_chunks : ℕ
 most_chunks = 2 ^ 88

@@ -28,8 +28,8 @@ plain_len rest = sum_by (λ piece. length piece - tag_size) (pieces rest)
 abbrev pub text_len : (plain i : ℕ) → ℕ
 text_len plain i = min chunk_size (plain - chunk_size * i)
 
--- xs are the plaintext's bytes from offset `at` on: at offset x there is byte x - 65536 * i of what
--- piece i opens to, i being the chunk in which x lies
+-- xs are the plaintext's bytes from offset `at` on: for each k, piece (at + k) / chunk_size opens,
+-- and byte k of xs is byte (at + k) % chunk_size of what it opens to
 abbrev pub IsSlice : (key : Key) (rest : Bytes) (at : ℕ) (xs : Bytes) → Type 0
 IsSlice key rest at xs =
     (k : ℕ) → k < length xs

@@ -1,5 +1,6 @@
 //! The memory in which chunks are sealed and opened.
 ghost use Rattle.std.specs.Prelude.{◌≡◌, length, IfOk};
+ghost use Rattle.age_stream.specs.Sizes.{chunk_buf_size};
 
 use std::alloc::{AllocError, Global};
 
@@ -8,7 +9,7 @@ use std::alloc::{AllocError, Global};
 #[derive(Drop)]
 pub struct ChunkBuf {
     bytes: Vec<u8>,
-    ghost size: { length bytes.items ≡ 65553 },
+    ghost size: { length bytes.items ≡ chunk_buf_size },
 }
 
 impl ChunkBuf {
@@ -23,7 +24,7 @@ impl ChunkBuf {
 
     /// The bytes.
     pub(crate) fn into_bytes(self) -> Vec<u8>
-        ensures { length result.items ≡ 65553 }
+        ensures { length result.items ≡ chunk_buf_size }
     {
         let ChunkBuf { bytes } = self;
         bytes

@@ -1,9 +1,9 @@
 //! The chunks of a payload, of which one is kept. The source is passed to each call.
 ghost use Rattle.std.specs.Prelude.{◌≡◌, ◌+◌, ◌-◌, ◌*◌, ◌/◌, ◌<◌, ◌≤◌, ◌++◌, ℕ, length, take, drop, min, Some, None, IfOk, OnOk, OnErr, IfErr, if◌then◌else◌};
 ghost use Rattle.age_stream.specs.Counts.{CountsRead};
-ghost use Rattle.age_stream.specs.Ranges.{Counts, Fills, IsLost, IsOpenFault, IsSound, OpensRanges, Probes, Stops, fresh, is_kept, kept_text, range_len, sealed_span};
+ghost use Rattle.age_stream.specs.Ranges.{Counts, Fills, IsLost, IsOpenFault, IsSound, OpensRanges, Probes, Stops, first_to_open, is_kept, kept_text, range_len, sealed_span};
 ghost use Rattle.age_stream.specs.Slice.{text_len};
-ghost use Rattle.age_stream.specs.Sizes.{chunk_size, tag_size};
+ghost use Rattle.age_stream.specs.Sizes.{chunk_size, tag_size, chunk_buf_size};
 
 use crate::buffer::ChunkBuf;
 use crate::chunk_keys::payload_key;
@@ -27,13 +27,14 @@ pub struct Chunks {
 impl Model for Chunks {
     ghost use Rattle.std.specs.Prelude.{◌≡◌, length};
     ghost use Rattle.age_stream.specs.Ranges.{RangeState};
+    ghost use Rattle.age_stream.specs.Sizes.{chunk_buf_size};
 
     ghost Value = { RangeState };
 
     ghost view = { λ c.
         record { layout = c.layout; index = c.index; buf = c.buf.items; opened = c.opened } };
 
-    ghost invariant = { λ c. length c.buf.items ≡ 65553 };
+    ghost invariant = { λ c. length c.buf.items ≡ chunk_buf_size };
 }
 
 /// The number of bytes of a range.
@@ -182,12 +183,12 @@ impl Chunks {
         ensures rises { self.old.opened ≤ self.new.opened }
         ensures counts { IfOk result (λ n. 0 < n
             → Counts self.old self.new.opened
-            ((at + n - 1) / chunk_size + 1 - fresh self.old.index at)) }
+            ((at + n - 1) / chunk_size + 1 - first_to_open self.old.index at)) }
         ensures opened { (end : ℕ) → at + range_len self.old at (length buf.old) ≤ chunk_size * end
-            → self.new.opened ≤ self.old.opened + (end - fresh self.old.index at) }
+            → self.new.opened ≤ self.old.opened + (end - first_to_open self.old.index at) }
         ensures given { (end : ℕ) → at + range_len self.old at (length buf.old) ≤ chunk_size * end
             → D.given dev.new
-            ≤ D.given dev.old + sealed_span self.old.layout (fresh self.old.index at) end }
+            ≤ D.given dev.old + sealed_span self.old.layout (first_to_open self.old.index at) end }
         ensures empty { range_len self.old at (length buf.old) ≡ 0
             → (self.new.index ≡ self.old.index) × (self.new.opened ≡ self.old.opened)
             × (D.given dev.new ≡ D.given dev.old) }

@@ -1,5 +1,6 @@
 //! The offsets of a payload's chunks.
 ghost use Rattle.std.specs.Prelude.{◌^◌, ◌+◌, ◌-◌, ◌*◌, ◌<◌, ◌≤◌};
+ghost use Rattle.age_stream.specs.Sizes.{chunk_size};
 
 /// The sealed chunks of a payload: their key, the offset of the first, the plaintext's length, and
 /// their number.
@@ -11,6 +12,6 @@ pub struct Layout {
     pub(crate) count: u64,
     pub(crate) ghost fits: { first + plain + 16 * count < 2 ^ 64 },
     pub(crate) ghost some: { 0 < count },
-    pub(crate) ghost covers: { plain ≤ 65536 * count },
-    pub(crate) ghost tight: { 1 < count → 65536 * (count - 1) < plain },
+    pub(crate) ghost covers: { plain ≤ chunk_size * count },
+    pub(crate) ghost tight: { 1 < count → chunk_size * (count - 1) < plain },
 }

@@ -6,7 +6,7 @@ ghost use Rattle.age_stream.specs.Counts.{CountsRead};
 ghost use Rattle.age_stream.specs.Places.{EndsBefore, HasAt, IsPast};
 ghost use Rattle.age_stream.specs.Ranges.{IsOpenFault, IsThere, JudgesLast, last_len, opens_to};
 ghost use Rattle.age_stream.specs.Slice.{text_len};
-ghost use Rattle.age_stream.specs.Sizes.{nonce_size, tag_size};
+ghost use Rattle.age_stream.specs.Sizes.{nonce_size, tag_size, chunk_buf_size};
 
 use crate::chunk_keys::chunk_nonce;
 use crate::fault::StreamFault;
@@ -91,7 +91,7 @@ pub(crate) fn load<D: ReadAt>(
     i: u64,
     buf: &mut [u8],
 ) -> Result<(), StreamFault>
-    requires room { length buf.old ≡ 65553 }
+    requires room { length buf.old ≡ chunk_buf_size }
     requires within { i < layout.count }
     ensures stay { D.bytes dev.new ≡ D.bytes dev.old }
     ensures opens { OnOk result (IsThere (D.bytes dev.old) layout
@@ -158,7 +158,7 @@ pub(crate) fn load_last<D: ReadAt>(
     max: u128,
     buf: &mut [u8],
 ) -> Result<Layout, StreamFault>
-    requires room { length buf.old ≡ 65553 }
+    requires room { length buf.old ≡ chunk_buf_size }
     requires fits { first + sealed < 2 ^ 64 }
     ensures stay { D.bytes dev.new ≡ D.bytes dev.old }
     ensures judges { JudgesLast key max first sealed (D.bytes dev.old) buf.new result }

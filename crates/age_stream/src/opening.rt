@@ -7,7 +7,7 @@ ghost use Rattle.age_header.specs.Device.{GaveAtMost, MayGive};
 ghost use Rattle.age_stream.specs.Counts.{CountsRead, CountsWrite};
 ghost use Rattle.age_stream.specs.Opening.{Advances, EndsAt, GivesNonce, GivesText, IsAtPiece, Opens, Starts, WritesAll};
 ghost use Rattle.age_stream.specs.Reading.{outcome};
-ghost use Rattle.age_stream.specs.Sizes.{chunk_size, sealed_chunk_size, most_chunks, nonce_size, tag_size};
+ghost use Rattle.age_stream.specs.Sizes.{chunk_size, sealed_chunk_size, most_chunks, nonce_size, tag_size, chunk_buf_size};
 
 use crate::buffer::ChunkBuf;
 use crate::chunk_keys::{chunk_nonce, payload_key};
@@ -35,6 +35,7 @@ pub struct ChunkOpener {
 impl Model for ChunkOpener {
     ghost use Rattle.std.specs.Prelude.{◌≡◌, ◌≤◌, ◌^◌, length, take, drop};
     ghost use Rattle.age_stream.specs.Opening.{OpenerState, held_of};
+    ghost use Rattle.age_stream.specs.Sizes.{chunk_size, sealed_chunk_size, chunk_buf_size};
 
     ghost Value = { OpenerState };
 
@@ -42,13 +43,13 @@ impl Model for ChunkOpener {
       key = o.key;
       max_chunks = o.max_chunks;
       index = o.index;
-      held = held_of o.more (take o.ahead (drop 65552 o.buf.items));
+      held = held_of o.more (take o.ahead (drop sealed_chunk_size o.buf.items));
       text = take o.len o.buf.items;
       fault = o.fault;
     } };
 
-    ghost invariant = { λ o. (length o.buf.items ≡ 65553) × (o.ahead ≤ 1) × (o.len ≤ 65536)
-        × (o.index ≤ o.max_chunks) × (o.max_chunks ≤ 2 ^ 88) };
+    ghost invariant = { λ o. (length o.buf.items ≡ chunk_buf_size) × (o.ahead ≤ 1)
+        × (o.len ≤ chunk_size) × (o.index ≤ o.max_chunks) × (o.max_chunks ≤ 2 ^ 88) };
 }
 
 impl ChunkOpener {
@@ -193,11 +194,11 @@ fn next_piece<S: Source>(
     i: u128,
     ahead: usize,
 ) -> Result<Piece, StreamFault>
-    requires size { length bytes.old ≡ 65553 }
+    requires size { length bytes.old ≡ chunk_buf_size }
     requires ahead { ahead ≤ 1 }
     requires index { i ≤ max }
     requires small { max ≤ most_chunks }
-    ensures len { length bytes.new ≡ 65553 }
+    ensures len { length bytes.new ≡ chunk_buf_size }
     ensures count { CountsRead (S.failed source.old) (S.failed source.new) result }
     ensures opens { IsErrOf result StreamFault.Read
         ⊎ ((d : Bytes) → MayGive (S.to_come source.new) d
@@ -205,7 +206,7 @@ fn next_piece<S: Source>(
         × Opens key.now max i (take ahead (drop sealed_chunk_size bytes.old) ++ c) bytes.new d
         result) }
     ensures gave { IsErrOf result StreamFault.Read
-        ⊎ GaveAtMost (65553 - ahead) (S.to_come source.old) (S.to_come source.new) }
+        ⊎ GaveAtMost (chunk_buf_size - ahead) (S.to_come source.old) (S.to_come source.new) }
     ensures at { IfErr result (λ f. (f ≡ StreamFault.Read) ⊎ IsAtPiece max i f) }
     ensures size { IfOk result
         (λ piece. (piece.len ≤ chunk_size) × (piece.more ≡ true → piece.len ≡ chunk_size)) }
@@ -245,9 +246,9 @@ fn read_nonce<S: Source>(source: &mut S) -> Result<[u8; 16], StreamFault>
 
 /// Moves what was read ahead to the start of the buffer.
 fn carry(bytes: &mut [u8], ahead: usize)
-    requires size { length bytes.old ≡ 65553 }
+    requires size { length bytes.old ≡ chunk_buf_size }
     requires ahead { ahead ≤ 1 }
-    ensures len { length bytes.new ≡ 65553 }
+    ensures len { length bytes.new ≡ chunk_buf_size }
     ensures front { take ahead bytes.new ≡ take ahead (drop sealed_chunk_size bytes.old) }
 {
     let (front, end) = bytes.split_at_mut(65_552);

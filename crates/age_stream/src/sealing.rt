@@ -7,7 +7,7 @@ ghost use Rattle.age_header.specs.Filling.{Filled};
 ghost use Rattle.age_stream.specs.Counts.{CountsRead, CountsWrite};
 ghost use Rattle.age_stream.specs.Sealing.{IsFed, PutsFull, Stopped, TakesAll, FinishesBy};
 ghost use Rattle.age_stream.specs.Payload.{payload_key, chunk_nonce};
-ghost use Rattle.age_stream.specs.Sizes.{chunk_size, sealed_chunk_size, most_chunks, tag_size};
+ghost use Rattle.age_stream.specs.Sizes.{chunk_size, sealed_chunk_size, most_chunks, tag_size, chunk_buf_size};
 
 use crate::buffer::ChunkBuf;
 use crate::chunk_keys::{chunk_nonce, payload_key};
@@ -34,6 +34,7 @@ pub struct ChunkSealer {
 impl Model for ChunkSealer {
     ghost use Rattle.std.specs.Prelude.{◌≡◌, ◌≤◌, ◌<◌, ◌^◌, length, take};
     ghost use Rattle.age_stream.specs.Sealing.{SealerState};
+    ghost use Rattle.age_stream.specs.Sizes.{chunk_size, chunk_buf_size};
 
     ghost Value = { SealerState };
 
@@ -45,7 +46,7 @@ impl Model for ChunkSealer {
       fault = s.fault;
     } };
 
-    ghost invariant = { λ s. (length s.buf.items ≡ 65553) × (s.len ≤ 65536)
+    ghost invariant = { λ s. (length s.buf.items ≡ chunk_buf_size) × (s.len ≤ chunk_size)
         × (s.index < s.max_chunks) × (s.max_chunks ≤ 2 ^ 88) };
 }
 
@@ -148,11 +149,11 @@ fn feed<S: Source, W: Sink>(
     bytes: &mut [u8],
     len: usize,
 ) -> Result<usize, StreamFault>
-    requires size { length bytes.old ≡ 65553 }
+    requires size { length bytes.old ≡ chunk_buf_size }
     requires held { len ≤ chunk_size }
     requires within { index.old < max }
     requires small { max ≤ most_chunks }
-    ensures size { length bytes.new ≡ 65553 }
+    ensures size { length bytes.new ≡ chunk_buf_size }
     ensures within { index.new < max }
     ensures len { IfOk result (λ n. n ≤ chunk_size) }
     ensures fed { MatchResult result
@@ -183,10 +184,10 @@ fn feed<S: Source, W: Sink>(
 /// Reads after the first `held` bytes until there are a full chunk and one byte, or the source is
 /// at its end.
 fn fill_chunk<S: Source>(plain: &mut S, bytes: &mut [u8], held: usize) -> Result<usize, DeviceFault>
-    requires size { length bytes.old ≡ 65553 }
+    requires size { length bytes.old ≡ chunk_buf_size }
     requires held { held ≤ chunk_size }
-    ensures size { length bytes.new ≡ 65553 }
-    ensures bytes { IfOk result (λ n. (n ≤ 65537)
+    ensures size { length bytes.new ≡ chunk_buf_size }
+    ensures bytes { IfOk result (λ n. (n ≤ chunk_size + 1)
         × Filled held n bytes.old bytes.new (S.to_come plain.old) (S.to_come plain.new)) }
     ensures end { IfOk result (λ n. n ≤ chunk_size → IsAtEnd (S.to_come plain.new)) }
     ensures count { Counts (S.failed plain.old) (S.failed plain.new) result }
@@ -204,10 +205,10 @@ fn put_full<W: Sink>(
     index: &mut u128,
     bytes: &mut [u8],
 ) -> Result<(), StreamFault>
-    requires size { length bytes.old ≡ 65553 }
+    requires size { length bytes.old ≡ chunk_buf_size }
     requires within { index.old < max }
     requires small { max ≤ most_chunks }
-    ensures size { length bytes.new ≡ 65553 }
+    ensures size { length bytes.new ≡ chunk_buf_size }
     ensures within { index.new < max }
     ensures puts { PutsFull key.now max index.old index.new bytes.old bytes.new (W.taken out.old)
         (W.taken out.new) result }
@@ -236,10 +237,10 @@ fn put_sealed<W: Sink>(
     bytes: &mut [u8],
     len: usize,
 ) -> Result<(), DeviceFault>
-    requires size { length bytes.old ≡ 65553 }
+    requires size { length bytes.old ≡ chunk_buf_size }
     requires len { len ≤ chunk_size }
     requires small { i < most_chunks }
-    ensures size { length bytes.new ≡ 65553 }
+    ensures size { length bytes.new ≡ chunk_buf_size }
     ensures text { Writes (W.taken out.old) (W.taken out.new) result
         (sealed key.now (chunk_nonce i last) [] (take len bytes.old)) }
     ensures count { Counts (W.failed out.old) (W.failed out.new) result }

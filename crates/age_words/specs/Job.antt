@@ -10,7 +10,7 @@ abbrev pub Lies : (least most n : ℕ) → Type 0
 Lies least most n = (least ≤ n) × (n ≤ most)
 
 -- a range names the file to read
-abbrev pub NamesInput : {A : Type 0} → Command → Option A → Type 0
+abbrev pub NamesInput : {A : Type 0} (command : Command) (input : Option A) → Type 0
 NamesInput Range input = IsSome input
 NamesInput _ input = ⊤
 

@@ -15,7 +15,7 @@ use Rattle.agefile.specs.declared.report.Report.{Report}
 use Rattle.agefile.specs.Codes.{code_of, fault_code, fault_place}
 use Rattle.agefile.specs.Limits.{limits}
 use Rattle.agefile.specs.Report.{report_of}
-use Rattle.agefile.specs.Reader.{Reads, after_chunk, takes}
+use Rattle.agefile.specs.Reader.{Reads, after_chunk, accepts}
 use Rattle.agefile.specs.Runs.{ReadsRun}
 
 -- an open reader before chunk i
@@ -64,7 +64,7 @@ read-by r new chunk after text more last told result code place (Err f) (is, rep
 read-by r new chunk after text more last told result code place (Err f) (is, report, state, buffer) (inr (nonzero, (none, (codes, places)))) =
     (none, (codes ∙ is, places ∙ ap (λ (x : Report). x.place) report))
 
-run-first : (key : List ℕ) (i : ℕ) (chunk text : List ℕ) (more : List (List ℕ)) (code place : ℕ) → takes (reader_at key i) (length chunk) (is_end more) ≡ true
+run-first : (key : List ℕ) (i : ℕ) (chunk text : List ℕ) (more : List (List ℕ)) (code place : ℕ) → accepts (reader_at key i) (length chunk) (is_end more) ≡ true
     → ReadsRun (reader_at key i) (chunk ∷ more) text code place
     → RunsBy (reader_at key i) (is_end more) more text code place (outcome key limits.max_chunks i (is_end more) chunk)
 run-first key i chunk text more code place fits (new, after, told, result, inl (unfit, _), on) = absurd (cc)
@@ -77,10 +77,10 @@ IsRead key i cs text code place = (text ≡ front (outcomes key limits.max_chunk
     × ((code ≡ code_of (option_map of_stream (first_fault (outcomes key limits.max_chunks i cs))))
     × (place ≡ (report_of 0 (option_map of_stream (first_fault (outcomes key limits.max_chunks i cs)))).place))
 
-last-fits : (key : List ℕ) (i : ℕ) (chunk : List ℕ) → length chunk ≤ 65552 → takes (reader_at key i) (length chunk) true ≡ true
+last-fits : (key : List ℕ) (i : ℕ) (chunk : List ℕ) → length chunk ≤ 65552 → accepts (reader_at key i) (length chunk) true ≡ true
 last-fits key i chunk le = le-leb (length chunk) 65552 le
 
-full-fits : (key : List ℕ) (i : ℕ) (chunk : List ℕ) → length chunk ≡ 65552 → takes (reader_at key i) (length chunk) false ≡ true
+full-fits : (key : List ℕ) (i : ℕ) (chunk : List ℕ) → length chunk ≡ 65552 → accepts (reader_at key i) (length chunk) false ≡ true
 full-fits key i chunk is = ap (λ n. nat_eq n 65552) is
 
 read-last : (key : List ℕ) (i : ℕ) (chunk text : List ℕ) (code place : ℕ) (o : Result (List ℕ) StreamFault)

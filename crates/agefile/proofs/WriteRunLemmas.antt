@@ -16,7 +16,7 @@ use Rattle.agefile.specs.declared.writer.Writer.{Writer}
 use Rattle.agefile.specs.Answer.{fresh_of, only}
 use Rattle.agefile.specs.Limits.{limits}
 use Rattle.agefile.specs.Runs.{WritesRun}
-use Rattle.agefile.specs.Writer.{OpensWriter, WritesStep, after_chunk, has_text, takes}
+use Rattle.agefile.specs.Writer.{OpensWriter, WritesStep, after_chunk, may_be_last, accepts}
 
 -- an open writer before chunk i
 abbrev pub writer_at : List ℕ → ℕ → Writer
@@ -41,20 +41,20 @@ plain-chunks plain = elim (is_cut 65536 plain (omega arith)).sizes [
 
 -- ---- one step
 
-some-text : (i n : ℕ) → 0 < n → has_text i (n + 16) ≡ true
+some-text : (i n : ℕ) → 0 < n → may_be_last i (n + 16) ≡ true
 some-text i n pos = ap (λ t. t || (nat_eq (n + 16) 16 && nat_eq i 0)) (lt-ltb 16 (n + 16) (omega arith))
 
-text-there : (i n : ℕ) → (0 < n) ⊎ (i ≡ 0) → has_text i (n + 16) ≡ true
+text-there : (i n : ℕ) → (0 < n) ⊎ (i ≡ 0) → may_be_last i (n + 16) ≡ true
 text-there i n (inl pos) = some-text i n pos
 text-there i n (inr zero) = elim (cases_lt 0 n) [
   | inl pos ↦ some-text i n pos
-  | inr none ↦ let empty : n ≡ 0 = omega arith in ap (λ k. has_text k (n + 16)) zero ∙ ap (λ m. has_text 0 (m + 16)) empty
+  | inr none ↦ let empty : n ≡ 0 = omega arith in ap (λ k. may_be_last k (n + 16)) zero ∙ ap (λ m. may_be_last 0 (m + 16)) empty
 ]
 
-last-fits : (key : List ℕ) (i : ℕ) (c : List ℕ) → length c ≤ 65536 → (0 < length c) ⊎ (i ≡ 0) → takes (writer_at key i) (length c + 16) true ≡ true
-last-fits key i c le some = ap (λ t. t && has_text i (length c + 16)) (le-leb (length c + 16) 65552 (omega arith)) ∙ text-there i (length c) some
+last-fits : (key : List ℕ) (i : ℕ) (c : List ℕ) → length c ≤ 65536 → (0 < length c) ⊎ (i ≡ 0) → accepts (writer_at key i) (length c + 16) true ≡ true
+last-fits key i c le some = ap (λ t. t && may_be_last i (length c + 16)) (le-leb (length c + 16) 65552 (omega arith)) ∙ text-there i (length c) some
 
-full-fits : (key : List ℕ) (i : ℕ) (c : List ℕ) → length c ≡ 65536 → takes (writer_at key i) (length c + 16) false ≡ true
+full-fits : (key : List ℕ) (i : ℕ) (c : List ℕ) → length c ≡ 65536 → accepts (writer_at key i) (length c + 16) false ≡ true
 full-fits key i c is = ap (λ n. nat_eq (n + 16) 65552) is
 
 -- what a run gives, by its first step: a sealed chunk and more, or one too many
@@ -69,12 +69,12 @@ text-of c room size =
     ap (λ k. take k (c ++ room)) n ∙ take-append_seam c room
 
 write-by : (key : List ℕ) (i : ℕ) (last : Bool) (c room : List ℕ) (more : List (List ℕ)) (out : List ℕ) (code : ℕ) (new : Writer) (after : List ℕ) (told : Report) (result : ℕ)
-    → takes (writer_at key i) (length c + 16) last ≡ true → length room ≡ 16 → WritesStep (writer_at key i) new (c ++ room) after last told result
+    → accepts (writer_at key i) (length c + 16) last ≡ true → length room ≡ 16 → WritesStep (writer_at key i) new (c ++ room) after last told result
     → ((result ≡ 0) × ((rest : List ℕ) × (out ≡ after ++ rest) × WritesRun new more rest code)) ⊎ ((result ≢ 0) × ((out ≡ []) × (code ≡ result)))
     → WritesBy key i last c more out code
 write-by key i last c room more out code new after told result fits size (inl (unfit, _)) on =
     let n : length (c ++ room) ≡ length c + 16 = omega (arith, length-append c room) in
-    let clash : true ≡ false = sym fits ∙ ap (λ k. takes (writer_at key i) k last) (sym n) ∙ unfit in
+    let clash : true ≡ false = sym fits ∙ ap (λ k. accepts (writer_at key i) k last) (sym n) ∙ unfit in
     absurd (cc)
 write-by key i last c room more out code new after told result fits size (inr (_, inl many)) (inl (zero, _)) =
     let code14 : result ≡ 14 = many.code in absurd (omega arith)
@@ -90,7 +90,7 @@ write-by key i last c room more out code new after told result fits size (inr (_
     )
 write-by key i last c room more out code new after told result fits size (inr (_, inr seals)) (inr (nonzero, _)) = absurd (nonzero seals.code)
 
-write-first : (key : List ℕ) (i : ℕ) (c : List ℕ) (more : List (List ℕ)) (out : List ℕ) (code : ℕ) → takes (writer_at key i) (length c + 16) (is_end more) ≡ true
+write-first : (key : List ℕ) (i : ℕ) (c : List ℕ) (more : List (List ℕ)) (out : List ℕ) (code : ℕ) → accepts (writer_at key i) (length c + 16) (is_end more) ≡ true
     → WritesRun (writer_at key i) (c ∷ more) out code → WritesBy key i (is_end more) c more out code
 write-first key i c more out code fits (new, room, size, after, told, result, step, on) =
     write-by key i (is_end more) c room more out code new after told result fits size step on

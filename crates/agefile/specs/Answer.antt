@@ -67,11 +67,11 @@ abbrev pub salt_of : Bytes → Bytes
 salt_of seed = take 16 (drop 32 seed)
 
 -- the recipients gave this stanza alone
-abbrev pub only : StanzaParts → Result (List StanzaParts) Fault → Type 0
+abbrev pub only : (stanza : StanzaParts) (given : Result (List StanzaParts) Fault) → Type 0
 only stanza given = given ≡ Ok (stanza ∷ [])
 
 -- what encrypting gives: the file of this plaintext and stanza under this seed; or out of memory
-abbrev pub GivesFile : (seed : Bytes) (stanza : (FileKey → StanzaParts)) (plain old new : Bytes)
+abbrev pub GivesFile : (seed : Bytes) (stanza : FileKey → StanzaParts) (plain old new : Bytes)
     (told : Report) (result : ℕ) → Type 0
 GivesFile seed stanza plain old new told result =
     GivesUp out_of_memory old new told result
@@ -81,7 +81,7 @@ GivesFile seed stanza plain old new told result =
 
 -- the same for whatever recipients give. In a refusal, and where there are too many chunks, nothing
 -- is said of what the call returns: the exports have one recipient, which leaves neither case.
-abbrev pub GivesGathered : (seed : Bytes) (given : (Result (List StanzaParts) Fault → Type 0))
+abbrev pub GivesGathered : (seed : Bytes) (given : Result (List StanzaParts) Fault → Type 0)
     (plain old new : Bytes) (told : Report) (result : ℕ) → Type 0
 GivesGathered seed given plain old new told result =
     GivesUp out_of_memory old new told result

@@ -17,7 +17,7 @@ use Rattle.agefile.specs.Limits.{limits}
 use Rattle.agefile.specs.Report.{report_of}
 
 -- the header at the start of b, or its fault, or out of memory
-abbrev pub HeaderOf : Bytes → Result HeaderParts Fault → Type 0
+abbrev pub HeaderOf : (b : Bytes) (result : Result HeaderParts Fault) → Type 0
 HeaderOf b (Ok h) =
     (text : Bytes)
     × HeaderVerdict b limits.max_header

@@ -33,7 +33,7 @@ abbrev pub closed : Ranges
 closed = record { key = replicate 32 0; first = 0; sealed_len = 0; state = state_closed }
 
 -- the payload from its start to the end of a file of so many bytes
-abbrev pub opened : Start → ℕ → Ranges
+abbrev pub opened : (start : Start) (file_len : ℕ) → Ranges
 opened start file_len =
     record {
       key = start.key;
@@ -43,7 +43,7 @@ opened start file_len =
     }
 
 -- where piece i stands in the file, and how long it is
-abbrev pub place_of : Ranges → ℕ → Report
+abbrev pub place_of : (r : Ranges) (i : ℕ) → Report
 place_of r i =
     record { len = piece_len r.sealed_len i; place = r.first + sealed_chunk_size * i; detail = 0 }
 
@@ -106,14 +106,14 @@ Verified old new chunk chunk2 report result (Err fault) =
     × (chunk2 ≡ chunk) × (report ≡ report_of 0 (Some (of_stream fault)))
 
 -- the payload was opened, and these are as many bytes as the last piece has
-abbrev pub may_verify : Ranges → Bytes → Bool
+abbrev pub may_verify : (r : Ranges) (chunk : Bytes) → Bool
 may_verify r chunk =
     nat_lt state_closed r.state
     && nat_eq (length chunk) (piece_len r.sealed_len (last_index r.sealed_len))
 
 -- the last piece was verified, places in the file fit 64 bits, and the plaintext has a byte at this
 -- place
-abbrev pub has_byte : Ranges → ℕ → Bool
+abbrev pub has_byte : (r : Ranges) (at : ℕ) → Bool
 has_byte r at =
     nat_eq r.state state_verified && nat_lt (r.first + r.sealed_len) (2 ^ 64)
     && nat_lt at (plain_of r.sealed_len)

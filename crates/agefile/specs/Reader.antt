@@ -25,7 +25,7 @@ abbrev pub before_first : Bytes → Reader
 before_first key = record { key = key; number = 0; state = state_open }
 
 -- after a chunk that opened
-abbrev pub after_chunk : Reader → Bool → Reader
+abbrev pub after_chunk : (r : Reader) (last : Bool) → Reader
 after_chunk r last =
     record { key = r.key; number = r.number + 1; state = if last then state_ended else state_open }
 
@@ -53,10 +53,10 @@ abbrev pub OpensReader : (answers : Answering) (front : Bytes) (new : Reader) (t
 OpensReader answers front new told result =
     (start : Result Start Fault) × FindsStart answers front start × OpensAt start new told result
 
--- whether a reader takes a chunk of so many bytes: it is open, and the chunk is full, or the last
+-- whether a reader accepts a chunk of so many bytes: it is open, and the chunk is full, or the last
 -- and no longer
-abbrev pub takes : (r : Reader) (len : ℕ) (last : Bool) → Bool
-takes r len last =
+abbrev pub accepts : (r : Reader) (len : ℕ) (last : Bool) → Bool
+accepts r len last =
     nat_eq r.state state_open
     && (if last then nat_le len sealed_chunk_size else nat_eq len sealed_chunk_size)
 
@@ -71,11 +71,11 @@ Reads old new chunk after last told result (Err fault) =
     (result ≡ fault_code (of_stream fault)) × (told ≡ report_of 0 (Some (of_stream fault)))
     × (new ≡ failed old) × (after ≡ chunk)
 
--- one call: the chunk's outcome as the next piece, where the reader takes it
+-- one call: the chunk's outcome as the next piece, where the reader accepts it
 abbrev pub ReadsStep : (old new : Reader) (chunk after : Bytes) (last : Bool) (told : Report)
     (result : ℕ) → Type 0
 ReadsStep old new chunk after last told result =
-    ((takes old (length chunk) last ≡ false) × IsOutOfOrder old new chunk after told result)
-    ⊎ ((takes old (length chunk) last ≡ true)
+    ((accepts old (length chunk) last ≡ false) × IsOutOfOrder old new chunk after told result)
+    ⊎ ((accepts old (length chunk) last ≡ true)
     × Reads old new chunk after last told result
     (outcome old.key limits.max_chunks old.number last chunk))

@@ -6,12 +6,12 @@ use Rattle.age_stream.specs.Sizes.{nonce_size, tag_size, chunk_size, sealed_chun
 abbrev pub chunk_count : ℕ → ℕ
 chunk_count n = (n - 1) / chunk_size + 1
 
--- the longest header that this library writes: that under a key, or under a passphrase with a work
--- factor of two digits
+-- the longest header that this library writes, that under a key: lines of 22, 42, 44 and 48 bytes;
+-- under a passphrase it has at most 150
 abbrev pub longest_header : ℕ
 longest_header = 156
 
--- the shortest header that can be read
+-- every header is longer than this: its version line, 22 bytes, and its end line, 48
 abbrev pub shortest_header : ℕ
 shortest_header = 70
 

@@ -29,7 +29,7 @@ abbrev pub before_first : Bytes → Writer
 before_first key = record { key = key; number = 0; state = state_open }
 
 -- after a chunk that was sealed
-abbrev pub after_chunk : Writer → Bool → Writer
+abbrev pub after_chunk : (w : Writer) (last : Bool) → Writer
 after_chunk w last =
     record { key = w.key; number = w.number + 1; state = if last then state_ended else state_open }
 
@@ -54,7 +54,7 @@ GivesFront front fresh old new writer told result =
 
 -- what opening a new file under this seed gives, whose header has this stanza alone, and at most
 -- 156 bytes: its front; or out of memory
-abbrev pub OpensWriter : (seed : Bytes) (stanza : (FileKey → StanzaParts)) (old new : Bytes)
+abbrev pub OpensWriter : (seed : Bytes) (stanza : FileKey → StanzaParts) (old new : Bytes)
     (writer : Writer) (told : Report) (result : ℕ) → Type 0
 OpensWriter seed stanza old new writer told result =
     StaysClosed out_of_memory old new writer told result
@@ -65,7 +65,7 @@ OpensWriter seed stanza old new writer told result =
 
 -- the same for whatever recipients give. In a refusal nothing is said of what the call returns: the
 -- exports have one recipient, which never refuses.
-abbrev pub OpensFor : (fresh : Fresh) (given : (Result (List StanzaParts) Fault → Type 0))
+abbrev pub OpensFor : (fresh : Fresh) (given : Result (List StanzaParts) Fault → Type 0)
     (old new : Bytes) (writer : Writer) (told : Report) (result : ℕ) → Type 0
 OpensFor fresh given old new writer told result =
     StaysClosed out_of_memory old new writer told result
@@ -74,17 +74,16 @@ OpensFor fresh given old new writer told result =
     × IsHeading limits fresh.file_key given stanzas text
     × GivesFront (text ++ fresh.nonce) fresh old new writer told result))
 
--- whether a last chunk of so many bytes, of which 16 are for the tag, has some text; that of an
--- empty plaintext has none
-abbrev pub has_text : (number len : ℕ) → Bool
-has_text number len = nat_lt tag_size len || (nat_eq len tag_size && nat_eq number 0)
+-- whether a last chunk of so many bytes has a tag and some text; chunk 0 may be a tag alone
+abbrev pub may_be_last : (number len : ℕ) → Bool
+may_be_last number len = nat_lt tag_size len || (nat_eq len tag_size && nat_eq number 0)
 
--- whether a writer takes a chunk of so many bytes: it is open, and the chunk is full, or the last
+-- whether a writer accepts a chunk of so many bytes: it is open, and the chunk is full, or the last
 -- and no longer, with some text
-abbrev pub takes : (w : Writer) (len : ℕ) (last : Bool) → Bool
-takes w len last =
+abbrev pub accepts : (w : Writer) (len : ℕ) (last : Bool) → Bool
+accepts w len last =
     nat_eq w.state state_open
-    && (if last then nat_le len sealed_chunk_size && has_text w.number len
+    && (if last then nat_le len sealed_chunk_size && may_be_last w.number len
     else nat_eq len sealed_chunk_size)
 
 -- the chunk's text, all but the last 16 bytes, was sealed under its number
@@ -106,10 +105,10 @@ pub record IsTooMany (old new : Writer) (chunk after : Bytes) (told : Report) (r
   pub writer : new ≡ failed old
   pub buffer : after ≡ chunk
 
--- one call: the chunk is sealed as the next one, where the writer takes it
+-- one call: the chunk is sealed as the next one, where the writer accepts it
 abbrev pub WritesStep : (old new : Writer) (chunk after : Bytes) (last : Bool) (told : Report)
     (result : ℕ) → Type 0
 WritesStep old new chunk after last told result =
-    ((takes old (length chunk) last ≡ false) × IsOutOfOrder old new chunk after told result)
-    ⊎ ((takes old (length chunk) last ≡ true)
+    ((accepts old (length chunk) last ≡ false) × IsOutOfOrder old new chunk after told result)
+    ⊎ ((accepts old (length chunk) last ≡ true)
     × (IsTooMany old new chunk after told result ⊎ Seals old new chunk after last told result))

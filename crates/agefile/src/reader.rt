@@ -4,7 +4,7 @@ ghost use Rattle.std.specs.Prelude.{◌≡◌};
 ghost use Rattle.age_recipient.specs.KeyedHolders.{key_unwraps};
 ghost use Rattle.age_recipient.specs.PassphraseHolders.{WorkFits, pass_unwraps};
 ghost use Rattle.agefile.specs.Answer.{alone};
-ghost use Rattle.agefile.specs.Reader.{OpensAt, OpensReader, ReadsStep, StaysClosed, closed, takes};
+ghost use Rattle.agefile.specs.Reader.{OpensAt, OpensReader, ReadsStep, StaysClosed, closed, accepts};
 ghost use Rattle.agefile.specs.Codes.{bad_work_factor};
 
 use crate::bounds::MAX_CHUNKS;
@@ -41,8 +41,8 @@ impl Reader {
     }
 
     /// Whether it accepts a chunk of this many bytes.
-    fn takes(&self, len: usize, last: bool) -> bool
-        ensures { result ≡ takes self.now len last }
+    fn accepts(&self, len: usize, last: bool) -> bool
+        ensures { result ≡ accepts self.now len last }
     {
         self.state == OPEN
             && if last {
@@ -153,7 +153,7 @@ pub extern "C" fn agefile_reader_chunk(
 {
     *report = Report::default();
     let len = chunk.len();
-    if !reader.takes(len, last) {
+    if !reader.accepts(len, last) {
         return OUT_OF_ORDER;
     }
     let number = reader.number as u128;

@@ -6,7 +6,7 @@ ghost use Rattle.age_recipient.specs.PassphraseHolders.{WorkFits};
 ghost use Rattle.age_recipient.specs.PassphraseStanza.{pass_stanza};
 ghost use Rattle.age_file.specs.NewFile.{Gathered};
 ghost use Rattle.agefile.specs.Answer.{fresh_of, salt_of};
-ghost use Rattle.agefile.specs.Writer.{GivesFront, OpensFor, OpensWriter, StaysClosed, WritesStep, closed, has_text, takes};
+ghost use Rattle.agefile.specs.Writer.{GivesFront, OpensFor, OpensWriter, StaysClosed, WritesStep, closed, may_be_last, accepts};
 ghost use Rattle.agefile.specs.Codes.{bad_work_factor};
 
 use crate::bounds::{MAX_CHUNKS, limits};
@@ -47,12 +47,12 @@ impl Writer {
     }
 
     /// Whether it accepts a chunk of this many bytes.
-    fn takes(&self, len: usize, last: bool) -> bool
-        ensures { result ≡ takes self.now len last }
+    fn accepts(&self, len: usize, last: bool) -> bool
+        ensures { result ≡ accepts self.now len last }
     {
         self.state == OPEN
             && if last {
-                len <= SEALED_CHUNK && has_text(self.number, len)
+                len <= SEALED_CHUNK && may_be_last(self.number, len)
             } else {
                 len == SEALED_CHUNK
             }
@@ -60,8 +60,8 @@ impl Writer {
 }
 
 /// Whether a last chunk of this many bytes has some text, or is the only one.
-fn has_text(number: u64, len: usize) -> bool
-    ensures { result ≡ has_text number len }
+fn may_be_last(number: u64, len: usize) -> bool
+    ensures { result ≡ may_be_last number len }
 {
     len > TAG || len == TAG && number == 0
 }
@@ -224,7 +224,7 @@ pub extern "C" fn agefile_writer_chunk(
 {
     *report = Report::default();
     let len = chunk.len();
-    if !writer.takes(len, last) {
+    if !writer.accepts(len, last) {
         return OUT_OF_ORDER;
     }
     let number = writer.number as u128;

@@ -6,7 +6,7 @@ ghost use Rattle.age_recipient.specs.KeyedStanza.{arguments_answer, keyed_answer
 
 use crate::key::FileKey;
 use crate::sealing::{seal_key, unseal_key};
-use crate::stanza_list::{behind_type, salt_of};
+use crate::stanza_list::{after_type, salt_of};
 use crate::unwrapped::{StanzaFault, Unwrapped};
 use age_header::{Stanza, base64_no_pad};
 use age_kdf::hkdf;
@@ -47,7 +47,7 @@ pub(crate) fn keyed_answer(
 ) -> Result<Unwrapped, AllocError>
     ensures { IfOk result (λ answer. answer ≡ keyed_answer key.now stanza.now) }
 {
-    match behind_type(stanza, "example.org/key") {
+    match after_type(stanza, "example.org/key") {
         None => Ok(Unwrapped::NotMine),
         Some(args) => arguments_answer(alloc, key, args, stanza.body()),
     }

@@ -9,7 +9,7 @@ ghost use Rattle.age_recipient.specs.Sealing.{sealed_key_size};
 use super::work::{is_work_factor, work_at_most};
 use crate::key::FileKey;
 use crate::sealing::{seal_key, unseal_key};
-use crate::stanza_list::{behind_type, salt_of};
+use crate::stanza_list::{after_type, salt_of};
 use crate::unwrapped::{StanzaFault, Unwrapped};
 use age_header::{Stanza, base64_no_pad};
 use age_kdf::{ScryptParams, scrypt};
@@ -79,7 +79,7 @@ pub(crate) fn pass_answer(
     requires { max ≤ most_work }
     ensures { IfOk result (λ answer. answer ≡ pass_answer pass.now max stanza.now) }
 {
-    match behind_type(stanza, "scrypt") {
+    match after_type(stanza, "scrypt") {
         None => Ok(Unwrapped::NotMine),
         Some(args) => arguments_answer(alloc, pass, max, args, stanza.body()),
     }
