@@ -1,6 +1,6 @@
 -- The laws of the pairs: what the recipient wraps the identity unwraps. They stand here since an
 -- impl names the proof of its law.
-use Rattle.std.proofs.Common.{inl, inr, ◌≡◌, ◌∙◌, ℕ, zero, suc, ◌+◌, ◌<◌, ◌≤◌, ◌&&◌, Bool, true, List, [], ◌∷◌, length, map, nat_eq, nat_le, refl, sym, ap, subst, Ok, Err, Some}
+use Rattle.std.proofs.Common.{inl, inr, ◌≡◌, ◌∙◌, ℕ, zero, suc, ◌+◌, ◌<◌, ◌≤◌, ◌&&◌, Bool, true, List, [], ◌∷◌, length, map, nat_eq, nat_le, nat_lt, refl, sym, ap, subst, Ok, Err, Some}
 use Rattle.std.proofs.lemmas.Bool.{and_parts, eqb-true, eq-eqb, le-leb, cases_lt}
 use Rattle.std.proofs.Math.Dec.{lit≤}
 use Rattle.std.proofs.Math.Nat.{le_antisymm, le_trans, lt_of_le_of_lt, not-le_of_lt, not-suc-le-zero}
@@ -14,11 +14,13 @@ use Rattle.age_header.specs.Base64.{decoded, base64_of}
 use Rattle.age_header.specs.Header.{StanzaParts}
 use Rattle.age_header.proofs.Decoding.{decoded-base64_of}
 use Rattle.age_recipient.specs.declared.key.FileKey.{FileKey}
+use Rattle.age_recipient.specs.declared.unwrapped.Unwrapped.{Unwrapped}
 use Rattle.age_recipient.specs.declared.unwrapped.Unwrapped.TheVariants.{Key}
+use Rattle.age_recipient.specs.Answer.{decided}
 use Rattle.age_recipient.specs.Key.{IsFileKey}
 use Rattle.age_recipient.specs.KeyedHolders.{KeySecret, key_unwraps, key_wraps}
 use Rattle.age_recipient.specs.KeyedStanza.{keyed_answer, keyed_stanza, wrap_key}
-use Rattle.age_recipient.specs.PassphraseHolders.{PairFits, PassSecret, PassGuess, pass_wraps, pass_unwraps}
+use Rattle.age_recipient.specs.PassphraseHolders.{most_work, PairFits, PassSecret, PassGuess, pass_wraps, pass_unwraps}
 use Rattle.age_recipient.specs.PassphraseStanza.{is_work_factor, number_from, pass_answer, pass_key, pass_stanza}
 use Rattle.age_recipient.specs.Salt.{IsSalt, salt_of}
 use Rattle.age_recipient.specs.Sealing.{sealed_key, unsealed, zero_nonce}
@@ -52,14 +54,14 @@ abbrev digits_text : ℕ → Bytes
 digits_text n = map (λ d. 48 + d) (digits_of 10 n)
 
 -- the decimal text of a work factor spells it
-spelled : (work : ℕ) → 1 ≤ work → work ≤ 30 → is_spelled (decimal work) work ≡ true
+spelled : (work : ℕ) → 1 ≤ work → work ≤ most_work → is_spelled (decimal work) work ≡ true
 spelled zero low high = absurd (not-suc-le-zero low)
 spelled (suc n) low high =
-    let table : all_below (λ k. is_spelled (digits_text (suc k)) (suc k)) 30
-    ≡ true = refl in let at = all_below_at (λ k. is_spelled (digits_text (suc k)) (suc k)) 30 n
-    table high in let text : decimal (suc n)
-    ≡ digits_text (suc n) = decimal-digits_of (suc n) low (lt_of_le_of_lt high (lit≤ tt)) in rw text
-    at
+    let table : all_below (λ k. is_spelled (digits_text (suc k)) (suc k)) most_work ≡ true = refl in
+    let at = all_below_at (λ k. is_spelled (digits_text (suc k)) (suc k)) most_work n table high in
+    let text : decimal (suc n) ≡ digits_text (suc n) =
+    decimal-digits_of (suc n) low (lt_of_le_of_lt high (lit≤ tt)) in
+    rw text at
 
 -- a sealed key is unsealed
 pub unsealed-sealed : (wrap_key : Bytes) (key : FileKey)
@@ -83,18 +85,14 @@ pass_opens : (pass salt : Bytes) (work max : ℕ) (key : FileKey) → IsSalt sal
     → IsFileKey key → pass_answer pass max (pass_stanza pass work salt key) ≡ Key key
 unfolding pass_answer pass_stanza
 pass_opens pass salt work max key is_salt fits is_key =
-    let low : 1 ≤ work = fits.low in let within : work ≤ max = fits.within in let high : max
-    ≤ 30 = fits.top in let text = and_parts (is_work_factor (decimal work))
-    (nat_eq (number_from 0 (decimal work)) work) (spelled work low (le_trans within high)) in
-    let number : number_from 0 (decimal work)
-    ≡ work = eqb-true (number_from 0 (decimal work)) work text.1 in let top : nat_le work max
-    ≡ true = le-leb work max within in rw (
-      salt_spelled salt is_salt,
-      text.0,
-      number,
-      top,
-      sealed_whole (pass_key pass salt work) key is_key,
-    )
+    let text : Bytes = decimal work in
+    let high : work ≤ most_work = le_trans fits.within fits.top in
+    let parts = and_parts (is_work_factor text) (nat_eq (number_from 0 text) work)
+    (spelled work fits.low high) in
+    let number : number_from 0 text ≡ work = eqb-true (number_from 0 text) work parts.1 in
+    let top : nat_le work max ≡ true = le-leb work max fits.within in
+    let whole = sealed_whole (pass_key pass salt work) key is_key in
+    rw (salt_spelled salt is_salt, parts.0, number, top, whole)
     (unsealed-sealed (pass_key pass salt work) key)
 
 -- an identity's answer to the stanza that a recipient of the same key makes
@@ -109,29 +107,33 @@ stanzas_of : Result (List StanzaParts) ℕ → List StanzaParts
 stanzas_of (Ok stanzas) = stanzas
 stanzas_of (Err code) = []
 
+-- An identity of the same secret opens the one stanza that a recipient gives. `answer` is what an
+-- identity of a secret answers to a stanza.
+pair_opens : (answer : Bytes → StanzaParts → Unwrapped) (secret guess : Bytes)
+    (stanza : StanzaParts) (stanzas : List StanzaParts) (key : FileKey)
+    (wrapped : Result (List StanzaParts) ℕ) → wrapped ≡ Ok (stanza ∷ []) → secret ≡ guess
+    → answer secret stanza ≡ Key key → wrapped ≡ Ok stanzas
+    → decided (map (answer guess) stanzas) ≡ Key key
+unfolding stanzas_of
+pair_opens answer secret guess stanza stanzas key wrapped one same opens wraps =
+    let list : stanzas ≡ stanza ∷ [] = ap stanzas_of (sym wraps ∙ one) in
+    let guessed : answer guess stanza ≡ Key key = subst (λ g. answer g stanza ≡ Key key) same opens in
+    rw (list, guessed) refl
+
 -- the law of a passphrase's pair
 pub pair_law : (r : PassSecret) (i : PassGuess) (key : FileKey) (stanzas : List StanzaParts)
     → r.pass ≡ i.pass → IsSalt r.salt → PairFits r.work i.max → IsFileKey key
     → pass_wraps r key ≡ Ok stanzas → pass_unwraps i stanzas ≡ Key key
-unfolding stanzas_of
-pair_law r i key stanzas same salt fits is wraps =
-    let list : stanzas
-    ≡ pass_stanza r.pass r.work r.salt key
-    ∷ [] = sym (ap stanzas_of wraps) in let opens : pass_answer i.pass i.max
-    (pass_stanza r.pass r.work r.salt key)
-    ≡ Key key = subst
-    (λ (p : Bytes). pass_answer p i.max (pass_stanza r.pass r.work r.salt key) ≡ Key key) same
-    (pass_opens r.pass r.salt r.work i.max key salt fits is) in rw (list, opens) refl
+pair_law r i key stanzas same salt fits is =
+    pair_opens (λ pass. pass_answer pass i.max) r.pass i.pass
+    (pass_stanza r.pass r.work r.salt key) stanzas key (pass_wraps r key) refl same
+    (pass_opens r.pass r.salt r.work i.max key salt fits is)
 
 -- the law of a key's pair
 pub key_pair_law : (r : KeySecret) (i : Bytes) (key : FileKey) (stanzas : List StanzaParts)
     → r.key ≡ i → IsSalt r.salt → IsFileKey key → key_wraps r key ≡ Ok stanzas
     → key_unwraps i stanzas ≡ Key key
-unfolding stanzas_of
-key_pair_law r i key stanzas same salt is wraps =
-    let list : stanzas
-    ≡ keyed_stanza r.key r.salt key
-    ∷ [] = sym (ap stanzas_of wraps) in let opens : keyed_answer i
-    (keyed_stanza r.key r.salt key)
-    ≡ Key key = subst (λ (k : Bytes). keyed_answer k (keyed_stanza r.key r.salt key) ≡ Key key)
-    same (keyed_opens r.key r.salt key salt is) in rw (list, opens) refl
+key_pair_law r i key stanzas same salt is =
+    pair_opens keyed_answer r.key i (keyed_stanza r.key r.salt key) stanzas key
+    (key_wraps r key) refl same
+    (keyed_opens r.key r.salt key salt is)
