@@ -117,7 +117,8 @@ pair_opens : (answer : Bytes → StanzaParts → Unwrapped) (secret guess : Byte
 unfolding stanzas_of
 pair_opens answer secret guess stanza stanzas key wrapped one same opens wraps =
     let list : stanzas ≡ stanza ∷ [] = ap stanzas_of (sym wraps ∙ one) in
-    let guessed : answer guess stanza ≡ Key key = subst (λ g. answer g stanza ≡ Key key) same opens in
+    let guessed : answer guess stanza ≡ Key key =
+    subst (λ g. answer g stanza ≡ Key key) same opens in
     rw (list, guessed) refl
 
 -- the law of a passphrase's pair
