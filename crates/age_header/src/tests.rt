@@ -1,4 +1,4 @@
-//! Worked headers: what is read, what is written, and that calls which may answer want of memory
+//! Worked headers: what is read, what is written, and that calls which may return out of memory
 //! succeed.
 
 use crate::{
