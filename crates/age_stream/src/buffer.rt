@@ -2,6 +2,7 @@
 ghost use Rattle.std.specs.Prelude.{◌≡◌, length, IfOk};
 ghost use Rattle.age_stream.specs.Sizes.{chunk_buf_size};
 
+use crate::sizes::CHUNK_BUF_SIZE;
 use std::alloc::{AllocError, Global};
 
 /// A buffer for one sealed chunk and one byte, 65,553 bytes. Writing or reading a payload needs no
@@ -18,7 +19,7 @@ impl ChunkBuf {
     /// # Errors
     /// The allocation was refused.
     pub fn new(alloc: Global) -> Result<ChunkBuf, AllocError> {
-        let bytes = vec![in alloc; 0u8; 65_553]?;
+        let bytes = vec![in alloc; 0u8; CHUNK_BUF_SIZE]?;
         Ok(ChunkBuf { bytes })
     }
 

@@ -11,6 +11,7 @@ use crate::fault::StreamFault;
 use crate::layout::Layout;
 use crate::loading::{chunk_len, load, load_last, nonce_at};
 use crate::read_at::ReadAt;
+use crate::sizes::{CHUNK_SIZE, NONCE_SIZE};
 use age_recipient::FileKey;
 use std::alloc::Global;
 use std::marker::Model;
@@ -106,7 +107,7 @@ impl Chunks {
         match load_last(
             dev,
             key,
-            payload_at + 16,
+            payload_at + NONCE_SIZE as u64,
             nonce.rest,
             max_chunks,
             buf.as_mut_slice(),
@@ -195,8 +196,8 @@ impl Chunks {
     {
         let layout = self.layout();
         let end = range_len(layout.plain, at, buf.len());
-        let mut i = at / 65_536;
-        let mut skip = (at % 65_536) as usize;
+        let mut i = at / CHUNK_SIZE as u64;
+        let mut skip = (at % CHUNK_SIZE as u64) as usize;
         let mut done = 0;
         while done < end {
             let held = self.hold(dev, i);

@@ -32,6 +32,7 @@ mod read_at;
 mod reader;
 mod refused;
 mod sealing;
+mod sizes;
 #[cfg(test)]
 mod tests;
 mod writer;
@@ -46,4 +47,5 @@ pub use read_at::{FileAt, MemAt, ReadAt};
 pub use reader::StreamReader;
 pub use refused::Refused;
 pub use sealing::{ChunkSealer, seal_chunk};
+pub use sizes::{CHUNK_SIZE, NONCE_SIZE, SEALED_CHUNK_SIZE, TAG_SIZE};
 pub use writer::StreamWriter;

@@ -13,6 +13,7 @@ use crate::fault::StreamFault;
 use crate::layout::Layout;
 use crate::opening::{open_chunk, open_front};
 use crate::read_at::ReadAt;
+use crate::sizes::{CHUNK_SIZE, NONCE_SIZE, SEALED_CHUNK_SIZE, TAG_SIZE};
 use age_header::DeviceFault;
 
 /// A payload's nonce, and how many bytes follow it.
@@ -81,7 +82,7 @@ pub(crate) fn chunk_len(layout: Layout, i: u64) -> usize
     requires { i < layout.count }
     ensures { result ≡ text_len layout.plain i }
 {
-    (layout.plain - 65_536 * i).min(65_536) as usize
+    (layout.plain - CHUNK_SIZE as u64 * i).min(CHUNK_SIZE as u64) as usize
 }
 
 /// Reads and opens piece i. Its text is then at the start of the buffer.
@@ -104,8 +105,8 @@ pub(crate) fn load<D: ReadAt>(
     ensures count { CountsRead (D.failed dev.old) (D.failed dev.new) result }
 {
     let nonce = chunk_nonce(i as u128, i + 1 == layout.count);
-    let end = chunk_len(layout, i) + 16;
-    match read_full(dev, layout.first + 65_552 * i, buf, end) {
+    let end = chunk_len(layout, i) + TAG_SIZE;
+    match read_full(dev, layout.first + SEALED_CHUNK_SIZE as u64 * i, buf, end) {
         Err(_) => Err(StreamFault::Read),
         Ok(false) => Err(StreamFault::BadChunk(i as u128)),
         Ok(true) => {
@@ -134,16 +135,16 @@ pub(crate) fn nonce_at<D: ReadAt>(dev: &mut D, at: u64) -> Result<Nonce, StreamF
         return Err(StreamFault::Read);
     };
     let behind = size.saturating_sub(at);
-    if behind < 16 {
+    if behind < NONCE_SIZE as u64 {
         return Err(StreamFault::NonceTruncated);
     }
-    let mut bytes = [0; 16];
-    match read_full(dev, at, &mut bytes, 16) {
+    let mut bytes = [0; NONCE_SIZE];
+    match read_full(dev, at, &mut bytes, NONCE_SIZE) {
         Err(_) => Err(StreamFault::Read),
         Ok(false) => Err(StreamFault::NonceTruncated),
         Ok(true) => Ok(Nonce {
             bytes,
-            rest: behind - 16,
+            rest: behind - NONCE_SIZE as u64,
         }),
     }
 }
@@ -166,12 +167,12 @@ pub(crate) fn load_last<D: ReadAt>(
     ensures given { D.given dev.new ≤ D.given dev.old + last_len sealed }
     ensures count { CountsRead (D.failed dev.old) (D.failed dev.new) result }
 {
-    let last = sealed.saturating_sub(1) / 65_552;
+    let last = sealed.saturating_sub(1) / SEALED_CHUNK_SIZE as u64;
     if last as u128 >= max {
         return Err(StreamFault::TooManyChunks);
     }
-    let end = (sealed - 65_552 * last) as usize;
-    match read_full(dev, first + 65_552 * last, buf, end) {
+    let end = (sealed - SEALED_CHUNK_SIZE as u64 * last) as usize;
+    match read_full(dev, first + SEALED_CHUNK_SIZE as u64 * last, buf, end) {
         Err(_) => return Err(StreamFault::Read),
         Ok(false) => return Err(StreamFault::BadChunk(last as u128)),
         Ok(true) => {}
@@ -180,7 +181,7 @@ pub(crate) fn load_last<D: ReadAt>(
         Ok(len) => Ok(Layout {
             key,
             first,
-            plain: 65_536 * last + len as u64,
+            plain: CHUNK_SIZE as u64 * last + len as u64,
             count: last + 1,
         }),
         Err(fault) => Err(fault),

@@ -13,6 +13,7 @@ use crate::buffer::ChunkBuf;
 use crate::chunk_keys::{chunk_nonce, payload_key};
 use crate::done::Done;
 use crate::fault::StreamFault;
+use crate::sizes::{NONCE_SIZE, SEALED_CHUNK_SIZE, TAG_SIZE};
 use age_cipher::open_in_place;
 use age_header::{Sink, Source, fill_from, write_all};
 use age_recipient::FileKey;
@@ -216,13 +217,13 @@ fn next_piece<S: Source>(
     let Ok(n) = fill_from(source, bytes, ahead) else {
         return Err(StreamFault::Read);
     };
-    if n < 65_553 {
+    if n <= SEALED_CHUNK_SIZE {
         match open_chunk(key, max, i, true, bytes, n) {
             Ok(len) => Ok(Piece { len, more: false }),
             Err(fault) => Err(fault),
         }
     } else {
-        match open_chunk(key, max, i, false, bytes, 65_552) {
+        match open_chunk(key, max, i, false, bytes, SEALED_CHUNK_SIZE) {
             Ok(len) => Ok(Piece { len, more: true }),
             Err(fault) => Err(fault),
         }
@@ -236,9 +237,9 @@ fn read_nonce<S: Source>(source: &mut S) -> Result<[u8; 16], StreamFault>
         ⊎ GaveAtMost nonce_size (S.to_come source.old) (S.to_come source.new) }
     ensures count { CountsRead (S.failed source.old) (S.failed source.new) result }
 {
-    let mut nonce = [0; 16];
+    let mut nonce = [0; NONCE_SIZE];
     match fill_from(source, &mut nonce, 0) {
-        Ok(16) => Ok(nonce),
+        Ok(NONCE_SIZE) => Ok(nonce),
         Ok(_) => Err(StreamFault::NonceTruncated),
         Err(_) => Err(StreamFault::Read),
     }
@@ -251,7 +252,7 @@ fn carry(bytes: &mut [u8], ahead: usize)
     ensures len { length bytes.new ≡ chunk_buf_size }
     ensures front { take ahead bytes.new ≡ take ahead (drop sealed_chunk_size bytes.old) }
 {
-    let (front, end) = bytes.split_at_mut(65_552);
+    let (front, end) = bytes.split_at_mut(SEALED_CHUNK_SIZE);
     let (first, _) = front.split_at_mut(ahead);
     let (next, _) = end.split_at(ahead);
     first.copy_from_slice(next);
@@ -288,14 +289,14 @@ pub fn open_chunk(
     if i >= max {
         return Err(StreamFault::TooManyChunks);
     }
-    if end < 16 {
+    if end < TAG_SIZE {
         return Err(StreamFault::ChunkShort(i));
     }
     if is_empty_final(last, i, end) {
         return Err(StreamFault::EmptyFinal(i));
     }
     if open_front(key, &chunk_nonce(i, last), bytes, end) {
-        Ok(end - 16)
+        Ok(end - TAG_SIZE)
     } else {
         Err(StreamFault::BadChunk(i))
     }
@@ -305,7 +306,7 @@ pub fn open_chunk(
 fn is_empty_final(last: bool, i: u128, len: usize) -> bool
     ensures { result ≡ (last && nat_lt 0 i && nat_eq len tag_size) }
 {
-    last && i > 0 && len == 16
+    last && i > 0 && len == TAG_SIZE
 }
 
 /// Opens the first `end` bytes in place; if they don't open, the buffer is unchanged.
@@ -321,8 +322,8 @@ pub(crate) fn open_front(key: &[u8; 32], nonce: &[u8; 12], bytes: &mut [u8], end
     ensures refused { OnFalse result (opened key.now nonce.now [] (take end bytes.old) ≡ None) }
 {
     let (front, _) = bytes.split_at_mut(end);
-    let (text, mac) = front.split_at_mut(end - 16);
-    let mut tag = [0u8; 16];
+    let (text, mac) = front.split_at_mut(end - TAG_SIZE);
+    let mut tag = [0u8; TAG_SIZE];
     tag.copy_from_slice(mac);
     open_in_place(key, nonce, b"", text, &tag)
 }

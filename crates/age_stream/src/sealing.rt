@@ -13,6 +13,7 @@ use crate::buffer::ChunkBuf;
 use crate::chunk_keys::{chunk_nonce, payload_key};
 use crate::done::Done;
 use crate::fault::StreamFault;
+use crate::sizes::{CHUNK_SIZE, TAG_SIZE};
 use age_cipher::seal_in_place;
 use age_header::{DeviceFault, Sink, Source, fill_from, write_all};
 use age_recipient::FileKey;
@@ -130,7 +131,7 @@ impl ChunkSealer {
         let mut buf = buf;
         match put_sealed(out, &key, index, true, buf.as_mut_slice(), len) {
             Ok(()) => Ok(Done {
-                bytes: 65_536 * index + len as u128,
+                bytes: CHUNK_SIZE as u128 * index + len as u128,
                 chunks: index + 1,
             }),
             Err(_) => Err(StreamFault::Write),
@@ -171,7 +172,7 @@ fn feed<S: Source, W: Sink>(
             Ok(n) => n,
             Err(_) => return Err(StreamFault::Read),
         };
-        if n <= 65_536 {
+        if n <= CHUNK_SIZE {
             return Ok(n);
         }
         if let Err(fault) = put_full(out, key, max, index, bytes) {
@@ -192,7 +193,7 @@ fn fill_chunk<S: Source>(plain: &mut S, bytes: &mut [u8], held: usize) -> Result
     ensures end { IfOk result (λ n. n ≤ chunk_size → IsAtEnd (S.to_come plain.new)) }
     ensures count { Counts (S.failed plain.old) (S.failed plain.new) result }
 {
-    let (front, _) = bytes.split_at_mut(65_537);
+    let (front, _) = bytes.split_at_mut(CHUNK_SIZE + 1);
     fill_from(plain, front, held)
 }
 
@@ -217,8 +218,8 @@ fn put_full<W: Sink>(
     if *index + 1 >= max {
         return Err(StreamFault::TooManyChunks);
     }
-    let next = bytes[65_536];
-    match put_sealed(out, key, *index, false, bytes, 65_536) {
+    let next = bytes[CHUNK_SIZE];
+    match put_sealed(out, key, *index, false, bytes, CHUNK_SIZE) {
         Ok(()) => {
             bytes[0] = next;
             *index += 1;
@@ -245,7 +246,7 @@ fn put_sealed<W: Sink>(
         (sealed key.now (chunk_nonce i last) [] (take len bytes.old)) }
     ensures count { Counts (W.failed out.old) (W.failed out.new) result }
 {
-    let (piece, _) = bytes.split_at_mut(len + 16);
+    let (piece, _) = bytes.split_at_mut(len + TAG_SIZE);
     seal_chunk(key, i, last, piece);
     write_all(out, piece)
 }
@@ -260,7 +261,7 @@ pub fn seal_chunk(key: &[u8; 32], i: u128, last: bool, chunk: &mut [u8])
     ensures sealed { chunk.new
         ≡ sealed key.now (chunk_nonce i last) [] (take (length chunk.old - tag_size) chunk.old) }
 {
-    let len = chunk.len() - 16;
+    let len = chunk.len() - TAG_SIZE;
     let (text, end) = chunk.split_at_mut(len);
     let tag = seal_in_place(key, &chunk_nonce(i, last), b"", text);
     end.copy_from_slice(&tag);

@@ -18,7 +18,7 @@ use crate::report::Report;
 use crate::start::{Start, start_for_key, start_for_passphrase};
 use crate::state::{CLOSED, OPEN};
 use age_file::Fault;
-use age_stream::open_chunk;
+use age_stream::{CHUNK_SIZE, SEALED_CHUNK_SIZE, TAG_SIZE, open_chunk};
 use std::alloc::Global;
 
 /// The last sealed chunk was verified.
@@ -144,7 +144,7 @@ fn open_at(
     };
     *report = Report {
         len: piece_len(sealed_len, last) as u64,
-        place: start.first + 65_552 * last,
+        place: start.first + SEALED_CHUNK_SIZE as u64 * last,
         detail: 0,
     };
     OK
@@ -201,8 +201,8 @@ pub extern "C" fn agefile_ranges_locate(ranges: &Ranges, at: u64, report: &mut R
     if !has_byte(ranges, at) {
         return OUT_OF_ORDER;
     }
-    let i = at / 65_536;
-    report.place = ranges.first + 65_552 * i;
+    let i = at / CHUNK_SIZE as u64;
+    report.place = ranges.first + SEALED_CHUNK_SIZE as u64 * i;
     report.len = piece_len(ranges.sealed_len, i) as u64;
     OK
 }
@@ -224,14 +224,14 @@ pub extern "C" fn agefile_ranges_chunk(
 {
     *report = Report::of_len(0);
     let len = chunk.len();
-    let i = at / 65_536;
+    let i = at / CHUNK_SIZE as u64;
     if !has_byte(ranges, at) || len != piece_len(ranges.sealed_len, i) {
         return OUT_OF_ORDER;
     }
     let last = i == last_index(ranges.sealed_len);
     match open_chunk(&ranges.key, MAX_CHUNKS, i as u128, last, chunk, len) {
         Ok(text) => {
-            report.place = at % 65_536;
+            report.place = at % CHUNK_SIZE as u64;
             report.len = text as u64 - report.place;
             OK
         }
@@ -256,7 +256,7 @@ fn has_byte(ranges: &Ranges, at: u64) -> bool
 fn last_index(sealed_len: u64) -> u64
     ensures { result ≡ last_index sealed_len }
 {
-    sealed_len.saturating_sub(1) / 65_552
+    sealed_len.saturating_sub(1) / SEALED_CHUNK_SIZE as u64
 }
 
 /// The length of piece i, if all pieces have this many bytes.
@@ -264,12 +264,12 @@ fn piece_len(sealed_len: u64, i: u64) -> usize
     requires { i ≤ last_index sealed_len }
     ensures { result ≡ piece_len sealed_len i }
 {
-    (sealed_len - 65_552 * i).min(65_552) as usize
+    (sealed_len - SEALED_CHUNK_SIZE as u64 * i).min(SEALED_CHUNK_SIZE as u64) as usize
 }
 
 /// The length of the plaintext, if the sealed chunks have this many bytes.
 fn plain_of(sealed_len: u64) -> u64
     ensures { result ≡ plain_of sealed_len }
 {
-    sealed_len.saturating_sub(16 * (last_index(sealed_len) + 1))
+    sealed_len.saturating_sub(TAG_SIZE as u64 * (last_index(sealed_len) + 1))
 }

@@ -11,9 +11,9 @@ use crate::bounds::MAX_CHUNKS;
 use crate::code::{OK, OUT_OF_ORDER, WORK_FACTOR, code_of};
 use crate::report::Report;
 use crate::start::{Start, start_for_key, start_for_passphrase};
-use crate::state::{CLOSED, ENDED, FAILED, OPEN, SEALED_CHUNK};
+use crate::state::{CLOSED, ENDED, FAILED, OPEN};
 use age_file::Fault;
-use age_stream::open_chunk;
+use age_stream::{SEALED_CHUNK_SIZE, open_chunk};
 use std::alloc::Global;
 
 /// A reader of a file's sealed chunks, in its caller's memory. It may hold any bytes.
@@ -46,9 +46,9 @@ impl Reader {
     {
         self.state == OPEN
             && if last {
-                len <= SEALED_CHUNK
+                len <= SEALED_CHUNK_SIZE
             } else {
-                len == SEALED_CHUNK
+                len == SEALED_CHUNK_SIZE
             }
     }
 }

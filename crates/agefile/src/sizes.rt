@@ -13,6 +13,8 @@ ghost use Rattle.agefile.specs.Answer.{fresh_of, only, salt_of};
 ghost use Rattle.agefile.specs.Limits.{limits};
 ghost use Rattle.agefile.specs.Sizes.{plain_len_at_most, sealed_len};
 
+use age_stream::{CHUNK_SIZE, SEALED_CHUNK_SIZE, TAG_SIZE};
+
 /// The header of a file under a key, 156 bytes, and its payload's nonce. Under a passphrase the
 /// header is six or seven bytes shorter.
 const FRONT: u64 = 172;
@@ -35,8 +37,10 @@ pub extern "C" fn agefile_sealed_len(plain_len: u64) -> u64
         (only (pass_stanza pass work (salt_of seed) (fresh_of seed).file_key)) plain file
         → length file < sealed_len plain_len }
 {
-    let chunks = plain_len.saturating_sub(1) / 65_536 + 1;
-    FRONT.saturating_add(plain_len).saturating_add(16 * chunks)
+    let chunks = plain_len.saturating_sub(1) / CHUNK_SIZE as u64 + 1;
+    FRONT
+        .saturating_add(plain_len)
+        .saturating_add(TAG_SIZE as u64 * chunks)
 }
 
 /// Room that suffices for the plaintext of any file of this many bytes, and for the plaintext
@@ -48,5 +52,6 @@ pub extern "C" fn agefile_plain_len_at_most(file_len: u64) -> u64
         → length b ≡ file_len → IsVerdict limits answers b verdict → length verdict.front ≤ result }
 {
     let sealed = file_len.saturating_sub(LEAST_FRONT);
-    65_536 * (sealed / 65_552) + (sealed % 65_552).saturating_sub(16)
+    CHUNK_SIZE as u64 * (sealed / SEALED_CHUNK_SIZE as u64)
+        + (sealed % SEALED_CHUNK_SIZE as u64).saturating_sub(TAG_SIZE as u64)
 }

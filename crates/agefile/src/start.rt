@@ -10,7 +10,7 @@ use crate::bounds::limits;
 use age_file::{
     Fault, Identity, KeyIdentity, MemSource, PassError, PassIdentity, inspect, unlock_header,
 };
-use age_stream::payload_key;
+use age_stream::{NONCE_SIZE, payload_key};
 use std::alloc::Global;
 
 /// The offset of a file's first sealed chunk, and the key of its chunks.
@@ -78,13 +78,13 @@ fn find_start(alloc: Global, front: &[u8], identities: &[Box<dyn Identity>]) -> 
         Err(fault) => return Err(fault),
     };
     let rest = source.rest();
-    if rest.len() < 16 {
+    if rest.len() < NONCE_SIZE {
         return Err(Fault::NonceTruncated);
     }
-    let mut nonce = [0; 16];
-    nonce.copy_from_slice(&rest[..16]);
+    let mut nonce = [0; NONCE_SIZE];
+    nonce.copy_from_slice(&rest[..NONCE_SIZE]);
     Ok(Start {
-        first: (front.len() - rest.len() + 16) as u64,
+        first: (front.len() - rest.len() + NONCE_SIZE) as u64,
         key: payload_key(&key, &nonce),
     })
 }

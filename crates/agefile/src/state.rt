@@ -11,9 +11,3 @@ pub(crate) const ENDED: u64 = 2;
 
 /// A chunk had a fault.
 pub(crate) const FAILED: u64 = 3;
-
-/// The length of a full chunk with its tag, in bytes.
-pub(crate) const SEALED_CHUNK: usize = 65_552;
-
-/// The length of a tag in bytes.
-pub(crate) const TAG: usize = 16;

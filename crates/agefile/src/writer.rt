@@ -14,12 +14,12 @@ use crate::code::{OK, OUT_OF_MEMORY, OUT_OF_ORDER, WORK_FACTOR, code_of};
 use crate::encrypting::{fresh_of, part};
 use crate::giving::{give_up, give_whole};
 use crate::report::Report;
-use crate::state::{CLOSED, ENDED, FAILED, OPEN, SEALED_CHUNK, TAG};
+use crate::state::{CLOSED, ENDED, FAILED, OPEN};
 use age_file::{
     Fault, Fresh, KeyRecipient, MemSink, PassError, PassRecipient, Recipient, header_for,
     write_front,
 };
-use age_stream::{payload_key, seal_chunk};
+use age_stream::{SEALED_CHUNK_SIZE, TAG_SIZE, payload_key, seal_chunk};
 use std::alloc::Global;
 
 /// A writer of a file's sealed chunks, in its caller's memory. It may hold any bytes.
@@ -52,9 +52,9 @@ impl Writer {
     {
         self.state == OPEN
             && if last {
-                len <= SEALED_CHUNK && may_be_last(self.number, len)
+                len <= SEALED_CHUNK_SIZE && may_be_last(self.number, len)
             } else {
-                len == SEALED_CHUNK
+                len == SEALED_CHUNK_SIZE
             }
     }
 }
@@ -63,7 +63,7 @@ impl Writer {
 fn may_be_last(number: u64, len: usize) -> bool
     ensures { result ≡ may_be_last number len }
 {
-    len > TAG || len == TAG && number == 0
+    len > TAG_SIZE || len == TAG_SIZE && number == 0
 }
 
 /// Begins a file under a passphrase, which is any bytes, with a work factor of 1 to 30. The seed is

@@ -7,28 +7,28 @@ use Rattle.age_stream.proofs.loading.load_last.Goals as goal
 
 pub returns-then-last-max-clause-judges : goal.returns-then-last-max-clause-judges
 returns-then-last-max-clause-judges g c =
-    let less : c.saturating_sub-last.result ≡ c.args.sealed - 1 = search rules in
-    inr (last-many c.args.key c.args.max c.args.first c.args.sealed (c.saturating_sub-last.result / 65552) (g.D.ReadAt.bytes c.args.dev.now)
+    let less : c.saturating_sub.result ≡ c.args.sealed - 1 = search rules in
+    inr (last-many c.args.key c.args.max c.args.first c.args.sealed (c.saturating_sub.result / 65552) (g.D.ReadAt.bytes c.args.dev.now)
     (ap (λ n. n / 65552) less) (omega arith))
 
 pub returns-in-Ok-false-clause-judges : goal.returns-in-Ok-false-clause-judges
 returns-in-Ok-false-clause-judges g c =
-    let less : c.saturating_sub-last.result ≡ c.args.sealed - 1 = search rules in
-    let last = c.saturating_sub-last.result / 65552 in
+    let less : c.saturating_sub.result ≡ c.args.sealed - 1 = search rules in
+    let last = c.saturating_sub.result / 65552 in
     inr (last-gone c.args.key c.args.max c.args.first c.args.sealed last (c.args.sealed - 65552 * last) (g.D.ReadAt.bytes c.args.dev.now) (BadChunk last)
     (ap (λ n. n / 65552) less) refl (OnFalse_at c.in-Ok-false.field-0-test c.in-Ok-false.ensures.short))
 
 pub returns-in-Err-open_chunk-clause-judges : goal.returns-in-Err-open_chunk-clause-judges
 returns-in-Err-open_chunk-clause-judges g c =
-    let less : c.saturating_sub-last.result ≡ c.args.sealed - 1 = search rules in
-    let last = c.saturating_sub-last.result / 65552 in
+    let less : c.saturating_sub.result ≡ c.args.sealed - 1 = search rules in
+    let last = c.saturating_sub.result / 65552 in
     inr (last-read c.args.key c.args.max c.args.first c.args.sealed last (c.args.sealed - 65552 * last) (g.D.ReadAt.bytes c.args.dev.now) c.read_full.new.buf (Err c.in-Err-open_chunk.fault)
     (ap (λ n. n / 65552) less) refl (c.read_full.auto.buf ∙ c.requires.room) (OnTrue_at c.in-Ok-true.field-0-test c.in-Ok-true.ensures.full) c.in-Err-open_chunk.ensures.text)
 
 pub invariant_of-result : goal.invariant_of-result
 invariant_of-result g c =
-    let less : c.saturating_sub-last.result ≡ c.args.sealed - 1 = search rules in
-    let last = c.saturating_sub-last.result / 65552 in
+    let less : c.saturating_sub.result ≡ c.args.sealed - 1 = search rules in
+    let last = c.saturating_sub.result / 65552 in
     let end = c.args.sealed - 65552 * last in
     let short : end ≤ 65552 = omega (arith, less) in
     let fits = c.requires.fits in
@@ -44,8 +44,8 @@ invariant_of-result g c =
 
 pub returns-in-Ok-clause-judges : goal.returns-in-Ok-clause-judges
 returns-in-Ok-clause-judges g c =
-    let less : c.saturating_sub-last.result ≡ c.args.sealed - 1 = search rules in
-    let last = c.saturating_sub-last.result / 65552 in
+    let less : c.saturating_sub.result ≡ c.args.sealed - 1 = search rules in
+    let last = c.saturating_sub.result / 65552 in
     let end = c.args.sealed - 65552 * last in
     let n = c.in-Ok.len in
     let short : end ≤ 65552 = omega (arith, less) in
@@ -62,4 +62,4 @@ returns-in-Ok-clause-judges g c =
 
 pub returns-in-Err-open_chunk-clause-named : goal.returns-in-Err-open_chunk-clause-named
 returns-in-Err-open_chunk-clause-named g c =
-    piece-named c.args.max (c.saturating_sub-last.result / 65552) c.in-Err-open_chunk.fault c.in-Err-open_chunk.ensures.at
+    piece-named c.args.max (c.saturating_sub.result / 65552) c.in-Err-open_chunk.fault c.in-Err-open_chunk.ensures.at

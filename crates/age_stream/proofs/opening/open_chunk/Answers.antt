@@ -9,8 +9,8 @@ pub returns-then-i-max-clause-text : goal.returns-then-i-max-clause-text
 returns-then-i-max-clause-text c =
     outcome-many c.args.key.now c.args.max c.args.i c.args.last (take c.args.end c.args.bytes.now) (omega arith)
 
-pub returns-then-end-lt16-clause-text : goal.returns-then-end-lt16-clause-text
-returns-then-end-lt16-clause-text c =
+pub returns-then-end-lt-TAG_SIZE-clause-text : goal.returns-then-end-lt-TAG_SIZE-clause-text
+returns-then-end-lt-TAG_SIZE-clause-text c =
     let l : length (take c.args.end c.args.bytes.now) ≡ c.args.end = length-take-le c.args.end c.args.bytes.now (search rules) in
     outcome-short c.args.key.now c.args.max c.args.i c.args.last (take c.args.end c.args.bytes.now) (omega arith) (omega arith)
 

@@ -19,8 +19,8 @@ returns-in-Err-clause-fed g c =
     let inv = c.loop-n.invariant.fed in
     stopped-read c.args.key.now c.args.max c.args.index.now c.loop-n.index (take c.args.len c.args.bytes.now) inv.0 _ _ _ _ _ _ inv.1 inv.2
 
-pub returns-then-n-le65536-clause-fed : goal.returns-then-n-le65536-clause-fed
-returns-then-n-le65536-clause-fed g c =
+pub returns-then-n-le-CHUNK_SIZE-clause-fed : goal.returns-then-n-le-CHUNK_SIZE-clause-fed
+returns-then-n-le-CHUNK_SIZE-clause-fed g c =
     let inv = c.loop-n.invariant.fed in
     let f = c.in-Ok.ensures.bytes.1 in
     let now : List ℕ = take c.loop-n.held c.loop-n.bytes in
