@@ -56,7 +56,7 @@ library() {
 }
 
 # Proves and builds the libraries up to age_file, or with the word age_cli up to that, lowest first.
-# Two of them stand on no other: they are proved beside the others.
+# Two of them depend on no other: they are proved in parallel with the others.
 libraries() {
     library age_cipher --jobs 1 &
     cipher=$!

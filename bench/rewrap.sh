@@ -1,5 +1,5 @@
 #!/bin/bash
-# A new header: the rate at which agep rewrap copies a file from one key to another, compared with
+# The rate at which agep rewrap copies a file from one key to another, compared with
 # cat and dd of the same file in the same run. Between two files cat copies inside the kernel
 # (copy_file_range); dd reads and writes pieces of 64 KiB, like rewrap.
 # Usage: bench/rewrap.sh [MIB [RUNS]]

@@ -3,7 +3,7 @@
 
 usage: bench/scrypt.py [--log-n 18] [--r 8] [--p 1] [--runs 7]
 
-It wants the command rt, with which it builds crates/kdf_bench. The two are run in turn, each time in a new
+It needs the command rt, with which it builds crates/kdf_bench. The two are run in turn, each time in a new
 process, and must give the same key. Ours is charged for its whole process, the peer for its call alone.
 """
 

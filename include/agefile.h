@@ -1,5 +1,5 @@
-/* agefile.h: the age v1 encrypted file format (C2SP age.md), proved. Whole buffers, streams in
- * steps, ranges in steps.
+/* agefile.h: a proved library for the age v1 encrypted file format (C2SP age.md). Whole buffers,
+ * streams in steps, ranges in steps.
  *
  * Every length and every number is checked inside. The following duties are the caller's;
  * nothing can check them, and a call that breaks one of them has undefined behaviour:
@@ -35,8 +35,8 @@ extern "C" {
 
 #define AGEFILE_TEXT_CHUNK 65536   /* bytes of a full chunk of the plaintext */
 #define AGEFILE_SEALED_CHUNK 65552 /* the same with its tag */
-#define AGEFILE_FRONT 65552        /* this many bytes from a file's start hold its header and its payload's nonce */
-#define AGEFILE_HEADER_ROOM 256    /* enough room for a new file's header and its payload's nonce */
+#define AGEFILE_FRONT 65552        /* bytes from a file's start that hold its header and nonce */
+#define AGEFILE_HEADER_ROOM 256    /* bytes that hold a new file's header and nonce */
 
 /* A code is never reused. 15, 16 and 18 to 20 are faults of files and of other recipients; no
  * call here returns them. */
@@ -95,7 +95,7 @@ static inline const char *agefile_message(uint32_t code)
     case AGEFILE_INCOMPATIBLE_RECIPIENTS: return "recipient does not go with recipient 0";
     case AGEFILE_TOO_SMALL: return "buffer is too small";
     case AGEFILE_WORK_FACTOR: return "work factor is not 1 to 30";
-    case AGEFILE_OUT_OF_ORDER: return "no such stanza or place, or a call out of order";
+    case AGEFILE_OUT_OF_ORDER: return "no such stanza or offset, or a call out of order";
     default: return "unknown code";
     }
 }

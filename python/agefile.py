@@ -47,7 +47,7 @@ _MESSAGES = (
     "recipient does not go with recipient 0",
     "buffer is too small",
     "work factor is not 1 to 30",
-    "no such stanza or place, or a call out of order",
+    "no such stanza or offset, or a call out of order",
 )
 _DETAILS = ("other", "argument count", "salt", "work factor", "work factor is too high", "body length")
 
@@ -248,7 +248,7 @@ class _Plaintext(io.RawIOBase):
         self._checkClosed()
         at = offset + {os.SEEK_SET: 0, os.SEEK_CUR: self._at, os.SEEK_END: self._len}[whence]
         if at < 0:
-            raise ValueError("a place before the beginning")
+            raise ValueError("negative seek position")
         self._at = at
         return at
 

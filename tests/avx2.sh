@@ -2,8 +2,8 @@
 # Builds the program and the cipher's tests for the level x86-64-v3 in a copy of the sources, where
 # the processor at hand has that level. The copy has what an earlier build left, so that what was
 # proved there isn't proved once more. Runs the RFCs' vectors, and compares what the program writes
-# with what Python makes by the RFCs. The words are groups to run, none for all. The last line is
-# 'N passed, M failed'.
+# with what Python makes by the RFCs. The arguments name the groups to run; without arguments all
+# groups run. The last line is 'N passed, M failed'.
 groups=(files vectors)
 program=none
 source "$(dirname "$0")/checks.bash"

@@ -1,7 +1,8 @@
 #!/bin/bash
 # Holds what people read to 100 columns: clauses, comments and code in src/, definitions in specs/,
-# documents and scripts. Imports, long literals, tables and blocks of code may be wider. The words
-# are groups to run, none for all. The last line is 'N passed, M failed'.
+# documents and scripts. Imports, long literals, tables and blocks of code may be wider. The
+# arguments name the groups to run; without arguments all groups run. The last line is 'N passed, M
+# failed'.
 groups=(crates documents scripts itself)
 program=none
 source "$(dirname "$0")/checks.bash"

@@ -1,10 +1,10 @@
 #!/usr/bin/env python3
-"""Decrypts files that were cut at each place, or changed at each place, and headers of great size, by the built program.
+"""Decrypts files that were cut at each offset, or changed at each offset, and headers of great size, by the built program.
 
 usage: tests/damaged_files.py AGEP GROUP..
 
-Each line of a table is one check: what the program says at each of its places, and that it writes what stands before the damage and
-no more. A place at which it says something else is printed. The last line is 'N passed, M failed'.
+Each line of a table is one check: what the program says at each of its offsets, and that it writes what precedes the damage and
+no more. An offset at which it says something else is printed. The last line is 'N passed, M failed'.
 """
 
 import subprocess
@@ -104,7 +104,7 @@ class Checks:
 
 
 def changed(file, signs, at):
-    """The file with the byte at this place changed: a sign of a body or a MAC to another sign, any other by its least bit."""
+    """The file with the byte at this offset changed: a base64 character of a body or a MAC to another one, any other byte in its least bit."""
     byte = file[at]
     if any(first <= at <= last for first, last in signs):
         byte = ord("E") if byte == ord("A") else ord("A")
@@ -135,7 +135,7 @@ def passphrase_file(checks):
 
 
 def keyed_rows(file, end, place, line):
-    """What a keyed file says where it is changed, its keyed stanza so many places and lines further behind."""
+    """What the program says of a keyed file changed at each offset. The keyed stanza begins `place` bytes and `line` lines later than usual."""
     return [
         (22 + place, 24 + place, bad_line(2 + line)), (25 + place, 40 + place, NO_MATCH), (41 + place, 61 + place, WRONG_KEY),
         (62 + place, 62 + place, malformed("salt")), (63 + place, 63 + place, bad_line(2 + line)), (64 + place, 106 + place, WRONG_KEY),

@@ -1,7 +1,7 @@
 #!/bin/bash
 # Runs `agep decrypt` as built on files that were cut or changed at each place, and `agep inspect`
-# on great headers (tests/damaged_files.py). The words are groups to run, none for all. The last
-# line is 'N passed, M failed'.
+# on great headers (tests/damaged_files.py). The arguments name the groups to run; without arguments
+# all groups run. The last line is 'N passed, M failed'.
 groups=(passphrase_file keyed_file file_with_another_stanza two_chunks great_headers)
 source "$(dirname "$0")/checks.bash"
 

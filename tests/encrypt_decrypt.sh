@@ -1,7 +1,7 @@
 #!/bin/bash
 # Runs `agep encrypt` and `agep decrypt` as built: the bytes that they write, their lines and
-# statuses, the order of their checks, and what their output holds after a fault. The words are
-# groups to run, none for all. The last line is 'N passed, M failed'.
+# statuses, the order of their checks, and what their output holds after a fault. The arguments name
+# the groups to run; without arguments all groups run. The last line is 'N passed, M failed'.
 groups=(
     sizes by_reference first_bytes defaults passphrases keys bad_headers cut_files damaged_files
     order outputs words bounds spellings memory
@@ -236,7 +236,7 @@ cut_files() {
     check "the first sign of the MAC changed"
 }
 
-# A file of two chunks, damaged behind its header: what is written is the plaintext of the chunks
+# A file of two chunks, damaged after its header: what is written is the plaintext of the chunks
 # before the damage.
 damaged_files() {
     local row size front fault
@@ -452,7 +452,7 @@ bounds() {
     check "a file of the work factor 22, which is accepted without -m"
 }
 
-# Words joined and apart, by letters and by names, and a file's name behind --.
+# Words joined and apart, by letters and by names, and a file's name after --.
 spellings() {
     cp hello ./-r
     rm -f made back

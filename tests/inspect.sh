@@ -1,7 +1,7 @@
 #!/bin/bash
 # Runs the built program for what no proof says: what `inspect` prints, its lines and statuses, real
-# files, pipes, devices, its system calls, and the scripts ./agep and ./install. The words are
-# groups to run, none for all. The last line is 'N passed, M failed'.
+# files, pipes, devices, its system calls, and the scripts ./agep and ./install. The arguments name
+# the groups to run; without arguments all groups run. The last line is 'N passed, M failed'.
 groups=(
     tables bad_lines no_headers limits words real_files header_check devices devices_in_midstream
     memory allocations system_calls scripts
@@ -40,7 +40,7 @@ table() {
         }' "$1"
 }
 
-# Each header has this size and this table, also with bytes behind it, and -r gives it back.
+# Each header has this size and this table, also with bytes after it, and -r gives it back.
 tables() {
     local sized stanza key=AAAAAAAAAAAAAAAAAAAAAA body=AAAAAAAAAAAAAAAAAAAAAAAAAAAAAAAAAAAAAAAAAAA
     for sized in "76 -> a\n\n" "78 -> a\nAA\n" \
@@ -190,7 +190,7 @@ header_check() {
     inspect -f other.key "$file"
     cmp -s out expected && [[ $(cat status) == 1 && $(cat err) == "agep: header check failed" ]]
     check "passphrase.age under another file key"
-    # the last sign of a MAC has four of its bits
+    # the last character of a MAC's base64 encodes four of its bits
     LC_ALL=C sed -E '/^--- /{s/A$/E/;t;s/.$/A/}' "$file" >changed.age
     LC_ALL=C sed '/^--- /q' changed.age >header
     table header | sed 's/^check none$/check bad/' >expected

@@ -1,6 +1,6 @@
 #!/bin/bash
-# Files that go from this program to the tool `age` and back, where that is installed. The words are
-# groups to run, none for all. The last line is 'N passed, M failed'.
+# Files that go from this program to the tool `age` and back, where that is installed. The arguments
+# name the groups to run; without arguments all groups run. The last line is 'N passed, M failed'.
 groups=(to_age from_age rewrapped)
 source "$(dirname "$0")/checks.bash"
 

@@ -1,8 +1,9 @@
 #!/bin/bash
 # Builds and installs the library for C, and runs it from C under sanitizers, from Python and from
 # Rust: its names, its codes, each of its calls, refused allocations, threads, memory, and files
-# that go to the program and to `age` and back. The words are groups to run, none for all; what is
-# installed and built for them is checked in any case. The last line is 'N passed, M failed'.
+# that go to the program and to `age` and back. The arguments name the groups to run; without
+# arguments all groups run; what is installed and built for them is checked in any case. The last
+# line is 'N passed, M failed'.
 groups=(
     names languages constants buffers steps refuse second_compiler threads programs faults with_age
     memory document python rust
@@ -57,7 +58,7 @@ installs() {
     check "./install-library refuses another option"
 }
 
-# The names that an object file has for others, or wants of them.
+# The names that an object file defines for others, or leaves undefined.
 names_of() {
     nm "$@" | awk 'NF && !/:$/ { print $NF }' | sort
 }
@@ -192,7 +193,7 @@ refuse() {
 }
 
 # The archive as Rattle's own compiler makes it: a fault of one of the two compilers shows. The
-# other archive then stands there again.
+# other archive is then restored.
 second_compiler() {
     local archives=$root/crates/agefile/out name
     cp -p "$archives/libagefile.a" kept.a

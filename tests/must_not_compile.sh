@@ -1,8 +1,8 @@
 #!/bin/bash
 # Checks that the compiler refuses each program of tests/must_not_compile/ before any proof: the
 # first line of its file is `// ` and the error's name. Each is checked as a crate of its own over a
-# copy of the libraries' sources. The words are programs to check, none for all. The last line is 'N
-# passed, M failed'.
+# copy of the libraries' sources. The arguments name the programs to check; without arguments all
+# are checked. The last line is 'N passed, M failed'.
 mapfile -t groups < <(
     for file in "$(dirname "$0")"/must_not_compile/*.txt; do
         basename "$file" .txt

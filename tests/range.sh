@@ -1,7 +1,7 @@
 #!/bin/bash
 # Runs `agep range` as built: the bytes that it writes, its lines and statuses, the order of its
-# checks, and what it reads. The words are groups to run, none for all. The last line is
-# 'N passed, M failed'.
+# checks, and what it reads. The arguments name the groups to run; without arguments all groups run.
+# The last line is 'N passed, M failed'.
 groups=(slices damaged_chunks refusals great_file system_calls allocations)
 source "$(dirname "$0")/checks.bash"
 
@@ -25,7 +25,7 @@ set_up() {
     "$agep" encrypt -k key -s seed -o empty.age empty
 }
 
-# Copies a file with the byte at this place changed.
+# Copies a file with the byte at this offset changed.
 damaged() {
     local old
     old=$(tail -c "+$(($2 + 1))" "$1" | head -c 1 | od -An -tu1)
@@ -33,15 +33,16 @@ damaged() {
     [[ $(wc -c <bad.age) == $(wc -c <"$1") ]] && ! cmp -s "$1" bad.age
 }
 
-# Whether the run before ended well, and wrote just so many bytes of `plain` from this place on.
+# Whether the run before ended well, and wrote exactly this many bytes of `plain` from this offset
+# on.
 has_written() {
     : >expected
     [[ $1 -ge 140000 ]] || tail -c "+$(($1 + 1))" plain | head -c "$2" >expected
     has_said 0 "" && cmp -s out expected
 }
 
-# Whether the run before ended with this fault, and wrote so many bytes of `plain` from this place
-# on.
+# Whether the run before ended with this fault, and wrote this many bytes of `plain` from this
+# offset on.
 has_written_front() {
     tail -c "+$(($2 + 1))" plain | head -c "$3" >expected
     has_said 1 "agep: $1" && cmp -s out expected
@@ -124,7 +125,7 @@ damaged_chunks() {
     check "a file cut within its nonce"
 }
 
-# The order of the checks, and what stands in OUT.
+# The order of the checks, and what OUT holds.
 refusals() {
     local words
     for words in "0" "0 1" "x 1 made" "0 x made" "-1 1 made" "9223372036854775808 1 made" "0 9223372036854775808 made" \

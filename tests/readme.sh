@@ -1,8 +1,8 @@
 #!/bin/bash
-# Runs the commands of README.md's console blocks one after another as they stand there, in a folder
-# that looks like the clone, and compares what each prints. The gate itself is not run, and what a
-# build says is left out. Compares its blocks of code with the example's source. The words are
-# groups to run, none for all. The last line is 'N passed, M failed'.
+# Runs the commands of README.md's console blocks one after another as they are, in a folder that
+# looks like the clone, and compares what each prints. The gate itself is not run, and what a build
+# says is left out. Compares its blocks of code with the example's source. The arguments name the
+# groups to run; without arguments all groups run. The last line is 'N passed, M failed'.
 groups=(commands code)
 source "$(dirname "$0")/checks.bash"
 
@@ -44,7 +44,7 @@ session() {
     )
 }
 
-# Each block of code stands in the example's source, word for word.
+# Each block of code is in the example's source, word for word.
 code() {
     local block sources line
     sources=$(cat "$root"/crates/example_objects/src/*.rt)

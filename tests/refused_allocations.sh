@@ -1,7 +1,7 @@
 #!/bin/bash
 # Runs tests of the libraries, as built, with each allocation refused in turn: scrypt, the calls in
-# steps, and ranges. Each call succeeds or is out of memory. The words are groups to run, none for
-# all. The last line is 'N passed, M failed'.
+# steps, and ranges. Each call succeeds or is out of memory. The arguments name the groups to run;
+# without arguments all groups run. The last line is 'N passed, M failed'.
 groups=(scrypt steps_and_ranges)
 program=none
 source "$(dirname "$0")/checks.bash"

@@ -1,7 +1,7 @@
 #!/bin/bash
 # Runs `agep rewrap` as built: the bytes that it writes, its lines and statuses, the order of its
-# checks, which files it refuses, and its memory. The words are groups to run, none for all. The
-# last line is 'N passed, M failed'.
+# checks, which files it refuses, and its memory. The arguments name the groups to run; without
+# arguments all groups run. The last line is 'N passed, M failed'.
 groups=(
     rows sizes by_reference header_limit payloads refused_files order same_files shared_input outputs
     syncs streaming memory
@@ -143,7 +143,7 @@ by_reference() {
     done
 }
 
-# A key's file whose header has 1,025 bytes: a stanza of an unknown type stands before the key's.
+# A key's file whose header has 1,025 bytes: a stanza of an unknown type precedes the key's.
 make_long_header() {
     PYTHONDONTWRITEBYTECODE=1 PYTHONPATH=$root/tests python3 -c '
 import hmac, sys

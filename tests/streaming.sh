@@ -1,7 +1,7 @@
 #!/bin/bash
 # Runs `agep encrypt` and `agep decrypt` as built, for what holds of a program that works chunk by
-# chunk: what comes out while the input is still fed, its memory, its system calls. The words are
-# groups to run, none for all. The last line is 'N passed, M failed'.
+# chunk: what comes out while the input is still fed, its memory, its system calls. The arguments
+# name the groups to run; without arguments all groups run. The last line is 'N passed, M failed'.
 groups=(lockstep early_leave memory equal_allocations system_calls pieces damaged_file)
 source "$(dirname "$0")/checks.bash"
 

@@ -1,8 +1,8 @@
 #!/bin/bash
 # Compares what tells users of the program with the built program: the texts of help, the manual
 # page, the completions, the change log and ./install; and the planted bugs that docs/PROMISES.md
-# names with those that are there. The words are groups to run, none for all. The last line is
-# 'N passed, M failed'.
+# names with those that are there. The arguments name the groups to run; without arguments all
+# groups run. The last line is 'N passed, M failed'.
 groups=(helps examples manual completions versions installs planted_bugs)
 source "$(dirname "$0")/checks.bash"
 

@@ -1,7 +1,8 @@
 #!/bin/bash
 # Runs the built program for what keeps a user's files: what becomes of an OUT that was there, which
-# files are refused to be both read and written, modes, syncing, and names in messages. The words
-# are groups to run, none for all. The last line is 'N passed, M failed'.
+# files are refused to be both read and written, modes, syncing, and names in messages. The
+# arguments name the groups to run; without arguments all groups run. The last line is 'N passed, M
+# failed'.
 groups=(
     refused_work interrupted_work done_work other_outputs same_files shared_input modes syncs names
 )

@@ -43,7 +43,7 @@ impl fmt::Display for Error {
             20 => write!(f, "recipient does not go with recipient 0"),
             21 => write!(f, "buffer is too small"),
             22 => write!(f, "work factor is not 1 to 30"),
-            23 => write!(f, "no such stanza or place, or a call out of order"),
+            23 => write!(f, "no such stanza or offset, or a call out of order"),
             _ => write!(f, "unknown code"),
         }
     }

@@ -26,9 +26,9 @@ fn fill(source: &mut impl Read, buf: &mut [u8], have: &mut usize) -> io::Result<
     Ok(())
 }
 
-/// The plaintext of an age file, chunk by chunk. Each byte that it returns was verified. Only
-/// `Ok(0)` proves that the plaintext ends there. After an error of the library each read returns an
-/// error.
+/// The plaintext of an age file, chunk by chunk. Each byte that it returns was verified. The
+/// plaintext is complete only after a read into a nonempty buffer returned `Ok(0)`. After an error
+/// of the library each such read returns an error.
 pub struct Reader<R> {
     source: R,
     state: State,
@@ -101,11 +101,12 @@ impl<R: Read> Read for Reader<R> {
 }
 
 /// Encrypts what is written to it, chunk by chunk, and writes it to its sink. Without
-/// [`Writer::finish`] the file is incomplete. After an error each call returns an error.
+/// [`Writer::finish`] the file is incomplete. If a chunk could not be sealed or written, `finish`
+/// and each nonempty `write` after it return an error.
 pub struct Writer<W> {
     sink: W,
     state: State,
-    /// The text of the next chunk, and room for its tag.
+    /// The text of the next chunk, and space for its tag.
     buf: Box<[u8]>,
     len: usize,
     has_failed: bool,

@@ -5,7 +5,7 @@ use crate::error::{checked, Error};
 use crate::ffi::*;
 use crate::Secret;
 
-/// This many bytes from a file's start always hold its header and its payload's nonce.
+/// This many bytes from a file's start hold any header within the limit, and its payload's nonce.
 pub(crate) const FRONT: usize = 65552;
 
 /// 48 fresh random bytes, which each new file needs.

@@ -62,7 +62,7 @@ static void small_buffers(void)
     }
 }
 
-// Whatever is longer than the plaintext is left as it was behind it.
+// A buffer longer than the plaintext is unchanged after the plaintext.
 static void great_buffers(void)
 {
     made_file file = made(70000);

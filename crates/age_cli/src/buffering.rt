@@ -11,9 +11,10 @@ use std::io::{BufReader, BufWriter, Read, Seek, Write};
 /// The size of the buffer for reading a header byte by byte, and for writing.
 const BUFFER_LEN: usize = 65_536;
 
-/// The size of the buffer for reading a header before its payload. What is left in it is copied,
-/// and all that follows is read where it is opened.
-const HEADER_LEN: usize = 8_192;
+/// The size of the buffer for reading a header before its payload. The payload's bytes that it
+/// holds are copied out of it. The rest of the payload is read straight into the buffer in which it
+/// is opened.
+const HEADER_BUFFER_LEN: usize = 8_192;
 
 /// The maximum number of chunks, which is the default of `age_file`.
 const MAX_CHUNKS: u128 = 1 << 88;
@@ -42,17 +43,17 @@ pub(crate) fn file_source<'a, R: Read + Drop>(
     alloc: Global,
     input: R,
 ) -> Result<ReadSource<BufReader<R>>, Fault<'a>> {
-    buffered_source(alloc, HEADER_LEN, input)
+    buffered_source(alloc, HEADER_BUFFER_LEN, input)
 }
 
 /// Makes a `ReadAt` over this file, for a header, its payload's nonce, and whole chunks.
-pub(crate) fn source_by_places<'a, F: Read + Seek + Drop>(
+pub(crate) fn source_at_offsets<'a, F: Read + Seek + Drop>(
     alloc: Global,
     file: F,
 ) -> Result<FileAt<BufReader<F>>, Fault<'a>> {
-    match BufReader::with_capacity(alloc, HEADER_LEN, file) {
+    match BufReader::with_capacity(alloc, HEADER_BUFFER_LEN, file) {
         Ok(buffered) => Ok(FileAt::new(buffered)),
-        Err(_) => Err(Fault::Engine(age_file::Fault::OutOfMemory)),
+        Err(_) => Err(Fault::AgeFile(age_file::Fault::OutOfMemory)),
     }
 }
 
@@ -63,18 +64,18 @@ fn buffered_source<'a, R: Read + Drop>(
 ) -> Result<ReadSource<BufReader<R>>, Fault<'a>> {
     match BufReader::with_capacity(alloc, len, input) {
         Ok(buffered) => Ok(ReadSource::new(buffered)),
-        Err(_) => Err(Fault::Engine(age_file::Fault::OutOfMemory)),
+        Err(_) => Err(Fault::AgeFile(age_file::Fault::OutOfMemory)),
     }
 }
 
-/// Makes a buffer before this writer; `end` ends it.
+/// Makes a buffered writer over this writer, which `end` flushes and drops.
 pub(crate) fn buffer_of<'a, W: Write + Drop>(
     alloc: Global,
     out: W,
 ) -> Result<BufWriter<W>, Fault<'a>> {
     match BufWriter::with_capacity(alloc, BUFFER_LEN, out) {
         Ok(buffered) => Ok(buffered),
-        Err(_) => Err(Fault::Engine(age_file::Fault::OutOfMemory)),
+        Err(_) => Err(Fault::AgeFile(age_file::Fault::OutOfMemory)),
     }
 }
 
@@ -84,11 +85,11 @@ pub(crate) fn end<'a, W: Write + Drop>(
     fault: Option<age_file::Fault>,
 ) -> Result<(), Fault<'a>> {
     let is_written = fault != Some(age_file::Fault::Write) && buffered.flush().is_ok();
-    // If dropped as a whole, it would try once more to write what a failure left.
+    // A dropped `BufWriter` would try again to write the bytes of a failed write.
     let (_out, _unwritten) = buffered.into_parts();
     match fault {
-        _ if !is_written => Err(Fault::Engine(age_file::Fault::Write)),
-        Some(fault) => Err(Fault::Engine(fault)),
+        _ if !is_written => Err(Fault::AgeFile(age_file::Fault::Write)),
+        Some(fault) => Err(Fault::AgeFile(fault)),
         None => Ok(()),
     }
 }

@@ -20,17 +20,7 @@ pub(crate) fn decrypt<'a, R: Read, W: Write>(
 ) -> Result<(), Fault<'a>>
     requires { IsInRange job.now }
 {
-    let mut identities: Vec<Box<dyn Identity>> = Vec::new(alloc);
-    match secret {
-        Secret::Passphrase(passphrase) => {
-            let identity = pass_identity(alloc, job, passphrase.as_slice())?;
-            identities.push(Box::new(alloc, identity)?)?;
-        }
-        Secret::Key(key) => {
-            let identity = KeyIdentity::new(*key);
-            identities.push(Box::new(alloc, identity)?)?;
-        }
-    }
+    let identities = identities_of(alloc, job, secret)?;
     let limits = limits_of(job);
     let mut source = file_source(alloc, input)?;
     let mut buffered = buffer_of(alloc, out)?;
@@ -44,17 +34,32 @@ pub(crate) fn decrypt<'a, R: Read, W: Write>(
     end(buffered, result.err())
 }
 
-/// The identity of this passphrase, with the job's greatest work factor.
-pub(crate) fn pass_identity<'a>(
+/// The one identity of this secret.
+pub(crate) fn identities_of<'a>(
     alloc: Global,
     job: &Job,
-    passphrase: &[u8],
-) -> Result<PassIdentity, Fault<'a>>
+    secret: &Secret,
+) -> Result<Vec<Box<dyn Identity>>, Fault<'a>>
+    requires { IsInRange job.now }
+{
+    let mut identities: Vec<Box<dyn Identity>> = Vec::new(alloc);
+    match secret {
+        Secret::Passphrase(passphrase) => {
+            let identity = pass_identity(alloc, job, passphrase.as_slice())?;
+            identities.push(Box::new(alloc, identity)?)?;
+        }
+        Secret::Key(key) => identities.push(Box::new(alloc, KeyIdentity::new(*key))?)?,
+    }
+    Ok(identities)
+}
+
+/// The identity of this passphrase, with the job's greatest work factor.
+fn pass_identity<'a>(alloc: Global, job: &Job, passphrase: &[u8]) -> Result<PassIdentity, Fault<'a>>
     requires { IsInRange job.now }
 {
     match PassIdentity::new(alloc, passphrase, job.max_work) {
         Ok(identity) => Ok(identity),
         Err(PassError::WorkFactor) => unreachable!(),
-        Err(PassError::Memory) => Err(Fault::Engine(age_file::Fault::OutOfMemory)),
+        Err(PassError::Memory) => Err(Fault::AgeFile(age_file::Fault::OutOfMemory)),
     }
 }

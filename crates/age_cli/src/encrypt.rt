@@ -20,17 +20,7 @@ pub(crate) fn encrypt<'a, R: Read, W: Write>(
 ) -> Result<(), Fault<'a>>
     requires { IsInRange job.now }
 {
-    let mut recipients: Vec<Box<dyn Recipient>> = Vec::new(alloc);
-    match secret {
-        Secret::Passphrase(passphrase) => {
-            let recipient = pass_recipient(alloc, job, passphrase.as_slice(), seed.salt)?;
-            recipients.push(Box::new(alloc, recipient)?)?;
-        }
-        Secret::Key(key) => {
-            let recipient = KeyRecipient::new(*key, seed.salt);
-            recipients.push(Box::new(alloc, recipient)?)?;
-        }
-    }
+    let recipients = recipients_of(alloc, job, secret, seed.salt)?;
     let limits = limits_of(job);
     let mut source = ReadSource::new(input);
     let mut buffered = buffer_of(alloc, out)?;
@@ -45,8 +35,28 @@ pub(crate) fn encrypt<'a, R: Read, W: Write>(
     end(buffered, result.err())
 }
 
+/// The one recipient of this secret.
+pub(crate) fn recipients_of<'a>(
+    alloc: Global,
+    job: &Job,
+    secret: &Secret,
+    salt: [u8; 16],
+) -> Result<Vec<Box<dyn Recipient>>, Fault<'a>>
+    requires { IsInRange job.now }
+{
+    let mut recipients: Vec<Box<dyn Recipient>> = Vec::new(alloc);
+    match secret {
+        Secret::Passphrase(passphrase) => {
+            let recipient = pass_recipient(alloc, job, passphrase.as_slice(), salt)?;
+            recipients.push(Box::new(alloc, recipient)?)?;
+        }
+        Secret::Key(key) => recipients.push(Box::new(alloc, KeyRecipient::new(*key, salt))?)?,
+    }
+    Ok(recipients)
+}
+
 /// The recipient of this passphrase, with the job's work factor.
-pub(crate) fn pass_recipient<'a>(
+fn pass_recipient<'a>(
     alloc: Global,
     job: &Job,
     passphrase: &[u8],
@@ -57,6 +67,6 @@ pub(crate) fn pass_recipient<'a>(
     match PassRecipient::new(alloc, passphrase, salt, job.work) {
         Ok(recipient) => Ok(recipient),
         Err(PassError::WorkFactor) => unreachable!(),
-        Err(PassError::Memory) => Err(Fault::Engine(age_file::Fault::OutOfMemory)),
+        Err(PassError::Memory) => Err(Fault::AgeFile(age_file::Fault::OutOfMemory)),
     }
 }

@@ -8,7 +8,7 @@ use std::fmt;
 #[derive(Clone, Copy, Debug, Drop, PartialEq, Eq)]
 pub(crate) enum Fault<'a> {
     /// An error of `age_file`; a device or an allocation may fail outside it too.
-    Engine(age_file::Fault),
+    AgeFile(age_file::Fault),
     /// The arguments name a passphrase file and a key file, or neither.
     KeyChoice,
     /// The arguments name a new passphrase file and a new key file, or neither.
@@ -27,26 +27,26 @@ pub(crate) enum Fault<'a> {
 
 impl From<age_file::Fault> for Fault<'_> {
     fn from(fault: age_file::Fault) -> Self {
-        Fault::Engine(fault)
+        Fault::AgeFile(fault)
     }
 }
 
 impl From<AllocError> for Fault<'_> {
     fn from(_error: AllocError) -> Self {
-        Fault::Engine(age_file::Fault::OutOfMemory)
+        Fault::AgeFile(age_file::Fault::OutOfMemory)
     }
 }
 
 impl<T: Drop> From<AllocFailed<T>> for Fault<'_> {
     fn from(_error: AllocFailed<T>) -> Self {
-        Fault::Engine(age_file::Fault::OutOfMemory)
+        Fault::AgeFile(age_file::Fault::OutOfMemory)
     }
 }
 
 impl fmt::Display for Fault<'_> {
     fn fmt<W: fmt::Write>(&self, f: &mut fmt::Formatter<W>) -> fmt::Result {
         match self {
-            Fault::Engine(fault) => write!(f, "{fault}"),
+            Fault::AgeFile(fault) => write!(f, "{fault}"),
             Fault::KeyChoice => f.write_str("give one of -p and -k"),
             Fault::NewKeyChoice => f.write_str("give one of -P and -K"),
             Fault::CannotOpen(name) => write!(f, "cannot open {name}"),

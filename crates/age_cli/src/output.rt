@@ -87,7 +87,7 @@ impl<F: OpenFile> Output<F> {
     {
         match self.empty().and_then(|()| self.sync()) {
             Ok(()) => Ok(()),
-            Err(_) => Err(Fault::Engine(age_file::Fault::Write)),
+            Err(_) => Err(Fault::AgeFile(age_file::Fault::Write)),
         }
     }
 

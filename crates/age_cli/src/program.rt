@@ -2,12 +2,12 @@
 ghost use Rattle.std.specs.Prelude.{◌≡◌, ◌≤◌};
 ghost use Rattle.age_words.specs.Job.{IsInRange};
 
-use crate::buffering::source_by_places;
+use crate::buffering::source_at_offsets;
 use crate::decrypt::decrypt;
 use crate::encrypt::encrypt;
 use crate::fault::Fault;
 use crate::file_names::{Lines, Role};
-use crate::files::{open, open_by_places, open_small, read_just};
+use crate::files::{open, open_seekable, open_small, read_just};
 use crate::inspect::inspect;
 use crate::output::create;
 use crate::range::range;
@@ -31,9 +31,10 @@ const REFUSED: u8 = 2;
 /// Runs `agep` on these arguments, the program's name first, and returns its exit status: 0 for
 /// success, 1 after a fault, 2 for a refused command line.
 ///
-/// `input` is read if the arguments name no file; `/dev/stdin` says which file that is. `out`
-/// receives the output of the command, and the texts of help and version. `err` receives one line
-/// for a fault, and the text for a refused command line.
+/// `input` is read if the arguments name no file. For the checks of which files are the same,
+/// `input` is taken to be the file `/dev/stdin`. `out` receives the output of the command, and the
+/// texts of help and version. `err` receives one line for a fault, and the text for a refused
+/// command line.
 pub fn run<F: Files + AllocGlobal, R: Read, W: Write, E: Write>(
     rt: &F,
     words: &[&str],
@@ -127,7 +128,7 @@ fn perform_range<'a, F: Files + AllocGlobal, W: Write>(
     let Some(name) = &job.input else {
         unreachable!();
     };
-    let mut input = source_by_places(rt.alloc(), open_by_places(rt, name.as_str())?)?;
+    let mut input = source_at_offsets(rt.alloc(), open_seekable(rt, name.as_str())?)?;
     match &job.output {
         Some(name) => {
             let mut output = create(rt, job, name.as_str())?;
@@ -205,10 +206,10 @@ fn answer_refusal<W: Write, E: Write>(fault: &WordsFault, out: &mut W, err: &mut
             }
             match write!(out, "{error}").and_then(|()| out.flush()) {
                 Ok(()) => DONE,
-                Err(_) => report(Fault::Engine(age_file::Fault::Write), err),
+                Err(_) => report(Fault::AgeFile(age_file::Fault::Write), err),
             }
         }
-        WordsFault::Memory => report(Fault::Engine(age_file::Fault::OutOfMemory), err),
+        WordsFault::Memory => report(Fault::AgeFile(age_file::Fault::OutOfMemory), err),
         WordsFault::Lost => refuse(&"agep: bad command line\n", err),
     }
 }

@@ -1,20 +1,18 @@
 //! The command `range`: a part of the plaintext of a file of the format.
 ghost use Rattle.std.specs.Prelude.{◌≤◌, ◌≡◌, length};
-ghost use Rattle.age_words.specs.Job.{IsInRange};
+ghost use Rattle.age_words.specs.Job.{IsInRange, most_offset};
 
 use crate::buffering::{buffer_of, end, limits_of};
-use crate::decrypt::pass_identity;
+use crate::decrypt::identities_of;
 use crate::fault::Fault;
 use crate::secret::Secret;
-use age_file::{
-    Identity, KeyIdentity, RangeReader, ReadAt, Sink, WriteSink, open_ranges, write_all,
-};
+use age_file::{RangeReader, ReadAt, Sink, WriteSink, open_ranges, write_all};
 use age_words::Job;
 use std::alloc::Global;
 use std::io::Write;
 
-/// The maximum number of bytes of a chunk's plaintext.
-const CHUNK_LEN: u64 = 65_536;
+/// The plaintext of each chunk but the last, in bytes.
+const CHUNK_SIZE: usize = 65_536;
 
 /// Writes the plaintext of the input from the job's offset on, at most as many bytes as the job
 /// requests. On a fault of a chunk the plaintext up to that chunk was written.
@@ -27,19 +25,9 @@ pub(crate) fn range<'a, D: ReadAt, W: Write>(
 ) -> Result<(), Fault<'a>>
     requires { IsInRange job.now }
 {
-    let mut identities: Vec<Box<dyn Identity>> = Vec::new(alloc);
-    match secret {
-        Secret::Passphrase(passphrase) => {
-            let identity = pass_identity(alloc, job, passphrase.as_slice())?;
-            identities.push(Box::new(alloc, identity)?)?;
-        }
-        Secret::Key(key) => {
-            let identity = KeyIdentity::new(*key);
-            identities.push(Box::new(alloc, identity)?)?;
-        }
-    }
+    let identities = identities_of(alloc, job, secret)?;
     let limits = limits_of(job);
-    let mut piece = vec![in alloc; 0u8; 65_536]?;
+    let mut piece = vec![in alloc; 0u8; CHUNK_SIZE]?;
     let mut buffered = buffer_of(alloc, out)?;
     let result = match open_ranges(alloc, input, identities.as_slice(), &limits) {
         Ok(mut reader) => write_range(
@@ -63,14 +51,14 @@ fn write_range<D: ReadAt, W: Sink>(
     piece: &mut [u8],
     out: &mut W,
 ) -> Result<(), age_file::Fault>
-    requires at { at ≤ 9223372036854775807 }
-    requires len { len ≤ 9223372036854775807 }
-    requires piece { length piece.old ≡ 65536 }
+    requires at { at ≤ most_offset }
+    requires len { len ≤ most_offset }
+    requires piece { length piece.old ≡ CHUNK_SIZE }
 {
     let mut at = at;
     let mut left = len;
     while left > 0 {
-        let most = left.min(CHUNK_LEN - at % CHUNK_LEN) as usize;
+        let most = left.min(CHUNK_SIZE as u64 - at % CHUNK_SIZE as u64) as usize;
         let n = reader.read_range(at, &mut piece[..most])?;
         if n == 0 {
             break;

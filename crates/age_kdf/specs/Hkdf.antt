@@ -1,5 +1,5 @@
 -- HKDF-SHA-256 (RFC 5869) on lists of bytes.
-use Rattle.std.specs.Prelude.{ℕ, zero, suc, ◌+◌, ◌/◌, [], ◌∷◌, ◌++◌, take}
+use Rattle.std.specs.Prelude.{ℕ, zero, suc, ◌+◌, ◌*◌, ◌/◌, [], ◌∷◌, ◌++◌, take}
 use Rattle.age_kdf.specs.Bytes.{Bytes}
 use Rattle.age_kdf.specs.Hmac.{hmac}
 
@@ -20,3 +20,7 @@ hkdf_expand prk info len = take len (hkdf_blocks prk info ((len + 31) / 32))
 -- HKDF-Expand of the key that HKDF-Extract makes: HMAC(salt, IKM) (section 2.2)
 unfoldable pub hkdf : (ikm salt info : Bytes) (len : ℕ) → Bytes
 hkdf ikm salt info len = hkdf_expand (hmac salt ikm) info len
+
+-- the longest output: 255 blocks of 32 bytes (section 2.3)
+abbrev pub longest_output : ℕ
+longest_output = 255 * 32

@@ -28,6 +28,10 @@ pbkdf2_blocks pass salt c (suc n) = pbkdf2_blocks pass salt c n ++ pbkdf2_block 
 unfoldable pub pbkdf2 : (pass salt : Bytes) (c len : ℕ) → Bytes
 pbkdf2 pass salt c len = take len (pbkdf2_blocks pass salt c ((len + 31) / 32))
 
--- the longest output: 2 ^ 32 - 1 blocks of 32 bytes (step 1)
+-- the most blocks that four bytes can number
+abbrev pub most_blocks : ℕ
+most_blocks = 2 ^ 32 - 1
+
+-- the longest output (step 1)
 abbrev pub longest_output : ℕ
-longest_output = (2 ^ 32 - 1) * 32
+longest_output = most_blocks * 32

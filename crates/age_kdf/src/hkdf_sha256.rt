@@ -1,7 +1,7 @@
 // HKDF (RFC 5869).
 
 ghost use Rattle.std.specs.Prelude.{◌≡◌, ◌≤◌, length};
-ghost use Rattle.age_kdf.specs.Hkdf.{hkdf};
+ghost use Rattle.age_kdf.specs.Hkdf.{hkdf, longest_output};
 
 use crate::hmac;
 use crate::hmac_sha256::Mac;
@@ -11,7 +11,7 @@ use crate::output_blocks::put_block;
 ///
 /// The caller asks for at most 255 blocks of 32 bytes. An empty salt is the same as 32 zero bytes.
 pub fn hkdf(ikm: &[u8], salt: &[u8], info: &[u8], out: &mut [u8])
-    requires { length out.old ≤ 8160 }
+    requires { length out.old ≤ longest_output }
     ensures { out.new ≡ hkdf ikm.now salt.now info.now (length out.old) }
 {
     let extracted = Mac::new(&hmac(salt, &[ikm]));

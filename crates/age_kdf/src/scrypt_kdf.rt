@@ -2,7 +2,7 @@
 
 ghost use Rattle.std.specs.Prelude.{◌≡◌, ◌+◌, ◌*◌, ◌^◌, ◌≤◌, ◌++◌, [], length, OnErr, OnOk};
 ghost use Rattle.age_kdf.specs.Bytes.{Bytes};
-ghost use Rattle.age_kdf.specs.Pbkdf2.{pbkdf2, longest_output};
+ghost use Rattle.age_kdf.specs.Pbkdf2.{pbkdf2, longest_output, most_blocks};
 ghost use Rattle.age_kdf.specs.Params.{work_words};
 ghost use Rattle.age_kdf.specs.Scrypt.{words_of, bytes_of, parts_mixed, scrypt};
 ghost use Rattle.age_kdf.specs.HmacState.{IsFed};
@@ -30,7 +30,7 @@ fn load_block(words: &mut [u32], block: &[u8; 32])
 
 // Writes into `words` the first `count` blocks of PBKDF2 at one round, eight words each.
 fn load(keyed: &Mac, salted: &Mac, words: &mut [u32], count: usize)
-    requires count { count ≤ 4294967295 }
+    requires count { count ≤ most_blocks }
     requires len { length words.old ≡ 8 * count }
     ensures { (pass salt : Bytes) → IsFed keyed.now pass [] → IsFed salted.now pass salt
         → words.new ≡ words_of (pbkdf2 pass salt 1 (32 * count)) (8 * count) }

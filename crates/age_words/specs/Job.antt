@@ -1,13 +1,13 @@
--- What holds of a job that the words gave.
+-- What holds of a job that was parsed.
 use Rattle.std.specs.Prelude.{◌≤◌, ◌^◌, ◌-◌, ℕ, IsSome, ⊤}
 use Rattle.std.specs.declared.option.Option.{Option}
 use Rattle.age_words.specs.declared.job.Command.{Command}
 use Rattle.age_words.specs.declared.job.Command.TheVariants.{Range}
 use Rattle.age_words.specs.declared.job.Job.{Job}
 
--- n is from least to most, both included
-abbrev pub Lies : (least most n : ℕ) → Type 0
-Lies least most n = (least ≤ n) × (n ≤ most)
+-- n is at least `least` and at most `most`
+abbrev pub IsBetween : (least most n : ℕ) → Type 0
+IsBetween least most n = (least ≤ n) × (n ≤ most)
 
 -- a range names the file to read
 abbrev pub NamesInput : {A : Type 0} (command : Command) (input : Option A) → Type 0
@@ -26,14 +26,14 @@ abbrev pub most_header : ℕ
 most_header = 16777216
 
 -- the greatest offset or length
-abbrev pub most_place : ℕ
-most_place = 2 ^ 63 - 1
+abbrev pub most_offset : ℕ
+most_offset = 2 ^ 63 - 1
 
--- each number lies in its range
+-- each number is in its range
 pub record IsInRange (job : Job) : Type 0 where
-  pub work : Lies 1 most_work job.work
-  pub max_work : Lies 1 most_work job.max_work
-  pub max_header : Lies least_header most_header job.max_header
-  pub at : job.at ≤ most_place
-  pub len : job.len ≤ most_place
+  pub work : IsBetween 1 most_work job.work
+  pub max_work : IsBetween 1 most_work job.max_work
+  pub max_header : IsBetween least_header most_header job.max_header
+  pub at : job.at ≤ most_offset
+  pub len : job.len ≤ most_offset
   pub input : NamesInput job.command job.input

@@ -5,6 +5,9 @@
 //! // job.command, job.pass, job.work and so on; else the text of clap, for help too
 //! ```
 //!
+//! `options` has the options with their ranges and defaults, `words` makes the job of them, and
+//! `texts` has the texts of help.
+//!
 //! Limits: arguments are UTF-8. No file is opened here, and the existence of a named file is not
 //! checked.
 #![tactic(auto)]

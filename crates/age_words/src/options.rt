@@ -4,8 +4,9 @@ ghost use Rattle.clap.specs.Words.{app_of};
 
 use crate::texts::{
     DECRYPT_END, ENCRYPT_END, ENCRYPTED_OUTPUT_HELP, FILE_KEY_HELP, INPUT_HELP, INSPECT_END,
-    KEY_HELP, MAX_HEADER_HELP, MAX_WORK_HELP, NEW_KEY_HELP, NEW_PASS_HELP, PASS_HELP, PLACES_HELP,
-    PLAIN_OUTPUT_HELP, RANGE_END, REWRAP_END, SALT_HELP, SEED_HELP, WHOLE_END, WORK_HELP,
+    KEY_HELP, MAX_HEADER_HELP, MAX_WORK_HELP, NEW_KEY_HELP, NEW_PASS_HELP, PASS_HELP,
+    PLAIN_OUTPUT_HELP, RANGE_END, REWRAP_END, SALT_HELP, SEED_HELP, SEEKABLE_INPUT_HELP, WHOLE_END,
+    WORK_HELP,
 };
 use clap::{Arg, ArgAction, Command, value_parser};
 use std::alloc::{AllocError, Global};
@@ -42,12 +43,24 @@ pub(crate) const LEAST_WORK: u64 = 1;
 
 pub(crate) const MOST_WORK: u64 = 30;
 
+/// The work factor that `encrypt` and `rewrap` write if the arguments name none: the option's
+/// default, and what the job of a command without this option holds.
+pub(crate) const DEFAULT_WORK_TEXT: &str = "18";
+
+pub(crate) const DEFAULT_WORK: u8 = 18;
+
+/// The greatest work factor that `decrypt`, `range` and `rewrap` accept if the arguments name none:
+/// the option's default, and what the job of a command without this option holds.
+pub(crate) const DEFAULT_MAX_WORK_TEXT: &str = "22";
+
+pub(crate) const DEFAULT_MAX_WORK: u8 = 22;
+
 pub(crate) const LEAST_HEADER: u64 = 1024;
 
 pub(crate) const MOST_HEADER: u64 = 16_777_216;
 
 /// The greatest offset of a range, and its greatest length, in bytes: 2^63 - 1.
-pub(crate) const MOST_PLACE: u64 = 9_223_372_036_854_775_807;
+pub(crate) const MOST_OFFSET: u64 = 9_223_372_036_854_775_807;
 
 /// The seed file if the command line names none.
 pub(crate) const DEFAULT_SEED: &str = "/dev/urandom";
@@ -147,14 +160,14 @@ fn range_command<'a>(alloc: Global) -> Result<Command<'a>, AllocError>
         .about("Decrypt a part of a file with a passphrase or a key")
         .after_help(RANGE_END);
     with_opening_options(alloc, command, PLAIN_OUTPUT_HELP)?
-        .arg(place_word(
+        .arg(offset_word(
             alloc,
             AT,
             "AT",
             "The offset of the first byte in the plaintext, from 0",
         ))?
-        .arg(place_word(alloc, LEN, "LEN", "The maximum number of bytes to write"))?
-        .arg(required_word(alloc, INPUT, "IN", PLACES_HELP))
+        .arg(offset_word(alloc, LEN, "LEN", "The maximum number of bytes to write"))?
+        .arg(required_word(alloc, INPUT, "IN", SEEKABLE_INPUT_HELP))
 }
 
 fn rewrap_command<'a>(alloc: Global) -> Result<Command<'a>, AllocError>
@@ -188,7 +201,7 @@ fn work_option<'a>(alloc: Global) -> Arg<'a>
 {
     text_option(alloc, WORK, 'w', "N", WORK_HELP)
         .value_parser(value_parser!(u64).range(LEAST_WORK as i64..=MOST_WORK as i64))
-        .default_value("18")
+        .default_value(DEFAULT_WORK_TEXT)
 }
 
 fn seed_option<'a>(alloc: Global, help: &'a str) -> Arg<'a>
@@ -202,7 +215,7 @@ fn max_work_option<'a>(alloc: Global) -> Arg<'a>
 {
     text_option(alloc, MAX_WORK, 'm', "N", MAX_WORK_HELP)
         .value_parser(value_parser!(u64).range(LEAST_WORK as i64..=MOST_WORK as i64))
-        .default_value("22")
+        .default_value(DEFAULT_MAX_WORK_TEXT)
 }
 
 fn max_header_option<'a>(alloc: Global) -> Arg<'a>
@@ -228,11 +241,11 @@ fn input_word<'a>(alloc: Global) -> Arg<'a>
         .action(ArgAction::Set)
 }
 
-fn place_word<'a>(alloc: Global, id: &'a str, value_name: &'a str, help: &'a str) -> Arg<'a>
+fn offset_word<'a>(alloc: Global, id: &'a str, value_name: &'a str, help: &'a str) -> Arg<'a>
     ensures { result.global ≡ false }
 {
     required_word(alloc, id, value_name, help).value_parser(value_parser!(u64).range(
-        0..=MOST_PLACE as i64,
+        0..=MOST_OFFSET as i64,
     ))
 }
 

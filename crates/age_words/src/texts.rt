@@ -57,7 +57,8 @@ pub(crate) const FILE_KEY_HELP: &str = "The file that holds the file key, 16 byt
 pub(crate) const INPUT_HELP: &str = "The file to read; standard input if it is not given.\
     \nThen no option may name standard input";
 
-pub(crate) const PLACES_HELP: &str = "The file to read. It must be seekable: no pipe or terminal";
+pub(crate) const SEEKABLE_INPUT_HELP: &str =
+    "The file to read. It must be seekable: no pipe or terminal";
 
 pub(crate) const ENCRYPT_END: &str = "Status:\
     \n  0  success\

@@ -1,21 +1,15 @@
 //! Parsing the arguments of the command line to a job.
 ghost use Rattle.std.specs.Prelude.{IfOk};
-ghost use Rattle.age_words.specs.Job.{IsInRange, Lies};
+ghost use Rattle.age_words.specs.Job.{IsBetween, IsInRange, least_header, most_header, most_work};
 
 use crate::job::{Command, Job, WordsFault};
 use crate::options::{
-    AT, DEFAULT_SEED, FILE_KEY, INPUT, KEY, LEAST_HEADER, LEAST_WORK, LEN, MAX_HEADER, MAX_WORK,
-    MOST_HEADER, MOST_PLACE, MOST_WORK, NEW_KEY, NEW_PASS, OUTPUT, PASS, RAW, SEED, WORK,
-    whole_command,
+    AT, DEFAULT_MAX_WORK, DEFAULT_SEED, DEFAULT_WORK, FILE_KEY, INPUT, KEY, LEAST_HEADER,
+    LEAST_WORK, LEN, MAX_HEADER, MAX_WORK, MOST_HEADER, MOST_OFFSET, MOST_WORK, NEW_KEY, NEW_PASS,
+    OUTPUT, PASS, RAW, SEED, WORK, whole_command,
 };
 use clap::ArgMatches;
 use std::alloc::{AllocError, Global};
-
-/// The work factor that `encrypt` and `rewrap` write if the arguments name none.
-const DEFAULT_WORK: u8 = 18;
-
-/// The greatest work factor that `decrypt`, `range` and `rewrap` accept if the arguments name none.
-const DEFAULT_MAX_WORK: u8 = 22;
 
 /// Parses the arguments, the program's name first, to a job.
 ///
@@ -120,8 +114,8 @@ fn range_job(alloc: Global, matches: &ArgMatches<'_>) -> Result<Job, WordsFault>
 {
     let max_work = work_of(matches, MAX_WORK)?;
     let max_header = max_header_of(matches)?;
-    let at = number_in(matches, AT, 0, MOST_PLACE)?;
-    let len = number_in(matches, LEN, 0, MOST_PLACE)?;
+    let at = number_in(matches, AT, 0, MOST_OFFSET)?;
+    let len = number_in(matches, LEN, 0, MOST_OFFSET)?;
     let Some(input) = matches.get_str(INPUT) else {
         return Err(WordsFault::Lost);
     };
@@ -174,7 +168,7 @@ fn rewrap_job(alloc: Global, matches: &ArgMatches<'_>) -> Result<Job, WordsFault
 
 /// The maximum size of a header in bytes.
 fn max_header_of(matches: &ArgMatches<'_>) -> Result<usize, WordsFault>
-    ensures { IfOk result (Lies 1024 16777216) }
+    ensures { IfOk result (IsBetween least_header most_header) }
 {
     let max_header = number_in(matches, MAX_HEADER, LEAST_HEADER, MOST_HEADER)?;
     Ok(max_header as usize)
@@ -182,7 +176,7 @@ fn max_header_of(matches: &ArgMatches<'_>) -> Result<usize, WordsFault>
 
 /// The work factor that this option names.
 fn work_of(matches: &ArgMatches<'_>, id: &str) -> Result<u8, WordsFault>
-    ensures { IfOk result (Lies 1 30) }
+    ensures { IfOk result (IsBetween 1 most_work) }
 {
     let work = number_in(matches, id, LEAST_WORK, MOST_WORK)?;
     Ok(work as u8)
@@ -191,7 +185,7 @@ fn work_of(matches: &ArgMatches<'_>, id: &str) -> Result<u8, WordsFault>
 /// The number of an option, which is tested again, since `clap` promises little of what it
 /// accepted.
 fn number_in(matches: &ArgMatches<'_>, id: &str, least: u64, most: u64) -> Result<u64, WordsFault>
-    ensures { IfOk result (Lies least most) }
+    ensures { IfOk result (IsBetween least most) }
 {
     match matches.get_one::<u64>(id) {
         Some(n) if least <= n && n <= most => Ok(n),

@@ -1,5 +1,10 @@
-//! The program `agep`: `age_cli::run` on the arguments and the standard streams.
+//! The program `agep`: `age_cli::run` on the arguments and the standard streams. `agep --help` says
+//! how to use it.
+//!
+//! Limits: the arguments must be UTF-8.
 #![tactic(auto)]
+
+ghost use Rattle.std.specs.Prelude.{◌≤◌};
 
 use std::process::ExitCode;
 use std::{env, io};
@@ -17,7 +22,9 @@ fn words(rt: &HostRuntime) -> io::Result<Vec<String>> {
     Ok(env::args(rt)?.collect(rt.alloc())?)
 }
 
-fn run(rt: &HostRuntime, owned: &[String]) -> u8 {
+fn run(rt: &HostRuntime, owned: &[String]) -> u8
+    ensures { result ≤ 2 }
+{
     let mut words: Vec<&str> = Vec::new(rt.alloc());
     for word in owned {
         if words.push(word.as_str()).is_err() {
@@ -34,7 +41,9 @@ fn run(rt: &HostRuntime, owned: &[String]) -> u8 {
 }
 
 /// Prints why the arguments cannot be read.
-fn refuse(rt: &HostRuntime, kind: io::ErrorKind) -> u8 {
+fn refuse(rt: &HostRuntime, kind: io::ErrorKind) -> u8
+    ensures { result ≤ 2 }
+{
     if kind == io::ErrorKind::OutOfMemory {
         let _ = eprintln!(rt; "agep: out of memory");
         return 1;

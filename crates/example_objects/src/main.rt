@@ -1,4 +1,4 @@
-//! A program that stands on `age_file` alone: it encrypts a text for a recipient of its own and
+//! A program that depends on `age_file` alone: it encrypts a text for a recipient of its own and
 //! decrypts it with an identity of its own.
 #![tactic(auto)]
 
