@@ -127,7 +127,7 @@ impl Chunks {
         requires within { i < self.old.layout.count }
         ensures stay { D.bytes dev.new ≡ D.bytes dev.old }
         ensures same { self.new.layout ≡ self.old.layout }
-        ensures kept { OnOk result (self.new.index ≡ Some i) }
+        ensures kept_chunk { OnOk result (self.new.index ≡ Some i) }
         ensures none { OnErr result (self.new.index ≡ None) }
         ensures sound { IsSound (D.bytes dev.old) self.old → IsSound (D.bytes dev.old) self.new }
         ensures lost { IfErr result (IsLost (D.bytes dev.old) self.old i) }
@@ -178,7 +178,7 @@ impl Chunks {
         ensures stop { IfErr result (Stops (D.bytes dev.old) self.old at
             (range_len self.old at (length buf.old)) buf.old buf.new self.new.opened) }
         ensures count { CountsRead (D.failed dev.old) (D.failed dev.new) result }
-        ensures kept { IfOk result
+        ensures kept_chunk { IfOk result
             (λ n. 0 < n → self.new.index ≡ Some ((at + n - 1) / chunk_size)) }
         ensures none { OnErr result (self.new.index ≡ None) }
         ensures rises { self.old.opened ≤ self.new.opened }

@@ -106,7 +106,7 @@ impl ChunkOpener {
 
     /// Reads and opens the next piece; false after the last.
     pub fn advance<S: Source>(&mut self, source: &mut S) -> Result<bool, StreamFault>
-        ensures kept { IfSome self.old.fault
+        ensures kept_fault { IfSome self.old.fault
             (λ f. (result ≡ Err f) × (source.new ≡ source.old) × (self.new ≡ self.old)) }
         ensures keeps { IfNone self.old.fault (IfErr result (λ f. self.new.fault ≡ Some f)) }
         ensures count { IfNone self.old.fault
@@ -282,7 +282,7 @@ pub fn open_chunk(
     ensures rest { drop (end - tag_size) bytes.new ≡ drop (end - tag_size) bytes.old }
     ensures size { IfOk result (λ n. n ≡ end - tag_size) }
     ensures text { GivesText (outcome key.now max i last (take end bytes.old)) bytes.new result }
-    ensures kept { OnErr result (bytes.new ≡ bytes.old) }
+    ensures unchanged { OnErr result (bytes.new ≡ bytes.old) }
     ensures within { OnOk result (i < max) }
     ensures at { IfErr result (IsAtPiece max i) }
 {
@@ -316,7 +316,7 @@ pub(crate) fn open_front(key: &[u8; 32], nonce: &[u8; 12], bytes: &mut [u8], end
     requires size { end ≤ sealed_chunk_size }
     ensures len { length bytes.new ≡ length bytes.old }
     ensures rest { drop (end - tag_size) bytes.new ≡ drop (end - tag_size) bytes.old }
-    ensures kept { OnFalse result (bytes.new ≡ bytes.old) }
+    ensures unchanged { OnFalse result (bytes.new ≡ bytes.old) }
     ensures opened { OnTrue result (opened key.now nonce.now [] (take end bytes.old)
         ≡ Some (take (end - tag_size) bytes.new)) }
     ensures refused { OnFalse result (opened key.now nonce.now [] (take end bytes.old) ≡ None) }

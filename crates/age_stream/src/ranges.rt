@@ -24,7 +24,7 @@ impl<'a, D: ReadAt> RangeReader<'a, D> {
     /// Makes a reader of this source and these chunks.
     fn over(dev: &'a mut D, chunks: Chunks) -> RangeReader<'a, D>
         ensures same_reference { result.dev.ghost_name ≡ dev.entry.ghost_name }
-        ensures kept { result.dev.now ≡ dev.old }
+        ensures unchanged { result.dev.now ≡ dev.old }
         ensures chunks { result.chunks ≡ chunks }
     {
         RangeReader { dev, chunks }
@@ -139,7 +139,7 @@ impl<'a, D: ReadAt> RangeReader<'a, D> {
             (range_len self.old.chunks at (length buf.old)) buf.old buf.new
             self.new.chunks.opened) }
         ensures count { CountsRead (D.failed self.old.dev.now) (D.failed self.new.dev.now) result }
-        ensures kept { IfOk result
+        ensures kept_chunk { IfOk result
             (λ n. 0 < n → self.new.chunks.index ≡ Some ((at + n - 1) / chunk_size)) }
         ensures none { OnErr result (self.new.chunks.index ≡ None) }
         ensures rises { self.old.chunks.opened ≤ self.new.chunks.opened }

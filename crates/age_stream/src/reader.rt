@@ -34,7 +34,7 @@ impl<'a, S: Source> StreamReader<'a, S> {
     /// nothing.
     pub fn over(input: &'a mut S, opener: ChunkOpener) -> StreamReader<'a, S>
         ensures same_reference { result.input.ghost_name ≡ input.entry.ghost_name }
-        ensures kept { result.input.now ≡ input.old }
+        ensures unchanged { result.input.now ≡ input.old }
         ensures opener { result.opener ≡ opener }
     {
         StreamReader { input, opener }
@@ -116,7 +116,7 @@ impl<'a, S: Source> StreamReader<'a, S> {
     /// Reads and opens the next piece; false after the last.
     fn advance(&mut self) -> Result<bool, StreamFault>
         ensures same_reference { self.new.input.ghost_name ≡ self.old.input.ghost_name }
-        ensures kept { IfSome self.old.opener.fault (λ f. (result ≡ Err f)
+        ensures kept_fault { IfSome self.old.opener.fault (λ f. (result ≡ Err f)
             × (self.new.opener ≡ self.old.opener) × (self.new.input.now ≡ self.old.input.now)) }
         ensures keeps { IfNone self.old.opener.fault
             (IfErr result (λ f. self.new.opener.fault ≡ Some f)) }
@@ -148,7 +148,7 @@ impl<'a, S: Source> StreamReader<'a, S> {
             (S.to_come self.old.input.now) (S.to_come last.input.now)
             (S.failed self.old.input.now) (S.failed last.input.now) (lent result))
             × IfOk result (λ o. IfSome o (λ piece. piece.now ≡ last.opener.text)))) }
-        ensures kept { IfSome self.old.opener.fault (λ f. result ≡ Err f) }
+        ensures kept_fault { IfSome self.old.opener.fault (λ f. result ≡ Err f) }
     {
         if self.advance()? {
             Ok(Some(self.chunk()))
@@ -164,7 +164,7 @@ impl<'a, S: Source> StreamReader<'a, S> {
     /// Those of `next_chunk`: the chunks before were written. `Write` if the sink failed: a prefix
     /// of the chunks was written.
     pub fn copy_to<W: Sink>(self, out: &mut W) -> Result<Done, StreamFault>
-        ensures kept { IfSome self.entry.opener.fault (λ f.
+        ensures kept_fault { IfSome self.entry.opener.fault (λ f.
             (result ≡ Err f) × (self.exit.0.now ≡ self.entry.input.now) × (out.new ≡ out.old)) }
         ensures writes_all { IfNone self.entry.opener.fault (WritesAll self.entry.opener
             (S.to_come self.entry.input.now) (W.taken out.old) (W.taken out.new) result) }

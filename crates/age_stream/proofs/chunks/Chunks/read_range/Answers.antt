@@ -89,7 +89,7 @@ loop-done-preserved g c =
     subst (λ x. IsSound x h) inv.stay (c.hold-held.ensures.sound (subst (λ x. IsSound x l) (sym inv.stay) (inv.sound told_so))) in
     let opens : IsSound told s → opens_to told s.layout i ≡ Some t = λ told_so.
     opens-moved told told h.layout s.layout i (Some t) refl lies
-    ((sound told_so).keeps i c.in_default.ensures.kept ∙ ap Some (sym c.text.ensures.text)) in
+    ((sound told_so).keeps i c.in_default.ensures.kept_chunk ∙ ap Some (sym c.text.ensures.text)) in
     let next : at + (done + n) ≤ 65536 * (i + 1) = omega (arith, pos, part, size) in
     let next-chunk : at / 65536 < i + 1 = elim inv.stage [
       | inl z ↦ let e : i ≡ at / 65536 = z.1 in omega (arith, e)
@@ -123,5 +123,5 @@ loop-done-preserved g c =
             more_given z.2 touched inv.given
       ];
       failed = c.in_default.ensures.count ∙ inv.failed;
-      stage = inr (omega (arith, some), refl, next-chunk, omega (arith, pos, some), c.in_default.ensures.kept ∙ ap Some (omega arith));
+      stage = inr (omega (arith, some), refl, next-chunk, omega (arith, pos, some), c.in_default.ensures.kept_chunk ∙ ap Some (omega arith));
     }
