@@ -25,8 +25,8 @@ abbrev pub plain_len : Bytes → ℕ
 plain_len rest = sum_by (λ piece. length piece - tag_size) (pieces rest)
 
 -- how long chunk i of a plaintext of so many bytes is
-abbrev pub text_len : (plain i : ℕ) → ℕ
-text_len plain i = min chunk_size (plain - chunk_size * i)
+abbrev pub chunk_len : (plain i : ℕ) → ℕ
+chunk_len plain i = min chunk_size (plain - chunk_size * i)
 
 -- xs are the plaintext's bytes from offset `at` on: for each k, piece (at + k) / chunk_size opens,
 -- and byte k of xs is byte (at + k) % chunk_size of what it opens to

@@ -5,7 +5,7 @@ ghost use Rattle.age_kdf.specs.Bytes.{Bytes};
 ghost use Rattle.age_cipher.specs.Sealing.{opened};
 ghost use Rattle.age_header.specs.Device.{GaveAtMost, MayGive};
 ghost use Rattle.age_stream.specs.Counts.{CountsRead, CountsWrite};
-ghost use Rattle.age_stream.specs.Opening.{Advances, EndsAt, GivesNonce, GivesText, IsAtPiece, Opens, Starts, WritesAll};
+ghost use Rattle.age_stream.specs.Opening.{Advances, EndsAt, GivesNonce, GivesText, IsAtPiece, OpensPiece, Starts, WritesAll};
 ghost use Rattle.age_stream.specs.Reading.{outcome};
 ghost use Rattle.age_stream.specs.Sizes.{chunk_size, sealed_chunk_size, most_chunks, nonce_size, tag_size, chunk_buf_size};
 
@@ -36,7 +36,7 @@ pub struct ChunkOpener {
 impl Model for ChunkOpener {
     ghost use Rattle.std.specs.Prelude.{◌≡◌, ◌≤◌, ◌^◌, length, take, drop};
     ghost use Rattle.age_stream.specs.Opening.{OpenerState, held_of};
-    ghost use Rattle.age_stream.specs.Sizes.{chunk_size, sealed_chunk_size, chunk_buf_size};
+    ghost use Rattle.age_stream.specs.Sizes.{chunk_size, sealed_chunk_size, chunk_buf_size, most_chunks};
 
     ghost Value = { OpenerState };
 
@@ -50,7 +50,7 @@ impl Model for ChunkOpener {
     } };
 
     ghost invariant = { λ o. (length o.buf.items ≡ chunk_buf_size) × (o.ahead ≤ 1)
-        × (o.len ≤ chunk_size) × (o.index ≤ o.max_chunks) × (o.max_chunks ≤ 2 ^ 88) };
+        × (o.len ≤ chunk_size) × (o.index ≤ o.max_chunks) × (o.max_chunks ≤ most_chunks) };
 }
 
 impl ChunkOpener {
@@ -204,7 +204,7 @@ fn next_piece<S: Source>(
     ensures opens { IsErrOf result StreamFault.Read
         ⊎ ((d : Bytes) → MayGive (S.to_come source.new) d
         → (c : Bytes) × MayGive (S.to_come source.old) c
-        × Opens key.now max i (take ahead (drop sealed_chunk_size bytes.old) ++ c) bytes.new d
+        × OpensPiece key.now max i (take ahead (drop sealed_chunk_size bytes.old) ++ c) bytes.new d
         result) }
     ensures gave { IsErrOf result StreamFault.Read
         ⊎ GaveAtMost (chunk_buf_size - ahead) (S.to_come source.old) (S.to_come source.new) }

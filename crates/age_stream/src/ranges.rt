@@ -1,7 +1,7 @@
 //! Reading any part of a plaintext from a caller's source.
 ghost use Rattle.std.specs.Prelude.{◌≡◌, ◌+◌, ◌-◌, ◌*◌, ◌/◌, ◌<◌, ◌≤◌, ℕ, length, Ok, Err, Some, None, IfOk, IfErr, OnErr};
 ghost use Rattle.age_stream.specs.Counts.{CountsRead, CountsReadFault};
-ghost use Rattle.age_stream.specs.Ranges.{Counts, Fills, IsOpenFault, IsSound, OpensRanges, Probes, Stops, first_to_open, range_len, sealed_span};
+ghost use Rattle.age_stream.specs.Ranges.{OpenedAtLeast, Fills, IsOpenFault, IsSound, OpensRanges, Probes, Stops, first_to_open, range_len, sealed_span};
 ghost use Rattle.age_stream.specs.Sizes.{chunk_size};
 
 use crate::chunks::Chunks;
@@ -143,7 +143,8 @@ impl<'a, D: ReadAt> RangeReader<'a, D> {
             (λ n. 0 < n → self.new.chunks.index ≡ Some ((at + n - 1) / chunk_size)) }
         ensures none { OnErr result (self.new.chunks.index ≡ None) }
         ensures rises { self.old.chunks.opened ≤ self.new.chunks.opened }
-        ensures counts { IfOk result (λ n. 0 < n → Counts self.old.chunks self.new.chunks.opened
+        ensures counts { IfOk result (λ n. 0 < n
+            → OpenedAtLeast self.old.chunks self.new.chunks.opened
             ((at + n - 1) / chunk_size + 1 - first_to_open self.old.chunks.index at)) }
         ensures opened { (end : ℕ)
             → at + range_len self.old.chunks at (length buf.old) ≤ chunk_size * end

@@ -4,7 +4,7 @@ ghost use Rattle.std.specs.Borrow.{sem, follows_so};
 ghost use Rattle.age_header.specs.Device.{GaveAtMost};
 ghost use Rattle.age_stream.specs.Counts.{CountsRead, CountsWrite};
 ghost use Rattle.age_stream.specs.Opening.{Advances, EndsAt, Starts, WritesAll};
-ghost use Rattle.age_stream.specs.Reader.{Lends, MissesNonce, lent};
+ghost use Rattle.age_stream.specs.Reader.{Lends, MissesNonce, is_lent};
 ghost use mathlib.Core.Option.{none};
 ghost use mir.Syntax.{named};
 ghost use Rattle.age_stream.specs.Sizes.{most_chunks, nonce_size};
@@ -146,7 +146,7 @@ impl<'a, S: Source> StreamReader<'a, S> {
             (λ f. (last.opener ≡ self.old.opener) × (last.input.now ≡ self.old.input.now))
             × IfNone self.old.opener.fault (Lends self.old.opener last.opener
             (S.to_come self.old.input.now) (S.to_come last.input.now)
-            (S.failed self.old.input.now) (S.failed last.input.now) (lent result))
+            (S.failed self.old.input.now) (S.failed last.input.now) (is_lent result))
             × IfOk result (λ o. IfSome o (λ piece. piece.now ≡ last.opener.text)))) }
         ensures kept_fault { IfSome self.old.opener.fault (λ f. result ≡ Err f) }
     {

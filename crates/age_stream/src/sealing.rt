@@ -35,7 +35,7 @@ pub struct ChunkSealer {
 impl Model for ChunkSealer {
     ghost use Rattle.std.specs.Prelude.{◌≡◌, ◌≤◌, ◌<◌, ◌^◌, length, take};
     ghost use Rattle.age_stream.specs.Sealing.{SealerState};
-    ghost use Rattle.age_stream.specs.Sizes.{chunk_size, chunk_buf_size};
+    ghost use Rattle.age_stream.specs.Sizes.{chunk_size, chunk_buf_size, most_chunks};
 
     ghost Value = { SealerState };
 
@@ -48,7 +48,7 @@ impl Model for ChunkSealer {
     } };
 
     ghost invariant = { λ s. (length s.buf.items ≡ chunk_buf_size) × (s.len ≤ chunk_size)
-        × (s.index < s.max_chunks) × (s.max_chunks ≤ 2 ^ 88) };
+        × (s.index < s.max_chunks) × (s.max_chunks ≤ most_chunks) };
 }
 
 impl ChunkSealer {

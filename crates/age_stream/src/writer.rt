@@ -98,10 +98,7 @@ impl<'a, W: Sink> StreamWriter<'a, W> {
         let Ok(buf) = ChunkBuf::new(alloc) else {
             return Err(Refused::of(out, StreamFault::Memory));
         };
-        if let Err(fault) = put_nonce(nonce, out) {
-            return Err(Refused::of(out, fault));
-        }
-        Ok(StreamWriter::over(out, ChunkSealer::new(key, nonce, max_chunks, buf)))
+        StreamWriter::started_with(key, nonce, out, max_chunks, buf)
     }
 
     /// Makes a writer of the payload with this nonce under this file key. It allocates nothing, and

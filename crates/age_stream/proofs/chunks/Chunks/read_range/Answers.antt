@@ -1,7 +1,7 @@
 use Rattle.std.proofs.Common.{arith, ◌≡◌, ◌+◌, ◌-◌, ◌*◌, ◌/◌, ◌<◌, ◌≤◌, ◌∙◌, ap, sym, refl, inl, inr, length, take, drop, min, Some, None, if◌then◌else◌, subst}
 use Rattle.age_stream.specs.declared.layout.Layout.{Layout}
 use Rattle.age_stream.specs.Ranges.{HasPlain, IsSound, bytes_from, is_kept, opens_to}
-use Rattle.age_stream.specs.Slice.{text_len}
+use Rattle.age_stream.specs.Slice.{chunk_len}
 use Rattle.age_stream.proofs.RangeLemmas.{put-front, put-rest, length-part, rest-on, front-on, counts-at_first, counts-later, opened-later, given-later, opened-at_first, given-at_first, at-chunk, under-chunk, below-chunk, opens-moved}
 use Rattle.age_stream.proofs.chunks.Chunks.read_range.Goals as goal
 
@@ -74,7 +74,7 @@ loop-done-preserved g c =
     let touched : 65536 * i < plain = omega (arith, pos, more, is) in
     let lies : h.layout ≡ s.layout = c.hold-held.ensures.same ∙ inv.layout in
     let same : h.layout.plain ≡ plain = ap (λ (x : Layout). x.plain) lies in
-    let len : length t ≡ text_len plain i = c.text.ensures.len ∙ ap (λ p. text_len p i) same in
+    let len : length t ≡ chunk_len plain i = c.text.ensures.len ∙ ap (λ p. chunk_len p i) same in
     let count : n ≡ min (length t - skip) (end - done) = c.put-n.ensures.count in
     let small : skip < 65536 = inv.skip in
     let some : 0 < n = omega (arith, count, len, more, pos, is, small) in
@@ -95,7 +95,7 @@ loop-done-preserved g c =
       | inl z ↦ let e : i ≡ at / 65536 = z.1 in omega (arith, e)
       | inr z ↦ let e : at / 65536 < i = z.2 in omega (arith, e)
     ] in
-    let more_given = subst (λ (x : Layout). g.D.ReadAt.given c.hold-held.new.dev ≤ g.D.ReadAt.given c.loop-done.dev + (if is_kept l.index i then 0 else text_len x.plain i + 16)) inv.layout c.hold-held.ensures.given in
+    let more_given = subst (λ (x : Layout). g.D.ReadAt.given c.hold-held.new.dev ≤ g.D.ReadAt.given c.loop-done.dev + (if is_kept l.index i then 0 else chunk_len x.plain i + 16)) inv.layout c.hold-held.ensures.given in
     record {
       stay = c.hold-held.ensures.stay ∙ inv.stay;
       layout = lies;

@@ -1,5 +1,5 @@
 use Rattle.std.proofs.Common.{length, ◌-◌, ◌≡◌, ◌+◌, ◌*◌, ◌/◌, ◌%◌, ◌≤◌, ◌<◌, ◌⊎◌, take, drop, Some}
-use Rattle.age_stream.specs.Ranges.{Counts, HasPlain, IsSound, first_to_open, sealed_span}
+use Rattle.age_stream.specs.Ranges.{OpenedAtLeast, HasPlain, IsSound, first_to_open, sealed_span}
 use Rattle.age_stream.proofs.chunks.Chunks.read_range.Given as goal
 
 abbrev pub invariant-loop-done : goal.invariant-loop-done
@@ -17,7 +17,7 @@ invariant-loop-done g l =
       below : l.at + l.done ≤ 65536 * l.i + l.skip;
       rest : drop l.done l.buf ≡ drop l.done l.fn.buf;
       front : IsSound told s → HasPlain told s.layout l.at (take l.done l.buf);
-      counts : Counts s l.self.opened (l.i - first_to_open s.index l.at);
+      counts : OpenedAtLeast s l.self.opened (l.i - first_to_open s.index l.at);
       rises : s.opened ≤ l.self.opened;
       opened : l.self.opened ≤ s.opened + (l.i - first_to_open s.index l.at);
       given : g.D.ReadAt.given l.dev ≤ g.D.ReadAt.given l.fn.dev + sealed_span s.layout (first_to_open s.index l.at) l.i;
