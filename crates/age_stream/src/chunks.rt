@@ -1,7 +1,7 @@
 //! The chunks of a payload, of which one is kept. The source is passed to each call.
 ghost use Rattle.std.specs.Prelude.{◌≡◌, ◌+◌, ◌-◌, ◌*◌, ◌/◌, ◌<◌, ◌≤◌, ◌++◌, ℕ, length, take, drop, min, Some, None, IfOk, OnOk, OnErr, IfErr, if◌then◌else◌};
 ghost use Rattle.age_stream.specs.Counts.{CountsRead};
-ghost use Rattle.age_stream.specs.Ranges.{OpenedAtLeast, Fills, IsLost, IsOpenFault, IsSound, OpensRanges, Probes, Stops, first_to_open, is_kept, kept_text, range_len, sealed_span};
+ghost use Rattle.age_stream.specs.Ranges.{Fills, IsLost, IsOpenFault, IsSound, OpenedAtLeast, OpensRanges, Probes, Stops, first_to_open, is_kept, kept_text, range_len, sealed_span};
 ghost use Rattle.age_stream.specs.Slice.{chunk_len};
 ghost use Rattle.age_stream.specs.Sizes.{chunk_size, tag_size, chunk_buf_size};
 

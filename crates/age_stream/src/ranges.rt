@@ -1,7 +1,7 @@
 //! Reading any part of a plaintext from a caller's source.
 ghost use Rattle.std.specs.Prelude.{◌≡◌, ◌+◌, ◌-◌, ◌*◌, ◌/◌, ◌<◌, ◌≤◌, ℕ, length, Ok, Err, Some, None, IfOk, IfErr, OnErr};
 ghost use Rattle.age_stream.specs.Counts.{CountsRead, CountsReadFault};
-ghost use Rattle.age_stream.specs.Ranges.{OpenedAtLeast, Fills, IsOpenFault, IsSound, OpensRanges, Probes, Stops, first_to_open, range_len, sealed_span};
+ghost use Rattle.age_stream.specs.Ranges.{Fills, IsOpenFault, IsSound, OpenedAtLeast, OpensRanges, Probes, Stops, first_to_open, range_len, sealed_span};
 ghost use Rattle.age_stream.specs.Sizes.{chunk_size};
 
 use crate::chunks::Chunks;
