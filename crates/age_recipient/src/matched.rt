@@ -1,3 +1,5 @@
+//! A recipient and an identity that belong together.
+
 use crate::identity::Identity;
 use crate::recipient::Recipient;
 
