@@ -46,7 +46,7 @@ after-last ahead given front len is =
     let yes : nat_le (length front) 65552 ≡ true = le-leb (length front) 65552 (omega arith) in
     ap after_first (sym is) ∙ ap (λ b. cond b None (Some (drop 65552 front))) yes
 
--- the answers of a call while pieces are left
+-- what a call returns while pieces are left
 pub opens-err : (key : List ℕ) (max i : ℕ) (held : Option (List ℕ)) (ahead c : List ℕ) (left : Option (List ℕ)) (text : List ℕ) (fault : StreamFault) → held ≡ Some ahead
     → first_outcome key max i (ahead ++ c) ≡ Err fault → OpensNext key max i (left_of held c) left text (Err fault)
 opens-err key max i held ahead c left text fault is h = rw is h

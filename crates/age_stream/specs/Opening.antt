@@ -98,12 +98,12 @@ GivesNonce from to (Err fault) =
 
 -- the start of a payload was read: its nonce, under which piece 0 is the opener's next; or there is
 -- no whole nonce
-abbrev pub Starts : (k : FileKey) (max : ℕ) (from to : Known)
+abbrev pub Starts : (file_key : FileKey) (max : ℕ) (from to : Known)
     (result : Result OpenerState StreamFault) → Type 0
-Starts k max from to (Ok opener) =
-    (nonce : Bytes) × (length nonce ≡ nonce_size) × (opener ≡ at_start (payload_key k nonce) max)
-    × GivesNonce from to (Ok nonce)
-Starts k max from to (Err fault) = GivesNonce from to (Err fault)
+Starts file_key max from to (Ok opener) =
+    (nonce : Bytes) × (length nonce ≡ nonce_size)
+    × (opener ≡ at_start (payload_key file_key nonce) max) × GivesNonce from to (Ok nonce)
+Starts file_key max from to (Err fault) = GivesNonce from to (Err fault)
 
 -- what is left, read from piece i on
 abbrev pub reading_left : (key : Key) (max i : ℕ) (left : Option Bytes) → Reading StreamFault
@@ -116,7 +116,7 @@ pieces_left None = []
 pieces_left (Some c) = pieces c
 
 -- A reading's fault was returned, or the length of its plaintext and the number of its pieces, and
--- its plaintext was written; a beginning of it where a device failed.
+-- its plaintext was written; a prefix of it where a device failed.
 abbrev pub WritesReading : (reading : Reading StreamFault) (n : ℕ) (old new : Known)
     (result : Result Done StreamFault) → Type 0
 WritesReading reading n old new (Ok done) =
@@ -136,7 +136,7 @@ WritesAll s from old new r =
     (length (pieces_left (left_of s.held c))) old new r
 
 -- A fault of a piece or of a write: at which piece it was met, what had been written, and how much
--- of the source had been taken. So many bytes were taken before the pieces: 16 where the nonce
+-- of the source had been taken. `before` bytes were taken before the pieces: 16 where the nonce
 -- counts.
 pub record EndsAt (max before : ℕ) (from to old new : Known) (fault : StreamFault)
     : Type 0 where

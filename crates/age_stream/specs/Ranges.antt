@@ -96,8 +96,8 @@ sealed_span layout from end =
 abbrev pub last_len : (n : ℕ) → ℕ
 last_len n = n - sealed_chunk_size * ((n - 1) / sealed_chunk_size)
 
--- what the last piece gives was found, where so many known bytes follow from offset `first` on: its
--- text is at the start of the buffer, or its fault
+-- what the last piece gives was found, where `sealed` known bytes follow from offset `first` on:
+-- its text is at the start of the buffer, or its fault
 abbrev pub JudgesLast : (key : Key) (max first sealed : ℕ) (told : Known) (after : Bytes)
     (r : Result Layout StreamFault) → Type 0
 JudgesLast key max first sealed told after r =
@@ -113,24 +113,26 @@ JudgesLast key max first sealed told after r =
 
 -- a reader that was just opened on the payload at this offset, over a source whose contents are
 -- known
-pub record IsOpened (k : FileKey) (max : ℕ) (told : Known) (at : ℕ) (s : RangeState)
+pub record IsOpened (file_key : FileKey) (max : ℕ) (told : Known) (at : ℕ) (s : RangeState)
     : Type 0 where
-  pub opens : range_outcome k max (bytes_from told at) ≡ Ok (kept_text s (s.layout.count - 1))
-  pub key : s.layout.key ≡ payload_key k (take nonce_size (bytes_from told at))
+  pub opens : range_outcome file_key max (bytes_from told at)
+      ≡ Ok (kept_text s (s.layout.count - 1))
+  pub key : s.layout.key ≡ payload_key file_key (take nonce_size (bytes_from told at))
   pub first : s.layout.first ≡ at + nonce_size
   pub plain : s.layout.plain ≡ plain_len (bytes_from told (at + nonce_size))
   pub sound : IsSound told s
 
 -- A reader was opened, which keeps the last chunk. Or the fault is a failed read, out of memory, or
 -- what opening the payload finds.
-abbrev pub OpensRanges : (k : FileKey) (max at : ℕ) (told : Known)
+abbrev pub OpensRanges : (file_key : FileKey) (max at : ℕ) (told : Known)
     (r : Result RangeState StreamFault) → Type 0
-OpensRanges k max at told r =
+OpensRanges file_key max at told r =
     MatchResult r
     (λ s. (s.index ≡ Some (s.layout.count - 1)) × (s.opened ≡ 1)
-    × IfSome told (λ bytes. IsOpened k max (Some bytes) at s))
+    × IfSome told (λ bytes. IsOpened file_key max (Some bytes) at s))
     (λ fault. (fault ≡ Read)
-    ⊎ ((fault ≡ Memory) ⊎ IfSome told (λ bytes. range_outcome k max (drop at bytes) ≡ Err fault)))
+    ⊎ ((fault ≡ Memory)
+    ⊎ IfSome told (λ bytes. range_outcome file_key max (drop at bytes) ≡ Err fault)))
 
 -- a fault with which opening a payload may end
 abbrev pub IsOpenFault : StreamFault → Type 0

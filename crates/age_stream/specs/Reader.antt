@@ -12,10 +12,10 @@ use Rattle.age_stream.specs.Sizes.{nonce_size}
 
 -- the nonce was not read: the source gave fewer than 16 bytes, or failed, and then one failure more
 -- was counted
-abbrev pub MissesNonce : (key : FileKey) (max : ℕ) (from to : Known) (before after : ℕ)
+abbrev pub MissesNonce : (file_key : FileKey) (max : ℕ) (from to : Known) (before after : ℕ)
     (fault : StreamFault) → Type 0
-MissesNonce key max from to before after fault =
-    Starts key max from to (Err fault) × CountsReadFault before after fault
+MissesNonce file_key max from to before after fault =
+    Starts file_key max from to (Err fault) × CountsReadFault before after fault
     × ((fault ≡ Read) ⊎ GaveAtMost nonce_size from to)
 
 -- the result as a Bool: true if a chunk was lent, false after the last

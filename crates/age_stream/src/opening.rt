@@ -56,7 +56,7 @@ impl Model for ChunkOpener {
 impl ChunkOpener {
     ghost use Rattle.age_stream.specs.Opening.{OpenerState};
 
-    /// Reads the nonce of a payload, and is then before piece 0.
+    /// Reads the nonce of a payload, and makes an opener whose next piece is piece 0.
     ///
     /// # Errors
     /// `NonceTruncated` if the source returns fewer than 16 bytes, `Read` if it failed.
@@ -185,8 +185,9 @@ struct Piece {
     more: bool,
 }
 
-/// Reads the next piece, and opens it as piece i. The buffer ends with `ahead` bytes of it, and
-/// then with the byte that follows it.
+/// Reads the next piece, and opens it as piece i. Before the call the last byte of the buffer is
+/// the first of this piece, if `ahead` is 1. After it the last byte is the first of the next piece,
+/// if there is one.
 fn next_piece<S: Source>(
     source: &mut S,
     bytes: &mut [u8],

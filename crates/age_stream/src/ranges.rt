@@ -120,12 +120,12 @@ impl<'a, D: ReadAt> RangeReader<'a, D> {
     /// Fills the start of `buf` with the plaintext from offset `at` on, and returns the number of
     /// bytes: the smaller of `buf.len()` and the length of the plaintext from `at` on, 0 past its
     /// end. The rest of `buf` is unchanged. An empty range reads nothing. After a range that is not
-    /// empty its last chunk is kept; it allocates nothing.
+    /// empty its last chunk is kept. The call allocates nothing.
     ///
     /// # Errors
-    /// `BadChunk(i)` for the first chunk i of the range that does not open, `Read` if the source
-    /// failed. Then the bytes before that chunk are in `buf`, the rest of `buf` is unchanged, and
-    /// no chunk is kept. A later call reads the source again.
+    /// `BadChunk(i)` if chunk i is the first of the range that does not open; `Read` if a read of a
+    /// chunk failed. Then `buf` has the bytes before this chunk, the rest of `buf` is unchanged,
+    /// and no chunk is kept. A later call reads the source again.
     pub fn read_range(&mut self, at: u64, buf: &mut [u8]) -> Result<usize, StreamFault>
         ensures same_reference { self.new.dev.ghost_name ≡ self.old.dev.ghost_name }
         ensures stay { D.bytes self.new.dev.now ≡ D.bytes self.old.dev.now }
