@@ -72,6 +72,7 @@ impl Matched for PassPair {
         &self.identity
     }
 
-    ghost opens = { λ pair key stanzas.
-        pair_law pair.recipient pair.identity key stanzas pair.one_passphrase pair.salt pair.work };
+    ghost opens = { λ pair file_key stanzas.
+        pair_law pair.recipient pair.identity file_key stanzas pair.one_passphrase pair.salt
+        pair.work };
 }

@@ -75,7 +75,7 @@ impl Recipient for PassRecipient {
     ghost use Rattle.age_recipient.specs.declared.labels.Labels.TheVariants.{Alone};
     ghost use Rattle.age_recipient.specs.PassphraseHolders.{pass_wraps};
 
-    ghost wraps = { λ r key. pass_wraps r key };
+    ghost wraps = { λ r file_key. pass_wraps r file_key };
 
     ghost the_labels = { λ _. Alone };
 

@@ -14,7 +14,7 @@ invariant-loop-n g l = record {
   fed : (text : List ℕ)
       × Consumes (g.S.Source.to_come l.fn.plain) (g.S.Source.to_come l.plain) text
       × Fed l.key l.fn.index l.index (take l.len l.fn.bytes) text (take l.held l.bytes)
-        (g.W.Sink.taken l.fn.out) (g.W.Sink.taken l.out);
+      (g.W.Sink.taken l.fn.out) (g.W.Sink.taken l.out);
 }
 
 abbrev pub decreases-loop-n : goal.decreases-loop-n
