@@ -42,7 +42,7 @@ length-last rest =
     let last : ℕ = (length rest - 1) / 65552 in
     ap length (last-piece rest last refl) ∙ length-drop (65552 * last) rest
 
--- what the last piece gives, its number and its place written out
+-- what the last piece gives, its number and its offset written out
 pub last-is : (key : List ℕ) (max : ℕ) (rest : List ℕ) (last : ℕ) → last ≡ (length rest - 1) / 65552
     → last_outcome key max rest ≡ outcome key max last true (drop (65552 * last) rest)
 last-is key max rest last is =
@@ -69,7 +69,7 @@ last-gone key max first sealed last end (Some bytes) fault is len gone = λ size
     let short : length bytes < first + 65552 * last + end = gone in
     absurd (omega arith)
 
--- what was read at the last piece's place gives what the last piece does
+-- what was read at the last piece's offset gives what the last piece does
 pub last-read : (key : List ℕ) (max first sealed last end : ℕ) (told : Option (List ℕ)) (buf : List ℕ) (r : Result (List ℕ) StreamFault) → last ≡ (sealed - 1) / 65552
     → end ≡ sealed - 65552 * last → length buf ≡ 65553 → HasAt told (first + 65552 * last) (take end buf) → outcome key max last true (take end buf) ≡ r
     → IfSome told (λ bytes. length bytes ≡ first + sealed → last_outcome key max (drop first bytes) ≡ r)

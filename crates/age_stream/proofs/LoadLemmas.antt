@@ -1,4 +1,4 @@
--- A piece that was read at its place.
+-- A piece that was read at its offset.
 use Rattle.std.proofs.Common.{◌≡◌, ◌⊎◌, ℕ, List, [], ◌+◌, ◌-◌, ◌*◌, ◌<◌, ◌≤◌, length, take, drop, nat_le, nat_eq, ◌∙◌, sym, ap, arith, inl, inr, false, Option, Some, None}
 use Rattle.std.proofs.lemmas.Bool.{cases_lt, le-leb, lt-leb, eq-eqb, eqb-true, false_from_ne_true, false≢true}
 use Rattle.std.proofs.lemmas.List.{take_all, length-drop, length-take-le, drop-drop}
@@ -66,7 +66,7 @@ there-piece (Some bytes) layout i piece there lt has len =
       | inr ge ↦ at ∙ take_all (length piece) (drop (65552 * i) rest) (omega arith) ∙ sym (take_all 65552 (drop (65552 * i) rest) (omega arith))
     ]
 
--- what was read at the place of piece i and opened there
+-- what was read at the offset of piece i and opened there
 pub open-there : (told : Option (List ℕ)) (layout : Layout) (nonce buf : List ℕ) (i end : ℕ) (o : Option (List ℕ)) → IsThere told layout → i < layout.count
     → HasAt told (layout.first + 65552 * i) (take end buf) → end ≡ chunk_len layout.plain i + 16 → length buf ≡ 65553
     → nonce ≡ chunk_nonce i (nat_eq (i + 1) layout.count) → opened layout.key nonce [] (take end buf) ≡ o → opens_to told layout i ≡ o

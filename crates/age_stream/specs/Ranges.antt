@@ -71,7 +71,7 @@ is_kept (Some k) i = nat_eq k i
 abbrev pub first_to_open : (index : Option ℕ) (at : ℕ) → ℕ
 first_to_open index at = at / chunk_size + (if is_kept index (at / chunk_size) then 1 else 0)
 
--- the count of opened chunks rose by at least n, or to the largest u64
+-- the count of opened chunks rose by at least n, or is the largest u64
 abbrev pub OpenedAtLeast : (s : RangeState) (opened n : ℕ) → Type 0
 OpenedAtLeast s opened n = min (s.opened + n) (2 ^ 64 - 1) ≤ opened
 
