@@ -4,16 +4,16 @@ use Rattle.std.specs.declared.option.Option.{Option}
 use Rattle.std.specs.Str.{bytes_eq}
 use Rattle.std.proofs.lemmas.Slice.Eq.{bytes_eq-Decides}
 use Rattle.base64.specs.Rfc4648.{encode_symbols}
-use Rattle.age_header.specs.Base64.{B64, StandsFor, alphabet, value_of, candidate, decoded, base64_of}
-use Rattle.age_header.proofs.Base64Lemmas.{B64-only, B64-encode}
+use Rattle.age_header.specs.Base64.{IsBase64, StandsFor, alphabet, value_of, candidate, decoded, base64_of}
+use Rattle.age_header.proofs.Base64Lemmas.{IsBase64-only, IsBase64-encode}
 use Rattle.age_header.proofs.OneStep.{value_back}
 
 value_is : (c v : ℕ) → StandsFor c v → value_of c ≡ v
 value_is c v h = ap value_of h.1 ∙ value_back v h.0
 
 -- the candidate of characters is the bytes that they stand for
-candidate_is : (bytes characters : List ℕ) → B64 bytes characters → candidate characters ≡ bytes
-unfolding B64 candidate
+candidate_is : (bytes characters : List ℕ) → IsBase64 bytes characters → candidate characters ≡ bytes
+unfolding IsBase64 candidate
 candidate_is [] [] h = refl
 candidate_is (a ∷ []) (p ∷ q ∷ []) h =
     let bits : a * 16 ≡ h.0 * 64 + h.1 = h.5 in
@@ -62,30 +62,30 @@ candidate_bytes (p ∷ q ∷ r ∷ s ∷ characters) (suc (suc zero)) = omega ar
 candidate_bytes (p ∷ q ∷ r ∷ s ∷ characters) (suc (suc (suc i))) = candidate_bytes characters i
 
 -- what is decoded are the bytes that the characters stand for
-pub decoded_b64 : (characters bytes : List ℕ) → decoded characters ≡ Some bytes → B64 bytes characters
+pub decoded_b64 : (characters bytes : List ℕ) → decoded characters ≡ Some bytes → IsBase64 bytes characters
 unfolding decoded base64_of
 decoded_b64 characters bytes h =
     let c : List ℕ = candidate characters in
-    let found : B64 c (encode_symbols alphabet c) = B64-encode c (candidate_bytes characters) in
+    let found : IsBase64 c (encode_symbols alphabet c) = IsBase64-encode c (candidate_bytes characters) in
     let both : (encode_symbols alphabet c ≡ characters) × (c ≡ bytes) =
     elim (bytes_eq (encode_symbols alphabet c) characters) as (λ b. bytes_eq (encode_symbols alphabet c) characters ≡ b → (if b then Some c else None) ≡ Some bytes
     → (encode_symbols alphabet c ≡ characters) × (c ≡ bytes)) [
       | true ↦ λ test e. ((bytes_eq-Decides (encode_symbols alphabet c) characters).0 test, cc)
       | false ↦ λ test e. cc
     ] refl h in
-    subst (λ (z : List ℕ). B64 z characters) both.1 (subst (λ (z : List ℕ). B64 c z) both.0 found)
+    subst (λ (z : List ℕ). IsBase64 z characters) both.1 (subst (λ (z : List ℕ). IsBase64 c z) both.0 found)
 
 -- and these are decoded
-pub b64_decoded : (characters bytes : List ℕ) → B64 bytes characters → decoded characters ≡ Some bytes
+pub b64_decoded : (characters bytes : List ℕ) → IsBase64 bytes characters → decoded characters ≡ Some bytes
 unfolding decoded base64_of
 b64_decoded characters bytes h =
     let is : candidate characters ≡ bytes = candidate_is bytes characters h in
-    let spelled : characters ≡ encode_symbols alphabet (candidate characters) = B64-only bytes characters h ∙ ap (λ (z : List ℕ). encode_symbols alphabet z) (sym is) in
+    let spelled : characters ≡ encode_symbols alphabet (candidate characters) = IsBase64-only bytes characters h ∙ ap (λ (z : List ℕ). encode_symbols alphabet z) (sym is) in
     let same : bytes_eq (encode_symbols alphabet (candidate characters)) characters ≡ true = (bytes_eq-Decides (encode_symbols alphabet (candidate characters)) characters).1 (sym spelled) in
     rw (same, is) refl
 
 -- characters that stand for no bytes are not decoded
-pub none_decoded : (characters : List ℕ) → ((bytes : List ℕ) → B64 bytes characters → ⊥) → decoded characters ≡ None
+pub none_decoded : (characters : List ℕ) → ((bytes : List ℕ) → IsBase64 bytes characters → ⊥) → decoded characters ≡ None
 none_decoded characters none = here (decoded characters) refl
   where
     here : (o : Option (List ℕ)) → decoded characters ≡ o → decoded characters ≡ None
@@ -95,4 +95,4 @@ none_decoded characters none = here (decoded characters) refl
 -- what bytes are encoded to is decoded to them
 pub decoded-base64_of : (bytes : List ℕ) → ((i : ℕ) → slice_index bytes i < 256) → decoded (base64_of bytes) ≡ Some bytes
 unfolding base64_of
-decoded-base64_of bytes h = b64_decoded (encode_symbols alphabet bytes) bytes (B64-encode bytes h)
+decoded-base64_of bytes h = b64_decoded (encode_symbols alphabet bytes) bytes (IsBase64-encode bytes h)

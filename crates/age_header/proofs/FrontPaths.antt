@@ -6,10 +6,10 @@ use Rattle.std.proofs.lemmas.List.Concat.{flat_map-append}
 use Rattle.std.specs.List.{AllByRecursion, concat}
 use Rattle.base64.specs.Tables.{all_below}
 use Rattle.base64.proofs.Tables.{all_below_at}
-use Rattle.age_header.specs.Base64.{B64, StandsFor, alphabet}
+use Rattle.age_header.specs.Base64.{IsBase64, StandsFor, alphabet}
 use Rattle.age_header.specs.Header.{StanzaParts, IsStanza, AreStanzas, AreArguments, IsArgument, IsVisible, argument_line, line, version_line}
 use Rattle.age_header.specs.Steps.{State, between, within, Leads}
-use Rattle.age_header.specs.Verdict.{IsLineText, lines_text, IsFront, IsOpenStanza}
+use Rattle.age_header.specs.Verdict.{IsLineText, lines_text, IsHeaderPrefix, IsOpenStanza}
 use Rattle.age_header.proofs.StepRuns.{Leads-append, full_lead}
 
 pub All-append : (P : ℕ → Type 0) (xs ys : List ℕ) → AllByRecursion P xs → AllByRecursion P ys → AllByRecursion P (xs ++ ys)
@@ -24,26 +24,26 @@ pub Lines-append : (xs ys : List (List ℕ)) → AllByRecursion IsLineText xs �
 Lines-append [] ys h k = k
 Lines-append (x ∷ xs) ys h k = (h.0, Lines-append xs ys h.1 k)
 
-no_lf_sign : (v : ℕ) → v < 64 → slice_index alphabet v ≢ 10
+no_lf_character : (v : ℕ) → v < 64 → slice_index alphabet v ≢ 10
 unfolding alphabet
-no_lf_sign v lt e =
+no_lf_character v lt e =
     let table : all_below (λ k. not (slice_index alphabet k == 10)) 64 ≡ true = refl in
     let here = all_below_at (λ k. not (slice_index alphabet k == 10)) 64 v table lt in
     let is = eq-eqb (slice_index alphabet v) 10 e in
     cc (rw is at here)
 
 no_lf : (c v : ℕ) → StandsFor c v → c ≢ 10
-no_lf c v h e = no_lf_sign v h.0 (sym h.1 ∙ e)
+no_lf c v h e = no_lf_character v h.0 (sym h.1 ∙ e)
 
-pub signs_text : (bytes characters : List ℕ) → B64 bytes characters → IsLineText characters
-unfolding B64
-signs_text [] [] h = tt
-signs_text (a ∷ []) (p ∷ q ∷ []) h = (no_lf p h.0 h.2, (no_lf q h.1 h.3, tt))
-signs_text (a ∷ b ∷ []) (p ∷ q ∷ r ∷ []) h = (no_lf p h.0 h.3, (no_lf q h.1 h.4, (no_lf r h.2 h.5, tt)))
-signs_text (a ∷ b ∷ c ∷ bytes) (p ∷ q ∷ r ∷ s ∷ characters) h =
+pub characters_text : (bytes characters : List ℕ) → IsBase64 bytes characters → IsLineText characters
+unfolding IsBase64
+characters_text [] [] h = tt
+characters_text (a ∷ []) (p ∷ q ∷ []) h = (no_lf p h.0 h.2, (no_lf q h.1 h.3, tt))
+characters_text (a ∷ b ∷ []) (p ∷ q ∷ r ∷ []) h = (no_lf p h.0 h.3, (no_lf q h.1 h.4, (no_lf r h.2 h.5, tt)))
+characters_text (a ∷ b ∷ c ∷ bytes) (p ∷ q ∷ r ∷ s ∷ characters) h =
     let t = h.0 in
-    (no_lf p t.0 t.4, (no_lf q t.1 t.5, (no_lf r t.2 t.6, (no_lf s t.3 t.7, signs_text bytes characters h.1))))
-signs_text _ _ h = absurd h
+    (no_lf p t.0 t.4, (no_lf q t.1 t.5, (no_lf r t.2 t.6, (no_lf s t.3 t.7, characters_text bytes characters h.1))))
+characters_text _ _ h = absurd h
 
 -- the lines whose join has no LF
 pub lines_of : (full : List (List ℕ)) → IsLineText (concat full) → AllByRecursion IsLineText full
@@ -71,7 +71,7 @@ pub stanza_lead : (ss : List StanzaParts) (s : StanzaParts) (text : List ℕ) �
 stanza_lead ss s text h =
     let first : List ℕ = argument_text s.args in
     let run = full_lead ss s.args [] s.body h.full h.last h.cut.0 h.body in
-    let characters = signs_text s.body (concat h.full ++ h.last) h.body in
+    let characters = characters_text s.body (concat h.full ++ h.last) h.body in
     let parts = All-split (λ c. c ≢ 10) (concat h.full) h.last characters in
     let ends : Leads (within ss s.args run.0) (h.last ∷ []) (between (ss ++ s ∷ [])) =
     (between (ss ++ s ∷ []), (run.1, h.cut.1, run.4, ap (λ (b : List ℕ). ss ++ (record { args = s.args; body = b }) ∷ []) run.2), refl) in
@@ -107,13 +107,13 @@ stanzas_lead pre (s ∷ ss) text h =
 pub open_lead : (pre : List StanzaParts) (text : List ℕ) → IsOpenStanza text
     → (ls : List (List ℕ)) × (s : State) × (text ≡ lines_text ls) × AllByRecursion IsLineText ls × Leads (between pre) ls s
 open_lead pre text h =
-    let all : B64 h.bytes (concat h.full ++ []) = subst (λ (x : List ℕ). B64 h.bytes x) (sym (append-nil (concat h.full))) h.body in
+    let all : IsBase64 h.bytes (concat h.full ++ []) = subst (λ (x : List ℕ). IsBase64 h.bytes x) (sym (append-nil (concat h.full))) h.body in
     let run = full_lead pre h.args [] h.bytes h.full [] h.cut all in
     let text_is : text ≡ lines_text (argument_text h.args ∷ h.full) = h.spelled in (
       argument_text h.args ∷ h.full,
       within pre h.args run.0,
       text_is,
-      (argument_line_text h.args h.arguments, lines_of h.full (signs_text h.bytes (concat h.full) h.body)),
+      (argument_line_text h.args h.arguments, lines_of h.full (characters_text h.bytes (concat h.full) h.body)),
       (within pre h.args [], (refl, refl, h.arguments, refl), run.5),
     )
 
@@ -132,7 +132,7 @@ pub record Path (text : List ℕ) : Type 0 where
   pub leads : Leads (between []) lines state
 
 -- every front of a header is such a path
-pub front_path : (text : List ℕ) → IsFront text → Path text
+pub front_path : (text : List ℕ) → IsHeaderPrefix text → Path text
 front_path text h =
     let whole = stanzas_lead [] h.stanzas h.whole h.stanza_text in
     elim h.rest_text [

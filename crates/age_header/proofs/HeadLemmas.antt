@@ -4,14 +4,14 @@ use Rattle.std.proofs.lemmas.List.{take_at}
 use Rattle.std.specs.List.{AllByRecursion}
 use Rattle.age_header.specs.Header.{StanzaParts, Head, AreStanzas}
 use Rattle.age_header.specs.Text.{IsWhole, IsHeaderValue, signed, mac_end}
-use Rattle.age_header.proofs.Base64Lemmas.{B64-bytes}
+use Rattle.age_header.proofs.Base64Lemmas.{IsBase64-bytes}
 use Rattle.age_header.proofs.LengthLemmas.{mac_end_size}
 use Rattle.age_header.proofs.OneText.{one_text}
 use Rattle.age_header.proofs.TextLemmas.{header_text_is}
 
 whole_stanzas : (ss : List StanzaParts) (text : List ℕ) → AreStanzas ss text → AllByRecursion IsWhole ss
 whole_stanzas [] text h = tt
-whole_stanzas (s ∷ ss) text h = ((h.2.arguments, B64-bytes s.body _ h.2.body), whole_stanzas ss h.1 h.3)
+whole_stanzas (s ∷ ss) text h = ((h.2.arguments, IsBase64-bytes s.body _ h.2.body), whole_stanzas ss h.1 h.3)
 
 -- what a header spells is a value that has a text
 pub head_value : (ss : List StanzaParts) (mac h : List ℕ) → Head ss mac h → IsHeaderValue ss mac
@@ -19,7 +19,7 @@ head_value ss mac h k = record {
   some = k.some;
   each = whole_stanzas ss k.body k.stanza_text;
   mac_len = k.mac_len;
-  mac_bytes = B64-bytes mac k.characters k.mac_text;
+  mac_bytes = IsBase64-bytes mac k.characters k.mac_text;
 }
 
 -- the header without its last 45 bytes

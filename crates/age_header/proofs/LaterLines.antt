@@ -8,7 +8,7 @@ use Rattle.std.specs.List.{AllByRecursion}
 use Rattle.std.specs.declared.option.Option.{Option}
 use Rattle.std.specs.declared.result.Result.TheVariants.{Ok, Err}
 use Rattle.age_header.specs.declared.fault.HeaderFault.TheVariants.{BadLine, Truncated, TooLarge}
-use Rattle.age_header.specs.Base64.{B64}
+use Rattle.age_header.specs.Base64.{IsBase64}
 use Rattle.age_header.specs.Header.{StanzaParts, Head, line, version_line}
 use Rattle.age_header.specs.Steps.{State, between, Step, Leads}
 use Rattle.age_header.specs.Reader.{ReadsHeader}
@@ -128,7 +128,7 @@ age b n max ls text f =
 -- an end line
 pub path_header : (a mid new : Option (List ℕ)) (max room count : ℕ) (s : State) (text : List ℕ) (ss : List StanzaParts) (mac characters : List ℕ)
     → Reached a mid max room count s → Consumes mid new (text ++ 10 ∷ []) → IsLineText text → length text < room
-    → s ≡ between ss → ss ≢ [] → text ≡ codes "--- " ++ characters → B64 mac characters → length mac ≡ 32
+    → s ≡ between ss → ss ≢ [] → text ≡ codes "--- " ++ characters → IsBase64 mac characters → length mac ≡ 32
     → ReadsHeader a new max (Ok (record { stanzas = ss; mac = mac }))
 path_header a mid new max room count s text ss mac characters p took is low at some end h size =
     answered_header a new (lines_text whole) max (record { stanzas = ss; mac = mac }) (took_line a mid new max room count s text p took) told
@@ -162,7 +162,7 @@ path_header a mid new max room count s text ss mac characters p took is low at s
 -- a line that leads nowhere and is no end line
 pub path_bad : (a mid new : Option (List ℕ)) (max room count : ℕ) (s : State) (text : List ℕ)
     → Reached a mid max room count s → Consumes mid new (text ++ 10 ∷ []) → IsLineText text → length text < room
-    → ((ss : List StanzaParts) (mac characters : List ℕ) → ss ≢ [] → s ≡ between ss → length mac ≡ 32 → text ≡ codes "--- " ++ characters → B64 mac characters → ⊥)
+    → ((ss : List StanzaParts) (mac characters : List ℕ) → ss ≢ [] → s ≡ between ss → length mac ≡ 32 → text ≡ codes "--- " ++ characters → IsBase64 mac characters → ⊥)
     → ((t : State) → Step s text t → ⊥)
     → ReadsHeader a new max (Err (BadLine (count + 1)))
 path_bad a mid new max room count s text p took is low end none =

@@ -4,14 +4,14 @@ use Rattle.std.proofs.lemmas.List.{append-nil, append_cancel_left}
 use Rattle.std.proofs.lemmas.Bool.{cases_lt}
 use Rattle.std.proofs.lemmas.List.Concat.{flat_map-append}
 use Rattle.std.specs.List.{AllByRecursion}
-use Rattle.age_header.specs.Base64.{B64}
+use Rattle.age_header.specs.Base64.{IsBase64}
 use Rattle.age_header.specs.Header.{StanzaParts, Head, line, version_line}
 use Rattle.age_header.specs.Steps.{State, between, within, Step, Leads}
 use Rattle.age_header.specs.Verdict.{IsLineText, lines_text}
 use Rattle.age_header.proofs.LineLemmas.{lines_front}
-use Rattle.age_header.proofs.OneStep.{Leads-once, B64-injective}
+use Rattle.age_header.proofs.OneStep.{Leads-once, IsBase64-injective}
 use Rattle.age_header.proofs.StepRuns.{Leads-split}
-use Rattle.age_header.proofs.FrontPaths.{stanzas_lead, Lines-append, signs_text}
+use Rattle.age_header.proofs.FrontPaths.{stanzas_lead, Lines-append, characters_text}
 
 abbrev pub end_text : List ℕ → List ℕ
 end_text characters = codes "--- " ++ characters
@@ -22,14 +22,14 @@ pub record HeadPath (ss : List StanzaParts) (mac h : List ℕ) : Type 0 where
   pub is : h ≡ version_line ++ lines_text (lines ++ end_text characters ∷ [])
   pub each : AllByRecursion IsLineText (lines ++ end_text characters ∷ [])
   pub leads : Leads (between []) lines (between ss)
-  pub mac_text : B64 mac characters
+  pub mac_text : IsBase64 mac characters
 
 regroup : (v w e : List ℕ) (ls : List (List ℕ)) → w ≡ lines_text ls → v ++ w ++ line e ≡ v ++ lines_text (ls ++ e ∷ [])
 regroup v w e ls is = rw (is, flat_map-append line ls (e ∷ []), append-nil (line e)) (append_assoc v (lines_text ls) (line e))
 
-end_is_text : (mac characters : List ℕ) → B64 mac characters → IsLineText (end_text characters)
+end_is_text : (mac characters : List ℕ) → IsBase64 mac characters → IsLineText (end_text characters)
 end_is_text mac characters h =
-    ((λ e. absurd (omega arith)), ((λ e. absurd (omega arith)), ((λ e. absurd (omega arith)), ((λ e. absurd (omega arith)), signs_text mac characters h))))
+    ((λ e. absurd (omega arith)), ((λ e. absurd (omega arith)), ((λ e. absurd (omega arith)), ((λ e. absurd (omega arith)), characters_text mac characters h))))
 
 pub head_path : (ss : List StanzaParts) (mac h : List ℕ) → Head ss mac h → HeadPath ss mac h
 head_path ss mac h k =
@@ -109,7 +109,7 @@ reading ss ts m n h x a b =
                 let states : between ss ≡ between ts = Leads-once (between []) (between ss) (between ts) p.lines p.leads lead in
                 let characters : q.characters ≡ p.characters = append_cancel_left (codes "--- ") q.characters p.characters w.2 in
                 let same : ss ≡ ts = cc states in
-                (none, same, B64-injective m n p.characters p.mac_text (subst (λ (z : List ℕ). B64 n z) characters q.mac_text))
+                (none, same, IsBase64-injective m n p.characters p.mac_text (subst (λ (z : List ℕ). IsBase64 n z) characters q.mac_text))
             | inr w ↦
                 let lead : Leads (between []) (p.lines ++ end_text p.characters ∷ w.0) (between ts) = subst (λ (z : List (List ℕ)). Leads (between []) z (between ts)) w.1 q.leads in
                 absurd (past_end p.lines w.0 ss p.characters (between ts) p.leads lead)

@@ -3,7 +3,7 @@ use Rattle.std.proofs.Common.{◌≡◌, ℕ, ◌<◌, List, [], ◌∷◌, ◌+
 use Rattle.std.proofs.lemmas.List.{take_at, drop_at}
 use Rattle.std.specs.List.{AllByRecursion, concat}
 use Rattle.age_header.specs.Header.{StanzaParts, Head, IsStanza, AreStanzas, IsFullLine, argument_line, line, version_line}
-use Rattle.age_header.proofs.Base64Lemmas.{B64-only}
+use Rattle.age_header.proofs.Base64Lemmas.{IsBase64-only}
 
 same_cut : (fs gs : List (List ℕ)) (x y : List ℕ) → AllByRecursion IsFullLine fs → AllByRecursion IsFullLine gs → length x < 64 → length y < 64
     → concat fs ++ x ≡ concat gs ++ y → flat_map line fs ++ line x ≡ flat_map line gs ++ line y
@@ -22,7 +22,7 @@ same_cut (f ∷ fs) (g ∷ gs) x y hf hg lx ly e =
 
 same_stanza : (s : StanzaParts) (x y : List ℕ) → IsStanza s x → IsStanza s y → x ≡ y
 same_stanza s x y h k =
-    let characters : concat h.full ++ h.last ≡ concat k.full ++ k.last = B64-only s.body _ h.body ∙ sym (B64-only s.body _ k.body) in
+    let characters : concat h.full ++ h.last ≡ concat k.full ++ k.last = IsBase64-only s.body _ h.body ∙ sym (IsBase64-only s.body _ k.body) in
     let lines = same_cut h.full k.full h.last k.last h.cut.0 k.cut.0 h.cut.1 k.cut.1 characters in
     h.spelled ∙ append_assoc (argument_line s.args) (flat_map line h.full) (line h.last)
     ∙ ap (λ (z : List ℕ). argument_line s.args ++ z) lines ∙ sym (append_assoc (argument_line s.args) (flat_map line k.full) (line k.last)) ∙ sym k.spelled
@@ -37,6 +37,6 @@ same_stanzas (s ∷ ss) x y h k =
 pub one_text : (ss : List StanzaParts) (m h k : List ℕ) → Head ss m h → Head ss m k → h ≡ k
 one_text ss m h k a b =
     let body : a.body ≡ b.body = same_stanzas ss a.body b.body a.stanza_text b.stanza_text in
-    let characters : a.characters ≡ b.characters = B64-only m a.characters a.mac_text ∙ sym (B64-only m b.characters b.mac_text) in
+    let characters : a.characters ≡ b.characters = IsBase64-only m a.characters a.mac_text ∙ sym (IsBase64-only m b.characters b.mac_text) in
     a.spelled ∙ ap (λ (z : List ℕ). version_line ++ z ++ line (codes "--- " ++ a.characters)) body
     ∙ ap (λ (z : List ℕ). version_line ++ b.body ++ line (codes "--- " ++ z)) characters ∙ sym b.spelled

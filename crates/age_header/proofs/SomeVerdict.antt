@@ -10,14 +10,14 @@ use Rattle.age_header.specs.declared.fault.HeaderFault.TheVariants.{NotAge, BadL
 use Rattle.age_header.specs.declared.lines.LineEnd.{LineEnd}
 use Rattle.age_header.specs.declared.lines.LineEnd.TheVariants.{Lf, Input, Room}
 use Rattle.age_header.specs.Arguments.{NoVisible}
-use Rattle.age_header.specs.Base64.{B64, decoded}
+use Rattle.age_header.specs.Base64.{IsBase64, decoded}
 use Rattle.age_header.specs.Header.{StanzaParts, AreArguments, IsVisible, argument_line, line}
 use Rattle.age_header.specs.Lines.{taken, IsEnd}
 use Rattle.age_header.specs.Steps.{State, between, within, Step}
 use Rattle.age_header.specs.Verdict.{IsLineText, Found, HeaderVerdict}
 use Rattle.age_header.proofs.ArgumentLemmas.{Parsed, no_arrow, parsed_none, parsed_more, parsed_all, parsed_nothing, stuck_space, stuck_empty}
 use Rattle.age_header.proofs.Decoding.{decoded_b64, b64_decoded}
-use Rattle.age_header.proofs.OneStep.{B64-injective}
+use Rattle.age_header.proofs.OneStep.{IsBase64-injective}
 use Rattle.age_header.proofs.PathLemmas.{version_text}
 use Rattle.age_header.proofs.StepRuns.{no_arguments, no_base64}
 use Rattle.age_header.proofs.VerdictPaths.{Reached}
@@ -133,7 +133,7 @@ record IsEndLine (s : State) (l : List ℕ) : Type 0 where
   at : s ≡ between stanzas
   size : length mac ≡ 32
   spelled : l ≡ codes "--- " ++ characters
-  is : B64 mac characters
+  is : IsBase64 mac characters
 
 end_of : (s : State) (l : List ℕ) → IsEndLine s l ⊎ (IsEndLine s l → ⊥)
 end_of (within ss args body) l = inr (λ e. let at = e.at in cc)
@@ -146,7 +146,7 @@ end_of (between (s ∷ ss)) l = elim (front_of (codes "--- ") l) [
     here : (characters : List ℕ) → l ≡ codes "--- " ++ characters → (o : Option (List ℕ)) → decoded characters ≡ o → IsEndLine (between (s ∷ ss)) l ⊎ (IsEndLine (between (s ∷ ss)) l → ⊥)
     here characters spelled None o = inr (λ e.
         let same : e.characters ≡ characters = append_cancel_left (codes "--- ") e.characters characters (sym e.spelled ∙ spelled) in
-        let some : decoded characters ≡ Some e.mac = b64_decoded characters e.mac (subst (λ (z : List ℕ). B64 e.mac z) same e.is) in
+        let some : decoded characters ≡ Some e.mac = b64_decoded characters e.mac (subst (λ (z : List ℕ). IsBase64 e.mac z) same e.is) in
         cc)
     here characters spelled (Some mac) o =
         let is = decoded_b64 characters mac o in
@@ -154,7 +154,7 @@ end_of (between (s ∷ ss)) l = elim (front_of (codes "--- ") l) [
           | inl size ↦ inl (record { stanzas = s ∷ ss; mac = mac; characters = characters; some = λ e. cc; at = refl; size = size; spelled = spelled; is = is })
           | inr other ↦ inr (λ e.
               let same : e.characters ≡ characters = append_cancel_left (codes "--- ") e.characters characters (sym e.spelled ∙ spelled) in
-              let bytes : e.mac ≡ mac = B64-injective e.mac mac characters (subst (λ (z : List ℕ). B64 e.mac z) same e.is) is in
+              let bytes : e.mac ≡ mac = IsBase64-injective e.mac mac characters (subst (λ (z : List ℕ). IsBase64 e.mac z) same e.is) is in
               other (sym (ap length bytes) ∙ e.size))
         ]
 

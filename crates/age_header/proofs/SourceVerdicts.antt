@@ -1,4 +1,4 @@
--- What holds of the bytes that come, whatever they are, is answered of a source.
+-- What holds for any bytes that a source may return holds for the source.
 use Rattle.std.proofs.Common.{◌≡◌, ℕ, List, [], ◌++◌, refl, sym, ap, ◌∙◌, Some, None}
 use Rattle.std.proofs.lemmas.List.{append-nil}
 use Rattle.std.specs.Io.KnownBytes.{Consumes, IsAtEnd}

@@ -3,11 +3,11 @@ use Rattle.std.proofs.Common.{inl, inr, ◌≡◌, ℕ, ◌+◌, ◌*◌, List, 
 use Rattle.std.proofs.lemmas.List.{append-nil}
 use Rattle.std.proofs.lemmas.List.Concat.{flat_map-append}
 use Rattle.std.specs.List.{AllByRecursion, concat}
-use Rattle.age_header.specs.Base64.{B64}
+use Rattle.age_header.specs.Base64.{IsBase64}
 use Rattle.age_header.specs.Header.{StanzaParts, IsStanza, AreStanzas, AreArguments, IsFullLine, argument_line, line, version_line}
 use Rattle.age_header.specs.Steps.{State, between, within, Step}
-use Rattle.age_header.specs.Verdict.{IsFront}
-use Rattle.age_header.proofs.Base64Joined.{B64-append}
+use Rattle.age_header.specs.Verdict.{IsHeaderPrefix}
+use Rattle.age_header.proofs.Base64Joined.{IsBase64-append}
 
 pub record Within (ss : List StanzaParts) (args : List (List ℕ)) (body text : List ℕ) : Type 0 where
   pub whole : List ℕ
@@ -17,7 +17,7 @@ pub record Within (ss : List StanzaParts) (args : List (List ℕ)) (body text : 
   pub arguments : AreArguments args
   pub cut : AllByRecursion IsFullLine full
   pub size : length (concat full) ≡ 4 * groups
-  pub body_text : B64 body (concat full)
+  pub body_text : IsBase64 body (concat full)
   pub spelled : text ≡ whole ++ (argument_line args ++ flat_map line full)
 
 abbrev pub Spells : State → List ℕ → Type 0
@@ -52,7 +52,7 @@ regroup_two w a f l = simp append_assoc
 
 -- a line that leads on adds its text
 pub step_spells : (s : State) (l : List ℕ) (t : State) (text : List ℕ) → Spells s text → Step s l t → Spells t (text ++ line l)
-unfolding B64
+unfolding IsBase64
 step_spells (between ss) l (between ts) text h k = absurd k
 step_spells (between ss) l (within ts args body) text h k = record {
   whole = text;
@@ -62,7 +62,7 @@ step_spells (between ss) l (within ts args body) text h k = record {
   arguments = k.2;
   cut = tt;
   size = refl;
-  body_text = subst (λ (x : List ℕ). B64 x []) (sym k.1) tt;
+  body_text = subst (λ (x : List ℕ). IsBase64 x []) (sym k.1) tt;
   spelled = ap (λ (x : List ℕ). text ++ x) (k.3 ∙ sym (append-nil (argument_line args)));
 }
 step_spells (within ss args body) l (within ts args' body') text h k =
@@ -75,7 +75,7 @@ step_spells (within ss args body) l (within ts args' body') text h k =
       arguments = subst (λ (x : List (List ℕ)). AreArguments x) (sym k.2) h.arguments;
       cut = full_more h.full l h.cut k.3;
       size = rw (concat_more h.full l) (length_more (concat h.full) l h.groups h.size k.3);
-      body_text = rw (k.5, concat_more h.full l) (B64-append h.groups body (concat h.full) more l h.size h.body_text k.4);
+      body_text = rw (k.5, concat_more h.full l) (IsBase64-append h.groups body (concat h.full) more l h.size h.body_text k.4);
       spelled = ap (λ (x : List ℕ). x ++ line l) h.spelled ∙ rw (k.2, lines_more h.full l) (regroup h.whole (argument_line args) (flat_map line h.full) (line l));
     }
 step_spells (within ss args body) l (between ts) text h k =
@@ -86,7 +86,7 @@ step_spells (within ss args body) l (between ts) text h k =
       last = l;
       arguments = h.arguments;
       cut = (h.cut, k.1);
-      body = B64-append h.groups body (concat h.full) more l h.size h.body_text k.2;
+      body = IsBase64-append h.groups body (concat h.full) more l h.size h.body_text k.2;
       spelled = refl;
     } in
     let all = stanzas_more ss s h.whole _ h.stanza_text one in
@@ -95,7 +95,7 @@ step_spells (within ss args body) l (between ts) text h k =
     rw (k.3, is) all
 
 -- what a state stands for is the front of a header
-pub spells_front : (s : State) (text : List ℕ) → Spells s text → IsFront (version_line ++ text)
+pub spells_front : (s : State) (text : List ℕ) → Spells s text → IsHeaderPrefix (version_line ++ text)
 spells_front (between ss) text h = record {
   stanzas = ss;
   whole = text;

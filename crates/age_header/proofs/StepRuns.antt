@@ -2,10 +2,10 @@
 use Rattle.std.proofs.Common.{◌≡◌, ℕ, ◌*◌, List, [], ◌∷◌, ◌++◌, length, refl, sym, ap, append_assoc, ◌∙◌, subst}
 use Rattle.std.proofs.lemmas.List.{append-nil}
 use Rattle.std.specs.List.{AllByRecursion, concat}
-use Rattle.age_header.specs.Base64.{B64}
+use Rattle.age_header.specs.Base64.{IsBase64}
 use Rattle.age_header.specs.Header.{StanzaParts, AreArguments, IsFullLine, argument_line, line}
 use Rattle.age_header.specs.Steps.{State, between, within, Step, Leads}
-use Rattle.age_header.proofs.Base64Joined.{B64-append, B64-split}
+use Rattle.age_header.proofs.Base64Joined.{IsBase64-append, IsBase64-split}
 
 pub Leads-append : (s m t : State) (ks ls : List (List ℕ)) → Leads s ks m → Leads m ls t → Leads s (ks ++ ls) t
 Leads-append s m t [] ls h k = subst (λ (x : State). Leads x ls t) (sym h) k
@@ -17,14 +17,14 @@ Leads-split s t (l ∷ ks) ls h = let r = Leads-split h.0 t ks ls h.2 in (r.0, (
 
 -- full lines add their bytes to an open stanza
 pub full_lead : (ss : List StanzaParts) (args : List (List ℕ)) (body bytes : List ℕ) (full : List (List ℕ)) (last : List ℕ)
-    → AllByRecursion IsFullLine full → B64 bytes (concat full ++ last)
-    → (front : List ℕ) × (back : List ℕ) × (bytes ≡ front ++ back) × B64 front (concat full) × B64 back last × Leads (within ss args body) full (within ss args (body ++ front))
-unfolding B64
+    → AllByRecursion IsFullLine full → IsBase64 bytes (concat full ++ last)
+    → (front : List ℕ) × (back : List ℕ) × (bytes ≡ front ++ back) × IsBase64 front (concat full) × IsBase64 back last × Leads (within ss args body) full (within ss args (body ++ front))
+unfolding IsBase64
 full_lead ss args body bytes [] last cut h = ([], bytes, refl, tt, h, ap (λ (b : List ℕ). within ss args b) (sym (append-nil body)))
 full_lead ss args body bytes (f ∷ full) last cut h =
     let n : length f ≡ 4 * 16 = cut.0 in
     let h' = rw append_assoc at h in
-    let parts = B64-split 16 bytes f (concat full ++ last) n h' in
+    let parts = IsBase64-split 16 bytes f (concat full ++ last) n h' in
     let a : List ℕ = parts.0 in
     let b : List ℕ = parts.1 in
     let rest = full_lead ss args (body ++ a) b full last cut.1 parts.4 in
@@ -34,7 +34,7 @@ full_lead ss args body bytes (f ∷ full) last cut h =
       a ++ front,
       rest.1,
       whole,
-      B64-append 16 a f front (concat full) n parts.3 rest.3,
+      IsBase64-append 16 a f front (concat full) n parts.3 rest.3,
       rest.4,
       (within ss args (body ++ a), (a, refl, refl, cut.0, parts.3, refl), lead),
     )
@@ -46,7 +46,7 @@ no_arguments ss l (between ts) none h = h
 no_arguments ss l (within ts args body) none h = none args h.2 h.3
 
 -- a line that is no base64 leads nowhere within a stanza
-pub no_base64 : (ss : List StanzaParts) (args : List (List ℕ)) (body l : List ℕ) (s : State) → ((b : List ℕ) → B64 b l → ⊥)
+pub no_base64 : (ss : List StanzaParts) (args : List (List ℕ)) (body l : List ℕ) (s : State) → ((b : List ℕ) → IsBase64 b l → ⊥)
     → Step (within ss args body) l s → ⊥
 no_base64 ss args body l (between ts) none h = none h.0 h.2
 no_base64 ss args body l (within ts args' body') none h = none h.0 h.4

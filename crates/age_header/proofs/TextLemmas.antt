@@ -7,11 +7,11 @@ use Rattle.base64.specs.Rfc4648.{encode_symbols, unpadded_len}
 use Rattle.base64.proofs.RoundTrip.{length-encode_symbols}
 use Rattle.base64.specs.GeneralPurpose.{IsBytes, IsEncodedOver, encode_of, encoded_size_of}
 use Rattle.base64.specs.declared.engine.general_purpose.GeneralPurpose.{GeneralPurpose}
-use Rattle.age_header.specs.Base64.{B64, alphabet, base64_of}
+use Rattle.age_header.specs.Base64.{IsBase64, alphabet, base64_of}
 use Rattle.age_header.specs.Header.{StanzaParts, Head, IsStanza, AreStanzas, IsFullLine, argument_line, line, version_line}
 use Rattle.age_header.specs.Text.{IsPlain, IsWhole, IsHeaderValue, body_lines, body_text, stanza_text, signed, mac_end}
-use Rattle.age_header.proofs.Base64Lemmas.{B64-encode, encode_of-unpadded}
-use Rattle.age_header.proofs.Base64Joined.{B64-append}
+use Rattle.age_header.proofs.Base64Lemmas.{IsBase64-encode, encode_of-unpadded}
+use Rattle.age_header.proofs.Base64Joined.{IsBase64-append}
 
 -- what the engine wrote into a buffer
 pub encoded : (e : GeneralPurpose) (m old new : List ℕ) (len : ℕ) → IsPlain e → IsEncodedOver e m old new → len ≡ encoded_size_of e (length m)
@@ -76,9 +76,9 @@ bytes_take n b h i = elim (cases_lt i n) [
 bytes_drop : (n : ℕ) (b : List ℕ) → IsBytes b → IsBytes (drop n b)
 bytes_drop n b h i = rw (get_or-drop n b i 0) (h (n + i))
 
-pub signs_are : (b : List ℕ) → IsBytes b → B64 b (base64_of b)
+pub characters_are : (b : List ℕ) → IsBytes b → IsBase64 b (base64_of b)
 unfolding base64_of
-signs_are b h = B64-encode b h
+characters_are b h = IsBase64-encode b h
 
 pub signs_size : (b : List ℕ) → length (base64_of b) ≡ (4 * length b + 2) / 3
 unfolding base64_of
@@ -89,7 +89,7 @@ record Cut (n : ℕ) (b : List ℕ) : Type 0 where
   last : List ℕ
   each : AllByRecursion IsFullLine full
   low : length last < 64
-  text : B64 b (concat full ++ last)
+  text : IsBase64 b (concat full ++ last)
   spelled : body_lines n b ≡ flat_map line full ++ line last
 
 cut : (n : ℕ) (b : List ℕ) → IsBytes b → 48 * n ≤ length b → length b < 48 * n + 48 → Cut n b
@@ -99,7 +99,7 @@ cut zero b h low high = record {
   last = base64_of b;
   each = tt;
   low = omega (arith, signs_size b);
-  text = signs_are b h;
+  text = characters_are b h;
   spelled = refl;
 }
 cut (suc n) b h low high =
@@ -109,13 +109,13 @@ cut (suc n) b h low high =
     let full : length (base64_of front) ≡ 64 = omega (arith, signs_size front) in
     let four : length (base64_of front) ≡ 4 * 16 = full in
     let rest = cut n back (bytes_drop 48 b h) (omega (arith, length-drop 48 b)) (omega (arith, length-drop 48 b)) in
-    let both = B64-append 16 front (base64_of front) back (concat rest.full ++ rest.last) four (signs_are front (bytes_take 48 b h)) rest.text in
+    let both = IsBase64-append 16 front (base64_of front) back (concat rest.full ++ rest.last) four (characters_are front (bytes_take 48 b h)) rest.text in
     record {
       full = base64_of front ∷ rest.full;
       last = rest.last;
       each = (full, rest.each);
       low = rest.low;
-      text = rw (append_assoc (base64_of front) (concat rest.full) rest.last) (subst (λ (z : List ℕ). B64 z (base64_of front ++ (concat rest.full ++ rest.last))) (take-append-drop 48 b) both);
+      text = rw (append_assoc (base64_of front) (concat rest.full) rest.last) (subst (λ (z : List ℕ). IsBase64 z (base64_of front ++ (concat rest.full ++ rest.last))) (take-append-drop 48 b) both);
       spelled = ap (λ (z : List ℕ). line (base64_of front) ++ z) rest.spelled ∙ sym (append_assoc (line (base64_of front)) (flat_map line rest.full) (line rest.last));
     }
 
@@ -144,6 +144,6 @@ header_text_is ss mac h = record {
   some = h.some;
   stanza_text = stanzas_text_is ss h.each;
   mac_len = h.mac_len;
-  mac_text = signs_are mac h.mac_bytes;
+  mac_text = characters_are mac h.mac_bytes;
   spelled = append_assoc (version_line ++ flat_map stanza_text ss) (codes "---") (32 ∷ (base64_of mac ++ 10 ∷ []));
 }

@@ -42,7 +42,7 @@ done_part a b c whole left x y d e w =
 pub done_last : (a b c : Option (List ℕ)) (whole left : List ℕ) → Done a b whole left → WritesPart b c left → WritesPart a c whole
 done_last a b c whole left d w = done_part a b c whole left left [] d (sym (append-nil left)) w
 
--- at the exit of a `?` a beginning was written
+-- at the exit of a `?` a prefix was written
 pub part_at_exit : {T E : Type 0} (Q : E → Type 0) (a b : Option (List ℕ)) (r : Result T E) (text : List ℕ) → IsErrAnd r Q → WritesPart a b text → Writes a b r text
 part_at_exit Q a b r text exit part = let p = err_from_is_err_and r exit in rw p.1 part
 

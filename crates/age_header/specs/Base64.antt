@@ -1,5 +1,5 @@
 -- Base64 without padding (RFC 4648, sections 3.2, 3.5 and 4), as a relation between bytes and
--- characters. It is canonical: bits that no byte fills are zero.
+-- characters. It is canonical: the pad bits are zero.
 use Rattle.std.specs.Prelude.{◌≡◌, ℕ, ◌+◌, ◌*◌, ◌/◌, ◌%◌, ◌<◌, ◌==◌, [], ◌∷◌, slice_index, codes, if◌then◌else◌}
 use Rattle.std.specs.List.{position_or_len}
 use Rattle.std.specs.Str.{bytes_eq}
@@ -12,7 +12,7 @@ use Rattle.base64.specs.Rfc4648.{encode_symbols}
 unfoldable pub alphabet : Bytes
 alphabet = codes "ABCDEFGHIJKLMNOPQRSTUVWXYZabcdefghijklmnopqrstuvwxyz0123456789+/"
 
--- the sign c stands for the six bits v
+-- the character c encodes the six bits v
 abbrev pub StandsFor : (c v : ℕ) → Type 0
 StandsFor c v = (v < 64) × (c ≡ slice_index alphabet v)
 
@@ -35,18 +35,19 @@ IsThree a b c p q r s =
     × ((a * 256 + b) * 256 + c ≡ ((u * 64 + v) * 64 + w) * 64 + x)
 
 -- the characters are the base64 of the bytes
-unfoldable pub B64 : (bytes characters : Bytes) → Type 0
-B64 [] [] = Unit {0}
-B64 (a ∷ []) (p ∷ q ∷ []) = IsOne a p q
-B64 (a ∷ b ∷ []) (p ∷ q ∷ r ∷ []) = IsTwo a b p q r
-B64 (a ∷ b ∷ c ∷ bytes) (p ∷ q ∷ r ∷ s ∷ characters) = IsThree a b c p q r s × B64 bytes characters
-B64 _ _ = ⊥
+unfoldable pub IsBase64 : (bytes characters : Bytes) → Type 0
+IsBase64 [] [] = Unit {0}
+IsBase64 (a ∷ []) (p ∷ q ∷ []) = IsOne a p q
+IsBase64 (a ∷ b ∷ []) (p ∷ q ∷ r ∷ []) = IsTwo a b p q r
+IsBase64 (a ∷ b ∷ c ∷ bytes) (p ∷ q ∷ r ∷ s ∷ characters) =
+    IsThree a b c p q r s × IsBase64 bytes characters
+IsBase64 _ _ = ⊥
 
 -- the base64 of bytes, as a function
 unfoldable pub base64_of : Bytes → Bytes
 base64_of bytes = encode_symbols alphabet bytes
 
--- the value of a sign
+-- the value of a character
 unfoldable pub value_of : ℕ → ℕ
 value_of c = position_or_len (λ b. b == c) alphabet
 

@@ -14,7 +14,7 @@ Known = Option Bytes
 abbrev pub Counts : {A E : Type 0} (old new : ℕ) (r : Result A E) → Type 0
 Counts old new r = MatchResult r (λ _. new ≡ old) (λ _. new ≡ min (old + 1) (2 ^ 64 - 1))
 
--- Ok(n) gives the next n bytes, and none of them with room only at the end; an Err says nothing of
+-- Ok(n) gives the next n bytes, and 0 for a nonempty buffer only at the end; an Err says nothing of
 -- the bytes
 abbrev pub Gives : {E : Type 0} (old new : Known) (r : Result ℕ E) (buf : Bytes) → Type 0
 Gives old new r buf =
@@ -27,11 +27,11 @@ Takes old new r piece =
     MatchResult r (λ n. Appends old new (take n piece) × (0 < length piece → 0 < n))
     (λ _. Keeps old new)
 
--- a beginning of the text was written
+-- a prefix of the text was written
 abbrev pub WritesPart : (old new : Known) (text : Bytes) → Type 0
 WritesPart old new text = (n : ℕ) × Appends old new (take n text)
 
--- on Ok the text was written, on an Err a beginning of it
+-- on Ok the text was written, on an Err a prefix of it
 abbrev pub Writes : {A E : Type 0} (old new : Known) (r : Result A E) (text : Bytes) → Type 0
 Writes old new r text = MatchResult r (λ _. Appends old new text) (λ _. WritesPart old new text)
 

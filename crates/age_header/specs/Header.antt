@@ -3,7 +3,7 @@
 use Rattle.std.specs.Prelude.{◌≡◌, ◌≢◌, ℕ, ◌<◌, ◌≤◌, List, [], ◌∷◌, ◌++◌, length, codes, flat_map}
 use Rattle.std.specs.List.{concat, AllByRecursion}
 use Rattle.age_kdf.specs.Bytes.{Bytes}
-use Rattle.age_header.specs.Base64.{B64}
+use Rattle.age_header.specs.Base64.{IsBase64}
 
 -- a stanza: its arguments, each as its bytes, and its body
 pub record StanzaParts : Type 0 where
@@ -61,7 +61,7 @@ pub record IsStanza (s : StanzaParts) (text : Bytes) : Type 0 where
   pub last : Bytes
   pub arguments : AreArguments s.args
   pub cut : AllByRecursion IsFullLine full × (length last < line_size)
-  pub body : B64 s.body (concat full ++ last)
+  pub body : IsBase64 s.body (concat full ++ last)
   pub spelled : text ≡ argument_line s.args ++ flat_map line full ++ line last
 
 -- the texts of stanzas, one after the other
@@ -78,7 +78,7 @@ pub record Head (stanzas : List StanzaParts) (mac : Bytes) (h : Bytes) : Type 0 
   pub some : stanzas ≢ []
   pub stanza_text : AreStanzas stanzas body
   pub mac_len : length mac ≡ mac_size
-  pub mac_text : B64 mac characters
+  pub mac_text : IsBase64 mac characters
   pub spelled : h ≡ version_line ++ body ++ line (codes "--- " ++ characters)
 
 -- a header as a value: its stanzas and its MAC

@@ -14,11 +14,11 @@ taken text Lf = text ++ 10 ∷ []
 taken text Input = text
 taken text Room = text
 
--- how a line of at most room bytes ended, and what the source still has
-abbrev pub IsEnd : (end : LineEnd) (len room : ℕ) (left : Option Bytes) → Type 0
-IsEnd Lf len room left = len < room
-IsEnd Input len room left = (len < room) × IsAtEnd left
-IsEnd Room len room left = len ≡ room
+-- how a line of at most `max_len` bytes ended, and what the source still has
+abbrev pub IsEnd : (end : LineEnd) (len max_len : ℕ) (left : Option Bytes) → Type 0
+IsEnd Lf len max_len left = len < max_len
+IsEnd Input len max_len left = (len < max_len) × IsAtEnd left
+IsEnd Room len max_len left = len ≡ max_len
 
 -- only a read or memory failed
 abbrev pub IsOutside : HeaderFault → Type 0

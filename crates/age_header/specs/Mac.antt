@@ -8,5 +8,5 @@ use Rattle.age_header.specs.Text.{signed}
 
 -- HMAC-SHA-256 of the header through `---`, under a key of 32 bytes that HKDF-SHA-256 makes of the
 -- file key
-unfoldable pub header_mac : (key : Bytes) (stanzas : List StanzaParts) → Bytes
-header_mac key stanzas = hmac (hkdf key [] (codes "header") 32) (signed stanzas)
+unfoldable pub header_mac : (file_key : Bytes) (stanzas : List StanzaParts) → Bytes
+header_mac file_key stanzas = hmac (hkdf file_key [] (codes "header") 32) (signed stanzas)

@@ -1,7 +1,7 @@
 -- The lines of a header between the version line and the end line, one after the other.
 use Rattle.std.specs.Prelude.{◌≡◌, ◌<◌, List, [], ◌∷◌, ◌++◌, length}
 use Rattle.age_kdf.specs.Bytes.{Bytes}
-use Rattle.age_header.specs.Base64.{B64}
+use Rattle.age_header.specs.Base64.{IsBase64}
 use Rattle.age_header.specs.Header.{StanzaParts, AreArguments, IsFullLine, argument_line, line, line_size}
 
 -- between two stanzas, or within one: the whole stanzas, and of the open one its arguments and
@@ -16,10 +16,10 @@ Step (between ss) l (between ts) = ⊥
 Step (between ss) l (within ts args body) =
     (ts ≡ ss) × (body ≡ []) × AreArguments args × (line l ≡ argument_line args)
 Step (within ss args body) l (within ts args' body') =
-    (more : Bytes) × (ts ≡ ss) × (args' ≡ args) × IsFullLine l × B64 more l
+    (more : Bytes) × (ts ≡ ss) × (args' ≡ args) × IsFullLine l × IsBase64 more l
     × (body' ≡ body ++ more)
 Step (within ss args body) l (between ts) =
-    (more : Bytes) × (length l < line_size) × B64 more l
+    (more : Bytes) × (length l < line_size) × IsBase64 more l
     × (ts ≡ ss ++ record { args = args; body = body ++ more } ∷ [])
 
 -- how lines lead from one state to another

@@ -7,7 +7,7 @@ use Rattle.std.specs.declared.result.Result.TheVariants.{Ok, Err}
 use Rattle.age_kdf.specs.Bytes.{Bytes}
 use Rattle.age_header.specs.declared.fault.HeaderFault.{HeaderFault}
 use Rattle.age_header.specs.declared.fault.HeaderFault.TheVariants.{NotAge, BadLine, Truncated, TooLarge, Read, Memory}
-use Rattle.age_header.specs.Base64.{B64}
+use Rattle.age_header.specs.Base64.{IsBase64}
 use Rattle.age_header.specs.Header.{StanzaParts, Head, AreStanzas, AreArguments, IsFullLine, argument_line, line, version_line, version_size}
 
 -- an unfinished stanza: an argument line, and full lines of base64
@@ -17,11 +17,11 @@ pub record IsOpenStanza (text : Bytes) : Type 0 where
   pub bytes : Bytes
   pub arguments : AreArguments args
   pub cut : AllByRecursion IsFullLine full
-  pub body : B64 bytes (concat full)
+  pub body : IsBase64 bytes (concat full)
   pub spelled : text ≡ argument_line args ++ flat_map line full
 
 -- the version line, whole stanzas, then nothing or an unfinished stanza
-pub record IsFront (text : Bytes) : Type 0 where
+pub record IsHeaderPrefix (text : Bytes) : Type 0 where
   pub stanzas : List StanzaParts
   pub whole : Bytes
   pub rest : Bytes
@@ -31,7 +31,7 @@ pub record IsFront (text : Bytes) : Type 0 where
 
 -- whole lines from which a header can still come, or nothing yet
 abbrev pub IsViable : Bytes → Type 0
-IsViable text = (text ≡ []) ⊎ IsFront text
+IsViable text = (text ≡ []) ⊎ IsHeaderPrefix text
 
 -- some stanzas and MAC have this text
 abbrev pub IsHeader : Bytes → Type 0
@@ -67,7 +67,7 @@ IsUndecided b = (ls : List Bytes) → Decides ls b → ⊥
 abbrev pub BeginsAsAge : Bytes → Type 0
 BeginsAsAge b = StartsWith version_line (take version_size b)
 
--- a header that stands in a text: its stanzas, its MAC, and its own bytes
+-- a header that a text begins with: its stanzas, its MAC, and its own bytes
 pub record Found : Type 0 where
   pub stanzas : List StanzaParts
   pub mac : Bytes

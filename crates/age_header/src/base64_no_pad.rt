@@ -4,7 +4,7 @@
 ghost use Rattle.std.specs.Prelude.{◌≡◌, IfOk, IfSome, IfNone, option_map};
 ghost use Rattle.std.specs.String.{string_bytes};
 ghost use Rattle.age_kdf.specs.Bytes.{Bytes};
-ghost use Rattle.age_header.specs.Base64.{B64, decoded, base64_of};
+ghost use Rattle.age_header.specs.Base64.{IsBase64, decoded, base64_of};
 ghost use Rattle.age_header.specs.Text.{IsPlain};
 
 use base64::DecodeAllocError;
@@ -33,8 +33,8 @@ pub fn decode(
 ) -> Result<Option<Vec<u8>>, AllocError>
     requires { IsPlain engine.now }
     ensures value { IfOk result (λ o. option_map (λ v. v.items) o ≡ decoded text.now) }
-    ensures some { IfOk result (λ o. IfSome o (λ v. B64 v.items text.now)) }
-    ensures none { IfOk result (λ o. IfNone o ((b : Bytes) → B64 b text.now → ⊥)) }
+    ensures some { IfOk result (λ o. IfSome o (λ v. IsBase64 v.items text.now)) }
+    ensures none { IfOk result (λ o. IfNone o ((b : Bytes) → IsBase64 b text.now → ⊥)) }
 {
     match engine.decode(alloc, text) {
         Ok(bytes) => Ok(Some(bytes)),

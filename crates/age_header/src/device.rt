@@ -115,8 +115,8 @@ impl<'a> Source for MemSource<'a> {
     }
 }
 
-/// A sink that appends to its vector. It writes a piece whole, and fails only if its vector has no
-/// room for the piece and the allocation is refused.
+/// A sink that appends to its vector. It writes a piece whole, and fails only if the piece exceeds
+/// its vector's spare capacity and the allocation is refused.
 #[derive(Drop)]
 pub struct MemSink {
     out: Vec<u8>,

@@ -1,3 +1,5 @@
+//! The faults of a header.
+
 /// The errors of reading a header.
 #[derive(Clone, Copy, Debug, Drop, PartialEq, Eq)]
 pub enum HeaderFault {

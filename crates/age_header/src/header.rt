@@ -1,3 +1,5 @@
+//! A header as a value.
+
 ghost use Rattle.std.specs.Prelude.{◌≡◌, ◌≢◌, ◌-◌, ◌^◌, [], length, min, IfSome, IfNone};
 
 use crate::base64_no_pad;
@@ -24,7 +26,7 @@ impl Model for Header {
 }
 
 impl Header {
-    ghost use Rattle.age_header.specs.Base64.{B64};
+    ghost use Rattle.age_header.specs.Base64.{IsBase64};
     ghost use Rattle.age_header.specs.Header.{Head};
     ghost use Rattle.age_header.specs.Text.{IsHeaderValue};
     ghost use Rattle.age_header.specs.Device.{Bytes};
@@ -63,7 +65,7 @@ impl Header {
 
     /// The base64 of the MAC, 43 characters, as in the end line.
     pub fn mac_signs(&self) -> [u8; 43]
-        ensures { B64 self.now.mac result }
+        ensures { IsBase64 self.now.mac result }
     {
         let mut characters = [0u8; 43];
         let Ok(_) = base64_no_pad::engine().encode_slice(&self.mac, &mut characters) else {

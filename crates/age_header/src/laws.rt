@@ -6,7 +6,7 @@ ghost use Rattle.std.specs.declared.result.Result.{Result};
 ghost use Rattle.age_kdf.specs.Bytes.{Bytes};
 ghost use Rattle.age_header.specs.declared.fault.HeaderFault.{HeaderFault};
 ghost use Rattle.base64.specs.GeneralPurpose.{IsBytes};
-ghost use Rattle.age_header.specs.Base64.{B64, decoded, base64_of};
+ghost use Rattle.age_header.specs.Base64.{IsBase64, decoded, base64_of};
 ghost use Rattle.age_header.specs.Header.{StanzaParts, Head};
 ghost use Rattle.age_header.specs.Text.{signed};
 ghost use Rattle.age_header.specs.Verdict.{Found, HeaderVerdict, BeginsWith};
@@ -15,8 +15,8 @@ ghost use Rattle.age_header.specs.Verdict.{Found, HeaderVerdict, BeginsWith};
 /// their base64.
 pub fn one_base64()
     ensures decoded { (characters bytes : Bytes)
-        → (decoded characters ≡ Some bytes) ↔ B64 bytes characters }
-    ensures encoded { (bytes : Bytes) → IsBytes bytes → B64 bytes (base64_of bytes) }
+        → (decoded characters ≡ Some bytes) ↔ IsBase64 bytes characters }
+    ensures encoded { (bytes : Bytes) → IsBytes bytes → IsBase64 bytes (base64_of bytes) }
 {}
 
 /// A header's text has one reading, stanzas and a MAC have one text, and no header's text begins

@@ -1,3 +1,5 @@
+//! Reading one line.
+
 ghost use Rattle.std.specs.Prelude.{◌≡◌, length, IfOk, IfErr};
 ghost use Rattle.std.specs.Io.KnownBytes.{Consumes};
 ghost use Rattle.age_header.specs.Verdict.{IsLineText};
@@ -15,25 +17,26 @@ pub(crate) enum LineEnd {
     Lf,
     /// The end of the input.
     Input,
-    /// The limit `room`: the line is longer.
+    /// The limit `max_len`: the line is longer.
     Room,
 }
 
-/// Reads one line, of at most `room` bytes with its LF, and no byte after it, so byte by byte.
+/// Reads one line of at most `max_len` bytes, its LF included. It reads byte by byte, so that it
+/// reads no byte after the line.
 pub(crate) fn read_line<S: Source>(
     alloc: Global,
     input: &mut S,
-    room: usize,
+    max_len: usize,
 ) -> Result<(Vec<u8>, LineEnd), HeaderFault>
     ensures count { CountsRead (S.failed input.old) (S.failed input.new) result }
     ensures bytes { IfOk result (λ l. Consumes (S.to_come input.old) (S.to_come input.new)
         (taken l.0.items l.1)) }
     ensures text { IfOk result (λ l. IsLineText l.0.items) }
-    ensures end { IfOk result (λ l. IsEnd l.1 (length l.0.items) room (S.to_come input.new)) }
+    ensures end { IfOk result (λ l. IsEnd l.1 (length l.0.items) max_len (S.to_come input.new)) }
     ensures err { IfErr result IsOutside }
 {
     let mut line = Vec::new(alloc);
-    for _ in 0..room {
+    for _ in 0..max_len {
         let mut byte = [0u8; 1];
         let Ok(count) = input.read(&mut byte) else {
             return Err(HeaderFault::Read);

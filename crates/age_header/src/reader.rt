@@ -3,8 +3,8 @@
 ghost use Rattle.std.specs.Prelude.{◌≡◌, ◌≤◌, ◌++◌, length, codes, None, Err, IfOk, IfErr, OnOk, IfSome, IfNone};
 ghost use Rattle.std.specs.Io.KnownBytes.{Consumes};
 ghost use Rattle.age_kdf.specs.Bytes.{Bytes};
-ghost use Rattle.age_header.specs.Base64.{B64};
-ghost use Rattle.age_header.specs.Header.{version_line};
+ghost use Rattle.age_header.specs.Base64.{IsBase64};
+ghost use Rattle.age_header.specs.Header.{mac_size, version_line, version_size};
 ghost use Rattle.age_header.specs.Reader.{ReadsHeader, CountsRead};
 ghost use Rattle.age_header.specs.Text.{IsPlain};
 
@@ -117,7 +117,7 @@ fn read_header<S: Source>(alloc: Global, input: &mut S, max: usize) -> Result<He
 fn read_version<S: Source>(alloc: Global, input: &mut S, max: usize) -> Result<(), HeaderFault>
     ensures count { CountsRead (S.failed input.old) (S.failed input.new) result }
     ensures ok { OnOk result
-        ((22 ≤ max) × Consumes (S.to_come input.old) (S.to_come input.new) version_line) }
+        ((version_size ≤ max) × Consumes (S.to_come input.old) (S.to_come input.new) version_line) }
     ensures err { IfErr result
         (λ e. ReadsHeader (S.to_come input.old) (S.to_come input.new) max (Err e)) }
 {
@@ -145,9 +145,10 @@ fn end_mac(
 ) -> Result<Option<[u8; 32]>, AllocError>
     requires { IsPlain engine.now }
     ensures some { IfOk result (λ o. IfSome o (λ mac. (characters : Bytes)
-        × (length mac ≡ 32) × (text.now ≡ codes "--- " ++ characters) × B64 mac characters)) }
-    ensures none { IfOk result (λ o. IfNone o ((mac characters : Bytes) → length mac ≡ 32
-        → text.now ≡ codes "--- " ++ characters → B64 mac characters → ⊥)) }
+        × (length mac ≡ mac_size) × (text.now ≡ codes "--- " ++ characters)
+        × IsBase64 mac characters)) }
+    ensures none { IfOk result (λ o. IfNone o ((mac characters : Bytes) → length mac ≡ mac_size
+        → text.now ≡ codes "--- " ++ characters → IsBase64 mac characters → ⊥)) }
 {
     let Some(characters) = strip_prefix(text, b"--- ") else {
         return Ok(None);

@@ -1,3 +1,5 @@
+//! A stanza as a value.
+
 ghost use Rattle.std.specs.Prelude.{◌≡◌, ◌↔◌, ◌++◌, [], map, IfOk, IfErr, OnOk, IsTrue};
 ghost use Rattle.std.specs.List.{AllByRecursion};
 

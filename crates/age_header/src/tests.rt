@@ -194,8 +194,8 @@ fn stanza_of_30000_arguments_is_read(rt: HostRuntime) -> Result<(), Fail> {
     Ok(())
 }
 
-/// The header of these stanzas, each its arguments and a body of so many zero bytes, and a MAC of
-/// zero bytes.
+/// The header of these stanzas, each its arguments and the number of zero bytes in its body, and a
+/// MAC of zero bytes.
 fn written(rt: &impl Abort, alloc: Global, stanzas: &[(&[&str], usize)]) -> Result<Vec<u8>, Fail> {
     let mut list = Vec::new(alloc);
     for (args, len) in stanzas {

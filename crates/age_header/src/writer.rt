@@ -4,7 +4,7 @@ ghost use Rattle.std.specs.Prelude.{◌≡◌, ◌≤◌, length, map};
 ghost use Rattle.std.specs.String.{string_bytes};
 ghost use Rattle.age_kdf.specs.Bytes.{Bytes};
 ghost use Rattle.age_header.specs.Device.{Counts, Writes};
-ghost use Rattle.age_header.specs.Header.{Head, argument_line};
+ghost use Rattle.age_header.specs.Header.{Head, argument_line, bytes_of_a_line};
 ghost use Rattle.age_header.specs.Base64.{base64_of};
 ghost use Rattle.age_header.specs.Text.{IsPlain, body_text, stanza_text, signed, mac_end};
 
@@ -95,7 +95,7 @@ fn write_base64<W: Sink>(
     engine: &GeneralPurpose,
     out: &mut W,
 ) -> Result<(), DeviceFault>
-    requires short { length bytes.now ≤ 48 }
+    requires short { length bytes.now ≤ bytes_of_a_line }
     requires plain { IsPlain engine.now }
     ensures text { Writes (W.taken out.old) (W.taken out.new) result (base64_of bytes.now) }
     ensures count { Counts (W.failed out.old) (W.failed out.new) result }

@@ -1,5 +1,5 @@
--- What identities answer: what a stanza of their own type gives, and of several answers the first
--- that decides.
+-- The answer of an identity to one stanza of its own type, and the first of several answers that
+-- decides.
 use Rattle.std.specs.Prelude.{List, [], ◌∷◌, if◌then◌else◌}
 use Rattle.std.specs.Str.{bytes_eq}
 use Rattle.std.specs.declared.option.Option.{Option}
@@ -8,14 +8,14 @@ use Rattle.age_kdf.specs.Bytes.{Bytes}
 use Rattle.age_recipient.specs.declared.unwrapped.Unwrapped.{Unwrapped}
 use Rattle.age_recipient.specs.declared.unwrapped.Unwrapped.TheVariants.{NotMine, Failed, Key, Malformed}
 
--- The first answer that is a key or a malformed stanza; where none is, `rest`, which is `Failed`
+-- The first answer that is a key or a malformed stanza; where none is, `so_far`, which is `Failed`
 -- once one of them was.
-abbrev pub decided_from : (rest : Unwrapped) (answers : List Unwrapped) → Unwrapped
-decided_from rest [] = rest
-decided_from rest (Key key ∷ more) = Key key
-decided_from rest (Malformed fault ∷ more) = Malformed fault
-decided_from rest (Failed ∷ more) = decided_from Failed more
-decided_from rest (NotMine ∷ more) = decided_from rest more
+abbrev pub decided_from : (so_far : Unwrapped) (answers : List Unwrapped) → Unwrapped
+decided_from so_far [] = so_far
+decided_from so_far (Key file_key ∷ more) = Key file_key
+decided_from so_far (Malformed fault ∷ more) = Malformed fault
+decided_from so_far (Failed ∷ more) = decided_from Failed more
+decided_from so_far (NotMine ∷ more) = decided_from so_far more
 
 -- the answer of a list of answers
 abbrev pub decided : List Unwrapped → Unwrapped

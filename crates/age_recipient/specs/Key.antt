@@ -6,7 +6,7 @@ use Rattle.age_recipient.specs.declared.key.FileKey.{FileKey}
 abbrev pub file_key_size : ℕ
 file_key_size = 16
 
--- so many bytes, as the file key of every call has
-pub record IsFileKey (key : FileKey) : Type 0 where
-  pub len : length key.0 ≡ file_key_size
-  pub bytes : (i : ℕ) → slice_index key.0 i < 256
+-- 16 bytes, as the file key of every call has
+pub record IsFileKey (file_key : FileKey) : Type 0 where
+  pub len : length file_key.0 ≡ file_key_size
+  pub bytes : (i : ℕ) → slice_index file_key.0 i < 256

@@ -2,6 +2,7 @@
 use Rattle.std.specs.Prelude.{ℕ, List, [], ◌∷◌, map}
 use Rattle.std.specs.declared.result.Result.{Result}
 use Rattle.std.specs.declared.result.Result.TheVariants.{Ok}
+use Rattle.age_cipher.specs.Bytes.{Key}
 use Rattle.age_kdf.specs.Bytes.{Bytes}
 use Rattle.age_header.specs.Header.{StanzaParts}
 use Rattle.age_recipient.specs.declared.key.FileKey.{FileKey}
@@ -11,7 +12,7 @@ use Rattle.age_recipient.specs.KeyedStanza.{keyed_answer, keyed_stanza}
 
 -- what a recipient holds; an identity holds the key alone
 pub record KeySecret : Type 0 where
-  pub key : Bytes
+  pub key : Key
   pub salt : Bytes
 
 -- a recipient gives one stanza for each file key
@@ -19,5 +20,5 @@ abbrev pub key_wraps : (r : KeySecret) (file_key : FileKey) → Result (List Sta
 key_wraps r file_key = Ok (keyed_stanza r.key r.salt file_key ∷ [])
 
 -- an identity goes through the stanzas in order
-abbrev pub key_unwraps : (key : Bytes) (stanzas : List StanzaParts) → Unwrapped
+abbrev pub key_unwraps : (key : Key) (stanzas : List StanzaParts) → Unwrapped
 key_unwraps key stanzas = decided (map (keyed_answer key) stanzas)

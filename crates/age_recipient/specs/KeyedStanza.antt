@@ -2,6 +2,7 @@
 use Rattle.std.specs.Prelude.{List, [], ◌∷◌, length, codes, nat_eq, if◌then◌else◌}
 use Rattle.std.specs.declared.option.Option.{Option}
 use Rattle.std.specs.declared.option.Option.TheVariants.{None, Some}
+use Rattle.age_cipher.specs.Bytes.{Key}
 use Rattle.age_kdf.specs.Bytes.{Bytes}
 use Rattle.age_kdf.specs.Hkdf.{hkdf}
 use Rattle.age_header.specs.Base64.{decoded, base64_of}
@@ -14,31 +15,35 @@ use Rattle.age_recipient.specs.Answer.{after_type, typed_answer}
 use Rattle.age_recipient.specs.Salt.{salt_of}
 use Rattle.age_recipient.specs.Sealing.{sealed_key, unsealed, sealed_key_size}
 
--- the key that wraps the file key
-unfoldable pub wrap_key : (key salt : Bytes) → Bytes
-wrap_key key salt = hkdf key salt (codes "example.org/key") 32
+-- the type of the stanza, its first argument
+abbrev pub keyed_type : Bytes
+keyed_type = codes "example.org/key"
+
+-- the wrap key
+unfoldable pub keyed_wrap_key : (key : Key) (salt : Bytes) → Key
+keyed_wrap_key key salt = hkdf key salt keyed_type 32
 
 -- the stanza that wraps a file key
-unfoldable pub keyed_stanza : Bytes → Bytes → FileKey → StanzaParts
+unfoldable pub keyed_stanza : (key : Key) (salt : Bytes) (file_key : FileKey) → StanzaParts
 keyed_stanza key salt file_key = record {
-  args = codes "example.org/key" ∷ base64_of salt ∷ [];
-  body = sealed_key (wrap_key key salt) file_key;
+  args = keyed_type ∷ base64_of salt ∷ [];
+  body = sealed_key (keyed_wrap_key key salt) file_key;
 }
 
 -- the body's length is looked at, and only then is the key tried
-abbrev pub salted_answer : (key body : Bytes) (salt : Option Bytes) → Unwrapped
+abbrev pub salted_answer : (key : Key) (body : Bytes) (salt : Option Bytes) → Unwrapped
 salted_answer key body None = Malformed Salt
 salted_answer key body (Some salt) =
-    if nat_eq (length body) sealed_key_size then unsealed (wrap_key key salt) body
+    if nat_eq (length body) sealed_key_size then unsealed (keyed_wrap_key key salt) body
     else Malformed BodyLength
 
 -- what a stanza of this type gives, whose arguments after the type are these
-abbrev pub arguments_answer : (key : Bytes) (args : List Bytes) (body : Bytes) → Unwrapped
+abbrev pub arguments_answer : (key : Key) (args : List Bytes) (body : Bytes) → Unwrapped
 arguments_answer key (salt ∷ []) body = salted_answer key body (salt_of (decoded salt))
 arguments_answer key _ body = Malformed ArgCount
 
 -- what one stanza gives
-unfoldable pub keyed_answer : (key : Bytes) (stanza : StanzaParts) → Unwrapped
+unfoldable pub keyed_answer : (key : Key) (stanza : StanzaParts) → Unwrapped
 keyed_answer key stanza =
     typed_answer (λ args. arguments_answer key args stanza.body)
-    (after_type (codes "example.org/key") stanza.args)
+    (after_type keyed_type stanza.args)

@@ -17,7 +17,7 @@ pub record IsSetOf (texts set : List Bytes) : Type 0 where
   pub members : (text : Bytes) → list_any (bytes_eq text) set ≡ list_any (bytes_eq text) texts
 
 -- both have names, and the same set of them; what stands alone goes together with nothing
-abbrev pub go_together : Labels → Labels → Bool
+abbrev pub go_together : (a b : Labels) → Bool
 go_together (Names a) (Names b) = pointwise bytes_eq a b
 go_together _ _ = false
 

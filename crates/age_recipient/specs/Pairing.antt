@@ -1,4 +1,4 @@
--- The laws of the pairs: what the recipient wraps the identity unwraps. They stand here since an
+-- The laws of the pairs: what the recipient wraps the identity unwraps. They are here since an
 -- impl names the proof of its law.
 use Rattle.std.proofs.Common.{inl, inr, ◌≡◌, ◌∙◌, ℕ, zero, suc, ◌+◌, ◌<◌, ◌≤◌, ◌&&◌, Bool, true, List, [], ◌∷◌, length, map, nat_eq, nat_le, nat_lt, refl, sym, ap, subst, Ok, Err, Some}
 use Rattle.std.proofs.lemmas.Bool.{and_parts, eqb-true, eq-eqb, le-leb, cases_lt}
@@ -19,9 +19,9 @@ use Rattle.age_recipient.specs.declared.unwrapped.Unwrapped.TheVariants.{Key}
 use Rattle.age_recipient.specs.Answer.{decided}
 use Rattle.age_recipient.specs.Key.{IsFileKey}
 use Rattle.age_recipient.specs.KeyedHolders.{KeySecret, key_unwraps, key_wraps}
-use Rattle.age_recipient.specs.KeyedStanza.{keyed_answer, keyed_stanza, wrap_key}
+use Rattle.age_recipient.specs.KeyedStanza.{keyed_answer, keyed_stanza, keyed_wrap_key}
 use Rattle.age_recipient.specs.PassphraseHolders.{most_work, PairFits, PassSecret, PassGuess, pass_wraps, pass_unwraps}
-use Rattle.age_recipient.specs.PassphraseStanza.{is_work_factor, number_from, pass_answer, pass_key, pass_stanza}
+use Rattle.age_recipient.specs.PassphraseStanza.{is_work_factor, number_from, pass_answer, pass_stanza, pass_wrap_key}
 use Rattle.age_recipient.specs.Salt.{IsSalt, salt_of}
 use Rattle.age_recipient.specs.Sealing.{sealed_key, unsealed, zero_nonce}
 
@@ -64,44 +64,45 @@ spelled (suc n) low high =
     rw text at
 
 -- a sealed key is unsealed
-pub unsealed-sealed : (wrap_key : Bytes) (key : FileKey)
-    → unsealed wrap_key (sealed_key wrap_key key) ≡ Key key
+pub unsealed-sealed : (wrap_key : Bytes) (file_key : FileKey)
+    → unsealed wrap_key (sealed_key wrap_key file_key) ≡ Key file_key
 unfolding unsealed
-unsealed-sealed wrap_key key = rw (opened-sealed wrap_key zero_nonce [] key.0) refl
+unsealed-sealed wrap_key file_key = rw (opened-sealed wrap_key zero_nonce [] file_key.0) refl
 
 -- a sealed key has 32 bytes
-sealed_whole : (wrap_key : Bytes) (key : FileKey) → IsFileKey key
-    → nat_eq (length (sealed_key wrap_key key)) 32 ≡ true
-sealed_whole wrap_key key is =
-    eq-eqb (length (sealed_key wrap_key key)) 32
-    (length-sealed wrap_key zero_nonce [] key.0 ∙ ap (λ n. n + 16) is.len)
+sealed_whole : (wrap_key : Bytes) (file_key : FileKey) → IsFileKey file_key
+    → nat_eq (length (sealed_key wrap_key file_key)) 32 ≡ true
+sealed_whole wrap_key file_key is =
+    eq-eqb (length (sealed_key wrap_key file_key)) 32
+    (length-sealed wrap_key zero_nonce [] file_key.0 ∙ ap (λ n. n + 16) is.len)
 
 -- a salt's characters spell it
 salt_spelled : (salt : Bytes) → IsSalt salt → salt_of (decoded (base64_of salt)) ≡ Some salt
 salt_spelled salt is = rw (decoded-base64_of salt is.bytes, eq-eqb (length salt) 16 is.len) refl
 
 -- an identity's answer to the stanza that a recipient of the same passphrase makes
-pass_opens : (pass salt : Bytes) (work max : ℕ) (key : FileKey) → IsSalt salt → PairFits work max
-    → IsFileKey key → pass_answer pass max (pass_stanza pass work salt key) ≡ Key key
+pass_opens : (pass salt : Bytes) (work max : ℕ) (file_key : FileKey) → IsSalt salt
+    → PairFits work max → IsFileKey file_key
+    → pass_answer pass max (pass_stanza pass work salt file_key) ≡ Key file_key
 unfolding pass_answer pass_stanza
-pass_opens pass salt work max key is_salt fits is_key =
+pass_opens pass salt work max file_key is_salt fits is_key =
     let text : Bytes = decimal work in
     let high : work ≤ most_work = le_trans fits.within fits.top in
     let parts = and_parts (is_work_factor text) (nat_eq (number_from 0 text) work)
     (spelled work fits.low high) in
     let number : number_from 0 text ≡ work = eqb-true (number_from 0 text) work parts.1 in
     let top : nat_le work max ≡ true = le-leb work max fits.within in
-    let whole = sealed_whole (pass_key pass salt work) key is_key in
+    let whole = sealed_whole (pass_wrap_key pass salt work) file_key is_key in
     rw (salt_spelled salt is_salt, parts.0, number, top, whole)
-    (unsealed-sealed (pass_key pass salt work) key)
+    (unsealed-sealed (pass_wrap_key pass salt work) file_key)
 
 -- an identity's answer to the stanza that a recipient of the same key makes
 keyed_opens : (key salt : Bytes) (file_key : FileKey) → IsSalt salt → IsFileKey file_key
     → keyed_answer key (keyed_stanza key salt file_key) ≡ Key file_key
 unfolding keyed_answer keyed_stanza
 keyed_opens key salt file_key is_salt is_key =
-    rw (salt_spelled salt is_salt, sealed_whole (wrap_key key salt) file_key is_key)
-    (unsealed-sealed (wrap_key key salt) file_key)
+    rw (salt_spelled salt is_salt, sealed_whole (keyed_wrap_key key salt) file_key is_key)
+    (unsealed-sealed (keyed_wrap_key key salt) file_key)
 
 stanzas_of : Result (List StanzaParts) ℕ → List StanzaParts
 stanzas_of (Ok stanzas) = stanzas
@@ -110,31 +111,31 @@ stanzas_of (Err code) = []
 -- An identity of the same secret opens the one stanza that a recipient gives. `answer` is what an
 -- identity of a secret answers to a stanza.
 pair_opens : (answer : Bytes → StanzaParts → Unwrapped) (secret guess : Bytes)
-    (stanza : StanzaParts) (stanzas : List StanzaParts) (key : FileKey)
+    (stanza : StanzaParts) (stanzas : List StanzaParts) (file_key : FileKey)
     (wrapped : Result (List StanzaParts) ℕ) → wrapped ≡ Ok (stanza ∷ []) → secret ≡ guess
-    → answer secret stanza ≡ Key key → wrapped ≡ Ok stanzas
-    → decided (map (answer guess) stanzas) ≡ Key key
+    → answer secret stanza ≡ Key file_key → wrapped ≡ Ok stanzas
+    → decided (map (answer guess) stanzas) ≡ Key file_key
 unfolding stanzas_of
-pair_opens answer secret guess stanza stanzas key wrapped one same opens wraps =
+pair_opens answer secret guess stanza stanzas file_key wrapped one same opens wraps =
     let list : stanzas ≡ stanza ∷ [] = ap stanzas_of (sym wraps ∙ one) in
-    let guessed : answer guess stanza ≡ Key key =
-    subst (λ g. answer g stanza ≡ Key key) same opens in
+    let guessed : answer guess stanza ≡ Key file_key =
+    subst (λ g. answer g stanza ≡ Key file_key) same opens in
     rw (list, guessed) refl
 
 -- the law of a passphrase's pair
-pub pair_law : (r : PassSecret) (i : PassGuess) (key : FileKey) (stanzas : List StanzaParts)
-    → r.pass ≡ i.pass → IsSalt r.salt → PairFits r.work i.max → IsFileKey key
-    → pass_wraps r key ≡ Ok stanzas → pass_unwraps i stanzas ≡ Key key
-pair_law r i key stanzas same salt fits is =
+pub pair_law : (r : PassSecret) (i : PassGuess) (file_key : FileKey) (stanzas : List StanzaParts)
+    → r.pass ≡ i.pass → IsSalt r.salt → PairFits r.work i.max → IsFileKey file_key
+    → pass_wraps r file_key ≡ Ok stanzas → pass_unwraps i stanzas ≡ Key file_key
+pair_law r i file_key stanzas same salt fits is =
     pair_opens (λ pass. pass_answer pass i.max) r.pass i.pass
-    (pass_stanza r.pass r.work r.salt key) stanzas key (pass_wraps r key) refl same
-    (pass_opens r.pass r.salt r.work i.max key salt fits is)
+    (pass_stanza r.pass r.work r.salt file_key) stanzas file_key (pass_wraps r file_key) refl same
+    (pass_opens r.pass r.salt r.work i.max file_key salt fits is)
 
 -- the law of a key's pair
-pub key_pair_law : (r : KeySecret) (i : Bytes) (key : FileKey) (stanzas : List StanzaParts)
-    → r.key ≡ i → IsSalt r.salt → IsFileKey key → key_wraps r key ≡ Ok stanzas
-    → key_unwraps i stanzas ≡ Key key
-key_pair_law r i key stanzas same salt is =
-    pair_opens keyed_answer r.key i (keyed_stanza r.key r.salt key) stanzas key
-    (key_wraps r key) refl same
-    (keyed_opens r.key r.salt key salt is)
+pub key_pair_law : (r : KeySecret) (i : Bytes) (file_key : FileKey) (stanzas : List StanzaParts)
+    → r.key ≡ i → IsSalt r.salt → IsFileKey file_key → key_wraps r file_key ≡ Ok stanzas
+    → key_unwraps i stanzas ≡ Key file_key
+key_pair_law r i file_key stanzas same salt is =
+    pair_opens keyed_answer r.key i (keyed_stanza r.key r.salt file_key) stanzas file_key
+    (key_wraps r file_key) refl same
+    (keyed_opens r.key r.salt file_key salt is)

@@ -41,9 +41,9 @@ abbrev pub IsPassError : (fits : Type 0) (error : PassError) → Type 0
 IsPassError fits WorkFactor = fits → ⊥
 IsPassError fits Memory = fits
 
--- a recipient gives one stanza for each key
-abbrev pub pass_wraps : (r : PassSecret) (key : FileKey) → Result (List StanzaParts) ℕ
-pass_wraps r key = Ok (pass_stanza r.pass r.work r.salt key ∷ [])
+-- a recipient gives one stanza for each file key
+abbrev pub pass_wraps : (r : PassSecret) (file_key : FileKey) → Result (List StanzaParts) ℕ
+pass_wraps r file_key = Ok (pass_stanza r.pass r.work r.salt file_key ∷ [])
 
 -- an identity goes through the stanzas in order
 abbrev pub pass_unwraps : (i : PassGuess) (stanzas : List StanzaParts) → Unwrapped

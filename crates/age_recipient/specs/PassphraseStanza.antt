@@ -4,6 +4,7 @@ use Rattle.std.specs.Fmt.{decimal}
 use Rattle.std.specs.List.{list_all}
 use Rattle.std.specs.declared.option.Option.{Option}
 use Rattle.std.specs.declared.option.Option.TheVariants.{None, Some}
+use Rattle.age_cipher.specs.Bytes.{Key}
 use Rattle.age_kdf.specs.Bytes.{Bytes}
 use Rattle.age_kdf.specs.Scrypt.{scrypt}
 use Rattle.age_header.specs.Base64.{decoded, base64_of}
@@ -16,16 +17,21 @@ use Rattle.age_recipient.specs.Answer.{after_type, typed_answer}
 use Rattle.age_recipient.specs.Salt.{salt_of}
 use Rattle.age_recipient.specs.Sealing.{sealed_key, unsealed, sealed_key_size}
 
--- the key that wraps the file key; the work factor is the base-2 logarithm of scrypt's N
-unfoldable pub pass_key : (pass salt : Bytes) (work : ℕ) → Bytes
-pass_key pass salt work =
+-- the type of the stanza, its first argument
+abbrev pub scrypt_type : Bytes
+scrypt_type = codes "scrypt"
+
+-- the wrap key; the work factor is the base-2 logarithm of scrypt's N
+unfoldable pub pass_wrap_key : (pass salt : Bytes) (work : ℕ) → Key
+pass_wrap_key pass salt work =
     scrypt pass (codes "age-encryption.org/v1/scrypt" ++ salt) (2 ^ work) 8 1 32
 
 -- the stanza that wraps a file key
-unfoldable pub pass_stanza : Bytes → ℕ → Bytes → FileKey → StanzaParts
-pass_stanza pass work salt key = record {
-  args = codes "scrypt" ∷ base64_of salt ∷ decimal work ∷ [];
-  body = sealed_key (pass_key pass salt work) key;
+unfoldable pub pass_stanza : (pass : Bytes) (work : ℕ) (salt : Bytes) (file_key : FileKey)
+    → StanzaParts
+pass_stanza pass work salt file_key = record {
+  args = scrypt_type ∷ base64_of salt ∷ decimal work ∷ [];
+  body = sealed_key (pass_wrap_key pass salt work) file_key;
 }
 
 -- 0 to 9
@@ -50,7 +56,7 @@ salted_answer pass max work body None = Malformed Salt
 salted_answer pass max work body (Some salt) =
     if is_work_factor work then if nat_le (number_from 0 work) max
     then if nat_eq (length body) sealed_key_size
-    then unsealed (pass_key pass salt (number_from 0 work)) body else Malformed BodyLength
+    then unsealed (pass_wrap_key pass salt (number_from 0 work)) body else Malformed BodyLength
     else Malformed WorkFactorTooHigh else Malformed WorkFactorText
 
 -- what a stanza of this type gives, whose arguments after the type are these
@@ -64,4 +70,4 @@ arguments_answer pass max _ body = Malformed ArgCount
 unfoldable pub pass_answer : (pass : Bytes) (max : ℕ) (stanza : StanzaParts) → Unwrapped
 pass_answer pass max stanza =
     typed_answer (λ args. arguments_answer pass max args stanza.body)
-    (after_type (codes "scrypt") stanza.args)
+    (after_type scrypt_type stanza.args)

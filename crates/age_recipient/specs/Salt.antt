@@ -8,7 +8,7 @@ use Rattle.age_kdf.specs.Bytes.{Bytes}
 abbrev pub salt_size : ℕ
 salt_size = 16
 
--- so many bytes
+-- 16 bytes
 pub record IsSalt (salt : Bytes) : Type 0 where
   pub len : length salt ≡ salt_size
   pub bytes : (i : ℕ) → slice_index salt i < 256

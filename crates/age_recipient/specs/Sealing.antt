@@ -8,12 +8,12 @@ use Rattle.age_kdf.specs.Bytes.{Bytes}
 use Rattle.age_cipher.specs.Sealing.{sealed, opened}
 use Rattle.age_recipient.specs.declared.key.FileKey.{FileKey}
 use Rattle.age_recipient.specs.declared.unwrapped.Unwrapped.{Unwrapped}
-use Rattle.age_recipient.specs.declared.unwrapped.Unwrapped.TheVariants.{Failed, Key}
-use Rattle.age_cipher.specs.Bytes.{tag_size}
+use Rattle.age_recipient.specs.declared.unwrapped.Unwrapped.TheVariants as answer
+use Rattle.age_cipher.specs.Bytes.{Key, Nonce, tag_size}
 use Rattle.age_recipient.specs.Key.{file_key_size}
 
 -- a wrap key seals one file key alone
-abbrev pub zero_nonce : Bytes
+abbrev pub zero_nonce : Nonce
 zero_nonce = replicate 12 0
 
 -- how many bytes the body of a stanza has
@@ -21,14 +21,14 @@ abbrev pub sealed_key_size : ℕ
 sealed_key_size = file_key_size + tag_size
 
 -- the body that holds this file key
-abbrev pub sealed_key : (wrap_key : Bytes) (key : FileKey) → Bytes
-sealed_key wrap_key key = sealed wrap_key zero_nonce [] key.0
+abbrev pub sealed_key : (wrap_key : Key) (file_key : FileKey) → Bytes
+sealed_key wrap_key file_key = sealed wrap_key zero_nonce [] file_key.0
 
--- the key that was found, or a failure
+-- the file key that was found, or a failure
 abbrev pub key_answer : Option Bytes → Unwrapped
-key_answer None = Failed
-key_answer (Some bytes) = Key (record { 0 = bytes })
+key_answer None = answer.Failed
+key_answer (Some bytes) = answer.Key (record { 0 = bytes })
 
--- what a body gives under a wrap key: the key that it opens to, or nothing
-unfoldable pub unsealed : (wrap_key body : Bytes) → Unwrapped
+-- what a body gives under a wrap key: the file key that it opens to, or a failure
+unfoldable pub unsealed : (wrap_key : Key) (body : Bytes) → Unwrapped
 unsealed wrap_key body = key_answer (opened wrap_key zero_nonce [] body)

@@ -20,7 +20,7 @@ pub enum UnlockFault {
     WrongKey,
     /// A stanza of an identity's type is malformed.
     Malformed(StanzaFault),
-    /// An allocation was refused, or an identity returned `Memory`.
+    /// An allocation was refused, or an identity returned `AllocError`.
     Memory,
 }
 
@@ -29,7 +29,8 @@ pub enum UnlockFault {
 ///
 /// # Errors
 /// `Malformed` if a malformed stanza decided. If nothing decided, `WrongKey` if an identity
-/// returned `Failed`, else `NoMatch`. `Memory` if an identity that was called returned it.
+/// returned `Failed`, else `NoMatch`. `Memory` if an identity that was called returned
+/// `AllocError`.
 pub fn unlock(
     alloc: Global,
     identities: &[Box<dyn Identity>],
@@ -56,14 +57,14 @@ fn first_decided(
     ensures { IfOk result
         (λ answer. answer ≡ decided (map (λ b. meaning b stanzas.now) identities.now)) }
 {
-    let mut rest = Unwrapped::NotMine;
+    let mut so_far = Unwrapped::NotMine;
     for identity in identities {
-        match rest.followed_by(ask(alloc, identity, stanzas)?) {
-            Ok(next) => rest = next,
+        match so_far.followed_by(ask(alloc, identity, stanzas)?) {
+            Ok(next) => so_far = next,
             Err(decision) => return Ok(decision),
         }
     }
-    Ok(rest)
+    Ok(so_far)
 }
 
 /// Calls one identity's `unwrap`. It is a function of its own since its contract can cite the box,

@@ -1,3 +1,5 @@
+//! What finds the file key in a header by a secret.
+
 use crate::unwrapped::Unwrapped;
 use age_header::Stanza;
 use std::alloc::{AllocError, Global};

@@ -1,3 +1,5 @@
+//! A recipient and an identity that belong together.
+
 use crate::identity::Identity;
 use crate::recipient::Recipient;
 
@@ -25,9 +27,9 @@ pub trait Matched {
     fn identity(&self) -> &Self::I
         ensures { result.now ≡ the_identity self.now };
 
-    // The law: if the recipient wraps a key in stanzas, the identity's meaning for exactly these
-    // stanzas is that key.
-    ghost opens: { (pair : Self) (key : FileKey) (stanzas : List StanzaParts) → IsFileKey key
-        → Self.R.wraps (the_recipient pair) key ≡ Ok stanzas
-        → Self.I.meaning (the_identity pair) stanzas ≡ Key key };
+    // The law: if the recipient wraps a file key in stanzas, the identity's meaning for exactly
+    // these stanzas is that file key.
+    ghost opens: { (pair : Self) (file_key : FileKey) (stanzas : List StanzaParts)
+        → IsFileKey file_key → Self.R.wraps (the_recipient pair) file_key ≡ Ok stanzas
+        → Self.I.meaning (the_identity pair) stanzas ≡ Key file_key };
 }

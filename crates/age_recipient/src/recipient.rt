@@ -1,3 +1,5 @@
+//! What wraps a file key into stanzas.
+
 use crate::key::FileKey;
 use crate::labels::{LabelSet, Labels};
 use age_header::Stanza;

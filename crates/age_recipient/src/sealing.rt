@@ -11,10 +11,10 @@ use age_cipher::{open_in_place, seal_in_place};
 const NONCE: [u8; 12] = [0; 12];
 
 /// The body that holds this file key: 16 bytes of ciphertext and the tag.
-pub(crate) fn seal_key(wrap_key: &[u8; 32], key: &FileKey) -> [u8; 32]
-    ensures { result ≡ sealed_key wrap_key.now key.now }
+pub(crate) fn seal_key(wrap_key: &[u8; 32], file_key: &FileKey) -> [u8; 32]
+    ensures { result ≡ sealed_key wrap_key.now file_key.now }
 {
-    let mut text = key.0;
+    let mut text = file_key.0;
     let tag = seal_in_place(wrap_key, &NONCE, b"", &mut text);
     let mut body = [0; 32];
     let (front, back) = body.split_at_mut(16);

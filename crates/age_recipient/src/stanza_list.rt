@@ -32,14 +32,14 @@ pub(crate) fn first_opened<O: Opener>(
 ) -> Result<Unwrapped, AllocError>
     ensures { IfOk result (λ answer. answer ≡ decided (map (O.gives opener.now) stanzas.now)) }
 {
-    let mut rest = Unwrapped::NotMine;
+    let mut so_far = Unwrapped::NotMine;
     for stanza in stanzas {
-        match rest.followed_by(opener.open(alloc, stanza)?) {
-            Ok(next) => rest = next,
+        match so_far.followed_by(opener.open(alloc, stanza)?) {
+            Ok(next) => so_far = next,
             Err(decision) => return Ok(decision),
         }
     }
-    Ok(rest)
+    Ok(so_far)
 }
 
 /// The arguments after the type, if the stanza is of this type.

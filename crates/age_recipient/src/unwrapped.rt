@@ -1,3 +1,5 @@
+//! What an identity finds in the stanzas of a header.
+
 ghost use Rattle.std.specs.Prelude.{◌≡◌, List, ◌∷◌, IfOk, IfErr};
 ghost use Rattle.age_recipient.specs.Answer.{decided_from};
 
@@ -40,10 +42,10 @@ pub enum Unwrapped {
 }
 
 impl Unwrapped {
-    /// What this answer and the next one make together.
+    /// Combines this answer with the next one.
     ///
     /// # Errors
-    /// The next one where it decides: no later answer counts then.
+    /// The next answer, if it decides: then no later answer counts.
     pub(crate) fn followed_by(self, next: Unwrapped) -> Result<Unwrapped, Unwrapped>
         ensures continues { IfOk result (λ both.
             (more : List Unwrapped) → decided_from self (next ∷ more) ≡ decided_from both more) }

@@ -13,7 +13,7 @@ use Rattle.age_stream.specs.Payload.{pieces, chunk_nonce, payload_key}
 use Rattle.age_stream.specs.Places.{EndsBefore, HasAt}
 use Rattle.age_stream.specs.Reading.{opened_at, outcome}
 use Rattle.age_stream.specs.Ranges.{last_len, opens_to, IsOpenFault, JudgesLast, OpensRanges}
-use Rattle.age_stream.specs.Slice.{opening, plain_len, text_len, last_piece, last_outcome, range_outcome}
+use Rattle.age_stream.specs.Slice.{opening, plain_len, chunk_len, last_piece, last_outcome, range_outcome}
 use Rattle.age_stream.proofs.ReadingLemmas.{cut-count}
 use Rattle.age_stream.proofs.OutcomeLemmas.{outcome-many}
 use Rattle.age_stream.proofs.PayloadLemmas.{outcome-opens}
@@ -42,7 +42,7 @@ length-last rest =
     let last : ℕ = (length rest - 1) / 65552 in
     ap length (last-piece rest last refl) ∙ length-drop (65552 * last) rest
 
--- what the last piece gives, its number and its place written out
+-- what the last piece gives, its number and its offset written out
 pub last-is : (key : List ℕ) (max : ℕ) (rest : List ℕ) (last : ℕ) → last ≡ (length rest - 1) / 65552
     → last_outcome key max rest ≡ outcome key max last true (drop (65552 * last) rest)
 last-is key max rest last is =
@@ -69,7 +69,7 @@ last-gone key max first sealed last end (Some bytes) fault is len gone = λ size
     let short : length bytes < first + 65552 * last + end = gone in
     absurd (omega arith)
 
--- what was read at the last piece's place gives what the last piece does
+-- what was read at the last piece's offset gives what the last piece does
 pub last-read : (key : List ℕ) (max first sealed last end : ℕ) (told : Option (List ℕ)) (buf : List ℕ) (r : Result (List ℕ) StreamFault) → last ≡ (sealed - 1) / 65552
     → end ≡ sealed - 65552 * last → length buf ≡ 65553 → HasAt told (first + 65552 * last) (take end buf) → outcome key max last true (take end buf) ≡ r
     → IfSome told (λ bytes. length bytes ≡ first + sealed → last_outcome key max (drop first bytes) ≡ r)
@@ -154,7 +154,7 @@ pub judged-ok : (k : FileKey) (max at : ℕ) (told : Option (List ℕ)) (nonce b
     → OpensRanges k max at told (Ok (record { layout = layout; index = Some (layout.count - 1); buf = buf; opened = 1 }))
 judged-ok k max at None nonce buf n layout h j = (refl, refl, tt)
 judged-ok k max at (Some bytes) nonce buf n layout h j =
-    let text : List ℕ = take (text_len layout.plain (layout.count - 1)) buf in
+    let text : List ℕ = take (chunk_len layout.plain (layout.count - 1)) buf in
     let size : length (drop (at + 16) bytes) ≡ n = behind-len (at + 16) n bytes h.1 in
     let gives : last_outcome (payload_key k nonce) max (drop (at + 16) bytes) ≡ Ok text = j.3 h.1 in
     let there : length (drop layout.first bytes) ≡ layout.plain + 16 * layout.count = ap (λ f. length (drop f bytes)) j.1 ∙ size ∙ sym j.2 in
@@ -170,7 +170,7 @@ judged-ok k max at (Some bytes) nonce buf n layout h j =
         plain = sym (plain-there layout (drop layout.first bytes) there) ∙ ap (λ f. plain_len (drop f bytes)) j.1;
         sound = record {
           there = record { known = refl; size = there };
-          keeps = λ i e. subst (λ m. opens_to (Some bytes) layout m ≡ Some (take (text_len layout.plain m) buf)) (same-some (layout.count - 1) i e) opens;
+          keeps = λ i e. subst (λ m. opens_to (Some bytes) layout m ≡ Some (take (chunk_len layout.plain m) buf)) (same-some (layout.count - 1) i e) opens;
         };
       },
     )

@@ -12,4 +12,4 @@ pub mod SealingLemmas
 pub mod SliceLemmas
 pub mod TailLemmas
 pub mod WholeSlices
-pub mod WritingLemmas
+pub mod WritesAllLemmas

@@ -1,4 +1,4 @@
--- A piece that was read at its place.
+-- A piece that was read at its offset.
 use Rattle.std.proofs.Common.{◌≡◌, ◌⊎◌, ℕ, List, [], ◌+◌, ◌-◌, ◌*◌, ◌<◌, ◌≤◌, length, take, drop, nat_le, nat_eq, ◌∙◌, sym, ap, arith, inl, inr, false, Option, Some, None}
 use Rattle.std.proofs.lemmas.Bool.{cases_lt, le-leb, lt-leb, eq-eqb, eqb-true, false_from_ne_true, false≢true}
 use Rattle.std.proofs.lemmas.List.{take_all, length-drop, length-take-le, drop-drop}
@@ -9,7 +9,7 @@ use Rattle.age_stream.proofs.ReadingLemmas.{cut-count}
 use Rattle.age_stream.specs.declared.layout.Layout.{Layout}
 use Rattle.age_stream.specs.Places.{HasAt}
 use Rattle.age_stream.specs.Ranges.{bytes_from, opens_to, IsThere}
-use Rattle.age_stream.specs.Slice.{text_len}
+use Rattle.age_stream.specs.Slice.{chunk_len}
 use Rattle.age_stream.proofs.SliceLemmas.{opening-at}
 
 -- there are as many pieces as are counted
@@ -48,7 +48,7 @@ there-last layout rest i size lt =
     ne-eqb a b l = false_from_ne_true (nat_eq a b) (λ e. let same : a ≡ b = eqb-true a b e in absurd (omega arith))
 
 there-piece : (told : Option (List ℕ)) (layout : Layout) (i : ℕ) (piece : List ℕ) → IsThere told layout → i < layout.count
-    → HasAt told (layout.first + 65552 * i) piece → length piece ≡ text_len layout.plain i + 16
+    → HasAt told (layout.first + 65552 * i) piece → length piece ≡ chunk_len layout.plain i + 16
     → piece ≡ take 65552 (drop (65552 * i) (bytes_from told layout.first))
 there-piece None layout i piece there lt has len = absurd (false≢true there.known)
 there-piece (Some bytes) layout i piece there lt has len =
@@ -66,9 +66,9 @@ there-piece (Some bytes) layout i piece there lt has len =
       | inr ge ↦ at ∙ take_all (length piece) (drop (65552 * i) rest) (omega arith) ∙ sym (take_all 65552 (drop (65552 * i) rest) (omega arith))
     ]
 
--- what was read at the place of piece i and opened there
+-- what was read at the offset of piece i and opened there
 pub open-there : (told : Option (List ℕ)) (layout : Layout) (nonce buf : List ℕ) (i end : ℕ) (o : Option (List ℕ)) → IsThere told layout → i < layout.count
-    → HasAt told (layout.first + 65552 * i) (take end buf) → end ≡ text_len layout.plain i + 16 → length buf ≡ 65553
+    → HasAt told (layout.first + 65552 * i) (take end buf) → end ≡ chunk_len layout.plain i + 16 → length buf ≡ 65553
     → nonce ≡ chunk_nonce i (nat_eq (i + 1) layout.count) → opened layout.key nonce [] (take end buf) ≡ o → opens_to told layout i ≡ o
 open-there told layout nonce buf i end o there lt has len room at opens =
     let rest : List ℕ = bytes_from told layout.first in

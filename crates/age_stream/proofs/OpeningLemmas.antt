@@ -10,7 +10,7 @@ use Rattle.age_header.specs.Device.{GaveAtMost, MayGive}
 use Rattle.age_stream.specs.declared.fault.StreamFault.TheVariants.{NonceTruncated, ChunkShort, EmptyFinal, BadChunk, TooManyChunks, Read, Write, Memory}
 use Rattle.age_stream.specs.declared.opening.Piece.{Piece}
 use Rattle.age_stream.specs.Counts.{CountsReadFault}
-use Rattle.age_stream.specs.Opening.{Advances, IsAtPiece, OpenerState, Opens, OpensNext, left_of, ahead_len, held_of}
+use Rattle.age_stream.specs.Opening.{Advances, IsAtPiece, OpenerState, OpensPiece, OpensNext, left_of, ahead_len, held_of}
 use Rattle.age_stream.specs.Reading.{outcome, first_outcome, after_first}
 
 -- a full buffer: a piece and the byte that follows it
@@ -46,7 +46,7 @@ after-last ahead given front len is =
     let yes : nat_le (length front) 65552 ≡ true = le-leb (length front) 65552 (omega arith) in
     ap after_first (sym is) ∙ ap (λ b. cond b None (Some (drop 65552 front))) yes
 
--- the answers of a call while pieces are left
+-- what a call returns while pieces are left
 pub opens-err : (key : List ℕ) (max i : ℕ) (held : Option (List ℕ)) (ahead c : List ℕ) (left : Option (List ℕ)) (text : List ℕ) (fault : StreamFault) → held ≡ Some ahead
     → first_outcome key max i (ahead ++ c) ≡ Err fault → OpensNext key max i (left_of held c) left text (Err fault)
 opens-err key max i held ahead c left text fault is h = rw is h
@@ -112,7 +112,7 @@ ahead-len ahead bytes size le = length-take-le ahead (drop 65552 bytes) (omega (
 pub advances-ok : (now : OpenerState) (from to : Option (List ℕ)) (key : List ℕ) (max i ahead len : ℕ) (more : Bool) (old slice bytes items : List ℕ) (fault : Option StreamFault) (piece : Piece)
     → parts key max i more ahead old len fault ≡ now → more ≡ true → fault ≡ None → slice ≡ old → length old ≡ 65553 → ahead ≤ 1 → length bytes ≡ 65553 → items ≡ bytes
     → max ≤ 2 ^ 88 → i < max → (piece.more ≡ true → piece.len ≡ 65536)
-    → IsErrOf {T = Piece} (Ok piece) Read ⊎ ((d : List ℕ) → MayGive to d → (c : List ℕ) × MayGive from c × Opens key max i (take ahead (drop 65552 slice) ++ c) bytes d (Ok piece))
+    → IsErrOf {T = Piece} (Ok piece) Read ⊎ ((d : List ℕ) → MayGive to d → (c : List ℕ) × MayGive from c × OpensPiece key max i (take ahead (drop 65552 slice) ++ c) bytes d (Ok piece))
     → IsErrOf {T = Piece} (Ok piece) Read ⊎ GaveAtMost (65553 - ahead) from to
     → IfNone now.fault (IsErrOf {T = Bool} (Ok true) Read ⊎ Advances now (parts key max (i + 1) piece.more 1 items piece.len fault) from to (Ok true))
 advances-ok now from to key max i ahead len more old slice bytes items fault piece view is_more none same size le new_size all small within full opens gave =
@@ -151,7 +151,7 @@ same-fault f e = cc
 -- a fault was met
 pub advances-err : (now : OpenerState) (from to : Option (List ℕ)) (key : List ℕ) (max i ahead len : ℕ) (more : Bool) (old slice bytes items : List ℕ) (kept : Option StreamFault) (fault : StreamFault)
     → parts key max i more ahead old len kept ≡ now → more ≡ true → slice ≡ old → length old ≡ 65553 → ahead ≤ 1 → max ≤ 2 ^ 88
-    → IsErrOf {T = Piece} (Err fault) Read ⊎ ((d : List ℕ) → MayGive to d → (c : List ℕ) × MayGive from c × Opens key max i (take ahead (drop 65552 slice) ++ c) bytes d (Err fault))
+    → IsErrOf {T = Piece} (Err fault) Read ⊎ ((d : List ℕ) → MayGive to d → (c : List ℕ) × MayGive from c × OpensPiece key max i (take ahead (drop 65552 slice) ++ c) bytes d (Err fault))
     → IsErrOf {T = Piece} (Err fault) Read ⊎ GaveAtMost (65553 - ahead) from to
     → (fault ≡ Read) ⊎ IsAtPiece max i fault
     → IfNone now.fault (IsErrOf {T = Bool} (Err fault) Read ⊎ Advances now (parts key max i more ahead items 0 (Some fault)) from to (Err fault))

@@ -74,7 +74,7 @@ opens-outcome key max i last c t h =
     ∙ cond-false empty _ _ not_empty
     ∙ ap (λ o. ok_or o (BadChunk i)) ((opened_is key (chunk_nonce i last) [] c t).1 (sym h.sealed_so))
 
--- texts that stand at the places from i on: all but the last are full, and the last is empty only at place 0
+-- texts numbered from i on: all but the last are full, and the last is empty only if its number is 0
 abbrev pub Sized : ℕ → List (List ℕ) → Type 0
 Sized i ts = ((ts ≡ [] ∷ []) × (i ≡ 0)) ⊎ IsFilled 65536 ts
 
@@ -188,7 +188,7 @@ pub record IsPayload (k : FileKey) (b p : List ℕ) (max : ℕ) : Type 0 where
   pub spelled : b ≡ payload k nonce p
   pub count : length (chunks p) ≤ max
 
--- the sizes of texts that stand from place 0 on are those of a cut
+-- the sizes of texts numbered from 0 on are those of a cut
 pub sized-cut : (ts : List (List ℕ)) → Sized 0 ts → IsCut 65536 (concat ts) ts
 sized-cut ts (inl e) = record { joined = refl; sizes = inl e.0 }
 sized-cut ts (inr f) = record { joined = refl; sizes = inr f }

@@ -4,7 +4,7 @@ use Rattle.std.proofs.lemmas.Bool.{eqb-true, false_from_ne_true}
 use Rattle.std.proofs.lemmas.List.{length-take-le, length-drop, drop-drop, take_at, drop_at, length-append}
 use Rattle.age_stream.specs.declared.layout.Layout.{Layout}
 use Rattle.age_stream.specs.Ranges.{opens_to, first_to_open, is_kept, sealed_span}
-use Rattle.age_stream.specs.Slice.{opening, text_len, IsSlice}
+use Rattle.age_stream.specs.Slice.{opening, chunk_len, IsSlice}
 use Rattle.age_stream.proofs.SliceLemmas.{slice-on}
 
 -- the text that is put after the first `done` bytes
@@ -67,12 +67,12 @@ counts-later b index new old start i0 i is lt h e =
     ∙ false_from_ne_true (nat_eq (i - 1) i) (λ t. let same : i - 1 ≡ i = eqb-true (i - 1) i t in absurd (omega arith)) in
     counts-on b new old start i0 i (subst (λ (t : Bool). min (old + (if t then 0 else 1)) (2 ^ 64 - 1) ≤ new) other h) lt e
 
-given-first : (b : Bool) (new old start i : ℕ) (layout : Layout) → new ≤ old + (if b then 0 else text_len layout.plain i + 16) → old ≡ start → 65536 * i < layout.plain
+given-first : (b : Bool) (new old start i : ℕ) (layout : Layout) → new ≤ old + (if b then 0 else chunk_len layout.plain i + 16) → old ≡ start → 65536 * i < layout.plain
     → new ≤ start + sealed_span layout (i + (if b then 1 else 0)) (i + 1)
 given-first true new old start i layout h e lt = omega arith
 given-first false new old start i layout h e lt = let covers : layout.plain ≤ 65536 * layout.count = layout.covers in omega arith
 
-pub given-later : (b b2 : Bool) (new old start i0 i : ℕ) (layout : Layout) → new ≤ old + (if b2 then 0 else text_len layout.plain i + 16) → i0 < i → 65536 * i < layout.plain
+pub given-later : (b b2 : Bool) (new old start i0 i : ℕ) (layout : Layout) → new ≤ old + (if b2 then 0 else chunk_len layout.plain i + 16) → i0 < i → 65536 * i < layout.plain
     → old ≤ start + sealed_span layout (i0 + (if b then 1 else 0)) i → new ≤ start + sealed_span layout (i0 + (if b then 1 else 0)) (i + 1)
 given-later true true new old start i0 i layout h lt within e = let covers : layout.plain ≤ 65536 * layout.count = layout.covers in omega arith
 given-later true false new old start i0 i layout h lt within e = let covers : layout.plain ≤ 65536 * layout.count = layout.covers in omega arith
@@ -85,12 +85,12 @@ opened-at_first index index0 new old start at i e is h same =
     (opened-first (is_kept index0 (at / 65536)) new old start (at / 65536)
     (subst (λ x. new + (if is_kept x (at / 65536) then 1 else 0) ≤ old + 1) e (subst (λ x. new + (if is_kept index x then 1 else 0) ≤ old + 1) is h)) same)
 
-pub given-at_first : (index index0 : Option ℕ) (new old start at i : ℕ) (layout : Layout) → index ≡ index0 → i ≡ at / 65536 → new ≤ old + (if is_kept index i then 0 else text_len layout.plain i + 16) → old ≡ start
+pub given-at_first : (index index0 : Option ℕ) (new old start at i : ℕ) (layout : Layout) → index ≡ index0 → i ≡ at / 65536 → new ≤ old + (if is_kept index i then 0 else chunk_len layout.plain i + 16) → old ≡ start
     → 65536 * i < layout.plain → new ≤ start + sealed_span layout (first_to_open index0 at) (i + 1)
 given-at_first index index0 new old start at i layout e is h same lt =
     subst (λ x. new ≤ start + sealed_span layout (first_to_open index0 at) (x + 1)) (sym is)
     (given-first (is_kept index0 (at / 65536)) new old start (at / 65536) layout
-    (subst (λ x. new ≤ old + (if is_kept x (at / 65536) then 0 else text_len layout.plain (at / 65536) + 16)) e (subst (λ x. new ≤ old + (if is_kept index x then 0 else text_len layout.plain x + 16)) is h)) same
+    (subst (λ x. new ≤ old + (if is_kept x (at / 65536) then 0 else chunk_len layout.plain (at / 65536) + 16)) e (subst (λ x. new ≤ old + (if is_kept index x then 0 else chunk_len layout.plain x + 16)) is h)) same
     (subst (λ x. 65536 * x < layout.plain) is lt))
 
 pub at-chunk : (at i : ℕ) → i ≡ at / 65536 → at < 65536 * (i + 1)

@@ -1,4 +1,4 @@
--- Bytes that a source has at a place.
+-- Bytes that a source has at an offset.
 use Rattle.std.proofs.Common.{◌≡◌, ℕ, List, ◌++◌, ◌+◌, ◌-◌, ◌≤◌, length, take, drop, ◌∙◌, sym, ap, arith, Option, Some, None}
 use Rattle.std.proofs.lemmas.List.{length-take-le, length-drop, drop-drop}
 use Rattle.std.proofs.Math.Seq.{take-add}

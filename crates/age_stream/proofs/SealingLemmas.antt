@@ -109,7 +109,7 @@ fed-full key i j held text now piece full next a b c h f put =
           ∙ sym (append_assoc f.gone (chunk ∷ []) (sealed_after key (j + 1) next more));
     }
 
--- what went out is a beginning of the answer
+-- what was written is a prefix of what is to be written
 done-fed : (key : List ℕ) (i j : ℕ) (held text now more : List ℕ) (rest : List (List ℕ)) (a b : Option (List ℕ)) (f : Fed key i j held text now a b)
     → sealed_after key i held more ≡ f.gone ++ rest → Done a b (concat (sealed_after key i held more)) (concat rest)
 done-fed key i j held text now more rest a b f is = record { front = concat f.gone; took = f.written; is = ap concat is ∙ concat-append f.gone rest }

@@ -1,4 +1,4 @@
--- Openings and slices by their places.
+-- Openings and slices by their offsets.
 use Rattle.std.proofs.Common.{◌≡◌, ◌⊎◌, ℕ, List, [], ◌∷◌, ◌++◌, ◌+◌, ◌-◌, ◌*◌, ◌/◌, ◌%◌, ◌<◌, ◌≤◌, length, take, drop, get_or, slice_get, slice_index, sym, ◌∙◌, ap, arith, nat_le, inl, inr, Some, None, suc, zero}
 use Rattle.std.specs.List.{sum_by}
 use Rattle.std.proofs.lemmas.Bool.{cases_lt, le-leb, lt-leb}
@@ -12,7 +12,7 @@ use Rattle.age_stream.proofs.CuttingLemmas.{cut-last}
 use Rattle.age_stream.proofs.ReadingLemmas.{cut-step, is_end-cut}
 use Rattle.age_stream.specs.Slice.{openings, opening, plain_len, IsSlice}
 
--- list i of a cut, by its place
+-- list i of a cut, by its offset
 pub cut-at : (size i : ℕ) (p : List ℕ) → 0 < size → get_or (cut size p) i [] ≡ take size (drop (size * i) p)
 cut-at size zero p pos = elim (cases_lt size (length p)) [
   | inl lt ↦ ap (λ cs. get_or cs 0 []) (cut-step size p pos lt) ∙ ap (λ n. take size (drop n p)) none
@@ -63,7 +63,7 @@ openings-at key j (suc i) (c ∷ cs) lt =
     one_more : j + 1 + i ≡ j + suc i
     one_more = omega arith
 
--- what piece i opens to, by its place
+-- what piece i opens to, by its offset
 pub opening-at : (key rest : List ℕ) (i : ℕ) → i < length (pieces rest)
     → opening key rest i ≡ opened_at key i (nat_le (length rest) (65552 * (i + 1))) (take 65552 (drop (65552 * i) rest))
 opening-at key rest i lt =

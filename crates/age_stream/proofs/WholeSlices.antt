@@ -98,7 +98,7 @@ got [] i t h = absurd (none-some t h)
 got (c ∷ cs) zero t h = sym (ap (λ o. unwrap_or o []) h)
 got (c ∷ cs) (suc i) t h = got cs i t h
 
--- a byte of a slice is the plaintext's byte at its place
+-- a byte of a slice is the plaintext's byte at its offset
 byte-of : (key rest p text : List ℕ) (max x v : ℕ) → IsWhole key rest p max → opening key rest (x / 65536) ≡ Some text → slice_get text (x % 65536) ≡ Some v
     → (x < length p) × (v ≡ get_or p x 0)
 byte-of key rest p text max x v w opens at =

@@ -59,14 +59,14 @@ IsAtPiece max i TooManyChunks = i ≡ max
 IsAtPiece max i _ = ⊥
 
 -- the number of the next piece: one more if a piece was opened
-abbrev pub goes_on : (some : Bool) (i : ℕ) → ℕ
-goes_on some i = if some then i + 1 else i
+abbrev pub next_index : (some : Bool) (i : ℕ) → ℕ
+next_index some i = if some then i + 1 else i
 
 -- After a call: on Ok no fault is kept, and bytes that were read ahead mean that the chunk was
 -- full. On Err the fault is kept, and the text is empty.
 abbrev pub KeepsState : (old new : OpenerState) (result : Result Bool StreamFault) → Type 0
 KeepsState old new (Ok some) =
-    (new.fault ≡ None) × (new.index ≡ goes_on some old.index)
+    (new.fault ≡ None) × (new.index ≡ next_index some old.index)
     × (some ≡ true → old.index < old.max_chunks)
     × IfSome new.held (λ ahead. (length ahead ≡ 1) × (length new.text ≡ chunk_size))
 KeepsState old new (Err fault) =
@@ -96,16 +96,14 @@ GivesNonce from to (Err Read) = ⊤
 GivesNonce from to (Err fault) =
     (fault ≡ NonceTruncated) × ((c : Bytes) × MayGive from c × (length c < nonce_size))
 
--- the start of a payload was read: its nonce, under which the opener stands before piece 0; or
--- there is no whole nonce
-abbrev pub Starts : (k : FileKey) (max : ℕ) (from to : Known)
+-- the start of a payload was read: its nonce, under which piece 0 is the opener's next; or there is
+-- no whole nonce
+abbrev pub Starts : (file_key : FileKey) (max : ℕ) (from to : Known)
     (result : Result OpenerState StreamFault) → Type 0
-Starts k max from to (Ok opener) =
-    (nonce : Bytes) × (length nonce ≡ nonce_size) × (opener ≡ at_start (payload_key k nonce) max)
-    × ((d : Bytes) → MayGive to d → MayGive from (nonce ++ d))
-Starts k max from to (Err Read) = ⊤
-Starts k max from to (Err fault) =
-    (fault ≡ NonceTruncated) × ((c : Bytes) × MayGive from c × (length c < nonce_size))
+Starts file_key max from to (Ok opener) =
+    (nonce : Bytes) × (length nonce ≡ nonce_size)
+    × (opener ≡ at_start (payload_key file_key nonce) max) × GivesNonce from to (Ok nonce)
+Starts file_key max from to (Err fault) = GivesNonce from to (Err fault)
 
 -- what is left, read from piece i on
 abbrev pub reading_left : (key : Key) (max i : ℕ) (left : Option Bytes) → Reading StreamFault
@@ -118,7 +116,7 @@ pieces_left None = []
 pieces_left (Some c) = pieces c
 
 -- A reading's fault was returned, or the length of its plaintext and the number of its pieces, and
--- its plaintext was written; a beginning of it where a device failed.
+-- its plaintext was written; a prefix of it where a device failed.
 abbrev pub WritesReading : (reading : Reading StreamFault) (n : ℕ) (old new : Known)
     (result : Result Done StreamFault) → Type 0
 WritesReading reading n old new (Ok done) =
@@ -138,7 +136,7 @@ WritesAll s from old new r =
     (length (pieces_left (left_of s.held c))) old new r
 
 -- A fault of a piece or of a write: at which piece it was met, what had been written, and how much
--- of the source had been taken. So many bytes were taken before the pieces: 16 where the nonce
+-- of the source had been taken. `before` bytes were taken before the pieces: 16 where the nonce
 -- counts.
 pub record EndsAt (max before : ℕ) (from to old new : Known) (fault : StreamFault)
     : Type 0 where
@@ -156,9 +154,9 @@ GivesText outcome after (Err fault) = outcome ≡ Err fault
 
 -- the first piece of c, as piece i, opens to the text at the start of the buffer, and what follows
 -- it is left; or its fault is returned
-abbrev pub Opens : (key : Key) (max i : ℕ) (c after d : Bytes) (result : Result Piece StreamFault)
-    → Type 0
-Opens key max i c after d (Ok p) =
+abbrev pub OpensPiece : (key : Key) (max i : ℕ) (c after d : Bytes)
+    (result : Result Piece StreamFault) → Type 0
+OpensPiece key max i c after d (Ok p) =
     (first_outcome key max i c ≡ Ok (take p.len after)) × (p.len ≤ length after)
     × (left_of (held_of p.more (drop sealed_chunk_size after)) d ≡ after_first c)
-Opens key max i c after d (Err fault) = first_outcome key max i c ≡ Err fault
+OpensPiece key max i c after d (Err fault) = first_outcome key max i c ≡ Err fault

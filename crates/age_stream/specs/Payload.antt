@@ -36,13 +36,13 @@ sealed_from key i (chunk ∷ more) =
     sealed key (chunk_nonce i (is_end more)) [] chunk ∷ sealed_from key (i + 1) more
 
 -- the key of the chunks
-unfoldable pub payload_key : (k : FileKey) (nonce : Bytes) → Key
-payload_key k nonce = hkdf k.0 nonce (codes "payload") 32
+unfoldable pub payload_key : (file_key : FileKey) (nonce : Bytes) → Key
+payload_key file_key nonce = hkdf file_key.0 nonce (codes "payload") 32
 
 -- the sealed chunks of a plaintext
-abbrev pub sealed_chunks : (k : FileKey) (nonce plain : Bytes) → List Bytes
-sealed_chunks k nonce plain = sealed_from (payload_key k nonce) 0 (chunks plain)
+abbrev pub sealed_chunks : (file_key : FileKey) (nonce plain : Bytes) → List Bytes
+sealed_chunks file_key nonce plain = sealed_from (payload_key file_key nonce) 0 (chunks plain)
 
 -- the payload: the nonce, then the sealed chunks
-abbrev pub payload : (k : FileKey) (nonce plain : Bytes) → Bytes
-payload k nonce plain = nonce ++ concat (sealed_chunks k nonce plain)
+abbrev pub payload : (file_key : FileKey) (nonce plain : Bytes) → Bytes
+payload file_key nonce plain = nonce ++ concat (sealed_chunks file_key nonce plain)

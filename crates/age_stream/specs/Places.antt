@@ -25,7 +25,7 @@ GivesAt told size at r buf =
     IfOk r (λ n. HasAt told at (take n buf)
     × (n ≡ 0 → 0 < length buf → IsPast told at × IfSome size (λ s. s ≤ at)))
 
--- the places of all known bytes are u64s
+-- the offsets of all known bytes fit a u64
 abbrev pub HasPlaces : Known → Type 0
 HasPlaces told = IfSome told (λ bytes. length bytes < 2 ^ 64)
 

@@ -10,7 +10,7 @@ use Rattle.age_stream.specs.declared.fault.StreamFault.TheVariants.{BadChunk, Re
 use Rattle.age_stream.specs.declared.layout.Layout.{Layout}
 use Rattle.age_stream.specs.declared.ranges.RangeReader.{RangeReader}
 use Rattle.age_stream.specs.Payload.{payload_key}
-use Rattle.age_stream.specs.Slice.{opening, plain_len, text_len, IsSlice, last_piece, last_outcome, range_outcome}
+use Rattle.age_stream.specs.Slice.{opening, plain_len, chunk_len, IsSlice, last_piece, last_outcome, range_outcome}
 use Rattle.age_stream.specs.Sizes.{nonce_size, tag_size, chunk_size, sealed_chunk_size}
 
 -- the known bytes from an offset on
@@ -31,7 +31,7 @@ opens_to told layout i = opening layout.key (bytes_from told layout.first) i
 
 -- the text of chunk i, while it is the kept one
 abbrev pub kept_text : (s : RangeState) (i : ℕ) → Bytes
-kept_text s i = take (text_len s.layout.plain i) s.buf
+kept_text s i = take (chunk_len s.layout.plain i) s.buf
 
 -- the source's contents are known, and end with the last piece
 pub record IsThere (told : Known) (layout : Layout) : Type 0 where
@@ -71,9 +71,9 @@ is_kept (Some k) i = nat_eq k i
 abbrev pub first_to_open : (index : Option ℕ) (at : ℕ) → ℕ
 first_to_open index at = at / chunk_size + (if is_kept index (at / chunk_size) then 1 else 0)
 
--- the chunks opened so far are now at least n more; the count stays at the largest u64
-abbrev pub Counts : (s : RangeState) (opened n : ℕ) → Type 0
-Counts s opened n = min (s.opened + n) (2 ^ 64 - 1) ≤ opened
+-- the count of opened chunks rose by at least n, or is the largest u64
+abbrev pub OpenedAtLeast : (s : RangeState) (opened n : ℕ) → Type 0
+OpenedAtLeast s opened n = min (s.opened + n) (2 ^ 64 - 1) ≤ opened
 
 -- a range of n bytes from `at` on stops at chunk i, which has bytes of it: the bytes before
 -- that chunk are filled in, and each chunk up to this one is counted that was not kept
@@ -84,7 +84,7 @@ pub record Stops (told : Known) (s : RangeState) (at n : ℕ) (old new : Bytes)
   pub to : chunk_size * chunk < at + n
   pub filled : Fills told s at (chunk_size * chunk - at) old new
   pub lost : IsLost told s chunk fault
-  pub counts : Counts s opened (chunk + 1 - first_to_open s.index at)
+  pub counts : OpenedAtLeast s opened (chunk + 1 - first_to_open s.index at)
 
 -- how many sealed bytes the chunks from number `from` to before `end` have
 abbrev pub sealed_span : (layout : Layout) (from end : ℕ) → ℕ
@@ -92,12 +92,12 @@ sealed_span layout from end =
     min (sealed_chunk_size * end) (layout.plain + tag_size * layout.count)
     - sealed_chunk_size * from
 
--- how long the last piece is, of so many bytes
-abbrev pub last_len : ℕ → ℕ
-last_len sealed = sealed - sealed_chunk_size * ((sealed - 1) / sealed_chunk_size)
+-- the length of the last piece, if all pieces together have n bytes
+abbrev pub last_len : (n : ℕ) → ℕ
+last_len n = n - sealed_chunk_size * ((n - 1) / sealed_chunk_size)
 
--- what the last piece gives was found, where so many known bytes follow from offset `first` on: its
--- text is at the start of the buffer, or its fault
+-- what the last piece gives was found, where `sealed` known bytes follow from offset `first` on:
+-- its text is at the start of the buffer, or its fault
 abbrev pub JudgesLast : (key : Key) (max first sealed : ℕ) (told : Known) (after : Bytes)
     (r : Result Layout StreamFault) → Type 0
 JudgesLast key max first sealed told after r =
@@ -106,31 +106,33 @@ JudgesLast key max first sealed told after r =
     × (layout.plain + tag_size * layout.count ≡ sealed)
     × IfSome told (λ bytes. length bytes ≡ first + sealed
     → last_outcome key max (drop first bytes)
-    ≡ Ok (take (text_len layout.plain (layout.count - 1)) after)))
+    ≡ Ok (take (chunk_len layout.plain (layout.count - 1)) after)))
     (λ fault. (fault ≡ Read)
     ⊎ IfSome told (λ bytes.
     length bytes ≡ first + sealed → last_outcome key max (drop first bytes) ≡ Err fault))
 
 -- a reader that was just opened on the payload at this offset, over a source whose contents are
 -- known
-pub record IsOpened (k : FileKey) (max : ℕ) (told : Known) (at : ℕ) (s : RangeState)
+pub record IsOpened (file_key : FileKey) (max : ℕ) (told : Known) (at : ℕ) (s : RangeState)
     : Type 0 where
-  pub opens : range_outcome k max (bytes_from told at) ≡ Ok (kept_text s (s.layout.count - 1))
-  pub key : s.layout.key ≡ payload_key k (take nonce_size (bytes_from told at))
+  pub opens : range_outcome file_key max (bytes_from told at)
+      ≡ Ok (kept_text s (s.layout.count - 1))
+  pub key : s.layout.key ≡ payload_key file_key (take nonce_size (bytes_from told at))
   pub first : s.layout.first ≡ at + nonce_size
   pub plain : s.layout.plain ≡ plain_len (bytes_from told (at + nonce_size))
   pub sound : IsSound told s
 
 -- A reader was opened, which keeps the last chunk. Or the fault is a failed read, out of memory, or
 -- what opening the payload finds.
-abbrev pub OpensRanges : (k : FileKey) (max at : ℕ) (told : Known)
+abbrev pub OpensRanges : (file_key : FileKey) (max at : ℕ) (told : Known)
     (r : Result RangeState StreamFault) → Type 0
-OpensRanges k max at told r =
+OpensRanges file_key max at told r =
     MatchResult r
     (λ s. (s.index ≡ Some (s.layout.count - 1)) × (s.opened ≡ 1)
-    × IfSome told (λ bytes. IsOpened k max (Some bytes) at s))
+    × IfSome told (λ bytes. IsOpened file_key max (Some bytes) at s))
     (λ fault. (fault ≡ Read)
-    ⊎ ((fault ≡ Memory) ⊎ IfSome told (λ bytes. range_outcome k max (drop at bytes) ≡ Err fault)))
+    ⊎ ((fault ≡ Memory)
+    ⊎ IfSome told (λ bytes. range_outcome file_key max (drop at bytes) ≡ Err fault)))
 
 -- a fault with which opening a payload may end
 abbrev pub IsOpenFault : StreamFault → Type 0

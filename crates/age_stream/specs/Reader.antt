@@ -12,17 +12,17 @@ use Rattle.age_stream.specs.Sizes.{nonce_size}
 
 -- the nonce was not read: the source gave fewer than 16 bytes, or failed, and then one failure more
 -- was counted
-abbrev pub MissesNonce : (key : FileKey) (max : ℕ) (from to : Known) (before after : ℕ)
+abbrev pub MissesNonce : (file_key : FileKey) (max : ℕ) (from to : Known) (before after : ℕ)
     (fault : StreamFault) → Type 0
-MissesNonce key max from to before after fault =
-    Starts key max from to (Err fault) × CountsReadFault before after fault
+MissesNonce file_key max from to before after fault =
+    Starts file_key max from to (Err fault) × CountsReadFault before after fault
     × ((fault ≡ Read) ⊎ GaveAtMost nonce_size from to)
 
 -- the result as a Bool: true if a chunk was lent, false after the last
-abbrev pub lent : {A : Type 0} → Result (Option A) StreamFault → Result Bool StreamFault
-lent (Ok None) = Ok false
-lent (Ok (Some piece)) = Ok true
-lent (Err fault) = Err fault
+abbrev pub is_lent : {A : Type 0} → Result (Option A) StreamFault → Result Bool StreamFault
+is_lent (Ok None) = Ok false
+is_lent (Ok (Some piece)) = Ok true
+is_lent (Err fault) = Err fault
 
 -- One call of a reader that keeps no fault: a failed read is counted, and a fault is kept. Unless
 -- the fault is Read, its opener made the step `Advances`.

@@ -56,17 +56,17 @@ abbrev pub whole : {F : Type 0} → Bytes → Reading F
 whole plain = record { front = plain; fault = None }
 
 -- a text read as the pieces from number i on
-abbrev pub reading_from : Bytes → ℕ → ℕ → Bytes → Reading StreamFault
+abbrev pub reading_from : (key : Key) (max i : ℕ) (rest : Bytes) → Reading StreamFault
 reading_from key max i rest = record {
   front = front (outcomes key max i (pieces rest));
   fault = first_fault (outcomes key max i (pieces rest));
 }
 
 -- a payload read under a file key: its nonce, then its pieces
-abbrev pub payload_reading : (k : FileKey) (max : ℕ) (text : Bytes) → Reading StreamFault
-payload_reading k max text =
+abbrev pub payload_reading : (file_key : FileKey) (max : ℕ) (text : Bytes) → Reading StreamFault
+payload_reading file_key max text =
     if nat_lt (length text) nonce_size then stops NonceTruncated
-    else reading_from (payload_key k (take nonce_size text)) max 0 (drop nonce_size text)
+    else reading_from (payload_key file_key (take nonce_size text)) max 0 (drop nonce_size text)
 
 -- what the first piece of c gives as piece i; it is the last where no byte follows it
 abbrev pub first_outcome : (key : Key) (max i : ℕ) (c : Bytes) → Result Bytes StreamFault

@@ -51,7 +51,7 @@ pub record Fed (key : Key) (i j : ℕ) (held text now : Bytes) (old new : Known)
 abbrev pub WroteAtLeast : (n : ℕ) (old new : Known) → Type 0
 WroteAtLeast n old new = (text : Bytes) × Appends old new text × (n ≤ length text)
 
--- What was written where `text` was to come and a fault was met: of a device's fault a beginning of
+-- What was written where `text` was to come and a fault was met: of a device's fault a prefix of
 -- the sealed chunks; of too many chunks those with an index below the limit less one.
 abbrev pub StopsIn : (key : Key) (max i : ℕ) (held text : Bytes) (old new : Known)
     (fault : StreamFault) → Type 0
@@ -93,7 +93,7 @@ TakesAll s t from to old new r =
     (λ fault. (t.fault ≡ Some fault)
     × Stopped s.key s.max_chunks s.index t.index s.held from to old new fault)
 
--- the last chunk was written, or a beginning of it
+-- the last chunk was written, or a prefix of it
 abbrev pub FinishesBy : (s : SealerState) (old new : Known) (result : Result Done StreamFault)
     → Type 0
 FinishesBy s old new (Ok done) =

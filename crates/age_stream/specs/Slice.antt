@@ -1,4 +1,4 @@
--- Parts of a plaintext by their places. Chunks that a part doesn't touch need not open (C2SP
+-- Parts of a plaintext by their offsets. Chunks that a part doesn't touch need not open (C2SP
 -- age.md, "Payload").
 use Rattle.std.specs.Prelude.{ℕ, List, [], ◌∷◌, ◌+◌, ◌-◌, ◌*◌, ◌/◌, ◌%◌, ◌<◌, ◌≡◌, length, get_or, take, drop, nat_lt, true, min, slice_get, slice_index, Option, Some, None, Result, Err, if◌then◌else◌}
 use Rattle.std.specs.List.{sum_by}
@@ -24,9 +24,9 @@ opening key rest i = get_or (openings key 0 (pieces rest)) i None
 abbrev pub plain_len : Bytes → ℕ
 plain_len rest = sum_by (λ piece. length piece - tag_size) (pieces rest)
 
--- how long chunk i of a plaintext of so many bytes is
-abbrev pub text_len : (plain i : ℕ) → ℕ
-text_len plain i = min chunk_size (plain - chunk_size * i)
+-- the length of chunk i of a plaintext of `plain` bytes
+abbrev pub chunk_len : (plain i : ℕ) → ℕ
+chunk_len plain i = min chunk_size (plain - chunk_size * i)
 
 -- xs are the plaintext's bytes from offset `at` on: for each k, piece (at + k) / chunk_size opens,
 -- and byte k of xs is byte (at + k) % chunk_size of what it opens to
@@ -45,7 +45,7 @@ abbrev pub last_outcome : (key : Key) (max : ℕ) (rest : Bytes) → Result Byte
 last_outcome key max rest = outcome key max (length (pieces rest) - 1) true (last_piece rest)
 
 -- what opening a payload for ranges finds: a nonce, and what the last piece gives
-abbrev pub range_outcome : (k : FileKey) (max : ℕ) (text : Bytes) → Result Bytes StreamFault
-range_outcome k max text =
+abbrev pub range_outcome : (file_key : FileKey) (max : ℕ) (text : Bytes) → Result Bytes StreamFault
+range_outcome file_key max text =
     if nat_lt (length text) nonce_size then Err NonceTruncated
-    else last_outcome (payload_key k (take nonce_size text)) max (drop nonce_size text)
+    else last_outcome (payload_key file_key (take nonce_size text)) max (drop nonce_size text)

@@ -36,7 +36,7 @@ sink_of writer = writer.out
 abbrev pub sealer_of : {W B : Type 0} → StreamWriter W B → B
 sealer_of writer = writer.sealer
 
--- the device that a constructor handed back, and its fault
+-- the device that a constructor returned, and its fault
 abbrev pub device_of : {D E : Type 0} → Refused D E → MutBor D
 device_of refused = refused.device
 

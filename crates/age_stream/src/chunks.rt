@@ -1,15 +1,15 @@
 //! The chunks of a payload, of which one is kept. The source is passed to each call.
 ghost use Rattle.std.specs.Prelude.{◌≡◌, ◌+◌, ◌-◌, ◌*◌, ◌/◌, ◌<◌, ◌≤◌, ◌++◌, ℕ, length, take, drop, min, Some, None, IfOk, OnOk, OnErr, IfErr, if◌then◌else◌};
 ghost use Rattle.age_stream.specs.Counts.{CountsRead};
-ghost use Rattle.age_stream.specs.Ranges.{Counts, Fills, IsLost, IsOpenFault, IsSound, OpensRanges, Probes, Stops, first_to_open, is_kept, kept_text, range_len, sealed_span};
-ghost use Rattle.age_stream.specs.Slice.{text_len};
+ghost use Rattle.age_stream.specs.Ranges.{Fills, IsLost, IsOpenFault, IsSound, OpenedAtLeast, OpensRanges, Probes, Stops, first_to_open, is_kept, kept_text, range_len, sealed_span};
+ghost use Rattle.age_stream.specs.Slice.{chunk_len};
 ghost use Rattle.age_stream.specs.Sizes.{chunk_size, tag_size, chunk_buf_size};
 
 use crate::buffer::ChunkBuf;
 use crate::chunk_keys::payload_key;
 use crate::fault::StreamFault;
 use crate::layout::Layout;
-use crate::loading::{chunk_len, load, load_last, nonce_at};
+use crate::loading::{chunk_len, load, load_last, payload_start};
 use crate::read_at::ReadAt;
 use crate::sizes::{CHUNK_SIZE, NONCE_SIZE};
 use age_recipient::FileKey;
@@ -101,14 +101,14 @@ impl Chunks {
         let Ok(buf) = ChunkBuf::new(alloc) else {
             return Err(StreamFault::Memory);
         };
-        let nonce = nonce_at(dev, payload_at)?;
-        let key = payload_key(key, &nonce.bytes);
+        let start = payload_start(dev, payload_at)?;
+        let key = payload_key(key, &start.nonce);
         let mut buf = buf.into_bytes();
         match load_last(
             dev,
             key,
             payload_at + NONCE_SIZE as u64,
-            nonce.rest,
+            start.sealed_len,
             max_chunks,
             buf.as_mut_slice(),
         ) {
@@ -127,19 +127,19 @@ impl Chunks {
         requires within { i < self.old.layout.count }
         ensures stay { D.bytes dev.new ≡ D.bytes dev.old }
         ensures same { self.new.layout ≡ self.old.layout }
-        ensures kept { OnOk result (self.new.index ≡ Some i) }
+        ensures kept_chunk { OnOk result (self.new.index ≡ Some i) }
         ensures none { OnErr result (self.new.index ≡ None) }
         ensures sound { IsSound (D.bytes dev.old) self.old → IsSound (D.bytes dev.old) self.new }
         ensures lost { IfErr result (IsLost (D.bytes dev.old) self.old i) }
         ensures rises { self.old.opened ≤ self.new.opened }
-        ensures counts { Counts self.old self.new.opened
+        ensures counts { OpenedAtLeast self.old self.new.opened
             (if is_kept self.old.index i then 0 else 1) }
         ensures opened { self.new.opened + (if is_kept self.old.index i then 1 else 0)
             ≤ self.old.opened + 1 }
         ensures given { D.given dev.new
             ≤ D.given dev.old
             + (if is_kept self.old.index i then 0
-            else text_len self.old.layout.plain i + tag_size) }
+            else chunk_len self.old.layout.plain i + tag_size) }
         ensures count { CountsRead (D.failed dev.old) (D.failed dev.new) result }
     {
         if self.index == Some(i) {
@@ -156,7 +156,7 @@ impl Chunks {
     fn text(&self, i: u64) -> &[u8]
         requires { i < self.now.layout.count }
         ensures text { result.now ≡ kept_text self.now i }
-        ensures len { length result.now ≡ text_len self.now.layout.plain i }
+        ensures len { length result.now ≡ chunk_len self.now.layout.plain i }
     {
         let n = chunk_len(self.layout, i);
         &self.buf.as_slice()[..n]
@@ -178,12 +178,12 @@ impl Chunks {
         ensures stop { IfErr result (Stops (D.bytes dev.old) self.old at
             (range_len self.old at (length buf.old)) buf.old buf.new self.new.opened) }
         ensures count { CountsRead (D.failed dev.old) (D.failed dev.new) result }
-        ensures kept { IfOk result
+        ensures kept_chunk { IfOk result
             (λ n. 0 < n → self.new.index ≡ Some ((at + n - 1) / chunk_size)) }
         ensures none { OnErr result (self.new.index ≡ None) }
         ensures rises { self.old.opened ≤ self.new.opened }
         ensures counts { IfOk result (λ n. 0 < n
-            → Counts self.old self.new.opened
+            → OpenedAtLeast self.old self.new.opened
             ((at + n - 1) / chunk_size + 1 - first_to_open self.old.index at)) }
         ensures opened { (end : ℕ) → at + range_len self.old at (length buf.old) ≤ chunk_size * end
             → self.new.opened ≤ self.old.opened + (end - first_to_open self.old.index at) }

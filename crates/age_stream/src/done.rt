@@ -1,3 +1,5 @@
+//! How much was sealed or opened.
+
 /// How much was sealed or opened.
 #[derive(Clone, Copy, Debug, Drop, PartialEq, Eq)]
 pub struct Done {

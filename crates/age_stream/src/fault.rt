@@ -1,3 +1,5 @@
+//! The faults of a payload.
+
 /// The faults of a payload (C2SP `age.md`, "Payload"). Chunks are numbered from 0.
 #[derive(Clone, Copy, Debug, Drop, PartialEq, Eq)]
 pub enum StreamFault {

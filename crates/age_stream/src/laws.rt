@@ -18,26 +18,26 @@ pub fn one_cut()
 /// A payload reads whole as a plaintext exactly if it is the payload of this plaintext, and the
 /// number of chunks is within the limit. It then has as many pieces as the plaintext has chunks.
 pub fn ok_is_payload()
-    ensures ok { (k : FileKey) (text plain : Bytes) (max : ℕ)
-        → (payload_reading k max text ≡ whole plain) ↔ ((nonce : Bytes)
-        × (length nonce ≡ nonce_size) × (text ≡ payload k nonce plain)
+    ensures ok { (file_key : FileKey) (text plain : Bytes) (max : ℕ)
+        → (payload_reading file_key max text ≡ whole plain) ↔ ((nonce : Bytes)
+        × (length nonce ≡ nonce_size) × (text ≡ payload file_key nonce plain)
         × (length (chunks plain) ≤ max)) }
-    ensures count { (k : FileKey) (text plain : Bytes) (max : ℕ)
-        → payload_reading k max text ≡ whole plain
+    ensures count { (file_key : FileKey) (text plain : Bytes) (max : ℕ)
+        → payload_reading file_key max text ≡ whole plain
         → length (pieces (drop nonce_size text)) ≡ length (chunks plain) }
 {}
 
 /// A payload that reads whole opens for ranges. Its length for ranges is that of the plaintext, and
 /// its slices are the plaintext's.
 pub fn whole_is_sliced()
-    ensures opens { (k : FileKey) (text plain : Bytes) (max : ℕ)
-        → payload_reading k max text ≡ whole plain
-        → (last : Bytes) × (range_outcome k max text ≡ Ok last) }
-    ensures len { (k : FileKey) (text plain : Bytes) (max : ℕ)
-        → payload_reading k max text ≡ whole plain
+    ensures opens { (file_key : FileKey) (text plain : Bytes) (max : ℕ)
+        → payload_reading file_key max text ≡ whole plain
+        → (last : Bytes) × (range_outcome file_key max text ≡ Ok last) }
+    ensures len { (file_key : FileKey) (text plain : Bytes) (max : ℕ)
+        → payload_reading file_key max text ≡ whole plain
         → plain_len (drop nonce_size text) ≡ length plain }
-    ensures slice { (k : FileKey) (text plain xs : Bytes) (max at : ℕ)
-        → payload_reading k max text ≡ whole plain
-        → IsSlice (payload_key k (take nonce_size text)) (drop nonce_size text) at xs
+    ensures slice { (file_key : FileKey) (text plain xs : Bytes) (max at : ℕ)
+        → payload_reading file_key max text ≡ whole plain
+        → IsSlice (payload_key file_key (take nonce_size text)) (drop nonce_size text) at xs
         → xs ≡ take (length xs) (drop at plain) }
 {}

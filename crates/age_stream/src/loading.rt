@@ -5,7 +5,7 @@ ghost use Rattle.age_header.specs.Device.{Counts};
 ghost use Rattle.age_stream.specs.Counts.{CountsRead};
 ghost use Rattle.age_stream.specs.Places.{EndsBefore, HasAt, IsPast};
 ghost use Rattle.age_stream.specs.Ranges.{IsOpenFault, IsThere, JudgesLast, last_len, opens_to};
-ghost use Rattle.age_stream.specs.Slice.{text_len};
+ghost use Rattle.age_stream.specs.Slice.{chunk_len};
 ghost use Rattle.age_stream.specs.Sizes.{nonce_size, tag_size, chunk_buf_size};
 
 use crate::chunk_keys::chunk_nonce;
@@ -16,15 +16,15 @@ use crate::read_at::ReadAt;
 use crate::sizes::{CHUNK_SIZE, NONCE_SIZE, SEALED_CHUNK_SIZE, TAG_SIZE};
 use age_header::DeviceFault;
 
-/// A payload's nonce, and how many bytes follow it.
+/// A payload's nonce, and the number of sealed bytes that follow it.
 #[derive(Clone, Copy)]
-pub(crate) struct Nonce {
-    pub(crate) bytes: [u8; 16],
-    pub(crate) rest: u64,
+pub(crate) struct PayloadStart {
+    pub(crate) nonce: [u8; 16],
+    pub(crate) sealed_len: u64,
 }
 
 /// One read after the first `got` bytes, up to byte `end`.
-fn read_behind<D: ReadAt>(
+fn read_after<D: ReadAt>(
     dev: &mut D,
     at: u64,
     buf: &mut [u8],
@@ -32,7 +32,7 @@ fn read_behind<D: ReadAt>(
     end: usize,
 ) -> Result<usize, DeviceFault>
     requires fits { at + end < 2 ^ 64 }
-    requires behind { got < end }
+    requires unfilled { got < end }
     requires room { end ≤ length buf.old }
     ensures stay { D.bytes dev.new ≡ D.bytes dev.old }
     ensures within { IfOk result (λ n. got + n ≤ end) }
@@ -68,7 +68,7 @@ pub(crate) fn read_full<D: ReadAt>(
 {
     let mut got = 0;
     while got < end {
-        let n = read_behind(dev, at, buf, got, end)?;
+        let n = read_after(dev, at, buf, got, end)?;
         if n == 0 {
             return Ok(false);
         }
@@ -80,7 +80,7 @@ pub(crate) fn read_full<D: ReadAt>(
 /// The length of chunk i.
 pub(crate) fn chunk_len(layout: Layout, i: u64) -> usize
     requires { i < layout.count }
-    ensures { result ≡ text_len layout.plain i }
+    ensures { result ≡ chunk_len layout.plain i }
 {
     (layout.plain - CHUNK_SIZE as u64 * i).min(CHUNK_SIZE as u64) as usize
 }
@@ -96,12 +96,12 @@ pub(crate) fn load<D: ReadAt>(
     requires within { i < layout.count }
     ensures stay { D.bytes dev.new ≡ D.bytes dev.old }
     ensures opens { OnOk result (IsThere (D.bytes dev.old) layout
-        → opens_to (D.bytes dev.old) layout i ≡ Some (take (text_len layout.plain i) buf.new)) }
+        → opens_to (D.bytes dev.old) layout i ≡ Some (take (chunk_len layout.plain i) buf.new)) }
     ensures lost { IfErr result (λ fault. (fault ≡ StreamFault.Read)
         ⊎ ((fault ≡ StreamFault.BadChunk i)
         × (IsThere (D.bytes dev.old) layout
         → opens_to (D.bytes dev.old) layout i ≡ None))) }
-    ensures given { D.given dev.new ≤ D.given dev.old + (text_len layout.plain i + tag_size) }
+    ensures given { D.given dev.new ≤ D.given dev.old + (chunk_len layout.plain i + tag_size) }
     ensures count { CountsRead (D.failed dev.old) (D.failed dev.new) result }
 {
     let nonce = chunk_nonce(i as u128, i + 1 == layout.count);
@@ -119,13 +119,13 @@ pub(crate) fn load<D: ReadAt>(
     }
 }
 
-/// Reads the nonce at this offset.
-pub(crate) fn nonce_at<D: ReadAt>(dev: &mut D, at: u64) -> Result<Nonce, StreamFault>
+/// Reads the nonce at this offset, and finds how many bytes follow it.
+pub(crate) fn payload_start<D: ReadAt>(dev: &mut D, at: u64) -> Result<PayloadStart, StreamFault>
     ensures stay { D.bytes dev.new ≡ D.bytes dev.old }
-    ensures fits { IfOk result (λ nonce. at + nonce_size + nonce.rest < 2 ^ 64) }
-    ensures ok { IfOk result (λ nonce. IfSome (D.bytes dev.old) (λ bytes. (nonce.bytes
+    ensures fits { IfOk result (λ start. at + nonce_size + start.sealed_len < 2 ^ 64) }
+    ensures ok { IfOk result (λ start. IfSome (D.bytes dev.old) (λ bytes. (start.nonce
         ≡ take nonce_size (drop at bytes))
-        × (length bytes ≡ at + nonce_size + nonce.rest))) }
+        × (length bytes ≡ at + nonce_size + start.sealed_len))) }
     ensures err { IfErr result (λ fault. (fault ≡ StreamFault.Read)
         ⊎ ((fault ≡ StreamFault.NonceTruncated) × EndsBefore (D.bytes dev.old) (at + nonce_size))) }
     ensures given { D.given dev.new ≤ D.given dev.old + nonce_size }
@@ -134,17 +134,17 @@ pub(crate) fn nonce_at<D: ReadAt>(dev: &mut D, at: u64) -> Result<Nonce, StreamF
     let Ok(size) = dev.size() else {
         return Err(StreamFault::Read);
     };
-    let behind = size.saturating_sub(at);
-    if behind < NONCE_SIZE as u64 {
+    let left = size.saturating_sub(at);
+    if left < NONCE_SIZE as u64 {
         return Err(StreamFault::NonceTruncated);
     }
-    let mut bytes = [0; NONCE_SIZE];
-    match read_full(dev, at, &mut bytes, NONCE_SIZE) {
+    let mut nonce = [0; NONCE_SIZE];
+    match read_full(dev, at, &mut nonce, NONCE_SIZE) {
         Err(_) => Err(StreamFault::Read),
         Ok(false) => Err(StreamFault::NonceTruncated),
-        Ok(true) => Ok(Nonce {
-            bytes,
-            rest: behind - NONCE_SIZE as u64,
+        Ok(true) => Ok(PayloadStart {
+            nonce,
+            sealed_len: left - NONCE_SIZE as u64,
         }),
     }
 }

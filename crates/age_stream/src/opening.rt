@@ -5,7 +5,7 @@ ghost use Rattle.age_kdf.specs.Bytes.{Bytes};
 ghost use Rattle.age_cipher.specs.Sealing.{opened};
 ghost use Rattle.age_header.specs.Device.{GaveAtMost, MayGive};
 ghost use Rattle.age_stream.specs.Counts.{CountsRead, CountsWrite};
-ghost use Rattle.age_stream.specs.Opening.{Advances, EndsAt, GivesNonce, GivesText, IsAtPiece, Opens, Starts, WritesAll};
+ghost use Rattle.age_stream.specs.Opening.{Advances, EndsAt, GivesNonce, GivesText, IsAtPiece, OpensPiece, Starts, WritesAll};
 ghost use Rattle.age_stream.specs.Reading.{outcome};
 ghost use Rattle.age_stream.specs.Sizes.{chunk_size, sealed_chunk_size, most_chunks, nonce_size, tag_size, chunk_buf_size};
 
@@ -36,7 +36,7 @@ pub struct ChunkOpener {
 impl Model for ChunkOpener {
     ghost use Rattle.std.specs.Prelude.{◌≡◌, ◌≤◌, ◌^◌, length, take, drop};
     ghost use Rattle.age_stream.specs.Opening.{OpenerState, held_of};
-    ghost use Rattle.age_stream.specs.Sizes.{chunk_size, sealed_chunk_size, chunk_buf_size};
+    ghost use Rattle.age_stream.specs.Sizes.{chunk_size, sealed_chunk_size, chunk_buf_size, most_chunks};
 
     ghost Value = { OpenerState };
 
@@ -50,13 +50,13 @@ impl Model for ChunkOpener {
     } };
 
     ghost invariant = { λ o. (length o.buf.items ≡ chunk_buf_size) × (o.ahead ≤ 1)
-        × (o.len ≤ chunk_size) × (o.index ≤ o.max_chunks) × (o.max_chunks ≤ 2 ^ 88) };
+        × (o.len ≤ chunk_size) × (o.index ≤ o.max_chunks) × (o.max_chunks ≤ most_chunks) };
 }
 
 impl ChunkOpener {
     ghost use Rattle.age_stream.specs.Opening.{OpenerState};
 
-    /// Reads the nonce of a payload, and is then before piece 0.
+    /// Reads the nonce of a payload, and makes an opener whose next piece is piece 0.
     ///
     /// # Errors
     /// `NonceTruncated` if the source returns fewer than 16 bytes, `Read` if it failed.
@@ -106,7 +106,7 @@ impl ChunkOpener {
 
     /// Reads and opens the next piece; false after the last.
     pub fn advance<S: Source>(&mut self, source: &mut S) -> Result<bool, StreamFault>
-        ensures kept { IfSome self.old.fault
+        ensures kept_fault { IfSome self.old.fault
             (λ f. (result ≡ Err f) × (source.new ≡ source.old) × (self.new ≡ self.old)) }
         ensures keeps { IfNone self.old.fault (IfErr result (λ f. self.new.fault ≡ Some f)) }
         ensures count { IfNone self.old.fault
@@ -185,8 +185,9 @@ struct Piece {
     more: bool,
 }
 
-/// Reads the next piece, and opens it as piece i. The buffer ends with `ahead` bytes of it, and
-/// then with the byte that follows it.
+/// Reads the next piece, and opens it as piece i. Before the call the last byte of the buffer is
+/// the first of this piece, if `ahead` is 1. After it the last byte is the first of the next piece,
+/// if there is one.
 fn next_piece<S: Source>(
     source: &mut S,
     bytes: &mut [u8],
@@ -204,7 +205,7 @@ fn next_piece<S: Source>(
     ensures opens { IsErrOf result StreamFault.Read
         ⊎ ((d : Bytes) → MayGive (S.to_come source.new) d
         → (c : Bytes) × MayGive (S.to_come source.old) c
-        × Opens key.now max i (take ahead (drop sealed_chunk_size bytes.old) ++ c) bytes.new d
+        × OpensPiece key.now max i (take ahead (drop sealed_chunk_size bytes.old) ++ c) bytes.new d
         result) }
     ensures gave { IsErrOf result StreamFault.Read
         ⊎ GaveAtMost (chunk_buf_size - ahead) (S.to_come source.old) (S.to_come source.new) }
@@ -282,7 +283,7 @@ pub fn open_chunk(
     ensures rest { drop (end - tag_size) bytes.new ≡ drop (end - tag_size) bytes.old }
     ensures size { IfOk result (λ n. n ≡ end - tag_size) }
     ensures text { GivesText (outcome key.now max i last (take end bytes.old)) bytes.new result }
-    ensures kept { OnErr result (bytes.new ≡ bytes.old) }
+    ensures unchanged { OnErr result (bytes.new ≡ bytes.old) }
     ensures within { OnOk result (i < max) }
     ensures at { IfErr result (IsAtPiece max i) }
 {
@@ -316,7 +317,7 @@ pub(crate) fn open_front(key: &[u8; 32], nonce: &[u8; 12], bytes: &mut [u8], end
     requires size { end ≤ sealed_chunk_size }
     ensures len { length bytes.new ≡ length bytes.old }
     ensures rest { drop (end - tag_size) bytes.new ≡ drop (end - tag_size) bytes.old }
-    ensures kept { OnFalse result (bytes.new ≡ bytes.old) }
+    ensures unchanged { OnFalse result (bytes.new ≡ bytes.old) }
     ensures opened { OnTrue result (opened key.now nonce.now [] (take end bytes.old)
         ≡ Some (take (end - tag_size) bytes.new)) }
     ensures refused { OnFalse result (opened key.now nonce.now [] (take end bytes.old) ≡ None) }

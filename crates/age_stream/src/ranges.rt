@@ -1,7 +1,7 @@
 //! Reading any part of a plaintext from a caller's source.
 ghost use Rattle.std.specs.Prelude.{◌≡◌, ◌+◌, ◌-◌, ◌*◌, ◌/◌, ◌<◌, ◌≤◌, ℕ, length, Ok, Err, Some, None, IfOk, IfErr, OnErr};
 ghost use Rattle.age_stream.specs.Counts.{CountsRead, CountsReadFault};
-ghost use Rattle.age_stream.specs.Ranges.{Counts, Fills, IsOpenFault, IsSound, OpensRanges, Probes, Stops, first_to_open, range_len, sealed_span};
+ghost use Rattle.age_stream.specs.Ranges.{Fills, IsOpenFault, IsSound, OpenedAtLeast, OpensRanges, Probes, Stops, first_to_open, range_len, sealed_span};
 ghost use Rattle.age_stream.specs.Sizes.{chunk_size};
 
 use crate::chunks::Chunks;
@@ -24,7 +24,7 @@ impl<'a, D: ReadAt> RangeReader<'a, D> {
     /// Makes a reader of this source and these chunks.
     fn over(dev: &'a mut D, chunks: Chunks) -> RangeReader<'a, D>
         ensures same_reference { result.dev.ghost_name ≡ dev.entry.ghost_name }
-        ensures kept { result.dev.now ≡ dev.old }
+        ensures unchanged { result.dev.now ≡ dev.old }
         ensures chunks { result.chunks ≡ chunks }
     {
         RangeReader { dev, chunks }
@@ -120,12 +120,12 @@ impl<'a, D: ReadAt> RangeReader<'a, D> {
     /// Fills the start of `buf` with the plaintext from offset `at` on, and returns the number of
     /// bytes: the smaller of `buf.len()` and the length of the plaintext from `at` on, 0 past its
     /// end. The rest of `buf` is unchanged. An empty range reads nothing. After a range that is not
-    /// empty its last chunk is kept; it allocates nothing.
+    /// empty its last chunk is kept. The call allocates nothing.
     ///
     /// # Errors
-    /// `BadChunk(i)` for the first chunk i of the range that does not open, `Read` if the source
-    /// failed. Then the bytes before that chunk are in `buf`, the rest of `buf` is unchanged, and
-    /// no chunk is kept. A later call reads the source again.
+    /// `BadChunk(i)` if chunk i is the first of the range that does not open; `Read` if a read of a
+    /// chunk failed. Then `buf` has the bytes before this chunk, the rest of `buf` is unchanged,
+    /// and no chunk is kept. A later call reads the source again.
     pub fn read_range(&mut self, at: u64, buf: &mut [u8]) -> Result<usize, StreamFault>
         ensures same_reference { self.new.dev.ghost_name ≡ self.old.dev.ghost_name }
         ensures stay { D.bytes self.new.dev.now ≡ D.bytes self.old.dev.now }
@@ -139,11 +139,12 @@ impl<'a, D: ReadAt> RangeReader<'a, D> {
             (range_len self.old.chunks at (length buf.old)) buf.old buf.new
             self.new.chunks.opened) }
         ensures count { CountsRead (D.failed self.old.dev.now) (D.failed self.new.dev.now) result }
-        ensures kept { IfOk result
+        ensures kept_chunk { IfOk result
             (λ n. 0 < n → self.new.chunks.index ≡ Some ((at + n - 1) / chunk_size)) }
         ensures none { OnErr result (self.new.chunks.index ≡ None) }
         ensures rises { self.old.chunks.opened ≤ self.new.chunks.opened }
-        ensures counts { IfOk result (λ n. 0 < n → Counts self.old.chunks self.new.chunks.opened
+        ensures counts { IfOk result (λ n. 0 < n
+            → OpenedAtLeast self.old.chunks self.new.chunks.opened
             ((at + n - 1) / chunk_size + 1 - first_to_open self.old.chunks.index at)) }
         ensures opened { (end : ℕ)
             → at + range_len self.old.chunks at (length buf.old) ≤ chunk_size * end

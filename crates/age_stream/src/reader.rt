@@ -4,7 +4,7 @@ ghost use Rattle.std.specs.Borrow.{sem, follows_so};
 ghost use Rattle.age_header.specs.Device.{GaveAtMost};
 ghost use Rattle.age_stream.specs.Counts.{CountsRead, CountsWrite};
 ghost use Rattle.age_stream.specs.Opening.{Advances, EndsAt, Starts, WritesAll};
-ghost use Rattle.age_stream.specs.Reader.{Lends, MissesNonce, lent};
+ghost use Rattle.age_stream.specs.Reader.{Lends, MissesNonce, is_lent};
 ghost use mathlib.Core.Option.{none};
 ghost use mir.Syntax.{named};
 ghost use Rattle.age_stream.specs.Sizes.{most_chunks, nonce_size};
@@ -34,7 +34,7 @@ impl<'a, S: Source> StreamReader<'a, S> {
     /// nothing.
     pub fn over(input: &'a mut S, opener: ChunkOpener) -> StreamReader<'a, S>
         ensures same_reference { result.input.ghost_name ≡ input.entry.ghost_name }
-        ensures kept { result.input.now ≡ input.old }
+        ensures unchanged { result.input.now ≡ input.old }
         ensures opener { result.opener ≡ opener }
     {
         StreamReader { input, opener }
@@ -116,7 +116,7 @@ impl<'a, S: Source> StreamReader<'a, S> {
     /// Reads and opens the next piece; false after the last.
     fn advance(&mut self) -> Result<bool, StreamFault>
         ensures same_reference { self.new.input.ghost_name ≡ self.old.input.ghost_name }
-        ensures kept { IfSome self.old.opener.fault (λ f. (result ≡ Err f)
+        ensures kept_fault { IfSome self.old.opener.fault (λ f. (result ≡ Err f)
             × (self.new.opener ≡ self.old.opener) × (self.new.input.now ≡ self.old.input.now)) }
         ensures keeps { IfNone self.old.opener.fault
             (IfErr result (λ f. self.new.opener.fault ≡ Some f)) }
@@ -146,9 +146,9 @@ impl<'a, S: Source> StreamReader<'a, S> {
             (λ f. (last.opener ≡ self.old.opener) × (last.input.now ≡ self.old.input.now))
             × IfNone self.old.opener.fault (Lends self.old.opener last.opener
             (S.to_come self.old.input.now) (S.to_come last.input.now)
-            (S.failed self.old.input.now) (S.failed last.input.now) (lent result))
+            (S.failed self.old.input.now) (S.failed last.input.now) (is_lent result))
             × IfOk result (λ o. IfSome o (λ piece. piece.now ≡ last.opener.text)))) }
-        ensures kept { IfSome self.old.opener.fault (λ f. result ≡ Err f) }
+        ensures kept_fault { IfSome self.old.opener.fault (λ f. result ≡ Err f) }
     {
         if self.advance()? {
             Ok(Some(self.chunk()))
@@ -164,7 +164,7 @@ impl<'a, S: Source> StreamReader<'a, S> {
     /// Those of `next_chunk`: the chunks before were written. `Write` if the sink failed: a prefix
     /// of the chunks was written.
     pub fn copy_to<W: Sink>(self, out: &mut W) -> Result<Done, StreamFault>
-        ensures kept { IfSome self.entry.opener.fault (λ f.
+        ensures kept_fault { IfSome self.entry.opener.fault (λ f.
             (result ≡ Err f) × (self.exit.0.now ≡ self.entry.input.now) × (out.new ≡ out.old)) }
         ensures writes_all { IfNone self.entry.opener.fault (WritesAll self.entry.opener
             (S.to_come self.entry.input.now) (W.taken out.old) (W.taken out.new) result) }

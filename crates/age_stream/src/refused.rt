@@ -11,7 +11,7 @@ impl<'a, D, E> Refused<'a, D, E> {
     /// Joins a device and a fault.
     pub fn of(device: &'a mut D, fault: E) -> Refused<'a, D, E>
         ensures same_reference { result.device.ghost_name ≡ device.entry.ghost_name }
-        ensures kept { result.device.now ≡ device.old }
+        ensures unchanged { result.device.now ≡ device.old }
         ensures fault { result.fault ≡ fault }
     {
         Refused { device, fault }
@@ -20,7 +20,7 @@ impl<'a, D, E> Refused<'a, D, E> {
     /// The fault. The borrow of the device ends.
     pub fn fault(self) -> E
         ensures fault { result ≡ self.entry.fault }
-        ensures kept { self.exit.0.now ≡ self.entry.device.now }
+        ensures unchanged { self.exit.0.now ≡ self.entry.device.now }
     {
         let Refused { device: _, fault } = self;
         fault

@@ -35,7 +35,7 @@ pub struct ChunkSealer {
 impl Model for ChunkSealer {
     ghost use Rattle.std.specs.Prelude.{◌≡◌, ◌≤◌, ◌<◌, ◌^◌, length, take};
     ghost use Rattle.age_stream.specs.Sealing.{SealerState};
-    ghost use Rattle.age_stream.specs.Sizes.{chunk_size, chunk_buf_size};
+    ghost use Rattle.age_stream.specs.Sizes.{chunk_size, chunk_buf_size, most_chunks};
 
     ghost Value = { SealerState };
 
@@ -48,7 +48,7 @@ impl Model for ChunkSealer {
     } };
 
     ghost invariant = { λ s. (length s.buf.items ≡ chunk_buf_size) × (s.len ≤ chunk_size)
-        × (s.index < s.max_chunks) × (s.max_chunks ≤ 2 ^ 88) };
+        × (s.index < s.max_chunks) × (s.max_chunks ≤ most_chunks) };
 }
 
 impl ChunkSealer {
@@ -76,7 +76,7 @@ impl ChunkSealer {
         plain: &mut S,
         out: &mut W,
     ) -> Result<(), StreamFault>
-        ensures kept { IfSome self.old.fault (λ f. (result ≡ Err f) × (self.new ≡ self.old)
+        ensures kept_fault { IfSome self.old.fault (λ f. (result ≡ Err f) × (self.new ≡ self.old)
             × (plain.new ≡ plain.old) × (out.new ≡ out.old)) }
         ensures takes { IfNone self.old.fault (TakesAll self.old self.new (S.to_come plain.old)
             (S.to_come plain.new) (W.taken out.old) (W.taken out.new) result) }
@@ -111,7 +111,7 @@ impl ChunkSealer {
     /// Seals what is held as the last chunk, and writes it. Returns the total numbers of bytes and
     /// chunks sealed.
     pub fn finish<W: Sink>(self, out: &mut W) -> Result<Done, StreamFault>
-        ensures kept { IfSome self.fault (λ f. (result ≡ Err f) × (out.new ≡ out.old)) }
+        ensures kept_fault { IfSome self.fault (λ f. (result ≡ Err f) × (out.new ≡ out.old)) }
         ensures text { IfNone self.fault
             (FinishesBy self (W.taken out.old) (W.taken out.new) result) }
         ensures writes { IfNone self.fault

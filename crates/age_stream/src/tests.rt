@@ -30,7 +30,7 @@ const THIRD_CHUNK: [u8; 17] = [
     0x1b,
 ];
 
-/// So many bytes, each its place modulo 251.
+/// `len` bytes; byte i is i modulo 251.
 fn plain_of(alloc: Global, len: usize) -> Result<Vec<u8>, AllocError> {
     let mut bytes = Vec::new(alloc);
     for at in 0..len {
@@ -39,7 +39,7 @@ fn plain_of(alloc: Global, len: usize) -> Result<Vec<u8>, AllocError> {
     Ok(bytes)
 }
 
-/// So many bytes 7.
+/// `len` bytes, each 7.
 fn sevens(alloc: Global, len: usize) -> Result<Vec<u8>, AllocError> {
     let mut bytes = Vec::new(alloc);
     bytes.resize(len, 7)?;

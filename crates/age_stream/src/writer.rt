@@ -29,7 +29,7 @@ impl<'a, W: Sink> StreamWriter<'a, W> {
     /// It writes nothing.
     pub fn over(out: &'a mut W, sealer: ChunkSealer) -> StreamWriter<'a, W>
         ensures same_reference { result.out.ghost_name ≡ out.entry.ghost_name }
-        ensures kept { result.out.now ≡ out.old }
+        ensures unchanged { result.out.now ≡ out.old }
         ensures sealer { result.sealer ≡ sealer }
     {
         StreamWriter { out, sealer }
@@ -98,10 +98,7 @@ impl<'a, W: Sink> StreamWriter<'a, W> {
         let Ok(buf) = ChunkBuf::new(alloc) else {
             return Err(Refused::of(out, StreamFault::Memory));
         };
-        if let Err(fault) = put_nonce(nonce, out) {
-            return Err(Refused::of(out, fault));
-        }
-        Ok(StreamWriter::over(out, ChunkSealer::new(key, nonce, max_chunks, buf)))
+        StreamWriter::started_with(key, nonce, out, max_chunks, buf)
     }
 
     /// Makes a writer of the payload with this nonce under this file key. It allocates nothing, and
@@ -176,7 +173,7 @@ impl<'a, W: Sink> StreamWriter<'a, W> {
     /// the text needs more than `max_chunks`: the chunks before the last one allowed were written.
     pub fn write_piece(&mut self, piece: &[u8]) -> Result<(), StreamFault>
         ensures same_reference { self.new.out.ghost_name ≡ self.old.out.ghost_name }
-        ensures kept { IfSome self.old.sealer.fault (λ f. (result ≡ Err f)
+        ensures kept_fault { IfSome self.old.sealer.fault (λ f. (result ≡ Err f)
             × (self.new.sealer ≡ self.old.sealer) × (self.new.out.now ≡ self.old.out.now)) }
         ensures takes { IfNone self.old.sealer.fault (TakesPiece self.old.sealer self.new.sealer
             piece.now (W.taken self.old.out.now) (W.taken self.new.out.now) result) }
@@ -194,7 +191,7 @@ impl<'a, W: Sink> StreamWriter<'a, W> {
     /// Those of `write_piece`, and `Read` if the source failed: a prefix of the sealed chunks was
     /// written.
     pub fn seal_from<S: Source>(self, plain: &mut S) -> Result<Done, StreamFault>
-        ensures kept { IfSome self.entry.sealer.fault (λ f.
+        ensures kept_fault { IfSome self.entry.sealer.fault (λ f.
             (result ≡ Err f) × (plain.new ≡ plain.old) × (self.exit.0.now ≡ self.entry.out.now)) }
         ensures seals { IfNone self.entry.sealer.fault (SealsAll self.entry.sealer
             (S.to_come plain.old) (S.to_come plain.new) (W.taken self.entry.out.now)
@@ -218,7 +215,7 @@ impl<'a, W: Sink> StreamWriter<'a, W> {
     /// # Errors
     /// `Write` if the sink failed: a prefix of the sealed chunk was written.
     pub fn finish(self) -> Result<Done, StreamFault>
-        ensures kept { IfSome self.entry.sealer.fault
+        ensures kept_fault { IfSome self.entry.sealer.fault
             (λ f. (result ≡ Err f) × (self.exit.0.now ≡ self.entry.out.now)) }
         ensures text { IfNone self.entry.sealer.fault (FinishesBy self.entry.sealer
             (W.taken self.entry.out.now) (W.taken self.exit.0.now) result) }

@@ -48,6 +48,6 @@ impl Matched for KeyPair {
         &self.identity
     }
 
-    ghost opens = { λ pair key stanzas.
-        key_pair_law pair.recipient pair.identity key stanzas pair.one_key pair.salt };
+    ghost opens = { λ pair file_key stanzas.
+        key_pair_law pair.recipient pair.identity file_key stanzas pair.one_key pair.salt };
 }

@@ -2,7 +2,7 @@
 
 ghost use Rattle.std.specs.Prelude.{◌≡◌, Some, map, IfOk};
 ghost use Rattle.std.specs.String.{string_bytes};
-ghost use Rattle.age_recipient.specs.KeyedStanza.{arguments_answer, keyed_answer, keyed_stanza, salted_answer, wrap_key};
+ghost use Rattle.age_recipient.specs.KeyedStanza.{arguments_answer, keyed_answer, keyed_stanza, keyed_wrap_key, salted_answer};
 
 use crate::key::FileKey;
 use crate::sealing::{seal_key, unseal_key};
@@ -12,13 +12,16 @@ use age_header::{Stanza, base64_no_pad};
 use age_kdf::hkdf;
 use std::alloc::{AllocError, Global};
 
-/// The key that wraps the file key.
-fn wrap_key(key: &[u8; 32], salt: &[u8; 16]) -> [u8; 32]
-    ensures { result ≡ wrap_key key.now salt.now }
+/// The type of the stanza, its first argument.
+const KEYED_TYPE: &str = "example.org/key";
+
+/// The wrap key.
+fn keyed_wrap_key(key: &[u8; 32], salt: &[u8; 16]) -> [u8; 32]
+    ensures { result ≡ keyed_wrap_key key.now salt.now }
 {
-    let mut wrapping = [0; 32];
-    hkdf(key, salt, b"example.org/key", &mut wrapping);
-    wrapping
+    let mut wrap_key = [0; 32];
+    hkdf(key, salt, KEYED_TYPE.as_bytes(), &mut wrap_key);
+    wrap_key
 }
 
 /// The stanza that wraps this file key.
@@ -31,9 +34,9 @@ pub(crate) fn keyed_stanza(
     ensures { IfOk result (λ stanza. stanza ≡ keyed_stanza key.now salt.now file_key.now) }
 {
     let salt_text = base64_no_pad::encode(alloc, &base64_no_pad::engine(), salt)?;
-    let body = seal_key(&wrap_key(key, salt), file_key);
+    let body = seal_key(&keyed_wrap_key(key, salt), file_key);
     // its arguments are visible characters, so the only error is a refused allocation
-    let Ok(stanza) = Stanza::new(alloc, &["example.org/key", salt_text.as_str()], &body) else {
+    let Ok(stanza) = Stanza::new(alloc, &[KEYED_TYPE, salt_text.as_str()], &body) else {
         return Err(AllocError);
     };
     Ok(stanza)
@@ -47,7 +50,7 @@ pub(crate) fn keyed_answer(
 ) -> Result<Unwrapped, AllocError>
     ensures { IfOk result (λ answer. answer ≡ keyed_answer key.now stanza.now) }
 {
-    match after_type(stanza, "example.org/key") {
+    match after_type(stanza, KEYED_TYPE) {
         None => Ok(Unwrapped::NotMine),
         Some(args) => arguments_answer(alloc, key, args, stanza.body()),
     }
@@ -79,5 +82,5 @@ fn salted_answer(key: &[u8; 32], body: &[u8], salt: &[u8; 16]) -> Unwrapped
     if body.len() != 32 {
         return Unwrapped::Malformed(StanzaFault::BodyLength);
     }
-    unseal_key(&wrap_key(key, salt), body)
+    unseal_key(&keyed_wrap_key(key, salt), body)
 }

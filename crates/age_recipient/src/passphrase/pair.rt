@@ -5,6 +5,7 @@ ghost use Rattle.age_recipient.specs.PassphraseHolders.{IsPassError, PairFits};
 ghost use Rattle.age_recipient.specs.Salt.{IsSalt};
 
 use super::recipient::{PassError, PassIdentity, PassRecipient};
+use super::work::MOST_WORK;
 use crate::identity::Identity;
 use crate::matched::Matched;
 use crate::recipient::Recipient;
@@ -40,7 +41,7 @@ impl PassPair {
             ≡ record { pass = pass.now; max = max }) }
         ensures err { IfErr result (IsPassError (PairFits work max)) }
     {
-        if work < 1 || max > 30 || work > max {
+        if work < 1 || max > MOST_WORK || work > max {
             return Err(PassError::WorkFactor);
         }
         let recipient = PassRecipient::new(alloc, pass, salt, work)?;
@@ -71,6 +72,7 @@ impl Matched for PassPair {
         &self.identity
     }
 
-    ghost opens = { λ pair key stanzas.
-        pair_law pair.recipient pair.identity key stanzas pair.one_passphrase pair.salt pair.work };
+    ghost opens = { λ pair file_key stanzas.
+        pair_law pair.recipient pair.identity file_key stanzas pair.one_passphrase pair.salt
+        pair.work };
 }

@@ -4,6 +4,7 @@ ghost use Rattle.std.specs.Prelude.{◌≡◌, Ok, IfOk, IfErr};
 ghost use Rattle.age_recipient.specs.PassphraseHolders.{IsPassError, WorkFits};
 
 use super::stanza::{pass_answer, pass_stanza};
+use super::work::MOST_WORK;
 use crate::identity::Identity;
 use crate::key::FileKey;
 use crate::labels::Labels;
@@ -25,7 +26,8 @@ pub enum PassError {
 
 /// Wraps a file key under a passphrase (C2SP `age.md`, "The scrypt recipient type"). The salt must
 /// be 16 random bytes, fresh for each file. The work factor is the base-2 logarithm of the KiB of
-/// memory that wrapping and unwrapping take; 18 is usual, and takes about a second.
+/// memory that wrapping and unwrapping take; 18 is usual, and takes about a second. It must be a
+/// file's only recipient: with another one `encrypt` returns `IncompatibleRecipients`.
 #[derive(Drop)]
 pub struct PassRecipient {
     pass: Vec<u8>,
@@ -59,7 +61,7 @@ impl PassRecipient {
             (λ r. WorkFits work × (r ≡ record { pass = pass.now; salt = salt; work = work })) }
         ensures err { IfErr result (IsPassError (WorkFits work)) }
     {
-        if work < 1 || work > 30 {
+        if work < 1 || work > MOST_WORK {
             return Err(PassError::WorkFactor);
         }
         match Vec::from_slice(alloc, pass) {
@@ -73,7 +75,7 @@ impl Recipient for PassRecipient {
     ghost use Rattle.age_recipient.specs.declared.labels.Labels.TheVariants.{Alone};
     ghost use Rattle.age_recipient.specs.PassphraseHolders.{pass_wraps};
 
-    ghost wraps = { λ r key. pass_wraps r key };
+    ghost wraps = { λ r file_key. pass_wraps r file_key };
 
     ghost the_labels = { λ _. Alone };
 
@@ -122,7 +124,7 @@ impl PassIdentity {
         ensures ok { IfOk result (λ i. WorkFits max × (i ≡ record { pass = pass.now; max = max })) }
         ensures err { IfErr result (IsPassError (WorkFits max)) }
     {
-        if max < 1 || max > 30 {
+        if max < 1 || max > MOST_WORK {
             return Err(PassError::WorkFactor);
         }
         match Vec::from_slice(alloc, pass) {

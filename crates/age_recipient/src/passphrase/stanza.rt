@@ -2,7 +2,7 @@
 
 ghost use Rattle.std.specs.Prelude.{◌≡◌, ◌≤◌, ◌++◌, Some, map, length, true, IfOk, IfErr};
 ghost use Rattle.std.specs.String.{string_bytes};
-ghost use Rattle.age_recipient.specs.PassphraseStanza.{arguments_answer, is_work_factor, number_from, pass_answer, pass_key, pass_stanza, salted_answer};
+ghost use Rattle.age_recipient.specs.PassphraseStanza.{arguments_answer, is_work_factor, number_from, pass_answer, pass_stanza, pass_wrap_key, salted_answer};
 ghost use Rattle.age_recipient.specs.PassphraseHolders.{most_work};
 ghost use Rattle.age_recipient.specs.Sealing.{sealed_key_size};
 
@@ -17,18 +17,26 @@ use std::alloc::{AllocError, Global};
 
 const LABEL: &[u8; 28] = b"age-encryption.org/v1/scrypt";
 
-/// The key that wraps the file key.
-fn pass_key(alloc: Global, pass: &[u8], salt: &[u8; 16], work: u8) -> Result<[u8; 32], AllocError>
+/// The type of the stanza, its first argument.
+const SCRYPT_TYPE: &str = "scrypt";
+
+/// The wrap key.
+fn pass_wrap_key(
+    alloc: Global,
+    pass: &[u8],
+    salt: &[u8; 16],
+    work: u8,
+) -> Result<[u8; 32], AllocError>
     requires low { 1 ≤ work }
     requires high { work ≤ most_work }
-    ensures { IfOk result (λ key. key ≡ pass_key pass.now salt.now work) }
+    ensures { IfOk result (λ wrap_key. wrap_key ≡ pass_wrap_key pass.now salt.now work) }
 {
     let Some(params) = ScryptParams::new(u32::from(work), 8, 1) else {
         unreachable!();
     };
-    let mut key = [0; 32];
-    scrypt(alloc, pass, &labelled(salt), &params, &mut key)?;
-    Ok(key)
+    let mut wrap_key = [0; 32];
+    scrypt(alloc, pass, &labelled(salt), &params, &mut wrap_key)?;
+    Ok(wrap_key)
 }
 
 /// The salt of scrypt: the label, then the stanza's salt.
@@ -48,20 +56,20 @@ pub(crate) fn pass_stanza(
     pass: &[u8],
     work: u8,
     salt: &[u8; 16],
-    key: &FileKey,
+    file_key: &FileKey,
 ) -> Result<Stanza, AllocError>
     requires low { 1 ≤ work }
     requires high { work ≤ most_work }
-    ensures { IfOk result (λ stanza. stanza ≡ pass_stanza pass.now work salt.now key.now) }
+    ensures { IfOk result (λ stanza. stanza ≡ pass_stanza pass.now work salt.now file_key.now) }
 {
-    let wrap_key = pass_key(alloc, pass, salt, work)?;
+    let wrap_key = pass_wrap_key(alloc, pass, salt, work)?;
     let salt_text = base64_no_pad::encode(alloc, &base64_no_pad::engine(), salt)?;
     let work_text = format!(in alloc; "{work}")?;
-    let body = seal_key(&wrap_key, key);
+    let body = seal_key(&wrap_key, file_key);
     // its arguments are visible characters, so the only error is a refused allocation
     let Ok(stanza) = Stanza::new(
         alloc,
-        &["scrypt", salt_text.as_str(), work_text.as_str()],
+        &[SCRYPT_TYPE, salt_text.as_str(), work_text.as_str()],
         &body,
     ) else {
         return Err(AllocError);
@@ -79,7 +87,7 @@ pub(crate) fn pass_answer(
     requires { max ≤ most_work }
     ensures { IfOk result (λ answer. answer ≡ pass_answer pass.now max stanza.now) }
 {
-    match after_type(stanza, "scrypt") {
+    match after_type(stanza, SCRYPT_TYPE) {
         None => Ok(Unwrapped::NotMine),
         Some(args) => arguments_answer(alloc, pass, max, args, stanza.body()),
     }
@@ -131,5 +139,5 @@ fn salted_answer(
     if body.len() != 32 {
         return Ok(Unwrapped::Malformed(StanzaFault::BodyLength));
     }
-    Ok(unseal_key(&pass_key(alloc, pass, salt, work)?, body))
+    Ok(unseal_key(&pass_wrap_key(alloc, pass, salt, work)?, body))
 }

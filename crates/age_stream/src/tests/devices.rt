@@ -6,7 +6,7 @@ use std::cell::Cell;
 use std::io;
 use std::io::{Read, Seek, SeekFrom};
 
-/// Gives at most so many of these bytes at a time. Its contents are not known to proofs.
+/// Gives at most `most` of these bytes at a time. Its contents are not known to proofs.
 #[derive(Drop)]
 pub(super) struct ShortReads<'a> {
     rest: &'a [u8],

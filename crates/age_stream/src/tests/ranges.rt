@@ -10,7 +10,7 @@ use std::fs::File;
 use std::process::Abort;
 use std::test::Fail;
 
-/// Nine other bytes, and then the payload of this many bytes, each its place modulo 251.
+/// Nine other bytes, and then the payload of `len` bytes; byte i of these is i modulo 251.
 fn payload_of(alloc: Global, len: usize) -> Result<Vec<u8>, Fail> {
     let plain = plain_of(alloc, len)?;
     let (_, payload) = written(alloc, plain.as_slice(), len)?;
@@ -19,7 +19,7 @@ fn payload_of(alloc: Global, len: usize) -> Result<Vec<u8>, Fail> {
     Ok(bytes)
 }
 
-/// Reads this many bytes from place `at` on into a buffer of bytes 255: what is returned, and how
+/// Reads this many bytes from offset `at` on into a buffer of bytes 255: what is returned, and how
 /// many bytes of the plaintext are at the buffer's front; the others are still 255.
 fn range<T: Abort, D: ReadAt>(
     rt: &T,
@@ -46,7 +46,7 @@ fn range<T: Abort, D: ReadAt>(
     Ok(())
 }
 
-/// Ranges of 140,000 bytes, one after another: place and length, what is returned, and how many
+/// Ranges of 140,000 bytes, one after another: offset and length, what is returned, and how many
 /// chunks were opened after it.
 const ROWS: [((u64, usize), usize, u64); 8] = [
     ((139_990, 10), 10, 1),
@@ -178,7 +178,7 @@ fn damaged_chunk_leaves_the_others_readable(rt: HostRuntime) -> Result<(), Fail>
 }
 
 /// A file that was cut after it was opened: a range that needs a lost byte is a failed read. The
-/// kept chunk is at hand still.
+/// kept chunk can still be read.
 #[test]
 fn truncated_file_is_a_failed_read(rt: HostRuntime) -> Result<(), Fail> {
     let alloc = rt.alloc();

@@ -1,5 +1,5 @@
 use Rattle.age_header.specs.Base64.{base64_of}
-use Rattle.age_header.proofs.Base64Lemmas.{B64-encode}
+use Rattle.age_header.proofs.Base64Lemmas.{IsBase64-encode}
 use Rattle.age_header.proofs.Decoding.{decoded_b64, b64_decoded}
 use Rattle.age_header.proofs.laws.one_base64.Goals as goal
 
@@ -8,4 +8,4 @@ returns-clause-decoded c characters bytes = (decoded_b64 characters bytes, b64_d
 
 pub returns-clause-encoded : goal.returns-clause-encoded
 unfolding base64_of
-returns-clause-encoded c bytes h = B64-encode bytes h
+returns-clause-encoded c bytes h = IsBase64-encode bytes h

@@ -1,7 +1,7 @@
 use Rattle.std.proofs.Common.{◌≡◌, ◌∙◌, List, ℕ, length, sym, ap, subst, arith}
 use Rattle.std.proofs.lemmas.Bool.{iff_false}
 use Rattle.std.proofs.lemmas.Grind.{common_steps}
-use Rattle.age_header.specs.Base64.{B64}
+use Rattle.age_header.specs.Base64.{IsBase64}
 use Rattle.age_header.specs.Steps.{Step}
 use Rattle.age_header.proofs.LaterLines.{path_truncated, path_too_large, path_header, path_bad, path_more, path_lines}
 use Rattle.age_header.proofs.reader.read_header.Goals as goal
@@ -36,7 +36,7 @@ returns-in-Ok-Some-clause-verdict g c =
     let same : c.finish.result.stanzas ≡ whole.0 = cc (c.finish.ensures.stanzas, whole.2) in
     path_header _ _ _ c.args.max c.lines.room c.lines.lines c.lines.progress text c.finish.result.stanzas c.finish.result.mac end.0
     c.lines.invariant.path bytes c.in_ok-text.ensures.text low c.finish.ensures.stanzas (λ e. whole.1 (sym same ∙ e))
-    (sym c.as_slice.ensures.value ∙ end.2) (subst (λ (x : List ℕ). B64 x end.0) (sym c.finish.ensures.mac) end.3) (ap length c.finish.ensures.mac ∙ end.1)
+    (sym c.as_slice.ensures.value ∙ end.2) (subst (λ (x : List ℕ). IsBase64 x end.0) (sym c.finish.ensures.mac) end.3) (ap length c.finish.ensures.mac ∙ end.1)
 
 pub returns-in-Ok-None-step-clause-verdict : goal.returns-in-Ok-None-step-clause-verdict
 returns-in-Ok-None-step-clause-verdict g c =

@@ -1,12 +1,12 @@
 use Rattle.std.proofs.Common.{arith, ◌≡◌, ◌+◌, ◌-◌, ◌∙◌, ap, refl, inr, take, Some, None}
 use Rattle.std.proofs.lemmas.Bool.{OnTrue_at, OnFalse_at}
-use Rattle.age_stream.specs.Slice.{text_len}
+use Rattle.age_stream.specs.Slice.{chunk_len}
 use Rattle.age_stream.proofs.LoadLemmas.{open-there}
 use Rattle.age_stream.proofs.loading.load.Goals as goal
 
 pub returns-then-open_front-clause-opens : goal.returns-then-open_front-clause-opens
 returns-then-open_front-clause-opens g c there =
-    let n = text_len c.args.layout.plain c.args.i in
+    let n = chunk_len c.args.layout.plain c.args.i in
     let end = ap (λ k. k + 16) c.chunk_len-end.ensures in
     let len : c.chunk_len-end.result + 16 - 16 ≡ n = omega (arith, c.chunk_len-end.ensures) in
     open-there (g.D.ReadAt.bytes c.args.dev.now) c.args.layout c.chunk_nonce-nonce.result c.read_full.new.buf c.args.i (c.chunk_len-end.result + 16)

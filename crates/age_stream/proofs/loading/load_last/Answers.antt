@@ -1,6 +1,6 @@
 use Rattle.std.proofs.Common.{rules, arith, ◌≡◌, ◌+◌, ◌-◌, ◌*◌, ◌/◌, ◌<◌, ◌≤◌, ◌∙◌, ap, refl, inr, take, Ok, Err}
 use Rattle.std.proofs.lemmas.Bool.{OnTrue_at, OnFalse_at}
-use Rattle.age_stream.specs.Slice.{text_len}
+use Rattle.age_stream.specs.Slice.{chunk_len}
 use Rattle.age_stream.specs.declared.fault.StreamFault.TheVariants.{BadChunk}
 use Rattle.age_stream.proofs.JudgesLastLemmas.{last-many, last-gone, last-read, open-len, piece-named}
 use Rattle.age_stream.proofs.loading.load_last.Goals as goal
@@ -52,11 +52,11 @@ returns-in-Ok-clause-judges g c =
     let room = c.read_full.auto.buf ∙ c.requires.room in
     let len = open-len c.args.key c.args.max last end n c.read_full.new.buf c.open_chunk.new.bytes room short c.in-Ok.ensures.text.0 c.in-Ok.ensures.text.1 in
     let is : n + 16 ≡ end = len.0 in
-    let text : n ≡ text_len (65536 * last + n) (last + 1 - 1) = omega (arith, is, short) in (
+    let text : n ≡ chunk_len (65536 * last + n) (last + 1 - 1) = omega (arith, is, short) in (
       refl,
       refl,
       omega (arith, is, less),
-      last-read c.args.key c.args.max c.args.first c.args.sealed last end (g.D.ReadAt.bytes c.args.dev.now) c.read_full.new.buf (Ok (take (text_len (65536 * last + n) (last + 1 - 1)) c.open_chunk.new.bytes))
+      last-read c.args.key c.args.max c.args.first c.args.sealed last end (g.D.ReadAt.bytes c.args.dev.now) c.read_full.new.buf (Ok (take (chunk_len (65536 * last + n) (last + 1 - 1)) c.open_chunk.new.bytes))
           (ap (λ k. k / 65552) less) refl room (OnTrue_at c.in-Ok-true.field-0-test c.in-Ok-true.ensures.full) (c.in-Ok.ensures.text.0 ∙ ap (λ k. Ok (take k c.open_chunk.new.bytes)) text),
     )
 

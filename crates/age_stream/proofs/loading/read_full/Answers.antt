@@ -9,15 +9,15 @@ loop-got-preserved g c =
     let got = c.loop-got.got in
     let n = c.in_ok-n.n in
     let told = g.D.ReadAt.bytes c.args.dev.now in
-    let same : length c.read_behind.new.buf ≡ length c.loop-got.buf = c.read_behind.auto.buf in
+    let same : length c.read_after.new.buf ≡ length c.loop-got.buf = c.read_after.auto.buf in
     let within : got + n ≤ c.args.end = c.in_ok-n.ensures.within in
-    let room : got + n ≤ length c.read_behind.new.buf = omega (arith, within, same, old.len, c.requires.room) in
-    let more = subst (λ t. HasAt t (c.args.at + got) (take n (drop got c.read_behind.new.buf))) old.stay c.in_ok-n.ensures.gives in
+    let room : got + n ≤ length c.read_after.new.buf = omega (arith, within, same, old.len, c.requires.room) in
+    let more = subst (λ t. HasAt t (c.args.at + got) (take n (drop got c.read_after.new.buf))) old.stay c.in_ok-n.ensures.gives in
     record {
-      stay = c.read_behind.ensures.stay ∙ old.stay;
+      stay = c.read_after.ensures.stay ∙ old.stay;
       len = same ∙ old.len;
       within = within;
-      so_far = has-on told c.args.at got n c.loop-got.buf c.read_behind.new.buf room same c.read_behind.ensures.front old.so_far more;
+      so_far = has-on told c.args.at got n c.loop-got.buf c.read_after.new.buf room same c.read_after.ensures.front old.so_far more;
       given = omega (arith, c.in_ok-n.ensures.given, old.given);
       failed = c.in_ok-n.ensures.count ∙ old.failed;
     }

@@ -1,17 +1,20 @@
 use Rattle.std.proofs.Common.{◌≡◌, ◌≤◌, ◌<◌, ◌-◌, List, ℕ, length, take}
 use Rattle.std.specs.Io.KnownBytes.{Consumes}
 use Rattle.age_stream.specs.Sealing.{Fed}
+use Rattle.age_stream.specs.Sizes.{chunk_size, chunk_buf_size}
 use Rattle.age_stream.proofs.sealing.feed.Given as goal
 
 abbrev pub invariant-loop-n : goal.invariant-loop-n
 invariant-loop-n g l = record {
-  size : length l.bytes ≡ 65553;
-  held : l.held ≤ 65536;
+  size : length l.bytes ≡ chunk_buf_size;
+  held : l.held ≤ chunk_size;
   within : l.index < l.max;
   reads : g.S.Source.failed l.plain ≡ g.S.Source.failed l.fn.plain;
   writes : g.W.Sink.failed l.out ≡ g.W.Sink.failed l.fn.out;
-  fed : (text : List ℕ) × Consumes (g.S.Source.to_come l.fn.plain) (g.S.Source.to_come l.plain) text
-      × Fed l.key l.fn.index l.index (take l.len l.fn.bytes) text (take l.held l.bytes) (g.W.Sink.taken l.fn.out) (g.W.Sink.taken l.out);
+  fed : (text : List ℕ)
+      × Consumes (g.S.Source.to_come l.fn.plain) (g.S.Source.to_come l.plain) text
+      × Fed l.key l.fn.index l.index (take l.len l.fn.bytes) text (take l.held l.bytes)
+      (g.W.Sink.taken l.fn.out) (g.W.Sink.taken l.out);
 }
 
 abbrev pub decreases-loop-n : goal.decreases-loop-n

@@ -1,9 +1,9 @@
 use Rattle.std.proofs.Common.{◌≡◌, ◌∙◌, ◌++◌, List, ℕ, [], length, drop, sym, ap, subst, arith, rules}
 use Rattle.std.proofs.lemmas.List.{append-nil, drop_all}
 use Rattle.base64.specs.GeneralPurpose.{encoded_size_of, encode_of}
-use Rattle.age_header.specs.Base64.{B64}
+use Rattle.age_header.specs.Base64.{IsBase64}
 use Rattle.age_header.specs.Header.{HeaderParts}
-use Rattle.age_header.proofs.Base64Lemmas.{B64-encode, encode_of-unpadded}
+use Rattle.age_header.proofs.Base64Lemmas.{IsBase64-encode, encode_of-unpadded}
 use Rattle.age_header.proofs.TextLemmas.{encoded_size_plain}
 use Rattle.age_header.proofs.header.Header.mac_signs.Goals as goal
 
@@ -17,5 +17,5 @@ returns c =
     let rest : drop (encoded_size_of e (length m)) _ ≡ [] = drop_all (encoded_size_of e (length m)) _ (omega arith) in
     let is = c.in-Ok.ensures.written ∙ ap (λ (z : List ℕ). encode_of e m ++ z) rest ∙ append-nil (encode_of e m) ∙ plain in
     let characters : List ℕ = c.encode_slice.new.output in
-    let here : B64 m characters = subst (λ (z : List ℕ). B64 m z) (sym is) (B64-encode m (search rules)) in
-    subst (λ (z : HeaderParts). B64 z.mac characters) c.self.view_is here
+    let here : IsBase64 m characters = subst (λ (z : List ℕ). IsBase64 m z) (sym is) (IsBase64-encode m (search rules)) in
+    subst (λ (z : HeaderParts). IsBase64 z.mac characters) c.self.view_is here

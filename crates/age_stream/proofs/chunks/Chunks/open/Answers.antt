@@ -6,24 +6,24 @@ use Rattle.age_stream.proofs.chunks.Chunks.open.Goals as goal
 
 pub returns-in-Ok-load_last-clause-probes : goal.returns-in-Ok-load_last-clause-probes
 returns-in-Ok-load_last-clause-probes g c = record {
-  stay = c.load_last.ensures.stay ∙ c.nonce_at.ensures.stay;
-  most = omega (arith, c.load_last.ensures.given, c.nonce_at.ensures.given);
-  last = given-last (g.D.ReadAt.bytes c.args.dev.now) c.in_ok-nonce.nonce.bytes c.args.payload_at c.in_ok-nonce.nonce.rest (g.D.ReadAt.given c.load_last.new.dev)
-      (g.D.ReadAt.given c.nonce_at.new.dev) (g.D.ReadAt.given c.args.dev.now) c.in_ok-nonce.ensures.ok c.load_last.ensures.given c.nonce_at.ensures.given;
+  stay = c.load_last.ensures.stay ∙ c.payload_start.ensures.stay;
+  most = omega (arith, c.load_last.ensures.given, c.payload_start.ensures.given);
+  last = given-last (g.D.ReadAt.bytes c.args.dev.now) c.in_ok-start.start.nonce c.args.payload_at c.in_ok-start.start.sealed_len (g.D.ReadAt.given c.load_last.new.dev)
+      (g.D.ReadAt.given c.payload_start.new.dev) (g.D.ReadAt.given c.args.dev.now) c.in_ok-start.ensures.ok c.load_last.ensures.given c.payload_start.ensures.given;
 }
 
 pub returns-in-Err-clause-probes : goal.returns-in-Err-clause-probes
 returns-in-Err-clause-probes g c = record {
-  stay = c.load_last.ensures.stay ∙ c.nonce_at.ensures.stay;
-  most = omega (arith, c.load_last.ensures.given, c.nonce_at.ensures.given);
-  last = given-last (g.D.ReadAt.bytes c.args.dev.now) c.in_ok-nonce.nonce.bytes c.args.payload_at c.in_ok-nonce.nonce.rest (g.D.ReadAt.given c.load_last.new.dev)
-      (g.D.ReadAt.given c.nonce_at.new.dev) (g.D.ReadAt.given c.args.dev.now) c.in_ok-nonce.ensures.ok c.load_last.ensures.given c.nonce_at.ensures.given;
+  stay = c.load_last.ensures.stay ∙ c.payload_start.ensures.stay;
+  most = omega (arith, c.load_last.ensures.given, c.payload_start.ensures.given);
+  last = given-last (g.D.ReadAt.bytes c.args.dev.now) c.in_ok-start.start.nonce c.args.payload_at c.in_ok-start.start.sealed_len (g.D.ReadAt.given c.load_last.new.dev)
+      (g.D.ReadAt.given c.payload_start.new.dev) (g.D.ReadAt.given c.args.dev.now) c.in_ok-start.ensures.ok c.load_last.ensures.given c.payload_start.ensures.given;
 }
 
 pub returns-in-Err-clause-opens : goal.returns-in-Err-clause-opens
 returns-in-Err-clause-opens g c =
-    judged-err c.args.key.now c.args.max_chunks c.args.payload_at (g.D.ReadAt.bytes c.args.dev.now) c.in_ok-nonce.nonce.bytes c.load_last.new.buf c.in_ok-nonce.nonce.rest
-    c.in-Err.fault c.in_ok-nonce.ensures.ok (rw (c.payload_key-key.ensures, c.nonce_at.ensures.stay) at c.in-Err.ensures.judges)
+    judged-err c.args.key.now c.args.max_chunks c.args.payload_at (g.D.ReadAt.bytes c.args.dev.now) c.in_ok-start.start.nonce c.load_last.new.buf c.in_ok-start.start.sealed_len
+    c.in-Err.fault c.in_ok-start.ensures.ok (rw (c.payload_key-key.ensures, c.payload_start.ensures.stay) at c.in-Err.ensures.judges)
 
 pub returns-in-Ok-load_last-clause-opens : goal.returns-in-Ok-load_last-clause-opens
 returns-in-Ok-load_last-clause-opens g c =
@@ -34,5 +34,5 @@ returns-in-Ok-load_last-clause-opens g c =
     let all = written-all new c.into_bytes-buf.result.items c.into_bytes-buf.result.len same len in
     subst (λ b. OpensRanges c.args.key.now c.args.max_chunks c.args.payload_at (g.D.ReadAt.bytes c.args.dev.now)
     (Ok (record { layout = layout; index = Some (layout.count - 1); buf = b; opened = 1 }))) (sym all)
-    (judged-ok c.args.key.now c.args.max_chunks c.args.payload_at (g.D.ReadAt.bytes c.args.dev.now) c.in_ok-nonce.nonce.bytes new c.in_ok-nonce.nonce.rest
-    layout c.in_ok-nonce.ensures.ok (rw (c.payload_key-key.ensures, c.nonce_at.ensures.stay) at c.in-Ok-load_last.ensures.judges))
+    (judged-ok c.args.key.now c.args.max_chunks c.args.payload_at (g.D.ReadAt.bytes c.args.dev.now) c.in_ok-start.start.nonce new c.in_ok-start.start.sealed_len
+    layout c.in_ok-start.ensures.ok (rw (c.payload_key-key.ensures, c.payload_start.ensures.stay) at c.in-Ok-load_last.ensures.judges))

@@ -1,7 +1,7 @@
 use Rattle.std.proofs.Common.{arith, ◌≡◌, ◌+◌, ◌-◌, ◌*◌, ◌/◌, ◌<◌, ◌≤◌, ◌∙◌, ap, sym, refl, inl, inr, length, take, drop, min, Some, None, if◌then◌else◌, subst}
 use Rattle.age_stream.specs.declared.layout.Layout.{Layout}
 use Rattle.age_stream.specs.Ranges.{HasPlain, IsSound, bytes_from, is_kept, opens_to}
-use Rattle.age_stream.specs.Slice.{text_len}
+use Rattle.age_stream.specs.Slice.{chunk_len}
 use Rattle.age_stream.proofs.RangeLemmas.{put-front, put-rest, length-part, rest-on, front-on, counts-at_first, counts-later, opened-later, given-later, opened-at_first, given-at_first, at-chunk, under-chunk, below-chunk, opens-moved}
 use Rattle.age_stream.proofs.chunks.Chunks.read_range.Goals as goal
 
@@ -74,7 +74,7 @@ loop-done-preserved g c =
     let touched : 65536 * i < plain = omega (arith, pos, more, is) in
     let lies : h.layout ≡ s.layout = c.hold-held.ensures.same ∙ inv.layout in
     let same : h.layout.plain ≡ plain = ap (λ (x : Layout). x.plain) lies in
-    let len : length t ≡ text_len plain i = c.text.ensures.len ∙ ap (λ p. text_len p i) same in
+    let len : length t ≡ chunk_len plain i = c.text.ensures.len ∙ ap (λ p. chunk_len p i) same in
     let count : n ≡ min (length t - skip) (end - done) = c.put-n.ensures.count in
     let small : skip < 65536 = inv.skip in
     let some : 0 < n = omega (arith, count, len, more, pos, is, small) in
@@ -89,13 +89,13 @@ loop-done-preserved g c =
     subst (λ x. IsSound x h) inv.stay (c.hold-held.ensures.sound (subst (λ x. IsSound x l) (sym inv.stay) (inv.sound told_so))) in
     let opens : IsSound told s → opens_to told s.layout i ≡ Some t = λ told_so.
     opens-moved told told h.layout s.layout i (Some t) refl lies
-    ((sound told_so).keeps i c.in_default.ensures.kept ∙ ap Some (sym c.text.ensures.text)) in
+    ((sound told_so).keeps i c.in_default.ensures.kept_chunk ∙ ap Some (sym c.text.ensures.text)) in
     let next : at + (done + n) ≤ 65536 * (i + 1) = omega (arith, pos, part, size) in
     let next-chunk : at / 65536 < i + 1 = elim inv.stage [
       | inl z ↦ let e : i ≡ at / 65536 = z.1 in omega (arith, e)
       | inr z ↦ let e : at / 65536 < i = z.2 in omega (arith, e)
     ] in
-    let more_given = subst (λ (x : Layout). g.D.ReadAt.given c.hold-held.new.dev ≤ g.D.ReadAt.given c.loop-done.dev + (if is_kept l.index i then 0 else text_len x.plain i + 16)) inv.layout c.hold-held.ensures.given in
+    let more_given = subst (λ (x : Layout). g.D.ReadAt.given c.hold-held.new.dev ≤ g.D.ReadAt.given c.loop-done.dev + (if is_kept l.index i then 0 else chunk_len x.plain i + 16)) inv.layout c.hold-held.ensures.given in
     record {
       stay = c.hold-held.ensures.stay ∙ inv.stay;
       layout = lies;
@@ -123,5 +123,5 @@ loop-done-preserved g c =
             more_given z.2 touched inv.given
       ];
       failed = c.in_default.ensures.count ∙ inv.failed;
-      stage = inr (omega (arith, some), refl, next-chunk, omega (arith, pos, some), c.in_default.ensures.kept ∙ ap Some (omega arith));
+      stage = inr (omega (arith, some), refl, next-chunk, omega (arith, pos, some), c.in_default.ensures.kept_chunk ∙ ap Some (omega arith));
     }

@@ -1,5 +1,6 @@
 use Rattle.std.proofs.Common.{length, ◌-◌, ◌≡◌, ◌+◌, ◌*◌, ◌/◌, ◌%◌, ◌≤◌, ◌<◌, ◌⊎◌, take, drop, Some}
-use Rattle.age_stream.specs.Ranges.{Counts, HasPlain, IsSound, first_to_open, sealed_span}
+use Rattle.age_stream.specs.Ranges.{HasPlain, IsSound, OpenedAtLeast, first_to_open, sealed_span}
+use Rattle.age_stream.specs.Sizes.{chunk_size}
 use Rattle.age_stream.proofs.chunks.Chunks.read_range.Given as goal
 
 abbrev pub invariant-loop-done : goal.invariant-loop-done
@@ -12,18 +13,23 @@ invariant-loop-done g l =
       sound : IsSound told s → IsSound told l.self;
       len : length l.buf ≡ length l.fn.buf;
       within : l.done ≤ l.end;
-      skip : l.skip < 65536;
-      pos : l.done < l.end → l.at + l.done ≡ 65536 * l.i + l.skip;
-      below : l.at + l.done ≤ 65536 * l.i + l.skip;
+      skip : l.skip < chunk_size;
+      pos : l.done < l.end → l.at + l.done ≡ chunk_size * l.i + l.skip;
+      below : l.at + l.done ≤ chunk_size * l.i + l.skip;
       rest : drop l.done l.buf ≡ drop l.done l.fn.buf;
       front : IsSound told s → HasPlain told s.layout l.at (take l.done l.buf);
-      counts : Counts s l.self.opened (l.i - first_to_open s.index l.at);
+      counts : OpenedAtLeast s l.self.opened (l.i - first_to_open s.index l.at);
       rises : s.opened ≤ l.self.opened;
       opened : l.self.opened ≤ s.opened + (l.i - first_to_open s.index l.at);
-      given : g.D.ReadAt.given l.dev ≤ g.D.ReadAt.given l.fn.dev + sealed_span s.layout (first_to_open s.index l.at) l.i;
+      given : g.D.ReadAt.given l.dev
+          ≤ g.D.ReadAt.given l.fn.dev + sealed_span s.layout (first_to_open s.index l.at) l.i;
       failed : g.D.ReadAt.failed l.dev ≡ g.D.ReadAt.failed l.fn.dev;
-      stage : ((l.done ≡ 0) × (l.i ≡ l.at / 65536) × (l.skip ≡ l.at % 65536) × (l.self.index ≡ s.index) × (l.self.opened ≡ s.opened) × (g.D.ReadAt.given l.dev ≡ g.D.ReadAt.given l.fn.dev))
-          ⊎ ((0 < l.done) × (l.skip ≡ 0) × (l.at / 65536 < l.i) × (65536 * l.i < l.at + l.done + 65536) × (l.self.index ≡ Some (l.i - 1)));
+      stage : ((l.done ≡ 0) × (l.i ≡ l.at / chunk_size) × (l.skip ≡ l.at % chunk_size)
+          × (l.self.index ≡ s.index) × (l.self.opened ≡ s.opened)
+          × (g.D.ReadAt.given l.dev ≡ g.D.ReadAt.given l.fn.dev))
+          ⊎ ((0 < l.done) × (l.skip ≡ 0) × (l.at / chunk_size < l.i)
+          × (chunk_size * l.i < l.at + l.done + chunk_size)
+          × (l.self.index ≡ Some (l.i - 1)));
     }
 
 abbrev pub decreases-loop-done : goal.decreases-loop-done

@@ -1,5 +1,5 @@
 use Rattle.std.proofs.Common.{rules, arith, ◌<◌, refl, inr, length, true, false}
-use Rattle.age_stream.proofs.WritingLemmas.{advanced-ok, failed-ends, failed-writes, opened-none, opened-more, opened-room, writes-done, writes-write, ends-write}
+use Rattle.age_stream.proofs.WritesAllLemmas.{advanced-ok, failed-ends, failed-writes, opened-none, opened-more, opened-room, writes-done, writes-write, ends-write}
 use Rattle.age_stream.proofs.opening.ChunkOpener.write_pieces.Goals as goal
 
 pub loop-done-init : goal.loop-done-init

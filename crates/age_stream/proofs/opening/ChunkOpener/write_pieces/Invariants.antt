@@ -1,5 +1,5 @@
 use Rattle.std.proofs.Common.{◌≡◌, ◌-◌}
-use Rattle.age_stream.proofs.WritingLemmas.{Opened}
+use Rattle.age_stream.proofs.WritesAllLemmas.{Opened}
 use Rattle.age_stream.proofs.opening.ChunkOpener.write_pieces.Given as goal
 
 abbrev pub invariant-loop-done : goal.invariant-loop-done

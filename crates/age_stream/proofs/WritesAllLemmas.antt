@@ -234,7 +234,7 @@ writes-done s t u n from now next a b done o adv bytes chunks =
     no-left None rest text e = refl
     no-left (Some c) rest text e = absurd (false-not-true e.0)
 
--- a beginning of a reading was written
+-- a prefix of a reading was written
 part-of : (all rest : Reading StreamFault) (front part : List ℕ) (a b c : Option (List ℕ)) → all ≡ before front rest → Appends a b front → (more : List ℕ) → rest.front ≡ part ++ more → WritesPart b c part → WritesPart a c all.front
 part-of all rest front part a b c is put more cut wrote =
     done_part a b c all.front rest.front part more (record { front = front; took = put; is = ap (λ (r : Reading StreamFault). r.front) is }) cut wrote
