@@ -22,7 +22,7 @@ use Rattle.age_file.specs.declared.limits.Fresh.{Fresh}
 use Rattle.age_file.specs.AgeFile.{Bounds}
 use Rattle.age_file.specs.Device.{IsLate}
 use Rattle.age_file.specs.NewFile.{BegunFile, EncryptsGiven, EncryptsText, IsHeading, RefusesFirst, TookOf, TookChunks}
-use Rattle.age_file.specs.Verdict.{of_stream}
+use Rattle.age_file.specs.Verdict.{stream_fault}
 use Rattle.age_file.proofs.DecryptLemmas.{file_result}
 
 -- the header that was made is the header that was written
@@ -142,7 +142,7 @@ encrypts_payload limits fresh given text from to a b c (Err fault) sixteen m fro
     key : List ℕ
     key = payload_key fresh.file_key fresh.nonce
 
-    go : (f : StreamFault) → StopsIn key limits.max_chunks 0 [] s.text b c f → EncryptsGiven limits fresh given from a c (Err (of_stream f))
+    go : (f : StreamFault) → StopsIn key limits.max_chunks 0 [] s.text b c f → EncryptsGiven limits fresh given from a c (Err (stream_fault f))
     go stream.Read h = encrypts_of limits fresh given s.text from a c (Err Read) s.may (begun limits fresh given text s.text a b c m front h)
     go stream.Write h = encrypts_of limits fresh given s.text from a c (Err Write) s.may (begun limits fresh given text s.text a b c m front h)
     go stream.TooManyChunks h = encrypts_of limits fresh given s.text from a c (Err TooManyChunks) s.may (cut_short limits fresh given text s.text a b c m front h.0 h.1)
@@ -196,7 +196,7 @@ took limits fresh given text from to a b c chunk fault sixteen m front s gave =
 
 takes_payload : (limits : Bounds) (fresh : Fresh) (given : Result (List StanzaParts) Fault → Type 0) (text : List ℕ) (from to a b c : Option (List ℕ)) (fault : StreamFault) → length fresh.nonce ≡ 16
     → Made limits fresh.file_key given text → Appends a b (text ++ fresh.nonce) → SealsAll (at_start (payload_key fresh.file_key fresh.nonce) limits.max_chunks) from to b c (Err fault)
-    → TookOf limits fresh given from to a c (of_stream fault)
+    → TookOf limits fresh given from to a c (stream_fault fault)
 takes_payload limits fresh given text from to a b c stream.Read sixteen m front s = tt
 takes_payload limits fresh given text from to a b c stream.Memory sixteen m front s = tt
 takes_payload limits fresh given text from to a b c stream.NonceTruncated sixteen m front s = tt
@@ -222,7 +222,7 @@ takes_payload limits fresh given text from to a b c stream.TooManyChunks sixteen
 
 -- a fault of the payload names no reason against the header, and comes late
 pub refuses_none : (limits : Bounds) (fresh : Fresh) (given : Result (List StanzaParts) Fault → Type 0) (from to b c : Option (List ℕ)) (fault : StreamFault)
-    → SealsAll (at_start (payload_key fresh.file_key fresh.nonce) limits.max_chunks) from to b c (Err fault) → RefusesFirst limits fresh.file_key given (of_stream fault) × IsLate (of_stream fault)
+    → SealsAll (at_start (payload_key fresh.file_key fresh.nonce) limits.max_chunks) from to b c (Err fault) → RefusesFirst limits fresh.file_key given (stream_fault fault) × IsLate (stream_fault fault)
 refuses_none limits fresh given from to b c stream.Read h = (tt, tt)
 refuses_none limits fresh given from to b c stream.Write h = (tt, tt)
 refuses_none limits fresh given from to b c stream.TooManyChunks h = (tt, tt)
@@ -234,7 +234,7 @@ refuses_none limits fresh given from to b c (stream.BadChunk i) h = absurd h.1.s
 
 pub takes_sealed : (limits : Bounds) (fresh : Fresh) (given : Result (List StanzaParts) Fault → Type 0) (stanzas : List StanzaParts) (mac : List ℕ) (from to a b c : Option (List ℕ)) (s : SealerState) (max : ℕ) (fault : StreamFault)
     → HeaderMade limits fresh.file_key given stanzas mac → FrontWritten stanzas mac (λ text. Appends a b (text ++ fresh.nonce)) → length fresh.nonce ≡ 16
-    → s ≡ at_start (payload_key fresh.file_key fresh.nonce) max → max ≡ limits.max_chunks → IfNone s.fault (SealsAll s from to b c (Err fault)) → TookOf limits fresh given from to a c (of_stream fault)
+    → s ≡ at_start (payload_key fresh.file_key fresh.nonce) max → max ≡ limits.max_chunks → IfNone s.fault (SealsAll s from to b c (Err fault)) → TookOf limits fresh given from to a c (stream_fault fault)
 takes_sealed limits fresh given stanzas mac from to a b c s max fault header (text, head, front) sixteen is same seals =
     takes_payload limits fresh given text from to a b c fault sixteen (made limits fresh.file_key given stanzas mac text header head) front
     (from_start s (payload_key fresh.file_key fresh.nonce) max limits.max_chunks from to b c (Err fault) is same seals)

@@ -25,19 +25,19 @@ use Rattle.age_file.specs.declared.fault.Fault.{Fault}
 use Rattle.age_file.specs.declared.fault.Fault.TheVariants.{MixedPassphrase, BadMac, OutOfMemory}
 use Rattle.age_file.specs.AgeFile.{Bounds, AgeFile, is_mixed}
 use Rattle.age_file.specs.Rewrap.{parts_of}
-use Rattle.age_file.specs.Verdict.{of_header, of_stream, Answering, checked, unlocked, read_under, judged, IsVerdict}
+use Rattle.age_file.specs.Verdict.{header_fault, stream_fault, Answering, checked, unlocked, read_under, judged, IsVerdict}
 
 -- what is read whole does not stop
 never_stops : (p : List ℕ) (f : Fault) → whole p ≡ stops f → ⊥
 never_stops p f h = none-some f (ap (λ (r : Reading Fault). r.fault) h)
 
-no_stream_fault : (o : Option StreamFault) → option_map of_stream o ≡ None → o ≡ None
+no_stream_fault : (o : Option StreamFault) → option_map stream_fault o ≡ None → o ≡ None
 no_stream_fault None h = refl
-no_stream_fault (Some f) h = absurd (none-some (of_stream f) (sym h))
+no_stream_fault (Some f) h = absurd (none-some (stream_fault f) (sym h))
 
 -- a reading with its fault renamed
 abbrev renamed : Reading StreamFault → Reading Fault
-renamed r = record { front = r.front; fault = option_map of_stream r.fault }
+renamed r = record { front = r.front; fault = option_map stream_fault r.fault }
 
 -- what a payload was read from
 renamed-whole : (p : List ℕ) (r : Reading StreamFault) → whole p ≡ renamed r → r ≡ whole p
@@ -120,7 +120,7 @@ under-file limits answers b p found begins (Ok k) is h =
 
 judged-file : (limits : Bounds) (answers : Answering) (b p : List ℕ) (r : Result Found HeaderFault) → HeaderVerdict b limits.max_header r
     → whole p ≡ judged limits answers b r → IsChosenFile limits answers p b
-judged-file limits answers b p (Err f) v h = absurd (never_stops p (of_header f) h)
+judged-file limits answers b p (Err f) v h = absurd (never_stops p (header_fault f) h)
 judged-file limits answers b p (Ok found) v h =
     under-file limits answers b p found (headers.begins_found b limits.max_header found v) (unlocked answers (parts_of found)) refl h
 

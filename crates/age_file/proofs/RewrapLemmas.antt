@@ -27,7 +27,7 @@ use Rattle.age_file.specs.Device.{IsLate}
 use Rattle.age_file.specs.Inspect.{Inspects}
 use Rattle.age_file.specs.NewFile.{FailsHeading, IsRefusal}
 use Rattle.age_file.specs.Rewrap.{BeginsRewrapped, IsRewrapped, RefusesRewrap, Rewrapped, Rewraps, RewrapsText, parts_of}
-use Rattle.age_file.specs.Verdict.{Answering, IsVerdict, checked, judged, of_header, read_under, unlocked}
+use Rattle.age_file.specs.Verdict.{Answering, IsVerdict, checked, judged, header_fault, read_under, unlocked}
 use Rattle.age_file.proofs.DecryptLemmas.{IsHeaded, err-err}
 use Rattle.age_file.proofs.EncryptLemmas.{Made}
 use Rattle.age_file.proofs.FileLemmas.{behind, key-unlocked}
@@ -76,7 +76,7 @@ refused limits answers given b old (Refused i code) early h = h
 refused limits answers given b old (IncompatibleRecipients i) early h = h
 
 no_header : (limits : Bounds) (answers : Answering) (given : FileKey → Result (List StanzaParts) Fault → Type 0) (b : List ℕ) (old : Option (List ℕ)) (g : HeaderFault)
-    → Refuses b limits.max_header g → RewrapsText limits answers given b old old (Err (of_header g))
+    → Refuses b limits.max_header g → RewrapsText limits answers given b old old (Err (header_fault g))
 no_header limits answers given b old header.Read h = inl (keeps_same old)
 no_header limits answers given b old header.Memory h = tt
 no_header limits answers given b old header.NotAge h = (Err header.NotAge, h, refl)
@@ -85,7 +85,7 @@ no_header limits answers given b old header.Truncated h = (Err header.Truncated,
 no_header limits answers given b old header.TooLarge h = (Err header.TooLarge, h, refl)
 
 none_read : (limits : Bounds) (answers : Answering) (given : FileKey → Result (List StanzaParts) Fault → Type 0) (come mid old : Option (List ℕ)) (g : HeaderFault)
-    → ReadsHeader come mid limits.max_header (Err g) → Rewraps limits answers given come old old (Err (of_header g))
+    → ReadsHeader come mid limits.max_header (Err g) → Rewraps limits answers given come old old (Err (header_fault g))
 none_read limits answers given None mid old g h = (h.0, no_header limits answers given h.0 old g h.1)
 none_read limits answers given (Some b) mid old g h = no_header limits answers given b old g h
 
@@ -93,7 +93,7 @@ pub inspect_rewraps : (limits : Bounds) (answers : Answering) (given : FileKey �
     → Inspects limits come mid (Err fault) → Rewraps limits answers given come old old (Err fault)
 inspect_rewraps limits answers given come mid old fault (Ok parts, is, h) = absurd (cc)
 inspect_rewraps limits answers given come mid old fault (Err g, is, h) =
-    subst (λ f. Rewraps limits answers given come old old (Err f)) (sym (err-err {A = HeaderParts} fault (of_header g) is)) (none_read limits answers given come mid old g h)
+    subst (λ f. Rewraps limits answers given come old old (Err f)) (sym (err-err {A = HeaderParts} fault (header_fault g) is)) (none_read limits answers given come mid old g h)
 
 -- a fault of unlocking is early
 early_checked : (h : HeaderParts) (c : Result FileKey UnlockFault) (fault : Fault) → checked h c ≡ Err fault → IsEarly fault

@@ -11,7 +11,7 @@ use Rattle.age_stream.specs.Slice.{last_piece, range_outcome}
 use Rattle.age_file.specs.declared.fault.Fault.{Fault}
 use Rattle.age_file.specs.declared.fault.Fault.TheVariants.{IncompatibleRecipients, NoRecipients, OutOfMemory, Read, Refused, Write}
 use Rattle.age_file.specs.AgeFile.{Bounds}
-use Rattle.age_file.specs.Verdict.{Answering, of_header, of_stream, unlocked}
+use Rattle.age_file.specs.Verdict.{Answering, header_fault, stream_fault, unlocked}
 use Rattle.age_stream.specs.Sizes.{nonce_size}
 
 -- a source that is read at offsets, here read from its first byte on: its contents, the next
@@ -44,19 +44,19 @@ HasFront limits told at h =
 -- refused
 abbrev pub MissesFront : (limits : Bounds) (told : Known) (fault : Fault) → Type 0
 MissesFront limits told fault = (fault ≡ Read) ⊎ ((fault ≡ OutOfMemory) ⊎ IfSome told (λ b.
-    (e : HeaderFault) × HeaderVerdict b limits.max_header (Err e) × (fault ≡ of_header e)))
+    (e : HeaderFault) × HeaderVerdict b limits.max_header (Err e) × (fault ≡ header_fault e)))
 
 -- what follows a header, opened for ranges under the file key
 abbrev pub ranges_under : (limits : Bounds) (rest : Bytes) (result : Result FileKey Fault)
     → Result Bytes Fault
 ranges_under limits rest (Err fault) = Err fault
 ranges_under limits rest (Ok k) =
-    result_map_both (λ text. text) of_stream (range_outcome k limits.max_chunks rest)
+    result_map_both (λ text. text) stream_fault (range_outcome k limits.max_chunks rest)
 
 -- the fault of b, given its header verdict
 abbrev pub IsRangeFault : (limits : Bounds) (answers : Answering) (b : Bytes)
     (result : Result Found HeaderFault) (fault : Fault) → Type 0
-IsRangeFault limits answers b (Err e) fault = fault ≡ of_header e
+IsRangeFault limits answers b (Err e) fault = fault ≡ header_fault e
 IsRangeFault limits answers b (Ok found) fault =
     ranges_under limits (drop (length found.text) b)
     (unlocked answers (record { stanzas = found.stanzas; mac = found.mac }))

@@ -11,7 +11,7 @@ use Rattle.age_file.specs.declared.fault.Fault.{Fault}
 use Rattle.age_file.specs.declared.fault.Fault.TheVariants.{TooManyChunks, Read, Write, OutOfMemory}
 use Rattle.age_file.specs.AgeFile.{Bounds, is_mixed}
 use Rattle.age_file.specs.NewFile.{IsRefusal}
-use Rattle.age_file.specs.Verdict.{Answering, of_header, unlocked}
+use Rattle.age_file.specs.Verdict.{Answering, header_fault, unlocked}
 use Rattle.age_file.specs.Copying.{most_copied}
 
 -- the stanzas and the MAC of a header that was found
@@ -43,7 +43,7 @@ IsRewrapped limits answers given b c =
 abbrev pub IsRefusedBy : (limits : Bounds) (answers : Answering)
     (given : FileKey → Result (List StanzaParts) Fault → Type 0) (result : Result Found HeaderFault)
     (fault : Fault) → Type 0
-IsRefusedBy limits answers given (Err e) fault = fault ≡ of_header e
+IsRefusedBy limits answers given (Err e) fault = fault ≡ header_fault e
 IsRefusedBy limits answers given (Ok found) fault =
     (unlocked answers (parts_of found) ≡ Err fault)
     ⊎ ((key : FileKey) × (unlocked answers (parts_of found) ≡ Ok key)

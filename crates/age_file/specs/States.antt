@@ -16,7 +16,7 @@ use Rattle.age_file.specs.declared.limits.Fresh.{Fresh}
 use Rattle.age_file.specs.AgeFile.{Bounds, is_mixed}
 use Rattle.age_file.specs.Device.{CountsRead, CountsWrite}
 use Rattle.age_file.specs.Inspect.{Inspects}
-use Rattle.age_file.specs.Verdict.{of_stream}
+use Rattle.age_file.specs.Verdict.{stream_fault}
 
 -- a file that is ready to be written: its header, its key and nonce, and the limits
 pub record EncryptorState : Type 0 where
@@ -69,5 +69,5 @@ StartsUnder limits found from to opener =
 abbrev pub MissesUnder : (limits : Bounds) (found : Result FileKey Fault) (from to : Known)
     (before after : ℕ) (fault : Fault) → Type 0
 MissesUnder limits found from to before after fault =
-    (k : FileKey) × (met : StreamFault) × (found ≡ Ok k) × (fault ≡ of_stream met)
+    (k : FileKey) × (met : StreamFault) × (found ≡ Ok k) × (fault ≡ stream_fault met)
     × MissesNonce k limits.max_chunks from to before after met

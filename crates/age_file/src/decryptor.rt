@@ -10,7 +10,7 @@ ghost use Rattle.age_file.specs.Verdict.{unlocked, Answering};
 ghost use Rattle.age_stream.specs.Sizes.{nonce_size};
 
 use crate::fault::Fault;
-use crate::fault_names::stream_fault;
+use crate::fault_conversions::stream_fault;
 use crate::key_finding::{inspect, is_mixed, unlock_header};
 use crate::limits::Limits;
 use age_header::{Header, Source, Stanza};

@@ -8,7 +8,7 @@ ghost use Rattle.age_file.specs.Inspect.{Inspects};
 ghost use Rattle.age_file.specs.Verdict.{checked, unlocked};
 
 use crate::fault::Fault;
-use crate::fault_names::{header_fault, unlock_fault};
+use crate::fault_conversions::{header_fault, unlock_fault};
 use crate::limits::Limits;
 use age_header::{Header, HeaderReader, Source, Stanza, mac_of};
 use age_recipient::{FileKey, Identity, UnlockFault, unlock};

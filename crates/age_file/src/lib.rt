@@ -32,7 +32,7 @@ mod copying;
 mod decryptor;
 mod encryptor;
 mod fault;
-mod fault_names;
+mod fault_conversions;
 mod key_finding;
 pub mod laws;
 mod limits;

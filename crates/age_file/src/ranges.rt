@@ -8,7 +8,7 @@ ghost use Rattle.age_file.specs.Verdict.{Answering};
 
 use crate::at_source::{AtSource, Origin};
 use crate::fault::Fault;
-use crate::fault_names::stream_fault;
+use crate::fault_conversions::stream_fault;
 use crate::key_finding::{inspect, unlock_header};
 use crate::limits::Limits;
 use age_header::Header;

@@ -8,7 +8,7 @@ ghost use Rattle.age_file.specs.Device.{CountsRead, CountsWrite, IsLate};
 ghost use Rattle.age_file.specs.NewFile.{EncryptsGiven, RefusesFirst, Gathered, TookOf};
 
 use crate::fault::Fault;
-use crate::fault_names::stream_fault;
+use crate::fault_conversions::stream_fault;
 use crate::limits::{Fresh, Limits};
 use crate::new_header::header_for;
 use age_header::{DeviceFault, Header, Sink, Source, write_all, write_header};

@@ -2,7 +2,7 @@ use Rattle.std.proofs.Common.{ℕ, List, map, ◌∙◌, sym, subst, Err}
 use Rattle.age_header.specs.Header.{StanzaParts}
 use Rattle.age_file.specs.Device.{CountsRead}
 use Rattle.age_file.specs.Ranges.{IsOpenFault}
-use Rattle.age_file.specs.Verdict.{of_stream}
+use Rattle.age_file.specs.Verdict.{stream_fault}
 use Rattle.age_file.proofs.DecryptLemmas.{reads-file}
 use Rattle.age_file.proofs.RangeLemmas.{missed-ranges, locked-named, locked-ranges, payload-missed, payload-named}
 use Rattle.age_file.proofs.ranges.open_ranges.Goals as goal
@@ -31,7 +31,7 @@ returns-clause-counted g c =
       last.0,
       last.1.stay ∙ c.in-Ok.ensures.stay,
       subst (λ f. CountsRead {A = ℕ} (g.D.ReadAt.failed c.args.dev.now) (g.D.ReadAt.failed last.0) (Err f)) (sym c.stream_fault.ensures)
-          (subst (λ n. CountsRead {A = ℕ} n (g.D.ReadAt.failed last.0) (Err (of_stream c.in-Err-open.fault))) c.in-Ok.ensures.uncounted count),
+          (subst (λ n. CountsRead {A = ℕ} n (g.D.ReadAt.failed last.0) (Err (stream_fault c.in-Err-open.fault))) c.in-Ok.ensures.uncounted count),
     )
 
 pub returns-in-Err-unlock_header-clause-named : goal.returns-in-Err-unlock_header-clause-named
