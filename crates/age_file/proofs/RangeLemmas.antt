@@ -23,15 +23,15 @@ use Rattle.age_file.specs.declared.fault.Fault.{Fault}
 use Rattle.age_file.specs.declared.fault.Fault.TheVariants.{BadMac, MixedPassphrase, OutOfMemory}
 use Rattle.age_file.specs.AgeFile.{Bounds, is_mixed}
 use Rattle.age_file.specs.Inspect.{Inspects}
-use Rattle.age_file.specs.Ranges.{HasFront, IsOpenFault, IsWithin, MissesFront, MissesRanges, ranges_under}
+use Rattle.age_file.specs.Ranges.{HasHeader, IsOpenFault, IsWithin, MissesHeader, MissesRanges, ranges_under}
 use Rattle.age_file.specs.Verdict.{Answering, checked, header_fault, stream_fault, unlock_fault, unlocked}
 use Rattle.age_file.proofs.DecryptLemmas.{err-err, headed}
 
 -- a header that was read from the first byte on
-pub front-found : (limits : Bounds) (told : Option (List ℕ)) (at : ℕ) (h : HeaderParts) → IsWithin told at
-    → Inspects limits (option_map (drop 0) told) (option_map (drop at) told) (Ok h) → HasFront limits told at h
-front-found limits None at h w i = tt
-front-found limits (Some b) at h w i =
+pub header-found : (limits : Bounds) (told : Option (List ℕ)) (at : ℕ) (h : HeaderParts) → IsWithin told at
+    → Inspects limits (option_map (drop 0) told) (option_map (drop at) told) (Ok h) → HasHeader limits told at h
+header-found limits None at h w i = tt
+header-found limits (Some b) at h w i =
     let is = headed limits (Some b) (Some (drop at b)) h i in
     let all : b ≡ is.text ++ drop at b = is.may (drop at b) refl in
     let d : length (drop at b) ≡ length b - at = length-drop at b in
@@ -39,7 +39,7 @@ front-found limits (Some b) at h w i =
     let inside : at ≤ length b = w in
     (is.text, omega arith, subst (λ x. HeaderVerdict x limits.max_header (Ok (record { stanzas = h.stanzas; mac = h.mac; text = is.text }))) (sym all) (is.verdict (drop at b) refl))
 
-refused : (limits : Bounds) (b : List ℕ) (g : HeaderFault) → Refuses b limits.max_header g → MissesFront limits (Some b) (header_fault g)
+refused : (limits : Bounds) (b : List ℕ) (g : HeaderFault) → Refuses b limits.max_header g → MissesHeader limits (Some b) (header_fault g)
 refused limits b header.Read h = inl refl
 refused limits b header.Memory h = inr (inl refl)
 refused limits b header.NotAge h = inr (inr (header.NotAge, h, refl))
@@ -48,19 +48,19 @@ refused limits b header.Truncated h = inr (inr (header.Truncated, h, refl))
 refused limits b header.TooLarge h = inr (inr (header.TooLarge, h, refl))
 
 -- no header
-pub front-missed : (limits : Bounds) (told mid : Option (List ℕ)) (fault : Fault) → Inspects limits (option_map (drop 0) told) mid (Err fault) → MissesFront limits told fault
-front-missed limits None mid fault i = inr (inr tt)
-front-missed limits (Some b) mid fault (Ok parts, is, h) = absurd (cc)
-front-missed limits (Some b) mid fault (Err g, is, h) = subst (MissesFront limits (Some b)) (sym (err-err {A = HeaderParts} fault (header_fault g) is)) (refused limits b g h)
+pub header-missed : (limits : Bounds) (told mid : Option (List ℕ)) (fault : Fault) → Inspects limits (option_map (drop 0) told) mid (Err fault) → MissesHeader limits told fault
+header-missed limits None mid fault i = inr (inr tt)
+header-missed limits (Some b) mid fault (Ok parts, is, h) = absurd (cc)
+header-missed limits (Some b) mid fault (Err g, is, h) = subst (MissesHeader limits (Some b)) (sym (err-err {A = HeaderParts} fault (header_fault g) is)) (refused limits b g h)
 
-pub missed-ranges : (limits : Bounds) (answers : Answering) (told : Option (List ℕ)) (fault : Fault) → MissesFront limits told fault → MissesRanges limits answers told fault
+pub missed-ranges : (limits : Bounds) (answers : Answering) (told : Option (List ℕ)) (fault : Fault) → MissesHeader limits told fault → MissesRanges limits answers told fault
 missed-ranges limits answers told fault (inl e) = inl e
 missed-ranges limits answers told fault (inr (inl e)) = inr (inl e)
 missed-ranges limits answers None fault (inr (inr h)) = inr (inr tt)
 missed-ranges limits answers (Some b) fault (inr (inr h)) = inr (inr (Err h.0, h.1, h.2))
 
 -- no key
-pub locked-ranges : (limits : Bounds) (answers : Answering) (told : Option (List ℕ)) (at : ℕ) (h : HeaderParts) (fault : Fault) → HasFront limits told at h
+pub locked-ranges : (limits : Bounds) (answers : Answering) (told : Option (List ℕ)) (at : ℕ) (h : HeaderParts) (fault : Fault) → HasHeader limits told at h
     → (◌≡◌ {A = Result FileKey Fault} (Err fault) (Err OutOfMemory)) ⊎ (Err fault ≡ unlocked answers h) → MissesRanges limits answers told fault
 locked-ranges limits answers told at h fault found (inl memory) = inr (inl (err-err {A = FileKey} fault OutOfMemory memory))
 locked-ranges limits answers None at h fault found (inr key) = inr (inr tt)
@@ -68,7 +68,7 @@ locked-ranges limits answers (Some b) at h fault found (inr key) =
     inr (inr (Ok (record { stanzas = h.stanzas; mac = h.mac; text = found.0 }), found.2, ap (ranges_under limits (drop (length found.0) b)) (sym key)))
 
 -- a payload that was not opened
-pub payload-missed : (limits : Bounds) (answers : Answering) (told : Option (List ℕ)) (at : ℕ) (h : HeaderParts) (k : FileKey) (fault : StreamFault) → HasFront limits told at h
+pub payload-missed : (limits : Bounds) (answers : Answering) (told : Option (List ℕ)) (at : ℕ) (h : HeaderParts) (k : FileKey) (fault : StreamFault) → HasHeader limits told at h
     → (◌≡◌ {A = Result FileKey Fault} (Ok k) (Err OutOfMemory)) ⊎ (Ok k ≡ unlocked answers h) → OpensRanges k limits.max_chunks at told (Err fault)
     → MissesRanges limits answers told (stream_fault fault)
 payload-missed limits answers told at h k fault found (inl memory) o = absurd (cc)
@@ -92,9 +92,9 @@ inspect-open header.TooLarge = tt
 inspect-open header.Read = tt
 inspect-open header.Memory = tt
 
-pub front-named : (limits : Bounds) (old mid : Option (List ℕ)) (fault : Fault) → Inspects limits old mid (Err fault) → IsOpenFault fault
-front-named limits old mid fault (Ok parts, is, h) = absurd (cc)
-front-named limits old mid fault (Err g, is, h) = subst IsOpenFault (sym (err-err {A = HeaderParts} fault (header_fault g) is)) (inspect-open g)
+pub header-named : (limits : Bounds) (old mid : Option (List ℕ)) (fault : Fault) → Inspects limits old mid (Err fault) → IsOpenFault fault
+header-named limits old mid fault (Ok parts, is, h) = absurd (cc)
+header-named limits old mid fault (Err g, is, h) = subst IsOpenFault (sym (err-err {A = HeaderParts} fault (header_fault g) is)) (inspect-open g)
 
 either-open : (b : Bool) (x y : Result FileKey Fault) → IfErr x IsOpenFault → IfErr y IsOpenFault → IfErr (if b then x else y) IsOpenFault
 either-open true x y p q = p

@@ -34,16 +34,16 @@ IsOpenFault Write = ⊥
 IsOpenFault _ = ⊤
 
 -- the known bytes begin with this header, which is `at` bytes long
-abbrev pub HasFront : (limits : Bounds) (told : Known) (at : ℕ) (h : HeaderParts) → Type 0
-HasFront limits told at h =
+abbrev pub HasHeader : (limits : Bounds) (told : Known) (at : ℕ) (h : HeaderParts) → Type 0
+HasHeader limits told at h =
     IfSome told (λ b. (text : Bytes) × (length text ≡ at)
     × HeaderVerdict b limits.max_header
     (Ok (record { stanzas = h.stanzas; mac = h.mac; text = text })))
 
 -- the known bytes begin with no header, and this is its fault; or a read failed, or memory was
 -- refused
-abbrev pub MissesFront : (limits : Bounds) (told : Known) (fault : Fault) → Type 0
-MissesFront limits told fault = (fault ≡ Read) ⊎ ((fault ≡ OutOfMemory) ⊎ IfSome told (λ b.
+abbrev pub MissesHeader : (limits : Bounds) (told : Known) (fault : Fault) → Type 0
+MissesHeader limits told fault = (fault ≡ Read) ⊎ ((fault ≡ OutOfMemory) ⊎ IfSome told (λ b.
     (e : HeaderFault) × HeaderVerdict b limits.max_header (Err e) × (fault ≡ header_fault e)))
 
 -- what follows a header, opened for ranges under the file key
