@@ -37,7 +37,7 @@ pub fn decrypt<S: Source, W: Sink>(
     identities: &[Box<dyn Identity>],
     limits: &Limits,
 ) -> Result<Done, Fault>
-    ensures answer { let answers : Answering =
+    ensures decrypts { let answers : Answering =
         λ stanzas. map (λ i. meaning i stanzas) identities.now in
         Decrypts limits.now answers
         (S.to_come input.old) (W.taken out.old) (W.taken out.new) result }

@@ -35,7 +35,7 @@ pub fn rewrap<S: Source, W: Sink>(
     recipients: &[Box<dyn Recipient>],
     limits: &Limits,
 ) -> Result<(), Fault>
-    ensures answer { let answers : Answering =
+    ensures rewraps { let answers : Answering =
         λ stanzas. map (λ i. meaning i stanzas) identities.now in
         Rewraps limits.now answers (λ key. Gathered (map (λ r. wraps r key) recipients.now)
         (map (λ r. the_labels r) recipients.now))

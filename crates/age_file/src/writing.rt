@@ -40,7 +40,7 @@ pub fn encrypt<S: Source, W: Sink>(
     fresh: &Fresh,
     limits: &Limits,
 ) -> Result<Done, Fault>
-    ensures answer { let given = Gathered (map (λ r. wraps r fresh.now.file_key) recipients.now)
+    ensures encrypts { let given = Gathered (map (λ r. wraps r fresh.now.file_key) recipients.now)
         (map (λ r. the_labels r) recipients.now) in
         EncryptsGiven limits.now fresh.now given
         (S.to_come plain.old) (W.taken out.old) (W.taken out.new) result }
