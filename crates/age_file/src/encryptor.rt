@@ -7,10 +7,10 @@ ghost use Rattle.age_stream.specs.Sealing.{at_start};
 ghost use Rattle.age_stream.specs.Writer.{device_of, fault_of, sealer_of, sink_of};
 ghost use Rattle.age_file.specs.NewFile.{FailsHeading, Gathered, IsHeading};
 
+use crate::encrypting::write_front;
 use crate::fault::Fault;
 use crate::limits::{Fresh, Limits};
 use crate::new_header::header_for;
-use crate::writing::write_front;
 use age_header::{Header, Sink};
 use age_recipient::Recipient;
 use age_stream::{ChunkBuf, ChunkSealer, Refused, StreamWriter};

@@ -8,8 +8,8 @@ ghost use Rattle.age_recipient.specs.Wrap.{WrapsAs};
 ghost use Rattle.age_file.specs.NewFile.{FailsHeading, Gathered, Gathers, IsApart, IsApartFrom, IsHeading, WrapsAll, gathered_from};
 
 use crate::fault::Fault;
-use crate::key_finding::is_mixed;
 use crate::limits::Limits;
+use crate::unlocking::is_mixed;
 use age_header::{Header, Stanza, mac_of};
 use age_recipient::{FileKey, Labels, Recipient, WrapFault};
 use std::alloc::{AllocError, Global};

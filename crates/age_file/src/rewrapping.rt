@@ -9,9 +9,10 @@ ghost use Rattle.age_file.specs.Verdict.{Answering};
 
 use crate::copying::copy_all;
 use crate::fault::Fault;
-use crate::key_finding::{inspect, unlock_header};
+use crate::inspecting::inspect;
 use crate::limits::Limits;
 use crate::new_header::header_for;
+use crate::unlocking::unlock_header;
 use age_header::{Sink, Source, write_header};
 use age_recipient::{Identity, Recipient};
 use std::alloc::Global;

@@ -1,7 +1,7 @@
 use Rattle.std.proofs.Common.{rules, Ok, Err}
 use Rattle.age_file.proofs.DecryptLemmas.{inspect-decrypts, locked-decrypts, missed-decrypts, payload-decrypts, payload-takes}
 use Rattle.age_file.proofs.PayloadLemmas.{payload-ends, payload-writes}
-use Rattle.age_file.proofs.reading.decrypt.Goals as goal
+use Rattle.age_file.proofs.decrypting.decrypt.Goals as goal
 
 pub returns-in-Err-clause-decrypts : goal.returns-in-Err-clause-decrypts
 returns-in-Err-clause-decrypts g c = inspect-decrypts _ _ _ (g.S.Source.to_come c.inspect.new.input) _ c.in-Err.fault c.in-Err.ensures.verdict

@@ -1,6 +1,6 @@
 use Rattle.std.proofs.Common.{rules, ◌∙◌, Ok, Err}
 use Rattle.age_file.proofs.EncryptLemmas.{encrypts_begun, encrypts_sealed, takes_begun, takes_sealed}
-use Rattle.age_file.proofs.writing.encrypt.Goals as goal
+use Rattle.age_file.proofs.encrypting.encrypt.Goals as goal
 
 pub returns-in-Err-clause-encrypts : goal.returns-in-Err-clause-encrypts
 returns-in-Err-clause-encrypts g c =

@@ -8,8 +8,9 @@ ghost use Rattle.age_file.specs.Verdict.{Answering};
 
 use crate::fault::Fault;
 use crate::fault_conversions::stream_fault;
-use crate::key_finding::{inspect, unlock_header};
+use crate::inspecting::inspect;
 use crate::limits::Limits;
+use crate::unlocking::unlock_header;
 use age_header::{Sink, Source};
 use age_recipient::Identity;
 use age_stream::{Done, StreamReader};
