@@ -1,4 +1,4 @@
-//! Reading a whole file.
+//! Decrypting a whole file.
 
 ghost use Rattle.std.specs.Prelude.{◌⊎◌, map, IfErr};
 ghost use Rattle.std.specs.Io.KnownBytes.{Keeps};

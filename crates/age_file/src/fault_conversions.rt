@@ -1,7 +1,7 @@
 //! Conversions of the errors of headers, keys and payloads to `Fault`.
 
 ghost use Rattle.std.specs.Prelude.{◌≡◌};
-ghost use Rattle.age_file.specs.Device.{IsInside};
+ghost use Rattle.age_file.specs.Device.{IsNoDeviceFault};
 ghost use Rattle.age_file.specs.Verdict.{header_fault, stream_fault, unlock_fault};
 
 use crate::fault::Fault;
@@ -26,7 +26,7 @@ pub(crate) fn header_fault(fault: HeaderFault) -> Fault
 /// The `Fault` of an error of finding the file key.
 pub(crate) fn unlock_fault(fault: UnlockFault) -> Fault
     ensures name { result ≡ unlock_fault fault }
-    ensures inside { IsInside result }
+    ensures no_device { IsNoDeviceFault result }
 {
     match fault {
         UnlockFault::NoMatch => Fault::NoMatch,

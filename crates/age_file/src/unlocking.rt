@@ -3,7 +3,7 @@
 ghost use Rattle.std.specs.Prelude.{◌≡◌, ◌⊎◌, map, Err, IfErr};
 ghost use Rattle.std.specs.List.{list_any};
 ghost use Rattle.age_file.specs.AgeFile.{is_mixed, is_scrypt};
-ghost use Rattle.age_file.specs.Device.{IsInside};
+ghost use Rattle.age_file.specs.Device.{IsNoDeviceFault};
 ghost use Rattle.age_file.specs.Verdict.{checked, unlocked};
 
 use crate::fault::Fault;
@@ -26,7 +26,7 @@ pub fn unlock_header(
 ) -> Result<FileKey, Fault>
     ensures key { (result ≡ Err Fault.OutOfMemory)
         ⊎ (result ≡ unlocked (λ stanzas. map (λ i. meaning i stanzas) identities.now) header.now) }
-    ensures inside { IfErr result IsInside }
+    ensures no_device { IfErr result IsNoDeviceFault }
 {
     if is_mixed(header.stanzas()) {
         return Err(Fault::MixedPassphrase);
@@ -41,7 +41,7 @@ fn checked(
     chosen: Result<FileKey, UnlockFault>,
 ) -> Result<FileKey, Fault>
     ensures key { (result ≡ Err Fault.OutOfMemory) ⊎ (result ≡ checked header.now chosen) }
-    ensures inside { IfErr result IsInside }
+    ensures no_device { IfErr result IsNoDeviceFault }
 {
     let key = match chosen {
         Ok(key) => key,
