@@ -1,4 +1,4 @@
--- What decrypting answers, from what its parts answer.
+-- What decrypting returns, from what its parts return.
 use Rattle.std.proofs.Common.{◌≡◌, ◌⊎◌, ◌+◌, ◌*◌, ◌/◌, ◌≤◌, ℕ, List, [], ◌++◌, length, drop, sym, ◌∙◌, ap, refl, subst, arith, inl, inr, Option, Some, None, Result, Ok, Err}
 use Rattle.std.specs.Prelude.{option_map}
 use Rattle.std.specs.Io.KnownBytes.{Appends}
@@ -47,7 +47,7 @@ pub decrypts-of : (limits : Bounds) (answers : Answering) (come : Option (List �
 decrypts-of limits answers None b old new r may h = (b, h)
 decrypts-of limits answers (Some x) b old new r may h = subst (λ z. DecryptsText limits answers z old new r) (sym may) h
 
--- the whole is a beginning of itself
+-- the whole is a prefix of itself
 begins-whole : (limits : Bounds) (answers : Answering) (b : List ℕ) (old new : Option (List ℕ)) (r : Result Done Fault) → GivesVerdict limits answers b old new r → BeginsVerdict limits answers b old new
 begins-whole limits answers b old new r (v, is, tells, h) =
     (v, is, (length v.front, subst (Appends old new) (sym (take_all (length v.front) v.front (omega arith))) h))

@@ -55,7 +55,7 @@ pub encrypts_refused : (limits : Bounds) (fresh : Fresh) (gathered : Gathering) 
 encrypts_refused limits fresh gathered None old new = ([], tt)
 encrypts_refused limits fresh gathered (Some plain) old new = tt
 
--- a beginning of the header and the nonce was written
+-- a prefix of the header and the nonce was written
 pub encrypts_begun : (limits : Bounds) (fresh : Fresh) (gathered : Gathering) (stanzas : List StanzaParts) (mac : List ℕ) (from old new : Option (List ℕ))
     → HeaderMade limits fresh.file_key gathered stanzas mac → FrontWritten stanzas mac (λ text. WritesPart old new (text ++ fresh.nonce)) → EncryptsGiven limits fresh gathered from old new (Err Write)
 encrypts_begun limits fresh gathered stanzas mac from old new header (text, head, part) =
@@ -71,7 +71,7 @@ encrypts_begun limits fresh gathered stanzas mac from old new header (text, head
       part = done_part old old new (text ++ payload fresh.file_key fresh.nonce plain.0) (front ++ rest) front rest (record { front = []; took = Appends-nil old; is = is }) refl part;
     })
 
--- a beginning of the payload was written after them
+-- a prefix of the payload was written after them
 begun : (limits : Bounds) (fresh : Fresh) (gathered : Gathering) (text plain : List ℕ) (a b c : Option (List ℕ)) → Made limits fresh.file_key gathered text → Appends a b (text ++ fresh.nonce)
     → WritesPart b c (concat (sealed_chunks fresh.file_key fresh.nonce plain)) → BegunFile limits fresh gathered plain a c
 begun limits fresh gathered text plain a b c m front part =

@@ -83,7 +83,7 @@ key-unlocked answers h k has =
     cond-false (is_mixed h.stanzas) _ _ has.unmixed ∙ ap (checked h) has.chosen
     ∙ cond-true (bytes_eq h.mac (header_mac k.0 h.stanzas)) _ _ ((bytes_eq-Decides _ _).1 has.mac)
 
--- the key of a header, whose choice was made and checked unless memory was wanting
+-- the outcome of a header whose key was chosen and whose MAC was compared, unless an allocation was refused
 pub checked-unlocked : (answers : Answering) (h : HeaderParts) (chosen : Result FileKey UnlockFault) (r : Result FileKey Fault) → is_mixed h.stanzas ≡ false
     → (chosen ≡ Err Memory) ⊎ (chosen ≡ choice (answers h.stanzas)) → (r ≡ Err OutOfMemory) ⊎ (r ≡ checked h chosen)
     → (r ≡ Err OutOfMemory) ⊎ (r ≡ unlocked answers h)

@@ -183,7 +183,7 @@ new_file limits answers gathered come mid h key text bytes i chosen made may = (
   made.heading.gives,
 )
 
--- a beginning of the header was written
+-- a prefix of the header was written
 pub begun_rewraps : (limits : Bounds) (answers : Answering) (gathered : FileKey → Gathering) (come mid old new : Option (List ℕ)) (h : HeaderParts) (key : FileKey) (text : List ℕ)
     → IsHeaded limits come mid h → unlocked answers h ≡ Ok key → Made limits key (gathered key) text → WritesPart old new text → Rewraps limits answers gathered come old new (Err Write)
 begun_rewraps limits answers gathered come mid old new h key text i chosen made part =
@@ -194,7 +194,7 @@ begun_rewraps limits answers gathered come mid old new h key text i chosen made 
       done_part old old new (text ++ rest.0) (text ++ rest.0) text rest.0 (record { front = []; took = Appends-nil old; is = refl }) refl part,
     )
 
--- a beginning of the rest was written after it
+-- a prefix of the rest was written after it
 copied_part : (limits : Bounds) (answers : Answering) (gathered : FileKey → Gathering) (come mid old put new : Option (List ℕ)) (h : HeaderParts) (key : FileKey) (text bytes : List ℕ)
     → (i : IsHeaded limits come mid h) → unlocked answers h ≡ Ok key → Made limits key (gathered key) text → Appends old put text → MayGive mid bytes → WritesPart put new bytes
     → BeginsRewrapped limits answers gathered (i.text ++ bytes) old new

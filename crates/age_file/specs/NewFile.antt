@@ -114,7 +114,7 @@ pub record FileUpToLimit (limits : Bounds) (fresh : Fresh) (gathered : Gathering
       ++ concat (take (limits.max_chunks - 1)
       (sealed_chunks fresh.file_key fresh.nonce plain)))
 
--- a beginning of the header and payload was written
+-- a prefix of the header and payload was written
 pub record BegunFile (limits : Bounds) (fresh : Fresh) (gathered : Gathering) (plain : Bytes)
     (old new : Known) : Type 0 where
   pub stanzas : List StanzaParts

@@ -54,7 +54,7 @@ RefusesRewrap limits answers gathered b fault =
     (header : Result Found HeaderFault) × HeaderVerdict b limits.max_header header
     × IsRefusedBy limits answers gathered header fault
 
--- a beginning of the rewrapped file was written
+-- a prefix of the rewrapped file was written
 abbrev pub BeginsRewrapped : (limits : Bounds) (answers : Answering)
     (gathered : FileKey → Gathering) (b : Bytes) (old new : Known) → Type 0
 BeginsRewrapped limits answers gathered b old new =
