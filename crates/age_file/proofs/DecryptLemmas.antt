@@ -29,7 +29,7 @@ use Rattle.age_file.specs.Decrypt.{BeginsVerdict, Decrypts, DecryptsText, GivesV
 use Rattle.age_file.specs.Device.{CountsRead}
 use Rattle.age_file.specs.Inspect.{Inspects}
 use Rattle.age_file.proofs.PayloadLemmas.{WritesPayload, nonce-writes}
-use Rattle.age_file.specs.Verdict.{Answering, IsVerdict, judged, header_fault, stream_fault, read_under, unlocked}
+use Rattle.age_file.specs.Verdict.{Answering, IsVerdict, found_in, header_fault, judged, read_under, stream_fault, unlocked}
 
 pub err-err : {A : Type 0} (f g : Fault) → ◌≡◌ {A = Result A Fault} (Err f) (Err g) → f ≡ g
 err-err f g e = cc
@@ -108,21 +108,21 @@ pub record IsHeaded (limits : Bounds) (come mid : Option (List ℕ)) (h : Header
   pub text : List ℕ
   pub took : GaveAtMost (length text) come mid
   pub may : (rest : List ℕ) → MayGive mid rest → MayGive come (text ++ rest)
-  pub verdict : (rest : List ℕ) → MayGive mid rest → HeaderVerdict (text ++ rest) limits.max_header (Ok (record { stanzas = h.stanzas; mac = h.mac; text = text }))
+  pub verdict : (rest : List ℕ) → MayGive mid rest → HeaderVerdict (text ++ rest) limits.max_header (Ok (found_in text h))
 
 parts-headed : (limits : Bounds) (come mid : Option (List ℕ)) (h : HeaderParts) → ReadsHeader come mid limits.max_header (Ok h) → IsHeaded limits come mid h
 parts-headed limits None mid h (b, (text, verdict, took)) = record {
   text = text;
   took = (text, tt, omega arith);
   may = λ rest m. tt;
-  verdict = λ rest m. found_again b limits.max_header (record { stanzas = h.stanzas; mac = h.mac; text = text }) verdict rest;
+  verdict = λ rest m. found_again b limits.max_header (found_in text h) verdict rest;
 }
 parts-headed limits (Some b) None h (text, verdict, took) = absurd took
 parts-headed limits (Some b) (Some r) h (text, verdict, took) = record {
   text = text;
   took = (text, took, omega arith);
   may = λ rest m. took ∙ ap (λ t. text ++ t) m;
-  verdict = λ rest m. found_again b limits.max_header (record { stanzas = h.stanzas; mac = h.mac; text = text }) verdict rest;
+  verdict = λ rest m. found_again b limits.max_header (found_in text h) verdict rest;
 }
 
 pub headed : (limits : Bounds) (come mid : Option (List ℕ)) (h : HeaderParts) → Inspects limits come mid (Ok h) → IsHeaded limits come mid h
@@ -136,7 +136,7 @@ headed limits come mid h (Ok k, is, a) = subst (IsHeaded limits come mid) (sym (
 verdict-of : (limits : Bounds) (answers : Answering) (come mid : Option (List ℕ)) (h : HeaderParts) (i : IsHeaded limits come mid h) (rest : List ℕ) → MayGive mid rest
     → IsVerdict limits answers (i.text ++ rest) (read_under limits rest (unlocked answers h))
 verdict-of limits answers come mid h i rest m = record {
-  header = Ok (record { stanzas = h.stanzas; mac = h.mac; text = i.text });
+  header = Ok (found_in i.text h);
   header_verdict = i.verdict rest m;
   is = ap (λ x. read_under limits x (unlocked answers h)) (sym (drop_at i.text rest (length i.text) refl));
 }
@@ -173,7 +173,7 @@ payload-text limits answers come mid h i k c m old new r key w = go r w
 
     is : IsVerdict limits answers (i.text ++ c) v
     is = record {
-      header = Ok (record { stanzas = h.stanzas; mac = h.mac; text = i.text });
+      header = Ok (found_in i.text h);
       header_verdict = i.verdict c m;
       is = ap (read_under limits c) key ∙ ap (λ x. read_under limits x (unlocked answers h)) (sym (drop_at i.text c (length i.text) refl));
     }
@@ -233,7 +233,7 @@ took-piece limits come mid to old new h i fault n e le =
     record {
       b = i.text ++ d.0;
       may = i.may d.0 d.1;
-      found = record { stanzas = h.stanzas; mac = h.mac; text = i.text };
+      found = found_in i.text h;
       header = i.verdict d.0 d.1;
       gave = (all.0, all.1, omega (arith, all.2));
     }

@@ -24,8 +24,7 @@ use Rattle.age_stream.proofs.PayloadLemmas.{ok-payload, payload-ok}
 use Rattle.age_file.specs.declared.fault.Fault.{Fault}
 use Rattle.age_file.specs.declared.fault.Fault.TheVariants.{MixedPassphrase, BadMac, OutOfMemory}
 use Rattle.age_file.specs.AgeFile.{Bounds, AgeFile, is_mixed}
-use Rattle.age_file.specs.Rewrap.{parts_of}
-use Rattle.age_file.specs.Verdict.{header_fault, stream_fault, Answering, checked, unlocked, read_under, judged, IsVerdict}
+use Rattle.age_file.specs.Verdict.{Answering, IsVerdict, checked, header_fault, judged, parts_of, read_under, stream_fault, unlocked, with_file_fault}
 
 -- what is read whole does not stop
 never_stops : (p : List ℕ) (f : Fault) → whole p ≡ stops f → ⊥
@@ -35,13 +34,9 @@ no_stream_fault : (o : Option StreamFault) → option_map stream_fault o ≡ Non
 no_stream_fault None h = refl
 no_stream_fault (Some f) h = absurd (none-some (stream_fault f) (sym h))
 
--- a reading with its fault renamed
-abbrev renamed : Reading StreamFault → Reading Fault
-renamed r = record { front = r.front; fault = option_map stream_fault r.fault }
-
 -- what a payload was read from
-renamed-whole : (p : List ℕ) (r : Reading StreamFault) → whole p ≡ renamed r → r ≡ whole p
-renamed-whole p r h =
+with_file_fault-whole : (p : List ℕ) (r : Reading StreamFault) → whole p ≡ with_file_fault r → r ≡ whole p
+with_file_fault-whole p r h =
     ap (λ x. record { front = x; fault = r.fault }) (sym (ap (λ (z : Reading Fault). z.front) h))
     ∙ ap (λ x. record { front = p; fault = x }) (no_stream_fault r.fault (sym (ap (λ (z : Reading Fault). z.fault) h)))
 
@@ -101,7 +96,7 @@ under-file limits answers b p found begins (Err f) is h = absurd (never_stops p 
 under-file limits answers b p found begins (Ok k) is h =
     let rest : List ℕ = drop (length found.text) b in
     let has = unlocked-key answers (parts_of found) k is in
-    let body = ok-payload k rest p limits.max_chunks (renamed-whole p (payload_reading k limits.max_chunks rest) h) in
+    let body = ok-payload k rest p limits.max_chunks (with_file_fault-whole p (payload_reading k limits.max_chunks rest) h) in
     record {
       stanzas = found.stanzas;
       key = k;
@@ -139,7 +134,7 @@ file-whole limits answers b p stanzas k file chosen =
       header = Ok found;
       header_verdict = headers.found_begins b limits.max_header found begins;
       is = sym (ap (read_under limits (drop (length file.header) b)) (key-unlocked answers (parts_of found) k (record { unmixed = file.unmixed; chosen = chosen; mac = refl }))
-          ∙ ap renamed reads);
+          ∙ ap with_file_fault reads);
     }
 
 pub both_ways : (limits : Bounds) (answers : Answering) (b p : List ℕ) → IsVerdict limits answers b (whole p)

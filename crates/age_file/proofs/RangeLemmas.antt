@@ -24,7 +24,7 @@ use Rattle.age_file.specs.declared.fault.Fault.TheVariants.{BadMac, MixedPassphr
 use Rattle.age_file.specs.AgeFile.{Bounds, is_mixed}
 use Rattle.age_file.specs.Inspect.{Inspects}
 use Rattle.age_file.specs.Ranges.{HasHeader, IsOpenFault, IsWithin, MissesHeader, MissesRanges, ranges_under}
-use Rattle.age_file.specs.Verdict.{Answering, checked, header_fault, stream_fault, unlock_fault, unlocked}
+use Rattle.age_file.specs.Verdict.{Answering, checked, found_in, header_fault, stream_fault, unlock_fault, unlocked}
 use Rattle.age_file.proofs.DecryptLemmas.{err-err, headed}
 
 -- a header that was read from the first byte on
@@ -37,7 +37,7 @@ header-found limits (Some b) at h w i =
     let d : length (drop at b) ≡ length b - at = length-drop at b in
     let l : length b ≡ length is.text + length (drop at b) = ap length all ∙ length-append is.text (drop at b) in
     let inside : at ≤ length b = w in
-    (is.text, omega arith, subst (λ x. HeaderVerdict x limits.max_header (Ok (record { stanzas = h.stanzas; mac = h.mac; text = is.text }))) (sym all) (is.verdict (drop at b) refl))
+    (is.text, omega arith, subst (λ x. HeaderVerdict x limits.max_header (Ok (found_in is.text h))) (sym all) (is.verdict (drop at b) refl))
 
 refused : (limits : Bounds) (b : List ℕ) (g : HeaderFault) → Refuses b limits.max_header g → MissesHeader limits (Some b) (header_fault g)
 refused limits b header.Read h = inl refl
@@ -65,7 +65,7 @@ pub locked-ranges : (limits : Bounds) (answers : Answering) (told : Option (List
 locked-ranges limits answers told at h fault found (inl memory) = inr (inl (err-err {A = FileKey} fault OutOfMemory memory))
 locked-ranges limits answers None at h fault found (inr key) = inr (inr tt)
 locked-ranges limits answers (Some b) at h fault found (inr key) =
-    inr (inr (Ok (record { stanzas = h.stanzas; mac = h.mac; text = found.0 }), found.2, ap (ranges_under limits (drop (length found.0) b)) (sym key)))
+    inr (inr (Ok (found_in found.0 h), found.2, ap (ranges_under limits (drop (length found.0) b)) (sym key)))
 
 -- a payload that was not opened
 pub payload-missed : (limits : Bounds) (answers : Answering) (told : Option (List ℕ)) (at : ℕ) (h : HeaderParts) (k : FileKey) (fault : StreamFault) → HasHeader limits told at h
@@ -76,7 +76,7 @@ payload-missed limits answers told at h k fault found (inr key) (inl e) = inl (a
 payload-missed limits answers told at h k fault found (inr key) (inr (inl e)) = inr (inl (ap stream_fault e))
 payload-missed limits answers None at h k fault found (inr key) (inr (inr e)) = inr (inr tt)
 payload-missed limits answers (Some b) at h k fault found (inr key) (inr (inr e)) = inr (inr (
-  Ok (record { stanzas = h.stanzas; mac = h.mac; text = found.0 }),
+  Ok (found_in found.0 h),
   found.2,
   ap (ranges_under limits (drop (length found.0) b)) (sym key)
       ∙ ap (λ n. result_map_both (λ text. text) stream_fault (range_outcome k limits.max_chunks (drop n b))) found.1 ∙ ap (result_map_both (λ text. text) stream_fault) e,

@@ -7,7 +7,7 @@ use Rattle.std.specs.Str.{bytes_eq}
 use Rattle.age_header.specs.declared.fault.HeaderFault.{HeaderFault}
 use Rattle.age_header.specs.declared.fault.HeaderFault.TheVariants as header
 use Rattle.age_header.specs.Device.{MayGive, WritesPart}
-use Rattle.age_header.specs.Header.{StanzaParts, HeaderParts}
+use Rattle.age_header.specs.Header.{HeaderParts}
 use Rattle.age_header.specs.Mac.{header_mac}
 use Rattle.age_header.specs.Reader.{ReadsHeader, Refuses}
 use Rattle.age_header.specs.Verdict.{BeginsWith, Found}
@@ -26,8 +26,8 @@ use Rattle.age_file.specs.Copying.{Copies}
 use Rattle.age_file.specs.Device.{IsLate}
 use Rattle.age_file.specs.Inspect.{Inspects}
 use Rattle.age_file.specs.NewFile.{FailsHeading, Gathering, IsRefusal}
-use Rattle.age_file.specs.Rewrap.{BeginsRewrapped, IsRewrapped, RefusesRewrap, Rewrapped, Rewraps, RewrapsText, parts_of}
-use Rattle.age_file.specs.Verdict.{Answering, IsVerdict, checked, judged, header_fault, read_under, unlocked}
+use Rattle.age_file.specs.Rewrap.{BeginsRewrapped, IsRewrapped, RefusesRewrap, Rewrapped, Rewraps, RewrapsText}
+use Rattle.age_file.specs.Verdict.{Answering, IsVerdict, checked, found_in, header_fault, judged, parts_of, read_under, unlocked}
 use Rattle.age_file.proofs.DecryptLemmas.{IsHeaded, err-err}
 use Rattle.age_file.proofs.EncryptLemmas.{Made}
 use Rattle.age_file.proofs.FileLemmas.{behind, key-unlocked}
@@ -116,13 +116,8 @@ early_unlocked answers h fault e = go (is_mixed h.stanzas) e
     go true e = subst IsEarly (err-err {A = FileKey} MixedPassphrase fault e) tt
     go false e = early_checked h (choice (answers h.stanzas)) fault e
 
--- the header that was found in front of any rest
-found_in : (text : List ℕ) (h : HeaderParts) → Found
-found_in text h = record { stanzas = h.stanzas; mac = h.mac; text = text }
-
 pub locked_rewraps : (limits : Bounds) (answers : Answering) (gathered : FileKey → Gathering) (come mid old : Option (List ℕ)) (h : HeaderParts) (fault : Fault)
     → IsHeaded limits come mid h → (◌≡◌ {A = Result FileKey Fault} (Err fault) (Err OutOfMemory)) ⊎ (Err fault ≡ unlocked answers h) → Rewraps limits answers gathered come old old (Err fault)
-unfolding found_in
 locked_rewraps limits answers gathered come mid old h fault i r =
     let rest = may-some mid in
     let b : List ℕ = i.text ++ rest.0 in
@@ -136,7 +131,7 @@ locked_rewraps limits answers gathered come mid old h fault i r =
 -- no new header was made
 pub heading_rewraps : (limits : Bounds) (answers : Answering) (gathered : FileKey → Gathering) (come mid old : Option (List ℕ)) (h : HeaderParts) (key : FileKey) (fault : Fault)
     → IsHeaded limits come mid h → unlocked answers h ≡ Ok key → FailsHeading limits key (gathered key) fault → Rewraps limits answers gathered come old old (Err fault)
-unfolding found_in IsEarly
+unfolding IsEarly
 heading_rewraps limits answers gathered come mid old h key fault i chosen fails =
     rewraps_of limits answers gathered come old old b (Err fault) (i.may rest.0 rest.1) (go fails)
   where
@@ -169,7 +164,7 @@ new_file : (limits : Bounds) (answers : Answering) (gathered : FileKey → Gathe
     → (i : IsHeaded limits come mid h) → unlocked answers h ≡ Ok key → Made limits key (gathered key) text → MayGive mid bytes → IsRewrapped limits answers gathered (i.text ++ bytes) (text ++ bytes)
 new_file limits answers gathered come mid h key text bytes i chosen made may = (
   record {
-    found = record { stanzas = h.stanzas; mac = h.mac; text = i.text };
+    found = found_in i.text h;
     header = i.verdict bytes may;
     key = key;
     chosen = chosen;

@@ -11,7 +11,7 @@ use Rattle.age_stream.specs.Slice.{last_piece, range_outcome}
 use Rattle.age_file.specs.declared.fault.Fault.{Fault}
 use Rattle.age_file.specs.declared.fault.Fault.TheVariants.{IncompatibleRecipients, NoRecipients, OutOfMemory, Read, Refused, Write}
 use Rattle.age_file.specs.AgeFile.{Bounds}
-use Rattle.age_file.specs.Verdict.{Answering, header_fault, stream_fault, unlocked}
+use Rattle.age_file.specs.Verdict.{Answering, found_in, header_fault, parts_of, stream_fault, unlocked}
 use Rattle.age_stream.specs.Sizes.{nonce_size}
 
 -- a source that is read at offsets, here read from its first byte on: its contents, the next
@@ -37,8 +37,7 @@ IsOpenFault _ = ⊤
 abbrev pub HasHeader : (limits : Bounds) (told : Known) (at : ℕ) (h : HeaderParts) → Type 0
 HasHeader limits told at h =
     IfSome told (λ b. (text : Bytes) × (length text ≡ at)
-    × HeaderVerdict b limits.max_header
-    (Ok (record { stanzas = h.stanzas; mac = h.mac; text = text })))
+    × HeaderVerdict b limits.max_header (Ok (found_in text h)))
 
 -- the known bytes begin with no header, and this is its fault; or a read failed, or memory was
 -- refused
@@ -58,9 +57,7 @@ abbrev pub IsRangeFault : (limits : Bounds) (answers : Answering) (b : Bytes)
     (result : Result Found HeaderFault) (fault : Fault) → Type 0
 IsRangeFault limits answers b (Err e) fault = fault ≡ header_fault e
 IsRangeFault limits answers b (Ok found) fault =
-    ranges_under limits (drop (length found.text) b)
-    (unlocked answers (record { stanzas = found.stanzas; mac = found.mac }))
-    ≡ Err fault
+    ranges_under limits (drop (length found.text) b) (unlocked answers (parts_of found)) ≡ Err fault
 
 -- the fault is the first of the known bytes; or a read failed, or memory was refused
 abbrev pub MissesRanges : (limits : Bounds) (answers : Answering) (told : Known) (fault : Fault)
@@ -79,7 +76,7 @@ pub record IsRangesOf (limits : Bounds) (answers : Answering) (b : Bytes) (chunk
   pub found : Found
   pub header : HeaderVerdict b limits.max_header (Ok found)
   pub key : FileKey
-  pub chosen : unlocked answers (record { stanzas = found.stanzas; mac = found.mac }) ≡ Ok key
+  pub chosen : unlocked answers (parts_of found) ≡ Ok key
   pub opened : IsOpened key limits.max_chunks (Some b) (length found.text) chunks
   pub gave : given2
       ≤ given + length found.text

@@ -3,7 +3,7 @@ use Rattle.std.specs.Prelude.{◌≡◌, ◌⊎◌, ◌≤◌, false, List, ◌+
 use Rattle.std.specs.Io.KnownBytes.{Appends, Keeps}
 use Rattle.age_header.specs.declared.fault.HeaderFault.{HeaderFault}
 use Rattle.age_header.specs.Device.{Bytes, Known, WritesPart}
-use Rattle.age_header.specs.Header.{StanzaParts, Head, HeaderParts}
+use Rattle.age_header.specs.Header.{StanzaParts, Head}
 use Rattle.age_header.specs.Mac.{header_mac}
 use Rattle.age_header.specs.Verdict.{Found, HeaderVerdict}
 use Rattle.age_recipient.specs.declared.key.FileKey.{FileKey}
@@ -11,12 +11,8 @@ use Rattle.age_file.specs.declared.fault.Fault.{Fault}
 use Rattle.age_file.specs.declared.fault.Fault.TheVariants.{TooManyChunks, Read, Write, OutOfMemory}
 use Rattle.age_file.specs.AgeFile.{Bounds, is_mixed}
 use Rattle.age_file.specs.NewFile.{Gathering, IsRefusal}
-use Rattle.age_file.specs.Verdict.{Answering, header_fault, unlocked}
+use Rattle.age_file.specs.Verdict.{Answering, header_fault, parts_of, unlocked}
 use Rattle.age_file.specs.Copying.{most_copied}
-
--- the stanzas and the MAC of a header that was found
-abbrev pub parts_of : Found → HeaderParts
-parts_of found = record { stanzas = found.stanzas; mac = found.mac }
 
 -- c is b with another header for the file key that is chosen: the text of the new stanzas with
 -- their MAC, followed by b without its old header. The new header is within the limit, and has no

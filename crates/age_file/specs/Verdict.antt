@@ -47,6 +47,18 @@ stream_fault stream.Read = Read
 stream_fault stream.Write = Write
 stream_fault stream.Memory = OutOfMemory
 
+-- the stanzas and the MAC of a header that was found
+abbrev pub parts_of : Found → HeaderParts
+parts_of found = record { stanzas = found.stanzas; mac = found.mac }
+
+-- a header with its text
+abbrev pub found_in : (text : Bytes) (h : HeaderParts) → Found
+found_in text h = record { stanzas = h.stanzas; mac = h.mac; text = text }
+
+-- a payload's reading, with the file's fault for its own
+abbrev pub with_file_fault : Reading StreamFault → Reading Fault
+with_file_fault r = record { front = r.front; fault = option_map stream_fault r.fault }
+
 -- what identities make of each list of stanzas: one answer for each identity, in order
 abbrev pub Answering : Type 0
 Answering = List StanzaParts → List Unwrapped
@@ -66,18 +78,14 @@ unlocked answers h =
 abbrev pub read_under : (limits : Bounds) (rest : Bytes) (result : Result FileKey Fault)
     → Reading Fault
 read_under limits rest (Err fault) = stops fault
-read_under limits rest (Ok k) = record {
-  front = (payload_reading k limits.max_chunks rest).front;
-  fault = option_map stream_fault (payload_reading k limits.max_chunks rest).fault;
-}
+read_under limits rest (Ok k) = with_file_fault (payload_reading k limits.max_chunks rest)
 
 -- what b comes to, given its header verdict
 abbrev pub judged : (limits : Bounds) (answers : Answering) (b : Bytes)
     (result : Result Found HeaderFault) → Reading Fault
 judged limits answers b (Err fault) = stops (header_fault fault)
 judged limits answers b (Ok found) =
-    read_under limits (drop (length found.text) b)
-    (unlocked answers (record { stanzas = found.stanzas; mac = found.mac }))
+    read_under limits (drop (length found.text) b) (unlocked answers (parts_of found))
 
 -- The verdict on b: the first fault, if there is one, and the plaintext of the chunks before it.
 pub record IsVerdict (limits : Bounds) (answers : Answering) (b : Bytes) (verdict : Reading Fault)
