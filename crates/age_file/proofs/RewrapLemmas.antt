@@ -128,10 +128,19 @@ locked_rewraps limits answers gathered come mid old h fault i r =
       | inr is ↦ refused limits answers gathered b old fault (early_unlocked answers h fault (sym is)) (Ok (found_in i.text h), i.verdict rest.0 rest.1, inl (sym is))
     ])
 
+-- a reason why there is no new header is early
+early_refusal : (limits : Bounds) (k : FileKey) (gathered : Gathering) (fault : Fault) → IsRefusal limits k gathered fault → IsEarly fault
+unfolding IsEarly
+early_refusal limits k gathered (Refused i code) h = tt
+early_refusal limits k gathered (IncompatibleRecipients i) h = tt
+early_refusal limits k gathered NoRecipients h = tt
+early_refusal limits k gathered MixedPassphrase h = tt
+early_refusal limits k gathered HeaderTooLarge h = tt
+early_refusal limits k gathered fault h = absurd h
+
 -- no new header was made
 pub heading_rewraps : (limits : Bounds) (answers : Answering) (gathered : FileKey → Gathering) (come mid old : Option (List ℕ)) (h : HeaderParts) (key : FileKey) (fault : Fault)
     → IsHeaded limits come mid h → unlocked answers h ≡ Ok key → FailsHeading limits key (gathered key) fault → Rewraps limits answers gathered come old old (Err fault)
-unfolding IsEarly
 heading_rewraps limits answers gathered come mid old h key fault i chosen fails =
     rewraps_of limits answers gathered come old old b (Err fault) (i.may rest.0 rest.1) (go fails)
   where
@@ -141,21 +150,13 @@ heading_rewraps limits answers gathered come mid old h key fault i chosen fails 
     b : List ℕ
     b = i.text ++ rest.0
 
-    because : (f : Fault) → IsEarly f → IsRefusal limits key (gathered key) f → fault ≡ f → RewrapsText limits answers gathered b old old (Err fault)
-    because f early refusal is =
-        subst (λ g. RewrapsText limits answers gathered b old old (Err g)) (sym is)
-        (refused limits answers gathered b old f early (Ok (found_in i.text h), i.verdict rest.0 rest.1, inr (key, chosen, refusal)))
-
     memory : RewrapsText limits answers gathered b old old (Err OutOfMemory)
     memory = tt
 
     go : FailsHeading limits key (gathered key) fault → RewrapsText limits answers gathered b old old (Err fault)
     go (inl is) = subst (λ g. RewrapsText limits answers gathered b old old (Err g)) (sym is) memory
-    go (inr (inl (j, code, is, refusal))) = because (Refused j code) tt refusal is
-    go (inr (inr (inl (j, is, refusal)))) = because (IncompatibleRecipients j) tt refusal is
-    go (inr (inr (inr (inl (is, refusal))))) = because NoRecipients tt refusal is
-    go (inr (inr (inr (inr (inl (is, refusal)))))) = because MixedPassphrase tt refusal is
-    go (inr (inr (inr (inr (inr (is, refusal)))))) = because HeaderTooLarge tt refusal is
+    go (inr refusal) =
+        refused limits answers gathered b old fault (early_refusal limits key (gathered key) fault refusal) (Ok (found_in i.text h), i.verdict rest.0 rest.1, inr (key, chosen, refusal))
 
 -- ---- what was written
 

@@ -173,15 +173,7 @@ Gathers gathered (Err fault) = (fault ≡ OutOfMemory)
 -- with which faults no header is made, and why
 abbrev pub FailsHeading : (limits : Bounds) (k : FileKey) (gathered : Gathering) (fault : Fault)
     → Type 0
-FailsHeading limits k gathered fault =
-    (fault ≡ OutOfMemory)
-    ⊎ (((i : ℕ) × (code : ℕ) × (fault ≡ Refused i code)
-    × IsRefusal limits k gathered (Refused i code))
-    ⊎ (((i : ℕ) × (fault ≡ IncompatibleRecipients i)
-    × IsRefusal limits k gathered (IncompatibleRecipients i))
-    ⊎ (((fault ≡ NoRecipients) × IsRefusal limits k gathered NoRecipients)
-    ⊎ (((fault ≡ MixedPassphrase) × IsRefusal limits k gathered MixedPassphrase)
-    ⊎ ((fault ≡ HeaderTooLarge) × IsRefusal limits k gathered HeaderTooLarge)))))
+FailsHeading limits k gathered fault = (fault ≡ OutOfMemory) ⊎ IsRefusal limits k gathered fault
 
 -- Of the source at most so much was taken: with n full sealed chunks written after the header and
 -- the nonce, n + 2 chunks of text.
