@@ -5,7 +5,7 @@ use Rattle.age_header.specs.Device.{Gives}
 use Rattle.age_file.specs.Ranges.{IsWithin}
 use Rattle.age_stream.specs.Places.{GivesAt, HasPlaces}
 
--- a read at the place where reading stands takes the next bytes
+-- a read at the current offset returns the next bytes
 pub gives-on : {E : Type 0} (told : Option (List ℕ)) (size : Option ℕ) (at at2 n : ℕ) (buf : List ℕ) (r : Result ℕ E) → r ≡ Ok n → HasPlaces told → IsWithin told at → n ≤ length buf
     → at2 ≡ min (at + n) (2 ^ 64 - 1) → GivesAt told size at r buf → Gives (option_map (drop at) told) (option_map (drop at2) told) r buf
 gives-on {E} told size at at2 n buf r is places within le next h = subst (λ (x : Result ℕ E). Gives (option_map (drop at) told) (option_map (drop at2) told) x buf) (sym is)

@@ -35,7 +35,7 @@ copied_all size from a b old m n k true is c h = absurd (true≢false is)
 copied_all size from a b old m n k false is c (piece, took, put, end) =
     (c.bytes ++ piece, may-end from b (c.bytes ++ piece) (Consumes-trans from a b c.bytes piece c.took took) end, Appends-trans old m n c.bytes piece c.put put)
 
--- a beginning of a text was written
+-- a prefix of a text was written
 front : (old new : Option (List ℕ)) (bytes rest : List ℕ) → Appends old new bytes → WritesPart old new (bytes ++ rest)
 front old new bytes rest put =
     done_part old new new (bytes ++ rest) rest [] rest (record { front = bytes; took = put; is = refl }) refl (0, Appends-nil new)
@@ -84,7 +84,7 @@ copied_failed size from a b old m n k (IncompatibleRecipients i) c h = absurd h
 pub copied_beyond : (from a old m : Option (List ℕ)) (k : ℕ) → 2 ^ 89 ≤ k → Copied from a old m k → Copies from old m (Err TooManyChunks)
 copied_beyond from a old m k beyond c = let s = begun from a old m k c in (s.0, s.1, s.2, omega (arith, s.3, beyond))
 
--- a piece, and then the rest: a beginning of the rest was written after the piece
+-- a piece, and then the rest: a prefix of the rest was written after the piece
 after_piece : (from a old m n : Option (List ℕ)) (piece rest : List ℕ) → Consumes from a piece → Appends old m piece → MayGive a rest → WritesPart m n rest
     → MayGive from (piece ++ rest) × WritesPart old n (piece ++ rest)
 after_piece from a old m n piece rest took put may part =

@@ -1,4 +1,4 @@
--- What decrypting answers, from what its parts answer.
+-- What decrypting returns, from what its parts return.
 use Rattle.std.proofs.Common.{◌≡◌, ◌⊎◌, ◌+◌, ◌*◌, ◌/◌, ◌≤◌, ℕ, List, [], ◌++◌, length, drop, sym, ◌∙◌, ap, refl, subst, arith, inl, inr, Option, Some, None, Result, Ok, Err}
 use Rattle.std.specs.Prelude.{option_map}
 use Rattle.std.specs.Io.KnownBytes.{Appends}
@@ -29,7 +29,7 @@ use Rattle.age_file.specs.Decrypt.{BeginsVerdict, Decrypts, DecryptsText, GivesV
 use Rattle.age_file.specs.Device.{CountsRead}
 use Rattle.age_file.specs.Inspect.{Inspects}
 use Rattle.age_file.proofs.PayloadLemmas.{WritesPayload, nonce-writes}
-use Rattle.age_file.specs.Verdict.{Answering, IsVerdict, judged, of_header, of_stream, read_under, unlocked}
+use Rattle.age_file.specs.Verdict.{Answering, IsVerdict, found_in, header_fault, judged, read_under, stream_fault, unlocked}
 
 pub err-err : {A : Type 0} (f g : Fault) → ◌≡◌ {A = Result A Fault} (Err f) (Err g) → f ≡ g
 err-err f g e = cc
@@ -47,7 +47,7 @@ pub decrypts-of : (limits : Bounds) (answers : Answering) (come : Option (List �
 decrypts-of limits answers None b old new r may h = (b, h)
 decrypts-of limits answers (Some x) b old new r may h = subst (λ z. DecryptsText limits answers z old new r) (sym may) h
 
--- the whole is a beginning of itself
+-- the whole is a prefix of itself
 begins-whole : (limits : Bounds) (answers : Answering) (b : List ℕ) (old new : Option (List ℕ)) (r : Result Done Fault) → GivesVerdict limits answers b old new r → BeginsVerdict limits answers b old new
 begins-whole limits answers b old new r (v, is, tells, h) =
     (v, is, (length v.front, subst (Appends old new) (sym (take_all (length v.front) v.front (omega arith))) h))
@@ -86,7 +86,7 @@ begins-none limits answers b old = let v = some-verdict limits answers b in (v.0
 
 -- ---- the header
 
-header-text : (limits : Bounds) (answers : Answering) (b : List ℕ) (old : Option (List ℕ)) (g : HeaderFault) → Refuses b limits.max_header g → DecryptsText limits answers b old old (Err (of_header g))
+header-text : (limits : Bounds) (answers : Answering) (b : List ℕ) (old : Option (List ℕ)) (g : HeaderFault) → Refuses b limits.max_header g → DecryptsText limits answers b old old (Err (header_fault g))
 header-text limits answers b old header.Read h = begins-none limits answers b old
 header-text limits answers b old header.Memory h = tt
 header-text limits answers b old header.NotAge h = stops-decrypts limits answers b old NotAge (record { header = Err header.NotAge; header_verdict = h; is = refl })
@@ -94,35 +94,35 @@ header-text limits answers b old (header.BadLine n) h = stops-decrypts limits an
 header-text limits answers b old header.Truncated h = stops-decrypts limits answers b old HeaderTruncated (record { header = Err header.Truncated; header_verdict = h; is = refl })
 header-text limits answers b old header.TooLarge h = stops-decrypts limits answers b old HeaderTooLarge (record { header = Err header.TooLarge; header_verdict = h; is = refl })
 
-header-decrypts : (limits : Bounds) (answers : Answering) (come mid old : Option (List ℕ)) (g : HeaderFault) → ReadsHeader come mid limits.max_header (Err g) → Decrypts limits answers come old old (Err (of_header g))
+header-decrypts : (limits : Bounds) (answers : Answering) (come mid old : Option (List ℕ)) (g : HeaderFault) → ReadsHeader come mid limits.max_header (Err g) → Decrypts limits answers come old old (Err (header_fault g))
 header-decrypts limits answers None mid old g h = (h.0, header-text limits answers h.0 old g h.1)
 header-decrypts limits answers (Some b) mid old g h = header-text limits answers b old g h
 
 pub inspect-decrypts : (limits : Bounds) (answers : Answering) (come mid old : Option (List ℕ)) (fault : Fault) → Inspects limits come mid (Err fault) → Decrypts limits answers come old old (Err fault)
 inspect-decrypts limits answers come mid old fault (Ok parts, is, h) = absurd (cc)
 inspect-decrypts limits answers come mid old fault (Err g, is, h) =
-    subst (λ f. Decrypts limits answers come old old (Err f)) (sym (err-err {A = HeaderParts} fault (of_header g) is)) (header-decrypts limits answers come mid old g h)
+    subst (λ f. Decrypts limits answers come old old (Err f)) (sym (err-err {A = HeaderParts} fault (header_fault g) is)) (header-decrypts limits answers come mid old g h)
 
 -- the header that was read, and whatever may follow it
 pub record IsHeaded (limits : Bounds) (come mid : Option (List ℕ)) (h : HeaderParts) : Type 0 where
   pub text : List ℕ
   pub took : GaveAtMost (length text) come mid
   pub may : (rest : List ℕ) → MayGive mid rest → MayGive come (text ++ rest)
-  pub verdict : (rest : List ℕ) → MayGive mid rest → HeaderVerdict (text ++ rest) limits.max_header (Ok (record { stanzas = h.stanzas; mac = h.mac; text = text }))
+  pub verdict : (rest : List ℕ) → MayGive mid rest → HeaderVerdict (text ++ rest) limits.max_header (Ok (found_in text h))
 
 parts-headed : (limits : Bounds) (come mid : Option (List ℕ)) (h : HeaderParts) → ReadsHeader come mid limits.max_header (Ok h) → IsHeaded limits come mid h
 parts-headed limits None mid h (b, (text, verdict, took)) = record {
   text = text;
   took = (text, tt, omega arith);
   may = λ rest m. tt;
-  verdict = λ rest m. found_again b limits.max_header (record { stanzas = h.stanzas; mac = h.mac; text = text }) verdict rest;
+  verdict = λ rest m. found_again b limits.max_header (found_in text h) verdict rest;
 }
 parts-headed limits (Some b) None h (text, verdict, took) = absurd took
 parts-headed limits (Some b) (Some r) h (text, verdict, took) = record {
   text = text;
   took = (text, took, omega arith);
   may = λ rest m. took ∙ ap (λ t. text ++ t) m;
-  verdict = λ rest m. found_again b limits.max_header (record { stanzas = h.stanzas; mac = h.mac; text = text }) verdict rest;
+  verdict = λ rest m. found_again b limits.max_header (found_in text h) verdict rest;
 }
 
 pub headed : (limits : Bounds) (come mid : Option (List ℕ)) (h : HeaderParts) → Inspects limits come mid (Ok h) → IsHeaded limits come mid h
@@ -136,7 +136,7 @@ headed limits come mid h (Ok k, is, a) = subst (IsHeaded limits come mid) (sym (
 verdict-of : (limits : Bounds) (answers : Answering) (come mid : Option (List ℕ)) (h : HeaderParts) (i : IsHeaded limits come mid h) (rest : List ℕ) → MayGive mid rest
     → IsVerdict limits answers (i.text ++ rest) (read_under limits rest (unlocked answers h))
 verdict-of limits answers come mid h i rest m = record {
-  header = Ok (record { stanzas = h.stanzas; mac = h.mac; text = i.text });
+  header = Ok (found_in i.text h);
   header_verdict = i.verdict rest m;
   is = ap (λ x. read_under limits x (unlocked answers h)) (sym (drop_at i.text rest (length i.text) refl));
 }
@@ -162,7 +162,7 @@ locked-decrypts limits answers come mid old h fault i (inr key) =
 -- what a payload comes to under its key, with a file's names of its faults
 abbrev pub file_result : Result Done StreamFault → Result Done Fault
 file_result (Ok done) = Ok done
-file_result (Err fault) = Err (of_stream fault)
+file_result (Err fault) = Err (stream_fault fault)
 
 payload-text : (limits : Bounds) (answers : Answering) (come mid : Option (List ℕ)) (h : HeaderParts) (i : IsHeaded limits come mid h) (k : FileKey) (c : List ℕ) (m : MayGive mid c) (old new : Option (List ℕ)) (r : Result Done StreamFault)
     → Ok k ≡ unlocked answers h → WritesReading (payload_reading k limits.max_chunks c) (length (pieces (drop 16 c))) old new r → DecryptsText limits answers (i.text ++ c) old new (file_result r)
@@ -173,7 +173,7 @@ payload-text limits answers come mid h i k c m old new r key w = go r w
 
     is : IsVerdict limits answers (i.text ++ c) v
     is = record {
-      header = Ok (record { stanzas = h.stanzas; mac = h.mac; text = i.text });
+      header = Ok (found_in i.text h);
       header_verdict = i.verdict c m;
       is = ap (read_under limits c) key ∙ ap (λ x. read_under limits x (unlocked answers h)) (sym (drop_at i.text c (length i.text) refl));
     }
@@ -181,11 +181,11 @@ payload-text limits answers come mid h i k c m old new r key w = go r w
     count : length (pieces (drop 16 c)) ≡ length (payload_pieces (i.text ++ c) is.header)
     count = ap (λ x. length (pieces (drop 16 x))) (sym (drop_at i.text c (length i.text) refl))
 
-    gives : (fault : StreamFault) → (payload_reading k limits.max_chunks c).fault ≡ Some fault → Appends old new v.front → GivesVerdict limits answers (i.text ++ c) old new (Err (of_stream fault))
-    gives fault f a = (v, is, ap (option_map of_stream) f, a)
+    gives : (fault : StreamFault) → (payload_reading k limits.max_chunks c).fault ≡ Some fault → Appends old new v.front → GivesVerdict limits answers (i.text ++ c) old new (Err (stream_fault fault))
+    gives fault f a = (v, is, ap (option_map stream_fault) f, a)
 
     go : (q : Result Done StreamFault) → WritesReading (payload_reading k limits.max_chunks c) (length (pieces (drop 16 c))) old new q → DecryptsText limits answers (i.text ++ c) old new (file_result q)
-    go (Ok done) x = (v, is, (ap (option_map of_stream) x.0, x.2, x.3 ∙ count), x.1)
+    go (Ok done) x = (v, is, (ap (option_map stream_fault) x.0, x.2, x.3 ∙ count), x.1)
     go (Err stream.Read) x = (v, is, x)
     go (Err stream.Write) x = (v, is, x)
     go (Err stream.Memory) x = tt
@@ -207,15 +207,15 @@ payload-decrypts limits answers come mid old new h k max r i (inr key) same (c, 
 -- there is no nonce, or no memory
 pub missed-decrypts : (P : Type 0) (limits : Bounds) (answers : Answering) (come mid to old : Option (List ℕ)) (before after : ℕ) (h : HeaderParts) (k : FileKey) (max : ℕ) (fault : StreamFault) → Inspects limits come mid (Ok h)
     → (◌≡◌ {A = Result FileKey Fault} (Ok k) (Err OutOfMemory)) ⊎ (Ok k ≡ unlocked answers h) → max ≡ limits.max_chunks
-    → ((fault ≡ stream.Memory) × P) ⊎ MissesNonce k max mid to before after fault → Decrypts limits answers come old old (Err (of_stream fault))
+    → ((fault ≡ stream.Memory) × P) ⊎ MissesNonce k max mid to before after fault → Decrypts limits answers come old old (Err (stream_fault fault))
 missed-decrypts P limits answers come mid to old before after h k max fault i key same (inl m) =
-    subst (λ f. Decrypts limits answers come old old (Err (of_stream f))) (sym m.0) (memory-decrypts limits answers come old old)
+    subst (λ f. Decrypts limits answers come old old (Err (stream_fault f))) (sym m.0) (memory-decrypts limits answers come old old)
 missed-decrypts P limits answers come mid to old before after h k max fault i key same (inr m) =
     payload-decrypts limits answers come mid old old h k max (Err fault) i key same (nonce-writes k max mid to old fault m.0)
 
 -- ---- counts, and what was taken
 
-pub reads-file : (old new : ℕ) (fault : StreamFault) → CountsReadFault old new fault → CountsRead {A = Done} old new (Err (of_stream fault))
+pub reads-file : (old new : ℕ) (fault : StreamFault) → CountsReadFault old new fault → CountsRead {A = Done} old new (Err (stream_fault fault))
 reads-file old new stream.Read h = h
 reads-file old new stream.Write h = h
 reads-file old new stream.Memory h = h
@@ -233,13 +233,13 @@ took-piece limits come mid to old new h i fault n e le =
     record {
       b = i.text ++ d.0;
       may = i.may d.0 d.1;
-      found = record { stanzas = h.stanzas; mac = h.mac; text = i.text };
+      found = found_in i.text h;
       header = i.verdict d.0 d.1;
       gave = (all.0, all.1, omega (arith, all.2));
     }
 
 ends-takes : (limits : Bounds) (come mid to old new : Option (List ℕ)) (h : HeaderParts) (i : IsHeaded limits come mid h) (fault : StreamFault) → EndsAt limits.max_chunks 16 mid to old new fault
-    → TookUpTo limits come to old new (of_stream fault)
+    → TookUpTo limits come to old new (stream_fault fault)
 ends-takes limits come mid to old new h i stream.Read e = tt
 ends-takes limits come mid to old new h i stream.Memory e = tt
 ends-takes limits come mid to old new h i stream.NonceTruncated e = tt
@@ -285,6 +285,6 @@ ends-takes limits come mid to old new h i stream.TooManyChunks e = go e.at
     go (inr at) = took-piece limits come mid to old new h i stream.TooManyChunks limits.max_chunks e (omega (arith, at))
 
 pub payload-takes : (limits : Bounds) (come mid to old new : Option (List ℕ)) (h : HeaderParts) (fault : StreamFault) → Inspects limits come mid (Ok h)
-    → (fault ≡ stream.Read) ⊎ EndsAt limits.max_chunks 16 mid to old new fault → TookUpTo limits come to old new (of_stream fault)
-payload-takes limits come mid to old new h fault i (inl e) = subst (λ f. TookUpTo limits come to old new (of_stream f)) (sym e) tt
+    → (fault ≡ stream.Read) ⊎ EndsAt limits.max_chunks 16 mid to old new fault → TookUpTo limits come to old new (stream_fault fault)
+payload-takes limits come mid to old new h fault i (inl e) = subst (λ f. TookUpTo limits come to old new (stream_fault f)) (sym e) tt
 payload-takes limits come mid to old new h fault i (inr e) = ends-takes limits come mid to old new h (headed limits come mid h i) fault e

@@ -21,60 +21,60 @@ use Rattle.age_file.specs.declared.fault.Fault.TheVariants.{TooManyChunks, Read,
 use Rattle.age_file.specs.declared.limits.Fresh.{Fresh}
 use Rattle.age_file.specs.AgeFile.{Bounds}
 use Rattle.age_file.specs.Device.{IsLate}
-use Rattle.age_file.specs.NewFile.{BegunFile, EncryptsGiven, EncryptsText, IsHeading, RefusesFirst, TookOf, TookChunks}
-use Rattle.age_file.specs.Verdict.{of_stream}
+use Rattle.age_file.specs.NewFile.{BegunFile, EncryptsGiven, EncryptsText, Gathering, IsHeading, RefusesFirst, TookWhileEncrypting, TookChunks}
+use Rattle.age_file.specs.Verdict.{stream_fault}
 use Rattle.age_file.proofs.DecryptLemmas.{file_result}
 
 -- the header that was made is the header that was written
-pub record Made (limits : Bounds) (k : FileKey) (given : Result (List StanzaParts) Fault → Type 0) (text : List ℕ) : Type 0 where
+pub record Made (limits : Bounds) (k : FileKey) (gathered : Gathering) (text : List ℕ) : Type 0 where
   pub stanzas : List StanzaParts
-  pub heading : IsHeading limits k given stanzas text
+  pub heading : IsHeading limits k gathered stanzas text
 
 -- what `header_for` says of the header that it made
-abbrev pub HeaderMade : Bounds → FileKey → (Result (List StanzaParts) Fault → Type 0) → List StanzaParts → List ℕ → Type 0
-HeaderMade limits k given stanzas mac = (mac ≡ header_mac k.0 stanzas) × ((text : List ℕ) × IsHeading limits k given stanzas text)
+abbrev pub HeaderMade : Bounds → FileKey → (Gathering) → List StanzaParts → List ℕ → Type 0
+HeaderMade limits k gathered stanzas mac = (mac ≡ header_mac k.0 stanzas) × ((text : List ℕ) × IsHeading limits k gathered stanzas text)
 
 -- what `write_front` says of the text of that header, `Puts` being what it wrote
 abbrev pub FrontWritten : List StanzaParts → List ℕ → (List ℕ → Type 0) → Type 0
 FrontWritten stanzas mac Puts = (text : List ℕ) × Head stanzas mac text × Puts text
 
-pub made : (limits : Bounds) (k : FileKey) (given : Result (List StanzaParts) Fault → Type 0) (stanzas : List StanzaParts) (mac written : List ℕ)
-    → HeaderMade limits k given stanzas mac → Head stanzas mac written → Made limits k given written
-made limits k given stanzas mac written (is, (text, heading)) head =
+pub made : (limits : Bounds) (k : FileKey) (gathered : Gathering) (stanzas : List StanzaParts) (mac written : List ℕ)
+    → HeaderMade limits k gathered stanzas mac → Head stanzas mac written → Made limits k gathered written
+made limits k gathered stanzas mac written (is, (text, heading)) head =
     let same : text ≡ written = one_text stanzas (header_mac k.0 stanzas) text written heading.head (subst (λ (m : List ℕ). Head stanzas m written) is head) in
-    record { stanzas = stanzas; heading = subst (λ (t : List ℕ). IsHeading limits k given stanzas t) same heading }
+    record { stanzas = stanzas; heading = subst (λ (t : List ℕ). IsHeading limits k gathered stanzas t) same heading }
 
 -- of a plaintext that the source may give
-pub encrypts_of : (limits : Bounds) (fresh : Fresh) (given : Result (List StanzaParts) Fault → Type 0) (plain : List ℕ) (from old new : Option (List ℕ)) (r : Result Done Fault)
-    → MayGive from plain → EncryptsText limits fresh given plain old new r → EncryptsGiven limits fresh given from old new r
-encrypts_of limits fresh given plain None old new r may h = (plain, h)
-encrypts_of limits fresh given plain (Some b) old new r may h = subst (λ (z : List ℕ). EncryptsText limits fresh given z old new r) (sym may) h
+pub encrypts_of : (limits : Bounds) (fresh : Fresh) (gathered : Gathering) (plain : List ℕ) (from old new : Option (List ℕ)) (r : Result Done Fault)
+    → MayGive from plain → EncryptsText limits fresh gathered plain old new r → EncryptsGiven limits fresh gathered from old new r
+encrypts_of limits fresh gathered plain None old new r may h = (plain, h)
+encrypts_of limits fresh gathered plain (Some b) old new r may h = subst (λ (z : List ℕ). EncryptsText limits fresh gathered z old new r) (sym may) h
 
 -- memory was refused
-pub encrypts_refused : (limits : Bounds) (fresh : Fresh) (given : Result (List StanzaParts) Fault → Type 0) (from old new : Option (List ℕ)) → EncryptsGiven limits fresh given from old new (Err OutOfMemory)
-encrypts_refused limits fresh given None old new = ([], tt)
-encrypts_refused limits fresh given (Some plain) old new = tt
+pub encrypts_refused : (limits : Bounds) (fresh : Fresh) (gathered : Gathering) (from old new : Option (List ℕ)) → EncryptsGiven limits fresh gathered from old new (Err OutOfMemory)
+encrypts_refused limits fresh gathered None old new = ([], tt)
+encrypts_refused limits fresh gathered (Some plain) old new = tt
 
--- a beginning of the header and the nonce was written
-pub encrypts_begun : (limits : Bounds) (fresh : Fresh) (given : Result (List StanzaParts) Fault → Type 0) (stanzas : List StanzaParts) (mac : List ℕ) (from old new : Option (List ℕ))
-    → HeaderMade limits fresh.file_key given stanzas mac → FrontWritten stanzas mac (λ text. WritesPart old new (text ++ fresh.nonce)) → EncryptsGiven limits fresh given from old new (Err Write)
-encrypts_begun limits fresh given stanzas mac from old new header (text, head, part) =
-    let m = made limits fresh.file_key given stanzas mac text header head in
+-- a prefix of the header and the nonce was written
+pub encrypts_begun : (limits : Bounds) (fresh : Fresh) (gathered : Gathering) (stanzas : List StanzaParts) (mac : List ℕ) (from old new : Option (List ℕ))
+    → HeaderMade limits fresh.file_key gathered stanzas mac → FrontWritten stanzas mac (λ text. WritesPart old new (text ++ fresh.nonce)) → EncryptsGiven limits fresh gathered from old new (Err Write)
+encrypts_begun limits fresh gathered stanzas mac from old new header (text, head, part) =
+    let m = made limits fresh.file_key gathered stanzas mac text header head in
     let plain = may-some from in
     let front : List ℕ = text ++ fresh.nonce in
     let rest : List ℕ = concat (sealed_chunks fresh.file_key fresh.nonce plain.0) in
     let is : text ++ payload fresh.file_key fresh.nonce plain.0 ≡ front ++ rest = sym (append_assoc text fresh.nonce rest) in
-    encrypts_of limits fresh given plain.0 from old new (Err Write) plain.1 (record {
+    encrypts_of limits fresh gathered plain.0 from old new (Err Write) plain.1 (record {
       stanzas = m.stanzas;
       text = text;
       heading = m.heading;
       part = done_part old old new (text ++ payload fresh.file_key fresh.nonce plain.0) (front ++ rest) front rest (record { front = []; took = Appends-nil old; is = is }) refl part;
     })
 
--- a beginning of the payload was written after them
-begun : (limits : Bounds) (fresh : Fresh) (given : Result (List StanzaParts) Fault → Type 0) (text plain : List ℕ) (a b c : Option (List ℕ)) → Made limits fresh.file_key given text → Appends a b (text ++ fresh.nonce)
-    → WritesPart b c (concat (sealed_chunks fresh.file_key fresh.nonce plain)) → BegunFile limits fresh given plain a c
-begun limits fresh given text plain a b c m front part =
+-- a prefix of the payload was written after them
+begun : (limits : Bounds) (fresh : Fresh) (gathered : Gathering) (text plain : List ℕ) (a b c : Option (List ℕ)) → Made limits fresh.file_key gathered text → Appends a b (text ++ fresh.nonce)
+    → WritesPart b c (concat (sealed_chunks fresh.file_key fresh.nonce plain)) → BegunFile limits fresh gathered plain a c
+begun limits fresh gathered text plain a b c m front part =
     let rest : List ℕ = concat (sealed_chunks fresh.file_key fresh.nonce plain) in
     record {
       stanzas = m.stanzas;
@@ -85,10 +85,10 @@ begun limits fresh given text plain a b c m front part =
     }
 
 -- a whole file
-whole : (limits : Bounds) (fresh : Fresh) (given : Result (List StanzaParts) Fault → Type 0) (text plain : List ℕ) (a b c : Option (List ℕ)) (done : Done) → length fresh.nonce ≡ 16
-    → Made limits fresh.file_key given text → Appends a b (text ++ fresh.nonce) → Appends b c (concat (sealed_chunks fresh.file_key fresh.nonce plain)) → 0 + length (chunks plain) ≤ limits.max_chunks
-    → done.bytes ≡ 65536 * 0 + 0 + length plain → done.chunks ≡ 0 + length (chunks plain) → EncryptsText limits fresh given plain a c (Ok done)
-whole limits fresh given text plain a b c done sixteen m front rest fits bytes count = (
+whole : (limits : Bounds) (fresh : Fresh) (gathered : Gathering) (text plain : List ℕ) (a b c : Option (List ℕ)) (done : Done) → length fresh.nonce ≡ 16
+    → Made limits fresh.file_key gathered text → Appends a b (text ++ fresh.nonce) → Appends b c (concat (sealed_chunks fresh.file_key fresh.nonce plain)) → 0 + length (chunks plain) ≤ limits.max_chunks
+    → done.bytes ≡ 65536 * 0 + 0 + length plain → done.chunks ≡ 0 + length (chunks plain) → EncryptsText limits fresh gathered plain a c (Ok done)
+whole limits fresh gathered text plain a b c done sixteen m front rest fits bytes count = (
   text ++ payload fresh.file_key fresh.nonce plain,
   record {
     stanzas = m.stanzas;
@@ -112,9 +112,9 @@ whole limits fresh given text plain a b c done sixteen m front rest fits bytes c
 )
 
 -- too many chunks
-cut_short : (limits : Bounds) (fresh : Fresh) (given : Result (List StanzaParts) Fault → Type 0) (text plain : List ℕ) (a b c : Option (List ℕ)) → Made limits fresh.file_key given text → Appends a b (text ++ fresh.nonce)
-    → limits.max_chunks < 0 + length (chunks plain) → Appends b c (concat (take (limits.max_chunks - 1 - 0) (sealed_chunks fresh.file_key fresh.nonce plain))) → EncryptsText limits fresh given plain a c (Err TooManyChunks)
-cut_short limits fresh given text plain a b c m front many rest =
+up_to_limit : (limits : Bounds) (fresh : Fresh) (gathered : Gathering) (text plain : List ℕ) (a b c : Option (List ℕ)) → Made limits fresh.file_key gathered text → Appends a b (text ++ fresh.nonce)
+    → limits.max_chunks < 0 + length (chunks plain) → Appends b c (concat (take (limits.max_chunks - 1 - 0) (sealed_chunks fresh.file_key fresh.nonce plain))) → EncryptsText limits fresh gathered plain a c (Err TooManyChunks)
+up_to_limit limits fresh gathered text plain a b c m front many rest =
     let n : limits.max_chunks - 1 - 0 ≡ limits.max_chunks - 1 = omega arith in
     let out : List ℕ = concat (take (limits.max_chunks - 1) (sealed_chunks fresh.file_key fresh.nonce plain)) in
     let put : Appends b c out = subst (λ k. Appends b c (concat (take k (sealed_chunks fresh.file_key fresh.nonce plain)))) n rest in (
@@ -132,20 +132,20 @@ pub just_made : (P : Type 0) (s : SealerState) (key : List ℕ) (m : ℕ) → s 
 just_made P s key m is h = subst (λ (x : SealerState). IfNone x.fault P) is h
 
 -- the payload after the header and the nonce
-encrypts_payload : (limits : Bounds) (fresh : Fresh) (given : Result (List StanzaParts) Fault → Type 0) (text : List ℕ) (from to a b c : Option (List ℕ)) (r : Result Done StreamFault) → length fresh.nonce ≡ 16
-    → Made limits fresh.file_key given text → Appends a b (text ++ fresh.nonce) → SealsAll (at_start (payload_key fresh.file_key fresh.nonce) limits.max_chunks) from to b c r
-    → EncryptsGiven limits fresh given from a c (file_result r)
-encrypts_payload limits fresh given text from to a b c (Ok done) sixteen m front (plain, may, rest, fits, bytes, count) =
-    encrypts_of limits fresh given plain from a c (Ok done) may (whole limits fresh given text plain a b c done sixteen m front rest fits bytes count)
-encrypts_payload limits fresh given text from to a b c (Err fault) sixteen m front (chunk, s) = go fault s.stops
+encrypts_payload : (limits : Bounds) (fresh : Fresh) (gathered : Gathering) (text : List ℕ) (from to a b c : Option (List ℕ)) (r : Result Done StreamFault) → length fresh.nonce ≡ 16
+    → Made limits fresh.file_key gathered text → Appends a b (text ++ fresh.nonce) → SealsAll (at_start (payload_key fresh.file_key fresh.nonce) limits.max_chunks) from to b c r
+    → EncryptsGiven limits fresh gathered from a c (file_result r)
+encrypts_payload limits fresh gathered text from to a b c (Ok done) sixteen m front (plain, may, rest, fits, bytes, count) =
+    encrypts_of limits fresh gathered plain from a c (Ok done) may (whole limits fresh gathered text plain a b c done sixteen m front rest fits bytes count)
+encrypts_payload limits fresh gathered text from to a b c (Err fault) sixteen m front (chunk, s) = go fault s.stops
   where
     key : List ℕ
     key = payload_key fresh.file_key fresh.nonce
 
-    go : (f : StreamFault) → StopsIn key limits.max_chunks 0 [] s.text b c f → EncryptsGiven limits fresh given from a c (Err (of_stream f))
-    go stream.Read h = encrypts_of limits fresh given s.text from a c (Err Read) s.may (begun limits fresh given text s.text a b c m front h)
-    go stream.Write h = encrypts_of limits fresh given s.text from a c (Err Write) s.may (begun limits fresh given text s.text a b c m front h)
-    go stream.TooManyChunks h = encrypts_of limits fresh given s.text from a c (Err TooManyChunks) s.may (cut_short limits fresh given text s.text a b c m front h.0 h.1)
+    go : (f : StreamFault) → StopsIn key limits.max_chunks 0 [] s.text b c f → EncryptsGiven limits fresh gathered from a c (Err (stream_fault f))
+    go stream.Read h = encrypts_of limits fresh gathered s.text from a c (Err Read) s.may (begun limits fresh gathered text s.text a b c m front h)
+    go stream.Write h = encrypts_of limits fresh gathered s.text from a c (Err Write) s.may (begun limits fresh gathered text s.text a b c m front h)
+    go stream.TooManyChunks h = encrypts_of limits fresh gathered s.text from a c (Err TooManyChunks) s.may (up_to_limit limits fresh gathered text s.text a b c m front h.0 h.1)
     go stream.Memory h = absurd h
     go stream.NonceTruncated h = absurd h
     go (stream.ChunkShort i) h = absurd h
@@ -153,19 +153,19 @@ encrypts_payload limits fresh given text from to a b c (Err fault) sixteen m fro
     go (stream.BadChunk i) h = absurd h
 
 -- the header, the nonce and the payload, by the sealer that was just made
-pub encrypts_sealed : (limits : Bounds) (fresh : Fresh) (given : Result (List StanzaParts) Fault → Type 0) (stanzas : List StanzaParts) (mac : List ℕ) (from to a b c : Option (List ℕ)) (s : SealerState) (max : ℕ) (r : Result Done StreamFault)
-    → HeaderMade limits fresh.file_key given stanzas mac → FrontWritten stanzas mac (λ text. Appends a b (text ++ fresh.nonce)) → length fresh.nonce ≡ 16
-    → s ≡ at_start (payload_key fresh.file_key fresh.nonce) max → max ≡ limits.max_chunks → IfNone s.fault (SealsAll s from to b c r) → EncryptsGiven limits fresh given from a c (file_result r)
-encrypts_sealed limits fresh given stanzas mac from to a b c s max r header (text, head, front) sixteen is same seals =
-    encrypts_payload limits fresh given text from to a b c r sixteen (made limits fresh.file_key given stanzas mac text header head) front
+pub encrypts_sealed : (limits : Bounds) (fresh : Fresh) (gathered : Gathering) (stanzas : List StanzaParts) (mac : List ℕ) (from to a b c : Option (List ℕ)) (s : SealerState) (max : ℕ) (r : Result Done StreamFault)
+    → HeaderMade limits fresh.file_key gathered stanzas mac → FrontWritten stanzas mac (λ text. Appends a b (text ++ fresh.nonce)) → length fresh.nonce ≡ 16
+    → s ≡ at_start (payload_key fresh.file_key fresh.nonce) max → max ≡ limits.max_chunks → IfNone s.fault (SealsAll s from to b c r) → EncryptsGiven limits fresh gathered from a c (file_result r)
+encrypts_sealed limits fresh gathered stanzas mac from to a b c s max r header (text, head, front) sixteen is same seals =
+    encrypts_payload limits fresh gathered text from to a b c r sixteen (made limits fresh.file_key gathered stanzas mac text header head) front
     (from_start s (payload_key fresh.file_key fresh.nonce) max limits.max_chunks from to b c r is same seals)
 
 -- ---- what was taken
 
-pub takes_begun : (limits : Bounds) (fresh : Fresh) (given : Result (List StanzaParts) Fault → Type 0) (stanzas : List StanzaParts) (mac : List ℕ) (from old new : Option (List ℕ))
-    → HeaderMade limits fresh.file_key given stanzas mac → FrontWritten stanzas mac (λ text. WritesPart old new (text ++ fresh.nonce)) → TookOf limits fresh given from from old new Write
-takes_begun limits fresh given stanzas mac from old new header (text, head, part) =
-    let m = made limits fresh.file_key given stanzas mac text header head in
+pub takes_begun : (limits : Bounds) (fresh : Fresh) (gathered : Gathering) (stanzas : List StanzaParts) (mac : List ℕ) (from old new : Option (List ℕ))
+    → HeaderMade limits fresh.file_key gathered stanzas mac → FrontWritten stanzas mac (λ text. WritesPart old new (text ++ fresh.nonce)) → TookWhileEncrypting limits fresh gathered from from old new Write
+takes_begun limits fresh gathered stanzas mac from old new header (text, head, part) =
+    let m = made limits fresh.file_key gathered stanzas mac text header head in
     record {
       stanzas = m.stanzas;
       text = text;
@@ -177,10 +177,10 @@ takes_begun limits fresh given stanzas mac from old new header (text, head, part
       gave = ([], Consumes-nil from, omega arith);
     }
 
-took : (limits : Bounds) (fresh : Fresh) (given : Result (List StanzaParts) Fault → Type 0) (text : List ℕ) (from to a b c : Option (List ℕ)) (chunk : ℕ) (fault : StreamFault) → length fresh.nonce ≡ 16
-    → Made limits fresh.file_key given text → Appends a b (text ++ fresh.nonce) → Stopped (payload_key fresh.file_key fresh.nonce) limits.max_chunks 0 chunk [] from to b c fault
-    → GaveAtMost (65536 * (chunk + 1 - 0) + 1) from to → TookChunks limits fresh given from to a c
-took limits fresh given text from to a b c chunk fault sixteen m front s gave =
+took : (limits : Bounds) (fresh : Fresh) (gathered : Gathering) (text : List ℕ) (from to a b c : Option (List ℕ)) (chunk : ℕ) (fault : StreamFault) → length fresh.nonce ≡ 16
+    → Made limits fresh.file_key gathered text → Appends a b (text ++ fresh.nonce) → Stopped (payload_key fresh.file_key fresh.nonce) limits.max_chunks 0 chunk [] from to b c fault
+    → GaveAtMost (65536 * (chunk + 1 - 0) + 1) from to → TookChunks limits fresh gathered from to a c
+took limits fresh gathered text from to a b c chunk fault sixteen m front s gave =
     let l : length ((text ++ fresh.nonce) ++ s.wrote.0) ≡ length (text ++ fresh.nonce) + length s.wrote.0 = length-append (text ++ fresh.nonce) s.wrote.0 in
     let h : length (text ++ fresh.nonce) ≡ length text + length fresh.nonce = length-append text fresh.nonce in
     record {
@@ -194,47 +194,47 @@ took limits fresh given text from to a b c chunk fault sixteen m front s gave =
       gave = (gave.0, gave.1, omega (arith, gave.2));
     }
 
-takes_payload : (limits : Bounds) (fresh : Fresh) (given : Result (List StanzaParts) Fault → Type 0) (text : List ℕ) (from to a b c : Option (List ℕ)) (fault : StreamFault) → length fresh.nonce ≡ 16
-    → Made limits fresh.file_key given text → Appends a b (text ++ fresh.nonce) → SealsAll (at_start (payload_key fresh.file_key fresh.nonce) limits.max_chunks) from to b c (Err fault)
-    → TookOf limits fresh given from to a c (of_stream fault)
-takes_payload limits fresh given text from to a b c stream.Read sixteen m front s = tt
-takes_payload limits fresh given text from to a b c stream.Memory sixteen m front s = tt
-takes_payload limits fresh given text from to a b c stream.NonceTruncated sixteen m front s = tt
-takes_payload limits fresh given text from to a b c (stream.ChunkShort i) sixteen m front s = tt
-takes_payload limits fresh given text from to a b c (stream.EmptyFinal i) sixteen m front s = tt
-takes_payload limits fresh given text from to a b c (stream.BadChunk i) sixteen m front s = tt
-takes_payload limits fresh given text from to a b c stream.Write sixteen m front (chunk, s) = go s.gave
+takes_payload : (limits : Bounds) (fresh : Fresh) (gathered : Gathering) (text : List ℕ) (from to a b c : Option (List ℕ)) (fault : StreamFault) → length fresh.nonce ≡ 16
+    → Made limits fresh.file_key gathered text → Appends a b (text ++ fresh.nonce) → SealsAll (at_start (payload_key fresh.file_key fresh.nonce) limits.max_chunks) from to b c (Err fault)
+    → TookWhileEncrypting limits fresh gathered from to a c (stream_fault fault)
+takes_payload limits fresh gathered text from to a b c stream.Read sixteen m front s = tt
+takes_payload limits fresh gathered text from to a b c stream.Memory sixteen m front s = tt
+takes_payload limits fresh gathered text from to a b c stream.NonceTruncated sixteen m front s = tt
+takes_payload limits fresh gathered text from to a b c (stream.ChunkShort i) sixteen m front s = tt
+takes_payload limits fresh gathered text from to a b c (stream.EmptyFinal i) sixteen m front s = tt
+takes_payload limits fresh gathered text from to a b c (stream.BadChunk i) sixteen m front s = tt
+takes_payload limits fresh gathered text from to a b c stream.Write sixteen m front (chunk, s) = go s.gave
   where
     not-read : stream.Write ≡ stream.Read → ⊥
     not-read e = cc
 
-    go : (stream.Write ≡ stream.Read) ⊎ GaveAtMost (65536 * (chunk + 1 - 0) + 1) from to → TookChunks limits fresh given from to a c
+    go : (stream.Write ≡ stream.Read) ⊎ GaveAtMost (65536 * (chunk + 1 - 0) + 1) from to → TookChunks limits fresh gathered from to a c
     go (inl e) = absurd (not-read e)
-    go (inr gave) = took limits fresh given text from to a b c chunk stream.Write sixteen m front s gave
-takes_payload limits fresh given text from to a b c stream.TooManyChunks sixteen m front (chunk, s) = go s.gave
+    go (inr gave) = took limits fresh gathered text from to a b c chunk stream.Write sixteen m front s gave
+takes_payload limits fresh gathered text from to a b c stream.TooManyChunks sixteen m front (chunk, s) = go s.gave
   where
     not-read : stream.TooManyChunks ≡ stream.Read → ⊥
     not-read e = cc
 
-    go : (stream.TooManyChunks ≡ stream.Read) ⊎ GaveAtMost (65536 * (chunk + 1 - 0) + 1) from to → TookChunks limits fresh given from to a c
+    go : (stream.TooManyChunks ≡ stream.Read) ⊎ GaveAtMost (65536 * (chunk + 1 - 0) + 1) from to → TookChunks limits fresh gathered from to a c
     go (inl e) = absurd (not-read e)
-    go (inr gave) = took limits fresh given text from to a b c chunk stream.TooManyChunks sixteen m front s gave
+    go (inr gave) = took limits fresh gathered text from to a b c chunk stream.TooManyChunks sixteen m front s gave
 
 -- a fault of the payload names no reason against the header, and comes late
-pub refuses_none : (limits : Bounds) (fresh : Fresh) (given : Result (List StanzaParts) Fault → Type 0) (from to b c : Option (List ℕ)) (fault : StreamFault)
-    → SealsAll (at_start (payload_key fresh.file_key fresh.nonce) limits.max_chunks) from to b c (Err fault) → RefusesFirst limits fresh.file_key given (of_stream fault) × IsLate (of_stream fault)
-refuses_none limits fresh given from to b c stream.Read h = (tt, tt)
-refuses_none limits fresh given from to b c stream.Write h = (tt, tt)
-refuses_none limits fresh given from to b c stream.TooManyChunks h = (tt, tt)
-refuses_none limits fresh given from to b c stream.Memory h = absurd h.1.stops
-refuses_none limits fresh given from to b c stream.NonceTruncated h = absurd h.1.stops
-refuses_none limits fresh given from to b c (stream.ChunkShort i) h = absurd h.1.stops
-refuses_none limits fresh given from to b c (stream.EmptyFinal i) h = absurd h.1.stops
-refuses_none limits fresh given from to b c (stream.BadChunk i) h = absurd h.1.stops
+pub refuses_none : (limits : Bounds) (fresh : Fresh) (gathered : Gathering) (from to b c : Option (List ℕ)) (fault : StreamFault)
+    → SealsAll (at_start (payload_key fresh.file_key fresh.nonce) limits.max_chunks) from to b c (Err fault) → RefusesFirst limits fresh.file_key gathered (stream_fault fault) × IsLate (stream_fault fault)
+refuses_none limits fresh gathered from to b c stream.Read h = (tt, tt)
+refuses_none limits fresh gathered from to b c stream.Write h = (tt, tt)
+refuses_none limits fresh gathered from to b c stream.TooManyChunks h = (tt, tt)
+refuses_none limits fresh gathered from to b c stream.Memory h = absurd h.1.stops
+refuses_none limits fresh gathered from to b c stream.NonceTruncated h = absurd h.1.stops
+refuses_none limits fresh gathered from to b c (stream.ChunkShort i) h = absurd h.1.stops
+refuses_none limits fresh gathered from to b c (stream.EmptyFinal i) h = absurd h.1.stops
+refuses_none limits fresh gathered from to b c (stream.BadChunk i) h = absurd h.1.stops
 
-pub takes_sealed : (limits : Bounds) (fresh : Fresh) (given : Result (List StanzaParts) Fault → Type 0) (stanzas : List StanzaParts) (mac : List ℕ) (from to a b c : Option (List ℕ)) (s : SealerState) (max : ℕ) (fault : StreamFault)
-    → HeaderMade limits fresh.file_key given stanzas mac → FrontWritten stanzas mac (λ text. Appends a b (text ++ fresh.nonce)) → length fresh.nonce ≡ 16
-    → s ≡ at_start (payload_key fresh.file_key fresh.nonce) max → max ≡ limits.max_chunks → IfNone s.fault (SealsAll s from to b c (Err fault)) → TookOf limits fresh given from to a c (of_stream fault)
-takes_sealed limits fresh given stanzas mac from to a b c s max fault header (text, head, front) sixteen is same seals =
-    takes_payload limits fresh given text from to a b c fault sixteen (made limits fresh.file_key given stanzas mac text header head) front
+pub takes_sealed : (limits : Bounds) (fresh : Fresh) (gathered : Gathering) (stanzas : List StanzaParts) (mac : List ℕ) (from to a b c : Option (List ℕ)) (s : SealerState) (max : ℕ) (fault : StreamFault)
+    → HeaderMade limits fresh.file_key gathered stanzas mac → FrontWritten stanzas mac (λ text. Appends a b (text ++ fresh.nonce)) → length fresh.nonce ≡ 16
+    → s ≡ at_start (payload_key fresh.file_key fresh.nonce) max → max ≡ limits.max_chunks → IfNone s.fault (SealsAll s from to b c (Err fault)) → TookWhileEncrypting limits fresh gathered from to a c (stream_fault fault)
+takes_sealed limits fresh gathered stanzas mac from to a b c s max fault header (text, head, front) sixteen is same seals =
+    takes_payload limits fresh gathered text from to a b c fault sixteen (made limits fresh.file_key gathered stanzas mac text header head) front
     (from_start s (payload_key fresh.file_key fresh.nonce) max limits.max_chunks from to b c (Err fault) is same seals)

@@ -24,24 +24,19 @@ use Rattle.age_stream.proofs.PayloadLemmas.{ok-payload, payload-ok}
 use Rattle.age_file.specs.declared.fault.Fault.{Fault}
 use Rattle.age_file.specs.declared.fault.Fault.TheVariants.{MixedPassphrase, BadMac, OutOfMemory}
 use Rattle.age_file.specs.AgeFile.{Bounds, AgeFile, is_mixed}
-use Rattle.age_file.specs.Rewrap.{parts_of}
-use Rattle.age_file.specs.Verdict.{of_header, of_stream, Answering, checked, unlocked, read_under, judged, IsVerdict}
+use Rattle.age_file.specs.Verdict.{Answering, IsVerdict, checked, header_fault, judged, parts_of, read_under, stream_fault, unlocked, with_file_fault}
 
 -- what is read whole does not stop
 never_stops : (p : List ℕ) (f : Fault) → whole p ≡ stops f → ⊥
 never_stops p f h = none-some f (ap (λ (r : Reading Fault). r.fault) h)
 
-no_stream_fault : (o : Option StreamFault) → option_map of_stream o ≡ None → o ≡ None
+no_stream_fault : (o : Option StreamFault) → option_map stream_fault o ≡ None → o ≡ None
 no_stream_fault None h = refl
-no_stream_fault (Some f) h = absurd (none-some (of_stream f) (sym h))
-
--- a reading with its fault renamed
-abbrev renamed : Reading StreamFault → Reading Fault
-renamed r = record { front = r.front; fault = option_map of_stream r.fault }
+no_stream_fault (Some f) h = absurd (none-some (stream_fault f) (sym h))
 
 -- what a payload was read from
-renamed-whole : (p : List ℕ) (r : Reading StreamFault) → whole p ≡ renamed r → r ≡ whole p
-renamed-whole p r h =
+with_file_fault-whole : (p : List ℕ) (r : Reading StreamFault) → whole p ≡ with_file_fault r → r ≡ whole p
+with_file_fault-whole p r h =
     ap (λ x. record { front = x; fault = r.fault }) (sym (ap (λ (z : Reading Fault). z.front) h))
     ∙ ap (λ x. record { front = p; fault = x }) (no_stream_fault r.fault (sym (ap (λ (z : Reading Fault). z.fault) h)))
 
@@ -83,7 +78,7 @@ key-unlocked answers h k has =
     cond-false (is_mixed h.stanzas) _ _ has.unmixed ∙ ap (checked h) has.chosen
     ∙ cond-true (bytes_eq h.mac (header_mac k.0 h.stanzas)) _ _ ((bytes_eq-Decides _ _).1 has.mac)
 
--- the key of a header, whose choice was made and checked unless memory was wanting
+-- the outcome of a header whose key was chosen and whose MAC was compared, unless an allocation was refused
 pub checked-unlocked : (answers : Answering) (h : HeaderParts) (chosen : Result FileKey UnlockFault) (r : Result FileKey Fault) → is_mixed h.stanzas ≡ false
     → (chosen ≡ Err Memory) ⊎ (chosen ≡ choice (answers h.stanzas)) → (r ≡ Err OutOfMemory) ⊎ (r ≡ checked h chosen)
     → (r ≡ Err OutOfMemory) ⊎ (r ≡ unlocked answers h)
@@ -101,7 +96,7 @@ under-file limits answers b p found begins (Err f) is h = absurd (never_stops p 
 under-file limits answers b p found begins (Ok k) is h =
     let rest : List ℕ = drop (length found.text) b in
     let has = unlocked-key answers (parts_of found) k is in
-    let body = ok-payload k rest p limits.max_chunks (renamed-whole p (payload_reading k limits.max_chunks rest) h) in
+    let body = ok-payload k rest p limits.max_chunks (with_file_fault-whole p (payload_reading k limits.max_chunks rest) h) in
     record {
       stanzas = found.stanzas;
       key = k;
@@ -120,7 +115,7 @@ under-file limits answers b p found begins (Ok k) is h =
 
 judged-file : (limits : Bounds) (answers : Answering) (b p : List ℕ) (r : Result Found HeaderFault) → HeaderVerdict b limits.max_header r
     → whole p ≡ judged limits answers b r → IsChosenFile limits answers p b
-judged-file limits answers b p (Err f) v h = absurd (never_stops p (of_header f) h)
+judged-file limits answers b p (Err f) v h = absurd (never_stops p (header_fault f) h)
 judged-file limits answers b p (Ok found) v h =
     under-file limits answers b p found (headers.begins_found b limits.max_header found v) (unlocked answers (parts_of found)) refl h
 
@@ -139,7 +134,7 @@ file-whole limits answers b p stanzas k file chosen =
       header = Ok found;
       header_verdict = headers.found_begins b limits.max_header found begins;
       is = sym (ap (read_under limits (drop (length file.header) b)) (key-unlocked answers (parts_of found) k (record { unmixed = file.unmixed; chosen = chosen; mac = refl }))
-          ∙ ap renamed reads);
+          ∙ ap with_file_fault reads);
     }
 
 pub both_ways : (limits : Bounds) (answers : Answering) (b p : List ℕ) → IsVerdict limits answers b (whole p)

@@ -1,4 +1,4 @@
-mod IsApartLemmas
+mod IncompatibleLemmas
 mod AtStateLemmas
 mod CopiesLemmas
 mod DecryptLemmas

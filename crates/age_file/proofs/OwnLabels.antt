@@ -4,17 +4,17 @@ use Rattle.std.specs.List.{AllZip, position_from}
 use Rattle.age_recipient.specs.declared.labels.Labels.{Labels}
 use Rattle.age_recipient.specs.declared.labels.Labels.TheVariants.{Alone, Names}
 use Rattle.age_recipient.specs.Labels.{MayLabel, go_together, incompatible}
-use Rattle.age_file.specs.NewFile.{IsApart}
+use Rattle.age_file.specs.NewFile.{IsIncompatible}
 
-pub one_place : (meant : Labels) (place : Option ℕ) → IsApart (meant ∷ []) place → place ≡ None
-one_place meant place ([], may, is) = absurd may
-one_place meant place (l ∷ [], may, is) = is
-one_place meant place (l ∷ m ∷ rest, may, is) = absurd may.1
+pub one_index : (meant : Labels) (index : Option ℕ) → IsIncompatible (meant ∷ []) index → index ≡ None
+one_index meant index ([], may, is) = absurd may
+one_index meant index (l ∷ [], may, is) = is
+one_index meant index (l ∷ m ∷ rest, may, is) = absurd may.1
 
--- the first that has no names is apart from nobody else that has none
-none_apart : (n k : ℕ) → position_from (λ other. not (go_together (Names []) other)) k (replicate n (Names [])) ≡ None
-none_apart zero k = refl
-none_apart (suc n) k = none_apart n (k + 1)
+-- a recipient without names goes together with all others that have none
+none_incompatible : (n k : ℕ) → position_from (λ other. not (go_together (Names []) other)) k (replicate n (Names [])) ≡ None
+none_incompatible zero k = refl
+none_incompatible (suc n) k = none_incompatible n (k + 1)
 
 unnamed : (n : ℕ) (labels : List Labels) → AllZip MayLabel (replicate n (Names [])) labels → labels ≡ replicate n (Names [])
 unnamed zero [] may = refl
@@ -25,10 +25,10 @@ unnamed (suc n) (l ∷ labels) (inr is, may) = rw (is, unnamed n labels may) ref
 
 none_of : (n : ℕ) → incompatible (replicate n (Names [])) ≡ None
 none_of zero = refl
-none_of (suc n) = none_apart n 1
+none_of (suc n) = none_incompatible n 1
 
-pub keyed_place : (n : ℕ) (place : Option ℕ) → IsApart (replicate n (Names [])) place → place ≡ None
-keyed_place n place (labels, may, is) = is ∙ ap incompatible (unnamed n labels may) ∙ none_of n
+pub keyed_index : (n : ℕ) (index : Option ℕ) → IsIncompatible (replicate n (Names [])) index → index ≡ None
+keyed_index n index (labels, may, is) = is ∙ ap incompatible (unnamed n labels may) ∙ none_of n
 
 alone_from : (n k : ℕ) (others : List Labels) → position_from (λ other. not (go_together (Names []) other)) k (replicate n (Names []) ++ Alone ∷ others) ≡ Some (n + k)
 alone_from zero k others = ap Some (omega arith)

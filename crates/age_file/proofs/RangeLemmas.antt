@@ -23,23 +23,23 @@ use Rattle.age_file.specs.declared.fault.Fault.{Fault}
 use Rattle.age_file.specs.declared.fault.Fault.TheVariants.{BadMac, MixedPassphrase, OutOfMemory}
 use Rattle.age_file.specs.AgeFile.{Bounds, is_mixed}
 use Rattle.age_file.specs.Inspect.{Inspects}
-use Rattle.age_file.specs.Ranges.{HasFront, IsOpenFault, IsWithin, MissesFront, MissesRanges, ranges_under}
-use Rattle.age_file.specs.Verdict.{Answering, checked, of_header, of_stream, of_unlock, unlocked}
+use Rattle.age_file.specs.Ranges.{HasHeader, IsOpenFault, IsWithin, MissesHeader, MissesRanges, ranges_under}
+use Rattle.age_file.specs.Verdict.{Answering, checked, found_in, header_fault, stream_fault, unlock_fault, unlocked}
 use Rattle.age_file.proofs.DecryptLemmas.{err-err, headed}
 
 -- a header that was read from the first byte on
-pub front-found : (limits : Bounds) (told : Option (List ℕ)) (at : ℕ) (h : HeaderParts) → IsWithin told at
-    → Inspects limits (option_map (drop 0) told) (option_map (drop at) told) (Ok h) → HasFront limits told at h
-front-found limits None at h w i = tt
-front-found limits (Some b) at h w i =
+pub header-found : (limits : Bounds) (told : Option (List ℕ)) (at : ℕ) (h : HeaderParts) → IsWithin told at
+    → Inspects limits (option_map (drop 0) told) (option_map (drop at) told) (Ok h) → HasHeader limits told at h
+header-found limits None at h w i = tt
+header-found limits (Some b) at h w i =
     let is = headed limits (Some b) (Some (drop at b)) h i in
     let all : b ≡ is.text ++ drop at b = is.may (drop at b) refl in
     let d : length (drop at b) ≡ length b - at = length-drop at b in
     let l : length b ≡ length is.text + length (drop at b) = ap length all ∙ length-append is.text (drop at b) in
     let inside : at ≤ length b = w in
-    (is.text, omega arith, subst (λ x. HeaderVerdict x limits.max_header (Ok (record { stanzas = h.stanzas; mac = h.mac; text = is.text }))) (sym all) (is.verdict (drop at b) refl))
+    (is.text, omega arith, subst (λ x. HeaderVerdict x limits.max_header (Ok (found_in is.text h))) (sym all) (is.verdict (drop at b) refl))
 
-refused : (limits : Bounds) (b : List ℕ) (g : HeaderFault) → Refuses b limits.max_header g → MissesFront limits (Some b) (of_header g)
+refused : (limits : Bounds) (b : List ℕ) (g : HeaderFault) → Refuses b limits.max_header g → MissesHeader limits (Some b) (header_fault g)
 refused limits b header.Read h = inl refl
 refused limits b header.Memory h = inr (inl refl)
 refused limits b header.NotAge h = inr (inr (header.NotAge, h, refl))
@@ -48,43 +48,43 @@ refused limits b header.Truncated h = inr (inr (header.Truncated, h, refl))
 refused limits b header.TooLarge h = inr (inr (header.TooLarge, h, refl))
 
 -- no header
-pub front-missed : (limits : Bounds) (told mid : Option (List ℕ)) (fault : Fault) → Inspects limits (option_map (drop 0) told) mid (Err fault) → MissesFront limits told fault
-front-missed limits None mid fault i = inr (inr tt)
-front-missed limits (Some b) mid fault (Ok parts, is, h) = absurd (cc)
-front-missed limits (Some b) mid fault (Err g, is, h) = subst (MissesFront limits (Some b)) (sym (err-err {A = HeaderParts} fault (of_header g) is)) (refused limits b g h)
+pub header-missed : (limits : Bounds) (told mid : Option (List ℕ)) (fault : Fault) → Inspects limits (option_map (drop 0) told) mid (Err fault) → MissesHeader limits told fault
+header-missed limits None mid fault i = inr (inr tt)
+header-missed limits (Some b) mid fault (Ok parts, is, h) = absurd (cc)
+header-missed limits (Some b) mid fault (Err g, is, h) = subst (MissesHeader limits (Some b)) (sym (err-err {A = HeaderParts} fault (header_fault g) is)) (refused limits b g h)
 
-pub missed-ranges : (limits : Bounds) (answers : Answering) (told : Option (List ℕ)) (fault : Fault) → MissesFront limits told fault → MissesRanges limits answers told fault
+pub missed-ranges : (limits : Bounds) (answers : Answering) (told : Option (List ℕ)) (fault : Fault) → MissesHeader limits told fault → MissesRanges limits answers told fault
 missed-ranges limits answers told fault (inl e) = inl e
 missed-ranges limits answers told fault (inr (inl e)) = inr (inl e)
 missed-ranges limits answers None fault (inr (inr h)) = inr (inr tt)
 missed-ranges limits answers (Some b) fault (inr (inr h)) = inr (inr (Err h.0, h.1, h.2))
 
 -- no key
-pub locked-ranges : (limits : Bounds) (answers : Answering) (told : Option (List ℕ)) (at : ℕ) (h : HeaderParts) (fault : Fault) → HasFront limits told at h
+pub locked-ranges : (limits : Bounds) (answers : Answering) (told : Option (List ℕ)) (at : ℕ) (h : HeaderParts) (fault : Fault) → HasHeader limits told at h
     → (◌≡◌ {A = Result FileKey Fault} (Err fault) (Err OutOfMemory)) ⊎ (Err fault ≡ unlocked answers h) → MissesRanges limits answers told fault
 locked-ranges limits answers told at h fault found (inl memory) = inr (inl (err-err {A = FileKey} fault OutOfMemory memory))
 locked-ranges limits answers None at h fault found (inr key) = inr (inr tt)
 locked-ranges limits answers (Some b) at h fault found (inr key) =
-    inr (inr (Ok (record { stanzas = h.stanzas; mac = h.mac; text = found.0 }), found.2, ap (ranges_under limits (drop (length found.0) b)) (sym key)))
+    inr (inr (Ok (found_in found.0 h), found.2, ap (ranges_under limits (drop (length found.0) b)) (sym key)))
 
 -- a payload that was not opened
-pub payload-missed : (limits : Bounds) (answers : Answering) (told : Option (List ℕ)) (at : ℕ) (h : HeaderParts) (k : FileKey) (fault : StreamFault) → HasFront limits told at h
+pub payload-missed : (limits : Bounds) (answers : Answering) (told : Option (List ℕ)) (at : ℕ) (h : HeaderParts) (k : FileKey) (fault : StreamFault) → HasHeader limits told at h
     → (◌≡◌ {A = Result FileKey Fault} (Ok k) (Err OutOfMemory)) ⊎ (Ok k ≡ unlocked answers h) → OpensRanges k limits.max_chunks at told (Err fault)
-    → MissesRanges limits answers told (of_stream fault)
+    → MissesRanges limits answers told (stream_fault fault)
 payload-missed limits answers told at h k fault found (inl memory) o = absurd (cc)
-payload-missed limits answers told at h k fault found (inr key) (inl e) = inl (ap of_stream e)
-payload-missed limits answers told at h k fault found (inr key) (inr (inl e)) = inr (inl (ap of_stream e))
+payload-missed limits answers told at h k fault found (inr key) (inl e) = inl (ap stream_fault e)
+payload-missed limits answers told at h k fault found (inr key) (inr (inl e)) = inr (inl (ap stream_fault e))
 payload-missed limits answers None at h k fault found (inr key) (inr (inr e)) = inr (inr tt)
 payload-missed limits answers (Some b) at h k fault found (inr key) (inr (inr e)) = inr (inr (
-  Ok (record { stanzas = h.stanzas; mac = h.mac; text = found.0 }),
+  Ok (found_in found.0 h),
   found.2,
   ap (ranges_under limits (drop (length found.0) b)) (sym key)
-      ∙ ap (λ n. result_map_both (λ text. text) of_stream (range_outcome k limits.max_chunks (drop n b))) found.1 ∙ ap (result_map_both (λ text. text) of_stream) e,
+      ∙ ap (λ n. result_map_both (λ text. text) stream_fault (range_outcome k limits.max_chunks (drop n b))) found.1 ∙ ap (result_map_both (λ text. text) stream_fault) e,
 ))
 
 -- ---- the faults' names
 
-inspect-open : (g : HeaderFault) → IsOpenFault (of_header g)
+inspect-open : (g : HeaderFault) → IsOpenFault (header_fault g)
 inspect-open header.NotAge = tt
 inspect-open (header.BadLine n) = tt
 inspect-open header.Truncated = tt
@@ -92,15 +92,15 @@ inspect-open header.TooLarge = tt
 inspect-open header.Read = tt
 inspect-open header.Memory = tt
 
-pub front-named : (limits : Bounds) (old mid : Option (List ℕ)) (fault : Fault) → Inspects limits old mid (Err fault) → IsOpenFault fault
-front-named limits old mid fault (Ok parts, is, h) = absurd (cc)
-front-named limits old mid fault (Err g, is, h) = subst IsOpenFault (sym (err-err {A = HeaderParts} fault (of_header g) is)) (inspect-open g)
+pub header-named : (limits : Bounds) (old mid : Option (List ℕ)) (fault : Fault) → Inspects limits old mid (Err fault) → IsOpenFault fault
+header-named limits old mid fault (Ok parts, is, h) = absurd (cc)
+header-named limits old mid fault (Err g, is, h) = subst IsOpenFault (sym (err-err {A = HeaderParts} fault (header_fault g) is)) (inspect-open g)
 
 either-open : (b : Bool) (x y : Result FileKey Fault) → IfErr x IsOpenFault → IfErr y IsOpenFault → IfErr (if b then x else y) IsOpenFault
 either-open true x y p q = p
 either-open false x y p q = q
 
-unlock-open : (e : UnlockFault) → IsOpenFault (of_unlock e)
+unlock-open : (e : UnlockFault) → IsOpenFault (unlock_fault e)
 unlock-open unlock.NoMatch = tt
 unlock-open unlock.WrongKey = tt
 unlock-open (unlock.Malformed s) = tt
@@ -116,7 +116,7 @@ locked-named answers h fault (inr key) =
     subst (λ (r : Result FileKey Fault). IfErr r IsOpenFault) (sym key)
     (either-open (is_mixed h.stanzas) (Err MixedPassphrase) (checked h (choice (answers h.stanzas))) tt (checked-open h (choice (answers h.stanzas))))
 
-pub payload-named : (e : StreamFault) → stream.IsOpenFault e → IsOpenFault (of_stream e)
+pub payload-named : (e : StreamFault) → stream.IsOpenFault e → IsOpenFault (stream_fault e)
 payload-named fault.NonceTruncated h = tt
 payload-named (fault.ChunkShort i) h = tt
 payload-named (fault.EmptyFinal i) h = tt

@@ -7,7 +7,7 @@ use Rattle.std.specs.Str.{bytes_eq}
 use Rattle.age_header.specs.declared.fault.HeaderFault.{HeaderFault}
 use Rattle.age_header.specs.declared.fault.HeaderFault.TheVariants as header
 use Rattle.age_header.specs.Device.{MayGive, WritesPart}
-use Rattle.age_header.specs.Header.{StanzaParts, HeaderParts}
+use Rattle.age_header.specs.Header.{HeaderParts}
 use Rattle.age_header.specs.Mac.{header_mac}
 use Rattle.age_header.specs.Reader.{ReadsHeader, Refuses}
 use Rattle.age_header.specs.Verdict.{BeginsWith, Found}
@@ -25,9 +25,9 @@ use Rattle.age_file.specs.AgeFile.{Bounds, is_mixed}
 use Rattle.age_file.specs.Copying.{Copies}
 use Rattle.age_file.specs.Device.{IsLate}
 use Rattle.age_file.specs.Inspect.{Inspects}
-use Rattle.age_file.specs.NewFile.{FailsHeading, IsRefusal}
-use Rattle.age_file.specs.Rewrap.{BeginsRewrapped, IsRewrapped, RefusesRewrap, Rewrapped, Rewraps, RewrapsText, parts_of}
-use Rattle.age_file.specs.Verdict.{Answering, IsVerdict, checked, judged, of_header, read_under, unlocked}
+use Rattle.age_file.specs.NewFile.{FailsHeading, Gathering, IsRefusal}
+use Rattle.age_file.specs.Rewrap.{BeginsRewrapped, IsRewrapped, RefusesRewrap, Rewrapped, Rewraps, RewrapsText}
+use Rattle.age_file.specs.Verdict.{Answering, IsVerdict, checked, found_in, header_fault, judged, parts_of, read_under, unlocked}
 use Rattle.age_file.proofs.DecryptLemmas.{IsHeaded, err-err}
 use Rattle.age_file.proofs.EncryptLemmas.{Made}
 use Rattle.age_file.proofs.FileLemmas.{behind, key-unlocked}
@@ -37,10 +37,10 @@ keeps_same None = tt
 keeps_same (Some xs) = refl
 
 -- of bytes that the source may give
-rewraps_of : (limits : Bounds) (answers : Answering) (given : FileKey → Result (List StanzaParts) Fault → Type 0) (come old new : Option (List ℕ)) (b : List ℕ) (r : Result (Unit {0}) Fault)
-    → MayGive come b → RewrapsText limits answers given b old new r → Rewraps limits answers given come old new r
-rewraps_of limits answers given None old new b r may h = (b, h)
-rewraps_of limits answers given (Some told) old new b r may h = subst (λ t. RewrapsText limits answers given t old new r) (sym may) h
+rewraps_of : (limits : Bounds) (answers : Answering) (gathered : FileKey → Gathering) (come old new : Option (List ℕ)) (b : List ℕ) (r : Result (Unit {0}) Fault)
+    → MayGive come b → RewrapsText limits answers gathered b old new r → Rewraps limits answers gathered come old new r
+rewraps_of limits answers gathered None old new b r may h = (b, h)
+rewraps_of limits answers gathered (Some told) old new b r may h = subst (λ t. RewrapsText limits answers gathered t old new r) (sym may) h
 
 -- ---- before the first byte
 
@@ -51,49 +51,49 @@ IsEarly Write = ⊥
 IsEarly TooManyChunks = ⊥
 IsEarly _ = Unit {0}
 
-refused : (limits : Bounds) (answers : Answering) (given : FileKey → Result (List StanzaParts) Fault → Type 0) (b : List ℕ) (old : Option (List ℕ)) (fault : Fault)
-    → IsEarly fault → RefusesRewrap limits answers given b fault → RewrapsText limits answers given b old old (Err fault)
+refused : (limits : Bounds) (answers : Answering) (gathered : FileKey → Gathering) (b : List ℕ) (old : Option (List ℕ)) (fault : Fault)
+    → IsEarly fault → RefusesRewrap limits answers gathered b fault → RewrapsText limits answers gathered b old old (Err fault)
 unfolding IsEarly
-refused limits answers given b old Read early h = absurd early
-refused limits answers given b old Write early h = absurd early
-refused limits answers given b old TooManyChunks early h = absurd early
-refused limits answers given b old OutOfMemory early h = tt
-refused limits answers given b old NotAge early h = h
-refused limits answers given b old (BadLine n) early h = h
-refused limits answers given b old HeaderTruncated early h = h
-refused limits answers given b old HeaderTooLarge early h = h
-refused limits answers given b old MixedPassphrase early h = h
-refused limits answers given b old NoMatch early h = h
-refused limits answers given b old WrongKey early h = h
-refused limits answers given b old (Malformed s) early h = h
-refused limits answers given b old BadMac early h = h
-refused limits answers given b old NonceTruncated early h = h
-refused limits answers given b old (ChunkShort i) early h = h
-refused limits answers given b old (EmptyFinal i) early h = h
-refused limits answers given b old (BadChunk i) early h = h
-refused limits answers given b old NoRecipients early h = h
-refused limits answers given b old (Refused i code) early h = h
-refused limits answers given b old (IncompatibleRecipients i) early h = h
+refused limits answers gathered b old Read early h = absurd early
+refused limits answers gathered b old Write early h = absurd early
+refused limits answers gathered b old TooManyChunks early h = absurd early
+refused limits answers gathered b old OutOfMemory early h = tt
+refused limits answers gathered b old NotAge early h = h
+refused limits answers gathered b old (BadLine n) early h = h
+refused limits answers gathered b old HeaderTruncated early h = h
+refused limits answers gathered b old HeaderTooLarge early h = h
+refused limits answers gathered b old MixedPassphrase early h = h
+refused limits answers gathered b old NoMatch early h = h
+refused limits answers gathered b old WrongKey early h = h
+refused limits answers gathered b old (Malformed s) early h = h
+refused limits answers gathered b old BadMac early h = h
+refused limits answers gathered b old NonceTruncated early h = h
+refused limits answers gathered b old (ChunkShort i) early h = h
+refused limits answers gathered b old (EmptyFinal i) early h = h
+refused limits answers gathered b old (BadChunk i) early h = h
+refused limits answers gathered b old NoRecipients early h = h
+refused limits answers gathered b old (Refused i code) early h = h
+refused limits answers gathered b old (IncompatibleRecipients i) early h = h
 
-no_header : (limits : Bounds) (answers : Answering) (given : FileKey → Result (List StanzaParts) Fault → Type 0) (b : List ℕ) (old : Option (List ℕ)) (g : HeaderFault)
-    → Refuses b limits.max_header g → RewrapsText limits answers given b old old (Err (of_header g))
-no_header limits answers given b old header.Read h = inl (keeps_same old)
-no_header limits answers given b old header.Memory h = tt
-no_header limits answers given b old header.NotAge h = (Err header.NotAge, h, refl)
-no_header limits answers given b old (header.BadLine n) h = (Err (header.BadLine n), h, refl)
-no_header limits answers given b old header.Truncated h = (Err header.Truncated, h, refl)
-no_header limits answers given b old header.TooLarge h = (Err header.TooLarge, h, refl)
+no_header : (limits : Bounds) (answers : Answering) (gathered : FileKey → Gathering) (b : List ℕ) (old : Option (List ℕ)) (g : HeaderFault)
+    → Refuses b limits.max_header g → RewrapsText limits answers gathered b old old (Err (header_fault g))
+no_header limits answers gathered b old header.Read h = inl (keeps_same old)
+no_header limits answers gathered b old header.Memory h = tt
+no_header limits answers gathered b old header.NotAge h = (Err header.NotAge, h, refl)
+no_header limits answers gathered b old (header.BadLine n) h = (Err (header.BadLine n), h, refl)
+no_header limits answers gathered b old header.Truncated h = (Err header.Truncated, h, refl)
+no_header limits answers gathered b old header.TooLarge h = (Err header.TooLarge, h, refl)
 
-none_read : (limits : Bounds) (answers : Answering) (given : FileKey → Result (List StanzaParts) Fault → Type 0) (come mid old : Option (List ℕ)) (g : HeaderFault)
-    → ReadsHeader come mid limits.max_header (Err g) → Rewraps limits answers given come old old (Err (of_header g))
-none_read limits answers given None mid old g h = (h.0, no_header limits answers given h.0 old g h.1)
-none_read limits answers given (Some b) mid old g h = no_header limits answers given b old g h
+none_read : (limits : Bounds) (answers : Answering) (gathered : FileKey → Gathering) (come mid old : Option (List ℕ)) (g : HeaderFault)
+    → ReadsHeader come mid limits.max_header (Err g) → Rewraps limits answers gathered come old old (Err (header_fault g))
+none_read limits answers gathered None mid old g h = (h.0, no_header limits answers gathered h.0 old g h.1)
+none_read limits answers gathered (Some b) mid old g h = no_header limits answers gathered b old g h
 
-pub inspect_rewraps : (limits : Bounds) (answers : Answering) (given : FileKey → Result (List StanzaParts) Fault → Type 0) (come mid old : Option (List ℕ)) (fault : Fault)
-    → Inspects limits come mid (Err fault) → Rewraps limits answers given come old old (Err fault)
-inspect_rewraps limits answers given come mid old fault (Ok parts, is, h) = absurd (cc)
-inspect_rewraps limits answers given come mid old fault (Err g, is, h) =
-    subst (λ f. Rewraps limits answers given come old old (Err f)) (sym (err-err {A = HeaderParts} fault (of_header g) is)) (none_read limits answers given come mid old g h)
+pub inspect_rewraps : (limits : Bounds) (answers : Answering) (gathered : FileKey → Gathering) (come mid old : Option (List ℕ)) (fault : Fault)
+    → Inspects limits come mid (Err fault) → Rewraps limits answers gathered come old old (Err fault)
+inspect_rewraps limits answers gathered come mid old fault (Ok parts, is, h) = absurd (cc)
+inspect_rewraps limits answers gathered come mid old fault (Err g, is, h) =
+    subst (λ f. Rewraps limits answers gathered come old old (Err f)) (sym (err-err {A = HeaderParts} fault (header_fault g) is)) (none_read limits answers gathered come mid old g h)
 
 -- a fault of unlocking is early
 early_checked : (h : HeaderParts) (c : Result FileKey UnlockFault) (fault : Fault) → checked h c ≡ Err fault → IsEarly fault
@@ -116,29 +116,33 @@ early_unlocked answers h fault e = go (is_mixed h.stanzas) e
     go true e = subst IsEarly (err-err {A = FileKey} MixedPassphrase fault e) tt
     go false e = early_checked h (choice (answers h.stanzas)) fault e
 
--- the header that was found in front of any rest
-found_in : (text : List ℕ) (h : HeaderParts) → Found
-found_in text h = record { stanzas = h.stanzas; mac = h.mac; text = text }
-
-pub locked_rewraps : (limits : Bounds) (answers : Answering) (given : FileKey → Result (List StanzaParts) Fault → Type 0) (come mid old : Option (List ℕ)) (h : HeaderParts) (fault : Fault)
-    → IsHeaded limits come mid h → (◌≡◌ {A = Result FileKey Fault} (Err fault) (Err OutOfMemory)) ⊎ (Err fault ≡ unlocked answers h) → Rewraps limits answers given come old old (Err fault)
-unfolding found_in
-locked_rewraps limits answers given come mid old h fault i r =
+pub locked_rewraps : (limits : Bounds) (answers : Answering) (gathered : FileKey → Gathering) (come mid old : Option (List ℕ)) (h : HeaderParts) (fault : Fault)
+    → IsHeaded limits come mid h → (◌≡◌ {A = Result FileKey Fault} (Err fault) (Err OutOfMemory)) ⊎ (Err fault ≡ unlocked answers h) → Rewraps limits answers gathered come old old (Err fault)
+locked_rewraps limits answers gathered come mid old h fault i r =
     let rest = may-some mid in
     let b : List ℕ = i.text ++ rest.0 in
-    let memory : RewrapsText limits answers given b old old (Err OutOfMemory) = tt in
-    rewraps_of limits answers given come old old b (Err fault) (i.may rest.0 rest.1)
+    let memory : RewrapsText limits answers gathered b old old (Err OutOfMemory) = tt in
+    rewraps_of limits answers gathered come old old b (Err fault) (i.may rest.0 rest.1)
     (elim r [
-      | inl is ↦ subst (λ f. RewrapsText limits answers given b old old (Err f)) (sym (err-err {A = FileKey} fault OutOfMemory is)) memory
-      | inr is ↦ refused limits answers given b old fault (early_unlocked answers h fault (sym is)) (Ok (found_in i.text h), i.verdict rest.0 rest.1, inl (sym is))
+      | inl is ↦ subst (λ f. RewrapsText limits answers gathered b old old (Err f)) (sym (err-err {A = FileKey} fault OutOfMemory is)) memory
+      | inr is ↦ refused limits answers gathered b old fault (early_unlocked answers h fault (sym is)) (Ok (found_in i.text h), i.verdict rest.0 rest.1, inl (sym is))
     ])
 
+-- a reason why there is no new header is early
+early_refusal : (limits : Bounds) (k : FileKey) (gathered : Gathering) (fault : Fault) → IsRefusal limits k gathered fault → IsEarly fault
+unfolding IsEarly
+early_refusal limits k gathered (Refused i code) h = tt
+early_refusal limits k gathered (IncompatibleRecipients i) h = tt
+early_refusal limits k gathered NoRecipients h = tt
+early_refusal limits k gathered MixedPassphrase h = tt
+early_refusal limits k gathered HeaderTooLarge h = tt
+early_refusal limits k gathered fault h = absurd h
+
 -- no new header was made
-pub heading_rewraps : (limits : Bounds) (answers : Answering) (given : FileKey → Result (List StanzaParts) Fault → Type 0) (come mid old : Option (List ℕ)) (h : HeaderParts) (key : FileKey) (fault : Fault)
-    → IsHeaded limits come mid h → unlocked answers h ≡ Ok key → FailsHeading limits key (given key) fault → Rewraps limits answers given come old old (Err fault)
-unfolding found_in IsEarly
-heading_rewraps limits answers given come mid old h key fault i chosen fails =
-    rewraps_of limits answers given come old old b (Err fault) (i.may rest.0 rest.1) (go fails)
+pub heading_rewraps : (limits : Bounds) (answers : Answering) (gathered : FileKey → Gathering) (come mid old : Option (List ℕ)) (h : HeaderParts) (key : FileKey) (fault : Fault)
+    → IsHeaded limits come mid h → unlocked answers h ≡ Ok key → FailsHeading limits key (gathered key) fault → Rewraps limits answers gathered come old old (Err fault)
+heading_rewraps limits answers gathered come mid old h key fault i chosen fails =
+    rewraps_of limits answers gathered come old old b (Err fault) (i.may rest.0 rest.1) (go fails)
   where
     rest : (bytes : List ℕ) × MayGive mid bytes
     rest = may-some mid
@@ -146,30 +150,22 @@ heading_rewraps limits answers given come mid old h key fault i chosen fails =
     b : List ℕ
     b = i.text ++ rest.0
 
-    because : (f : Fault) → IsEarly f → IsRefusal limits key (given key) f → fault ≡ f → RewrapsText limits answers given b old old (Err fault)
-    because f early refusal is =
-        subst (λ g. RewrapsText limits answers given b old old (Err g)) (sym is)
-        (refused limits answers given b old f early (Ok (found_in i.text h), i.verdict rest.0 rest.1, inr (key, chosen, refusal)))
-
-    memory : RewrapsText limits answers given b old old (Err OutOfMemory)
+    memory : RewrapsText limits answers gathered b old old (Err OutOfMemory)
     memory = tt
 
-    go : FailsHeading limits key (given key) fault → RewrapsText limits answers given b old old (Err fault)
-    go (inl is) = subst (λ g. RewrapsText limits answers given b old old (Err g)) (sym is) memory
-    go (inr (inl (j, code, is, refusal))) = because (Refused j code) tt refusal is
-    go (inr (inr (inl (j, is, refusal)))) = because (IncompatibleRecipients j) tt refusal is
-    go (inr (inr (inr (inl (is, refusal))))) = because NoRecipients tt refusal is
-    go (inr (inr (inr (inr (inl (is, refusal)))))) = because MixedPassphrase tt refusal is
-    go (inr (inr (inr (inr (inr (is, refusal)))))) = because HeaderTooLarge tt refusal is
+    go : FailsHeading limits key (gathered key) fault → RewrapsText limits answers gathered b old old (Err fault)
+    go (inl is) = subst (λ g. RewrapsText limits answers gathered b old old (Err g)) (sym is) memory
+    go (inr refusal) =
+        refused limits answers gathered b old fault (early_refusal limits key (gathered key) fault refusal) (Ok (found_in i.text h), i.verdict rest.0 rest.1, inr (key, chosen, refusal))
 
 -- ---- what was written
 
 -- the file of the new header, if the source gives these bytes
-new_file : (limits : Bounds) (answers : Answering) (given : FileKey → Result (List StanzaParts) Fault → Type 0) (come mid : Option (List ℕ)) (h : HeaderParts) (key : FileKey) (text bytes : List ℕ)
-    → (i : IsHeaded limits come mid h) → unlocked answers h ≡ Ok key → Made limits key (given key) text → MayGive mid bytes → IsRewrapped limits answers given (i.text ++ bytes) (text ++ bytes)
-new_file limits answers given come mid h key text bytes i chosen made may = (
+new_file : (limits : Bounds) (answers : Answering) (gathered : FileKey → Gathering) (come mid : Option (List ℕ)) (h : HeaderParts) (key : FileKey) (text bytes : List ℕ)
+    → (i : IsHeaded limits come mid h) → unlocked answers h ≡ Ok key → Made limits key (gathered key) text → MayGive mid bytes → IsRewrapped limits answers gathered (i.text ++ bytes) (text ++ bytes)
+new_file limits answers gathered come mid h key text bytes i chosen made may = (
   record {
-    found = record { stanzas = h.stanzas; mac = h.mac; text = i.text };
+    found = found_in i.text h;
     header = i.verdict bytes may;
     key = key;
     chosen = chosen;
@@ -183,46 +179,46 @@ new_file limits answers given come mid h key text bytes i chosen made may = (
   made.heading.gives,
 )
 
--- a beginning of the header was written
-pub begun_rewraps : (limits : Bounds) (answers : Answering) (given : FileKey → Result (List StanzaParts) Fault → Type 0) (come mid old new : Option (List ℕ)) (h : HeaderParts) (key : FileKey) (text : List ℕ)
-    → IsHeaded limits come mid h → unlocked answers h ≡ Ok key → Made limits key (given key) text → WritesPart old new text → Rewraps limits answers given come old new (Err Write)
-begun_rewraps limits answers given come mid old new h key text i chosen made part =
+-- a prefix of the header was written
+pub begun_rewraps : (limits : Bounds) (answers : Answering) (gathered : FileKey → Gathering) (come mid old new : Option (List ℕ)) (h : HeaderParts) (key : FileKey) (text : List ℕ)
+    → IsHeaded limits come mid h → unlocked answers h ≡ Ok key → Made limits key (gathered key) text → WritesPart old new text → Rewraps limits answers gathered come old new (Err Write)
+begun_rewraps limits answers gathered come mid old new h key text i chosen made part =
     let rest = may-some mid in
-    rewraps_of limits answers given come old new (i.text ++ rest.0) (Err Write) (i.may rest.0 rest.1) (
+    rewraps_of limits answers gathered come old new (i.text ++ rest.0) (Err Write) (i.may rest.0 rest.1) (
       text ++ rest.0,
-      new_file limits answers given come mid h key text rest.0 i chosen made rest.1,
+      new_file limits answers gathered come mid h key text rest.0 i chosen made rest.1,
       done_part old old new (text ++ rest.0) (text ++ rest.0) text rest.0 (record { front = []; took = Appends-nil old; is = refl }) refl part,
     )
 
--- a beginning of the rest was written after it
-copied_part : (limits : Bounds) (answers : Answering) (given : FileKey → Result (List StanzaParts) Fault → Type 0) (come mid old put new : Option (List ℕ)) (h : HeaderParts) (key : FileKey) (text bytes : List ℕ)
-    → (i : IsHeaded limits come mid h) → unlocked answers h ≡ Ok key → Made limits key (given key) text → Appends old put text → MayGive mid bytes → WritesPart put new bytes
-    → BeginsRewrapped limits answers given (i.text ++ bytes) old new
-copied_part limits answers given come mid old put new h key text bytes i chosen made front may part = (
+-- a prefix of the rest was written after it
+copied_part : (limits : Bounds) (answers : Answering) (gathered : FileKey → Gathering) (come mid old put new : Option (List ℕ)) (h : HeaderParts) (key : FileKey) (text bytes : List ℕ)
+    → (i : IsHeaded limits come mid h) → unlocked answers h ≡ Ok key → Made limits key (gathered key) text → Appends old put text → MayGive mid bytes → WritesPart put new bytes
+    → BeginsRewrapped limits answers gathered (i.text ++ bytes) old new
+copied_part limits answers gathered come mid old put new h key text bytes i chosen made front may part = (
   text ++ bytes,
-  new_file limits answers given come mid h key text bytes i chosen made may,
+  new_file limits answers gathered come mid h key text bytes i chosen made may,
   done_part old put new (text ++ bytes) bytes bytes [] (record { front = text; took = front; is = refl }) (sym (append-nil bytes)) part,
 )
 
-pub copied_rewraps : (limits : Bounds) (answers : Answering) (given : FileKey → Result (List StanzaParts) Fault → Type 0) (come mid old put new : Option (List ℕ)) (h : HeaderParts) (key : FileKey) (text : List ℕ)
-    (r : Result (Unit {0}) Fault) → IsHeaded limits come mid h → unlocked answers h ≡ Ok key → Made limits key (given key) text → Appends old put text → Copies mid put new r
-    → Rewraps limits answers given come old new r
-copied_rewraps limits answers given come mid old put new h key text (Ok done) i chosen made front (bytes, may, wrote) =
-    rewraps_of limits answers given come old new (i.text ++ bytes) (Ok done) (i.may bytes may) (
+pub copied_rewraps : (limits : Bounds) (answers : Answering) (gathered : FileKey → Gathering) (come mid old put new : Option (List ℕ)) (h : HeaderParts) (key : FileKey) (text : List ℕ)
+    (r : Result (Unit {0}) Fault) → IsHeaded limits come mid h → unlocked answers h ≡ Ok key → Made limits key (gathered key) text → Appends old put text → Copies mid put new r
+    → Rewraps limits answers gathered come old new r
+copied_rewraps limits answers gathered come mid old put new h key text (Ok done) i chosen made front (bytes, may, wrote) =
+    rewraps_of limits answers gathered come old new (i.text ++ bytes) (Ok done) (i.may bytes may) (
       text ++ bytes,
-      new_file limits answers given come mid h key text bytes i chosen made may,
+      new_file limits answers gathered come mid h key text bytes i chosen made may,
       Appends-trans old put new text bytes front wrote,
     )
-copied_rewraps limits answers given come mid old put new h key text (Err fault) i chosen made front copied = go fault copied
+copied_rewraps limits answers gathered come mid old put new h key text (Err fault) i chosen made front copied = go fault copied
   where
-    part : (bytes : List ℕ) → MayGive mid bytes → WritesPart put new bytes → BeginsRewrapped limits answers given (i.text ++ bytes) old new
-    part bytes may wrote = copied_part limits answers given come mid old put new h key text bytes i chosen made front may wrote
+    part : (bytes : List ℕ) → MayGive mid bytes → WritesPart put new bytes → BeginsRewrapped limits answers gathered (i.text ++ bytes) old new
+    part bytes may wrote = copied_part limits answers gathered come mid old put new h key text bytes i chosen made front may wrote
 
-    go : (f : Fault) → Copies mid put new (Err f) → Rewraps limits answers given come old new (Err f)
-    go Read (bytes, may, wrote) = rewraps_of limits answers given come old new (i.text ++ bytes) (Err Read) (i.may bytes may) (inr (part bytes may wrote))
-    go Write (bytes, may, wrote) = rewraps_of limits answers given come old new (i.text ++ bytes) (Err Write) (i.may bytes may) (part bytes may wrote)
+    go : (f : Fault) → Copies mid put new (Err f) → Rewraps limits answers gathered come old new (Err f)
+    go Read (bytes, may, wrote) = rewraps_of limits answers gathered come old new (i.text ++ bytes) (Err Read) (i.may bytes may) (inr (part bytes may wrote))
+    go Write (bytes, may, wrote) = rewraps_of limits answers gathered come old new (i.text ++ bytes) (Err Write) (i.may bytes may) (part bytes may wrote)
     go TooManyChunks (bytes, may, wrote, long) =
-        rewraps_of limits answers given come old new (i.text ++ bytes) (Err TooManyChunks) (i.may bytes may) (part bytes may wrote, omega (arith, length-append i.text bytes, long))
+        rewraps_of limits answers gathered come old new (i.text ++ bytes) (Err TooManyChunks) (i.may bytes may) (part bytes may wrote, omega (arith, length-append i.text bytes, long))
     go OutOfMemory c = absurd c
     go NotAge c = absurd c
     go (BadLine n) c = absurd c

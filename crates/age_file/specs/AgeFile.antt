@@ -36,7 +36,7 @@ abbrev pub is_scrypt : List Bytes → Bool
 is_scrypt [] = false
 is_scrypt (kind ∷ _) = bytes_eq kind (codes "scrypt")
 
--- a `scrypt` stanza stands beside another stanza (C2SP age.md, "The scrypt recipient type")
+-- a `scrypt` stanza is not the only stanza (C2SP age.md, "The scrypt recipient type")
 abbrev pub is_mixed : List StanzaParts → Bool
 is_mixed stanzas = nat_lt 1 (length stanzas) && list_any (λ s. is_scrypt s.args) stanzas
 

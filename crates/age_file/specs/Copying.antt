@@ -24,7 +24,7 @@ CopiesPiece size from to old new (Err Write) =
     (piece : Bytes) × Consumes from to piece × WritesPart old new piece
 CopiesPiece size from to old new (Err _) = ⊥
 
--- all of it was copied; where a device failed, a beginning; TooManyChunks only if the source had
+-- all of it was copied; if a device failed, a prefix of it; TooManyChunks only if the source had
 -- 2^105 bytes or more
 abbrev pub Copies : (from old new : Known) (result : Result (Unit {0}) Fault) → Type 0
 Copies from old new (Ok done) = (bytes : Bytes) × MayGive from bytes × Appends old new bytes

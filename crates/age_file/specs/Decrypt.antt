@@ -32,7 +32,7 @@ GivesVerdict limits answers b old new r =
     (verdict : Reading Fault) × (is : IsVerdict limits answers b verdict)
     × ReturnsVerdict verdict (length (payload_pieces b is.header)) r × Appends old new verdict.front
 
--- the verdict's plaintext was begun
+-- a prefix of the verdict's plaintext was written
 abbrev pub BeginsVerdict : (limits : Bounds) (answers : Answering) (b : Bytes) (old new : Known)
     → Type 0
 BeginsVerdict limits answers b old new =

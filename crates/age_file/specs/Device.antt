@@ -14,10 +14,10 @@ CountsWrite old new (Err Write) = new ≡ min (old + 1) (2 ^ 64 - 1)
 CountsWrite old new _ = new ≡ old
 
 -- a fault of no device
-abbrev pub IsInside : Fault → Type 0
-IsInside Read = ⊥
-IsInside Write = ⊥
-IsInside _ = ⊤
+abbrev pub IsNoDeviceFault : Fault → Type 0
+IsNoDeviceFault Read = ⊥
+IsNoDeviceFault Write = ⊥
+IsNoDeviceFault _ = ⊤
 
 -- a fault before which something may have been written: of a chunk, or of a device
 abbrev pub IsLate : Fault → Type 0

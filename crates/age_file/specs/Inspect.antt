@@ -6,12 +6,12 @@ use Rattle.age_header.specs.Header.{HeaderParts}
 use Rattle.age_header.specs.Reader.{ReadsHeader}
 use Rattle.age_file.specs.declared.fault.Fault.{Fault}
 use Rattle.age_file.specs.AgeFile.{Bounds}
-use Rattle.age_file.specs.Verdict.{of_header}
+use Rattle.age_file.specs.Verdict.{header_fault}
 
 -- what a reader of headers returned, with a file's names of the faults
 abbrev pub file_result : {A : Type 0} → Result A HeaderFault → Result A Fault
 file_result (Ok header) = Ok header
-file_result (Err fault) = Err (of_header fault)
+file_result (Err fault) = Err (header_fault fault)
 
 -- what a reader of headers returns under these limits
 abbrev pub Inspects : (limits : Bounds) (from to : Known) (r : Result HeaderParts Fault) → Type 0

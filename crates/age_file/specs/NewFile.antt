@@ -18,94 +18,95 @@ use Rattle.age_file.specs.AgeFile.{AgeFile, Bounds, is_mixed}
 use Rattle.age_stream.specs.Sizes.{nonce_size, chunk_size, sealed_chunk_size}
 
 -- these stanzas, then those that follow
-abbrev pub before : (stanzas : List StanzaParts) (more : Result (List StanzaParts) Fault)
+abbrev pub preceded_by : (stanzas : List StanzaParts) (more : Result (List StanzaParts) Fault)
     → Result (List StanzaParts) Fault
-before stanzas (Ok more) = Ok (stanzas ++ more)
-before stanzas (Err fault) = Err fault
+preceded_by stanzas (Ok more) = Ok (stanzas ++ more)
+preceded_by stanzas (Err fault) = Err fault
 
 -- what the recipients from number i on give in order: their stanzas joined, or the first refusal
 abbrev pub gathered_from : (i : ℕ) (wrapped : List (Result (List StanzaParts) ℕ))
     → Result (List StanzaParts) Fault
 gathered_from i [] = Ok []
-gathered_from i (Ok stanzas ∷ more) = before stanzas (gathered_from (i + 1) more)
+gathered_from i (Ok stanzas ∷ more) = preceded_by stanzas (gathered_from (i + 1) more)
 gathered_from i (Err code ∷ more) = Err (Refused i code)
 
 -- the stanzas, unless a recipient's labels do not go together with those of recipient 0
-abbrev pub together : (given : Result (List StanzaParts) Fault) (place : Option ℕ)
+abbrev pub unless_incompatible : (gathered : Result (List StanzaParts) Fault) (index : Option ℕ)
     → Result (List StanzaParts) Fault
-together (Err fault) place = Err fault
-together (Ok stanzas) (Some i) = Err (IncompatibleRecipients i)
-together (Ok stanzas) None = Ok stanzas
+unless_incompatible (Err fault) index = Err fault
+unless_incompatible (Ok stanzas) (Some i) = Err (IncompatibleRecipients i)
+unless_incompatible (Ok stanzas) None = Ok stanzas
 
 -- of labels that recipients with these meanings may return, the first recipient that does not go
 -- together with recipient 0
-abbrev pub IsApart : (meant : List Labels) (place : Option ℕ) → Type 0
-IsApart meant place =
-    (labels : List Labels) × AllZip MayLabel meant labels × (place ≡ incompatible labels)
+abbrev pub IsIncompatible : (meant : List Labels) (index : Option ℕ) → Type 0
+IsIncompatible meant index =
+    (labels : List Labels) × AllZip MayLabel meant labels × (index ≡ incompatible labels)
 
 -- the same, of which the labels of recipient 0 are known
-abbrev pub IsApartFrom : (first : Labels) (meant : List Labels) (place : Option ℕ) → Type 0
-IsApartFrom first meant place =
-    (labels : List Labels) × AllZip MayLabel meant labels × (place ≡ incompatible (first ∷ labels))
+abbrev pub IsIncompatibleWith : (first : Labels) (meant : List Labels) (index : Option ℕ) → Type 0
+IsIncompatibleWith first meant index =
+    (labels : List Labels) × AllZip MayLabel meant labels × (index ≡ incompatible (first ∷ labels))
 
 -- what recipients with these meanings may give: all their stanzas, the first refusal, or the first
 -- recipient that does not go together with recipient 0
 abbrev pub Gathered : (wrapped : List (Result (List StanzaParts) ℕ)) (meant : List Labels)
-    (given : Result (List StanzaParts) Fault) → Type 0
-Gathered wrapped meant given =
-    (place : Option ℕ) × IsApart meant place × (given ≡ together (gathered_from 0 wrapped) place)
+    (gathered : Result (List StanzaParts) Fault) → Type 0
+Gathered wrapped meant gathered =
+    (index : Option ℕ) × IsIncompatible meant index
+    × (gathered ≡ unless_incompatible (gathered_from 0 wrapped) index)
+
+-- which results a list of recipients may give, as `Gathered wrapped meant`
+abbrev pub Gathering : Type 1
+Gathering = Result (List StanzaParts) Fault → Type 0
 
 -- the header of a new file: its stanzas, of which none is a `scrypt` stanza beside another, and its
 -- text, within the limit
-pub record IsHeading (limits : Bounds) (k : FileKey)
-    (given : Result (List StanzaParts) Fault → Type 0) (stanzas : List StanzaParts) (text : Bytes)
-    : Type 0 where
-  pub gives : given (Ok stanzas)
+pub record IsHeading (limits : Bounds) (k : FileKey) (gathered : Gathering)
+    (stanzas : List StanzaParts) (text : Bytes) : Type 0 where
+  pub gives : gathered (Ok stanzas)
   pub unmixed : is_mixed stanzas ≡ false
   pub head : Head stanzas (header_mac k.0 stanzas) text
   pub fits : length text ≤ limits.max_header
 
 -- a header that would be longer than the limit
-pub record IsTooLarge (limits : Bounds) (k : FileKey)
-    (given : Result (List StanzaParts) Fault → Type 0) : Type 0 where
+pub record IsTooLarge (limits : Bounds) (k : FileKey) (gathered : Gathering) : Type 0 where
   pub stanzas : List StanzaParts
   pub text : Bytes
-  pub gives : given (Ok stanzas)
+  pub gives : gathered (Ok stanzas)
   pub unmixed : is_mixed stanzas ≡ false
   pub head : Head stanzas (header_mac k.0 stanzas) text
   pub exceeds : limits.max_header < length text
 
 -- the first fault for which there is no header: a refusal, recipients that do not go together, no
 -- stanza at all, a `scrypt` stanza beside another, too great a length
-abbrev pub IsRefusal : (limits : Bounds) (k : FileKey)
-    (given : Result (List StanzaParts) Fault → Type 0) (fault : Fault) → Type 0
-IsRefusal limits k given (Refused i code) = given (Err (Refused i code))
-IsRefusal limits k given (IncompatibleRecipients i) = given (Err (IncompatibleRecipients i))
-IsRefusal limits k given NoRecipients = given (Ok [])
-IsRefusal limits k given MixedPassphrase =
-    (stanzas : List StanzaParts) × given (Ok stanzas) × (is_mixed stanzas ≡ true)
-IsRefusal limits k given HeaderTooLarge = IsTooLarge limits k given
-IsRefusal limits k given _ = ⊥
+abbrev pub IsRefusal : (limits : Bounds) (k : FileKey) (gathered : Gathering) (fault : Fault)
+    → Type 0
+IsRefusal limits k gathered (Refused i code) = gathered (Err (Refused i code))
+IsRefusal limits k gathered (IncompatibleRecipients i) = gathered (Err (IncompatibleRecipients i))
+IsRefusal limits k gathered NoRecipients = gathered (Ok [])
+IsRefusal limits k gathered MixedPassphrase =
+    (stanzas : List StanzaParts) × gathered (Ok stanzas) × (is_mixed stanzas ≡ true)
+IsRefusal limits k gathered HeaderTooLarge = IsTooLarge limits k gathered
+IsRefusal limits k gathered _ = ⊥
 
 -- the file that was written: that of these stanzas, this plaintext, and the file key and nonce that
 -- were passed
-pub record NewFile (limits : Bounds) (fresh : Fresh)
-    (given : Result (List StanzaParts) Fault → Type 0) (plain : Bytes) (gained : Bytes)
-    : Type 0 where
+pub record NewFile (limits : Bounds) (fresh : Fresh) (gathered : Gathering) (plain : Bytes)
+    (gained : Bytes) : Type 0 where
   pub stanzas : List StanzaParts
   pub text : Bytes
-  pub heading : IsHeading limits fresh.file_key given stanzas text
+  pub heading : IsHeading limits fresh.file_key gathered stanzas text
   pub spelled : gained ≡ text ++ payload fresh.file_key fresh.nonce plain
   pub file : AgeFile limits fresh.file_key stanzas plain gained
 
 -- what was written of a plaintext of too many chunks: the header, the nonce, and the sealed chunks
 -- with an index below max_chunks - 1
-pub record CutFile (limits : Bounds) (fresh : Fresh)
-    (given : Result (List StanzaParts) Fault → Type 0) (plain : Bytes) (gained : Bytes)
-    : Type 0 where
+pub record FileUpToLimit (limits : Bounds) (fresh : Fresh) (gathered : Gathering) (plain : Bytes)
+    (gained : Bytes) : Type 0 where
   pub stanzas : List StanzaParts
   pub text : Bytes
-  pub heading : IsHeading limits fresh.file_key given stanzas text
+  pub heading : IsHeading limits fresh.file_key gathered stanzas text
   pub too_many : limits.max_chunks < length (chunks plain)
   pub spelled : gained
       ≡ text
@@ -113,48 +114,45 @@ pub record CutFile (limits : Bounds) (fresh : Fresh)
       ++ concat (take (limits.max_chunks - 1)
       (sealed_chunks fresh.file_key fresh.nonce plain)))
 
--- a beginning of the header and payload was written
-pub record BegunFile (limits : Bounds) (fresh : Fresh)
-    (given : Result (List StanzaParts) Fault → Type 0) (plain : Bytes) (old new : Known)
-    : Type 0 where
+-- a prefix of the header and payload was written
+pub record BegunFile (limits : Bounds) (fresh : Fresh) (gathered : Gathering) (plain : Bytes)
+    (old new : Known) : Type 0 where
   pub stanzas : List StanzaParts
   pub text : Bytes
-  pub heading : IsHeading limits fresh.file_key given stanzas text
+  pub heading : IsHeading limits fresh.file_key gathered stanzas text
   pub part : WritesPart old new (text ++ payload fresh.file_key fresh.nonce plain)
 
--- What `encrypt` returns and writes, `given` being what the recipients give, and the source giving
--- `plain`.
-abbrev pub EncryptsText : (limits : Bounds) (fresh : Fresh)
-    (given : Result (List StanzaParts) Fault → Type 0) (plain : Bytes) (old new : Known)
-    (result : Result Done Fault) → Type 0
-EncryptsText limits fresh given plain old new (Ok done) =
-    (gained : Bytes) × NewFile limits fresh given plain gained × Appends old new gained
+-- What `encrypt` returns and writes, `gathered` being what the recipients may give, and the source
+-- giving `plain`.
+abbrev pub EncryptsText : (limits : Bounds) (fresh : Fresh) (gathered : Gathering) (plain : Bytes)
+    (old new : Known) (result : Result Done Fault) → Type 0
+EncryptsText limits fresh gathered plain old new (Ok done) =
+    (gained : Bytes) × NewFile limits fresh gathered plain gained × Appends old new gained
     × (done.bytes ≡ length plain) × (done.chunks ≡ length (chunks plain))
-EncryptsText limits fresh given plain old new (Err TooManyChunks) =
-    (gained : Bytes) × CutFile limits fresh given plain gained × Appends old new gained
-EncryptsText limits fresh given plain old new (Err Read) =
-    BegunFile limits fresh given plain old new
-EncryptsText limits fresh given plain old new (Err Write) =
-    BegunFile limits fresh given plain old new
-EncryptsText limits fresh given plain old new (Err fault) = ⊤
+EncryptsText limits fresh gathered plain old new (Err TooManyChunks) =
+    (gained : Bytes) × FileUpToLimit limits fresh gathered plain gained × Appends old new gained
+EncryptsText limits fresh gathered plain old new (Err Read) =
+    BegunFile limits fresh gathered plain old new
+EncryptsText limits fresh gathered plain old new (Err Write) =
+    BegunFile limits fresh gathered plain old new
+EncryptsText limits fresh gathered plain old new (Err fault) = ⊤
 
 -- The same of a source whose bytes may be unknown: then of some bytes.
-abbrev pub EncryptsGiven : (limits : Bounds) (fresh : Fresh)
-    (given : Result (List StanzaParts) Fault → Type 0) (from old new : Known)
-    (r : Result Done Fault) → Type 0
-EncryptsGiven limits fresh given None old new r =
-    (plain : Bytes) × EncryptsText limits fresh given plain old new r
-EncryptsGiven limits fresh given (Some plain) old new r =
-    EncryptsText limits fresh given plain old new r
+abbrev pub EncryptsGiven : (limits : Bounds) (fresh : Fresh) (gathered : Gathering)
+    (from old new : Known) (r : Result Done Fault) → Type 0
+EncryptsGiven limits fresh gathered None old new r =
+    (plain : Bytes) × EncryptsText limits fresh gathered plain old new r
+EncryptsGiven limits fresh gathered (Some plain) old new r =
+    EncryptsText limits fresh gathered plain old new r
 
 -- a fault with which no header was made names the first reason; any other result says nothing of it
-abbrev pub RefusesFirst : (limits : Bounds) (k : FileKey)
-    (given : Result (List StanzaParts) Fault → Type 0) (fault : Fault) → Type 0
-RefusesFirst limits k given TooManyChunks = ⊤
-RefusesFirst limits k given Read = ⊤
-RefusesFirst limits k given Write = ⊤
-RefusesFirst limits k given OutOfMemory = ⊤
-RefusesFirst limits k given fault = IsRefusal limits k given fault
+abbrev pub RefusesFirst : (limits : Bounds) (k : FileKey) (gathered : Gathering) (fault : Fault)
+    → Type 0
+RefusesFirst limits k gathered TooManyChunks = ⊤
+RefusesFirst limits k gathered Read = ⊤
+RefusesFirst limits k gathered Write = ⊤
+RefusesFirst limits k gathered OutOfMemory = ⊤
+RefusesFirst limits k gathered fault = IsRefusal limits k gathered fault
 
 -- what is returned of the stanzas of all recipients
 abbrev pub WrapsAll : (wrapped : Result (List StanzaParts) Fault)
@@ -165,35 +163,25 @@ WrapsAll wrapped (Err fault) =
     ⊎ ((i : ℕ) × (code : ℕ) × (fault ≡ Refused i code) × (wrapped ≡ Err (Refused i code)))
 
 -- what gathering the stanzas of recipients returns
-abbrev pub Gathers : (given : Result (List StanzaParts) Fault → Type 0)
-    (result : Result (Vec StanzaParts Global) Fault) → Type 0
-Gathers given (Ok stanzas) = given (Ok stanzas.items)
-Gathers given (Err fault) = (fault ≡ OutOfMemory)
-    ⊎ (((i : ℕ) × (code : ℕ) × (fault ≡ Refused i code) × given (Err (Refused i code)))
-    ⊎ ((i : ℕ) × (fault ≡ IncompatibleRecipients i) × given (Err (IncompatibleRecipients i))))
+abbrev pub Gathers : (gathered : Gathering) (result : Result (Vec StanzaParts Global) Fault)
+    → Type 0
+Gathers gathered (Ok stanzas) = gathered (Ok stanzas.items)
+Gathers gathered (Err fault) = (fault ≡ OutOfMemory)
+    ⊎ (((i : ℕ) × (code : ℕ) × (fault ≡ Refused i code) × gathered (Err (Refused i code)))
+    ⊎ ((i : ℕ) × (fault ≡ IncompatibleRecipients i) × gathered (Err (IncompatibleRecipients i))))
 
 -- with which faults no header is made, and why
-abbrev pub FailsHeading : (limits : Bounds) (k : FileKey)
-    (given : Result (List StanzaParts) Fault → Type 0) (fault : Fault) → Type 0
-FailsHeading limits k given fault =
-    (fault ≡ OutOfMemory)
-    ⊎ (((i : ℕ) × (code : ℕ) × (fault ≡ Refused i code) × IsRefusal limits k given (Refused i code))
-    ⊎ (((i : ℕ) × (fault ≡ IncompatibleRecipients i)
-    × IsRefusal limits k given (IncompatibleRecipients i))
-    ⊎ (((fault ≡ NoRecipients) × IsRefusal limits k given NoRecipients)
-    ⊎ (((fault ≡ MixedPassphrase)
-    × IsRefusal limits k given MixedPassphrase)
-    ⊎ ((fault ≡ HeaderTooLarge)
-    × IsRefusal limits k given HeaderTooLarge)))))
+abbrev pub FailsHeading : (limits : Bounds) (k : FileKey) (gathered : Gathering) (fault : Fault)
+    → Type 0
+FailsHeading limits k gathered fault = (fault ≡ OutOfMemory) ⊎ IsRefusal limits k gathered fault
 
 -- Of the source at most so much was taken: with n full sealed chunks written after the header and
 -- the nonce, n + 2 chunks of text.
-pub record TookChunks (limits : Bounds) (fresh : Fresh)
-    (given : Result (List StanzaParts) Fault → Type 0) (from to old new : Known)
-    : Type 0 where
+pub record TookChunks (limits : Bounds) (fresh : Fresh) (gathered : Gathering)
+    (from to old new : Known) : Type 0 where
   pub stanzas : List StanzaParts
   pub text : Bytes
-  pub heading : IsHeading limits fresh.file_key given stanzas text
+  pub heading : IsHeading limits fresh.file_key gathered stanzas text
   pub written : Bytes
   pub gained : Appends old new written
   pub n : ℕ
@@ -201,10 +189,10 @@ pub record TookChunks (limits : Bounds) (fresh : Fresh)
   pub gave : GaveAtMost (chunk_size * (n + 2)) from to
 
 -- how much of the source was taken where encrypting ended at a write, or with too many chunks
-abbrev pub TookOf : (limits : Bounds) (fresh : Fresh)
-    (given : Result (List StanzaParts) Fault → Type 0) (from to old new : Known) (fault : Fault)
-    → Type 0
-TookOf limits fresh given from to old new TooManyChunks =
-    TookChunks limits fresh given from to old new
-TookOf limits fresh given from to old new Write = TookChunks limits fresh given from to old new
-TookOf limits fresh given from to old new _ = ⊤
+abbrev pub TookWhileEncrypting : (limits : Bounds) (fresh : Fresh) (gathered : Gathering)
+    (from to old new : Known) (fault : Fault) → Type 0
+TookWhileEncrypting limits fresh gathered from to old new TooManyChunks =
+    TookChunks limits fresh gathered from to old new
+TookWhileEncrypting limits fresh gathered from to old new Write =
+    TookChunks limits fresh gathered from to old new
+TookWhileEncrypting limits fresh gathered from to old new _ = ⊤

@@ -11,7 +11,7 @@ use Rattle.age_stream.specs.Slice.{last_piece, range_outcome}
 use Rattle.age_file.specs.declared.fault.Fault.{Fault}
 use Rattle.age_file.specs.declared.fault.Fault.TheVariants.{IncompatibleRecipients, NoRecipients, OutOfMemory, Read, Refused, Write}
 use Rattle.age_file.specs.AgeFile.{Bounds}
-use Rattle.age_file.specs.Verdict.{Answering, of_header, of_stream, unlocked}
+use Rattle.age_file.specs.Verdict.{Answering, found_in, header_fault, parts_of, stream_fault, unlocked}
 use Rattle.age_stream.specs.Sizes.{nonce_size}
 
 -- a source that is read at offsets, here read from its first byte on: its contents, the next
@@ -34,33 +34,30 @@ IsOpenFault Write = ⊥
 IsOpenFault _ = ⊤
 
 -- the known bytes begin with this header, which is `at` bytes long
-abbrev pub HasFront : (limits : Bounds) (told : Known) (at : ℕ) (h : HeaderParts) → Type 0
-HasFront limits told at h =
+abbrev pub HasHeader : (limits : Bounds) (told : Known) (at : ℕ) (h : HeaderParts) → Type 0
+HasHeader limits told at h =
     IfSome told (λ b. (text : Bytes) × (length text ≡ at)
-    × HeaderVerdict b limits.max_header
-    (Ok (record { stanzas = h.stanzas; mac = h.mac; text = text })))
+    × HeaderVerdict b limits.max_header (Ok (found_in text h)))
 
 -- the known bytes begin with no header, and this is its fault; or a read failed, or memory was
 -- refused
-abbrev pub MissesFront : (limits : Bounds) (told : Known) (fault : Fault) → Type 0
-MissesFront limits told fault = (fault ≡ Read) ⊎ ((fault ≡ OutOfMemory) ⊎ IfSome told (λ b.
-    (e : HeaderFault) × HeaderVerdict b limits.max_header (Err e) × (fault ≡ of_header e)))
+abbrev pub MissesHeader : (limits : Bounds) (told : Known) (fault : Fault) → Type 0
+MissesHeader limits told fault = (fault ≡ Read) ⊎ ((fault ≡ OutOfMemory) ⊎ IfSome told (λ b.
+    (e : HeaderFault) × HeaderVerdict b limits.max_header (Err e) × (fault ≡ header_fault e)))
 
 -- what follows a header, opened for ranges under the file key
 abbrev pub ranges_under : (limits : Bounds) (rest : Bytes) (result : Result FileKey Fault)
     → Result Bytes Fault
 ranges_under limits rest (Err fault) = Err fault
 ranges_under limits rest (Ok k) =
-    result_map_both (λ text. text) of_stream (range_outcome k limits.max_chunks rest)
+    result_map_both (λ text. text) stream_fault (range_outcome k limits.max_chunks rest)
 
 -- the fault of b, given its header verdict
 abbrev pub IsRangeFault : (limits : Bounds) (answers : Answering) (b : Bytes)
     (result : Result Found HeaderFault) (fault : Fault) → Type 0
-IsRangeFault limits answers b (Err e) fault = fault ≡ of_header e
+IsRangeFault limits answers b (Err e) fault = fault ≡ header_fault e
 IsRangeFault limits answers b (Ok found) fault =
-    ranges_under limits (drop (length found.text) b)
-    (unlocked answers (record { stanzas = found.stanzas; mac = found.mac }))
-    ≡ Err fault
+    ranges_under limits (drop (length found.text) b) (unlocked answers (parts_of found)) ≡ Err fault
 
 -- the fault is the first of the known bytes; or a read failed, or memory was refused
 abbrev pub MissesRanges : (limits : Bounds) (answers : Answering) (told : Known) (fault : Fault)
@@ -79,7 +76,7 @@ pub record IsRangesOf (limits : Bounds) (answers : Answering) (b : Bytes) (chunk
   pub found : Found
   pub header : HeaderVerdict b limits.max_header (Ok found)
   pub key : FileKey
-  pub chosen : unlocked answers (record { stanzas = found.stanzas; mac = found.mac }) ≡ Ok key
+  pub chosen : unlocked answers (parts_of found) ≡ Ok key
   pub opened : IsOpened key limits.max_chunks (Some b) (length found.text) chunks
   pub gave : given2
       ≤ given + length found.text

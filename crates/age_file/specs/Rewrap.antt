@@ -3,20 +3,16 @@ use Rattle.std.specs.Prelude.{◌≡◌, ◌⊎◌, ◌≤◌, false, List, ◌+
 use Rattle.std.specs.Io.KnownBytes.{Appends, Keeps}
 use Rattle.age_header.specs.declared.fault.HeaderFault.{HeaderFault}
 use Rattle.age_header.specs.Device.{Bytes, Known, WritesPart}
-use Rattle.age_header.specs.Header.{StanzaParts, Head, HeaderParts}
+use Rattle.age_header.specs.Header.{StanzaParts, Head}
 use Rattle.age_header.specs.Mac.{header_mac}
 use Rattle.age_header.specs.Verdict.{Found, HeaderVerdict}
 use Rattle.age_recipient.specs.declared.key.FileKey.{FileKey}
 use Rattle.age_file.specs.declared.fault.Fault.{Fault}
 use Rattle.age_file.specs.declared.fault.Fault.TheVariants.{TooManyChunks, Read, Write, OutOfMemory}
 use Rattle.age_file.specs.AgeFile.{Bounds, is_mixed}
-use Rattle.age_file.specs.NewFile.{IsRefusal}
-use Rattle.age_file.specs.Verdict.{Answering, of_header, unlocked}
+use Rattle.age_file.specs.NewFile.{Gathering, IsRefusal}
+use Rattle.age_file.specs.Verdict.{Answering, header_fault, parts_of, unlocked}
 use Rattle.age_file.specs.Copying.{most_copied}
-
--- the stanzas and the MAC of a header that was found
-abbrev pub parts_of : Found → HeaderParts
-parts_of found = record { stanzas = found.stanzas; mac = found.mac }
 
 -- c is b with another header for the file key that is chosen: the text of the new stanzas with
 -- their MAC, followed by b without its old header. The new header is within the limit, and has no
@@ -34,54 +30,50 @@ pub record Rewrapped (limits : Bounds) (answers : Answering) (b c : Bytes) : Typ
   pub spelled : c ≡ text ++ drop (length found.text) b
 
 -- with the stanzas that the recipients give for the file key
-abbrev pub IsRewrapped : (limits : Bounds) (answers : Answering)
-    (given : FileKey → Result (List StanzaParts) Fault → Type 0) (b c : Bytes) → Type 0
-IsRewrapped limits answers given b c =
-    (new : Rewrapped limits answers b c) × given new.key (Ok new.stanzas)
+abbrev pub IsRewrapped : (limits : Bounds) (answers : Answering) (gathered : FileKey → Gathering)
+    (b c : Bytes) → Type 0
+IsRewrapped limits answers gathered b c =
+    (new : Rewrapped limits answers b c) × gathered new.key (Ok new.stanzas)
 
 -- the first fault of b's header up to the MAC, or else of the new header
-abbrev pub IsRefusedBy : (limits : Bounds) (answers : Answering)
-    (given : FileKey → Result (List StanzaParts) Fault → Type 0) (result : Result Found HeaderFault)
-    (fault : Fault) → Type 0
-IsRefusedBy limits answers given (Err e) fault = fault ≡ of_header e
-IsRefusedBy limits answers given (Ok found) fault =
+abbrev pub IsRefusedBy : (limits : Bounds) (answers : Answering) (gathered : FileKey → Gathering)
+    (result : Result Found HeaderFault) (fault : Fault) → Type 0
+IsRefusedBy limits answers gathered (Err e) fault = fault ≡ header_fault e
+IsRefusedBy limits answers gathered (Ok found) fault =
     (unlocked answers (parts_of found) ≡ Err fault)
     ⊎ ((key : FileKey) × (unlocked answers (parts_of found) ≡ Ok key)
-    × IsRefusal limits key (given key) fault)
+    × IsRefusal limits key (gathered key) fault)
 
-abbrev pub RefusesRewrap : (limits : Bounds) (answers : Answering)
-    (given : FileKey → Result (List StanzaParts) Fault → Type 0) (b : Bytes) (fault : Fault)
-    → Type 0
-RefusesRewrap limits answers given b fault =
+abbrev pub RefusesRewrap : (limits : Bounds) (answers : Answering) (gathered : FileKey → Gathering)
+    (b : Bytes) (fault : Fault) → Type 0
+RefusesRewrap limits answers gathered b fault =
     (header : Result Found HeaderFault) × HeaderVerdict b limits.max_header header
-    × IsRefusedBy limits answers given header fault
+    × IsRefusedBy limits answers gathered header fault
 
--- a beginning of the rewrapped file was written
+-- a prefix of the rewrapped file was written
 abbrev pub BeginsRewrapped : (limits : Bounds) (answers : Answering)
-    (given : FileKey → Result (List StanzaParts) Fault → Type 0) (b : Bytes) (old new : Known)
-    → Type 0
-BeginsRewrapped limits answers given b old new =
-    (c : Bytes) × IsRewrapped limits answers given b c × WritesPart old new c
+    (gathered : FileKey → Gathering) (b : Bytes) (old new : Known) → Type 0
+BeginsRewrapped limits answers gathered b old new =
+    (c : Bytes) × IsRewrapped limits answers gathered b c × WritesPart old new c
 
 -- What is returned where b was to come, and what is written.
-abbrev pub RewrapsText : (limits : Bounds) (answers : Answering)
-    (given : FileKey → Result (List StanzaParts) Fault → Type 0) (b : Bytes) (old new : Known)
-    (result : Result (Unit {0}) Fault) → Type 0
-RewrapsText limits answers given b old new (Ok done) =
-    (c : Bytes) × IsRewrapped limits answers given b c × Appends old new c
-RewrapsText limits answers given b old new (Err Read) =
-    Keeps old new ⊎ BeginsRewrapped limits answers given b old new
-RewrapsText limits answers given b old new (Err Write) =
-    BeginsRewrapped limits answers given b old new
-RewrapsText limits answers given b old new (Err TooManyChunks) =
-    BeginsRewrapped limits answers given b old new × (most_copied ≤ length b)
-RewrapsText limits answers given b old new (Err OutOfMemory) = ⊤
-RewrapsText limits answers given b old new (Err fault) = RefusesRewrap limits answers given b fault
+abbrev pub RewrapsText : (limits : Bounds) (answers : Answering) (gathered : FileKey → Gathering)
+    (b : Bytes) (old new : Known) (result : Result (Unit {0}) Fault) → Type 0
+RewrapsText limits answers gathered b old new (Ok done) =
+    (c : Bytes) × IsRewrapped limits answers gathered b c × Appends old new c
+RewrapsText limits answers gathered b old new (Err Read) =
+    Keeps old new ⊎ BeginsRewrapped limits answers gathered b old new
+RewrapsText limits answers gathered b old new (Err Write) =
+    BeginsRewrapped limits answers gathered b old new
+RewrapsText limits answers gathered b old new (Err TooManyChunks) =
+    BeginsRewrapped limits answers gathered b old new × (most_copied ≤ length b)
+RewrapsText limits answers gathered b old new (Err OutOfMemory) = ⊤
+RewrapsText limits answers gathered b old new (Err fault) =
+    RefusesRewrap limits answers gathered b fault
 
 -- The same of a source whose bytes may be unknown: then of some bytes.
-abbrev pub Rewraps : (limits : Bounds) (answers : Answering)
-    (given : FileKey → Result (List StanzaParts) Fault → Type 0) (from old new : Known)
-    (r : Result (Unit {0}) Fault) → Type 0
-Rewraps limits answers given None old new r =
-    (b : Bytes) × RewrapsText limits answers given b old new r
-Rewraps limits answers given (Some b) old new r = RewrapsText limits answers given b old new r
+abbrev pub Rewraps : (limits : Bounds) (answers : Answering) (gathered : FileKey → Gathering)
+    (from old new : Known) (r : Result (Unit {0}) Fault) → Type 0
+Rewraps limits answers gathered None old new r =
+    (b : Bytes) × RewrapsText limits answers gathered b old new r
+Rewraps limits answers gathered (Some b) old new r = RewrapsText limits answers gathered b old new r

@@ -16,7 +16,7 @@ use Rattle.age_file.specs.declared.limits.Fresh.{Fresh}
 use Rattle.age_file.specs.AgeFile.{Bounds, is_mixed}
 use Rattle.age_file.specs.Device.{CountsRead, CountsWrite}
 use Rattle.age_file.specs.Inspect.{Inspects}
-use Rattle.age_file.specs.Verdict.{of_stream}
+use Rattle.age_file.specs.Verdict.{stream_fault}
 
 -- a file that is ready to be written: its header, its key and nonce, and the limits
 pub record EncryptorState : Type 0 where
@@ -30,7 +30,7 @@ PutsFront s old new =
     (text : Bytes) × Head s.header.stanzas s.header.mac text
     × Appends old new (text ++ s.fresh.nonce)
 
--- a write of them failed: a beginning of both was written, and one failure more was counted
+-- a write of them failed: a prefix of both was written, and one failure more was counted
 abbrev pub LosesFront : (s : EncryptorState) (old new : Known) (before after : ℕ) (fault : Fault)
     → Type 0
 LosesFront s old new before after fault =
@@ -59,7 +59,7 @@ RefusesHeader limits from to before after fault =
     × ((header : HeaderParts) × Inspects limits from to (Ok header)
     × (is_mixed header.stanzas ≡ true))))
 
--- the nonce was read, and the opener stands before piece 0 under the key that was found
+-- the nonce was read, and piece 0 is the opener's next, under the key that was found
 abbrev pub StartsUnder : (limits : Bounds) (found : Result FileKey Fault) (from to : Known)
     (opener : OpenerState) → Type 0
 StartsUnder limits found from to opener =
@@ -69,5 +69,5 @@ StartsUnder limits found from to opener =
 abbrev pub MissesUnder : (limits : Bounds) (found : Result FileKey Fault) (from to : Known)
     (before after : ℕ) (fault : Fault) → Type 0
 MissesUnder limits found from to before after fault =
-    (k : FileKey) × (met : StreamFault) × (found ≡ Ok k) × (fault ≡ of_stream met)
+    (k : FileKey) × (met : StreamFault) × (found ≡ Ok k) × (fault ≡ stream_fault met)
     × MissesNonce k limits.max_chunks from to before after met

@@ -21,31 +21,43 @@ use Rattle.age_file.specs.declared.fault.Fault.TheVariants.{NotAge, BadLine, Hea
 use Rattle.age_file.specs.AgeFile.{Bounds, is_mixed}
 
 -- a file's name of the fault of its header
-abbrev pub of_header : HeaderFault → Fault
-of_header header.NotAge = NotAge
-of_header (header.BadLine n) = BadLine n
-of_header header.Truncated = HeaderTruncated
-of_header header.TooLarge = HeaderTooLarge
-of_header header.Read = Read
-of_header header.Memory = OutOfMemory
+abbrev pub header_fault : HeaderFault → Fault
+header_fault header.NotAge = NotAge
+header_fault (header.BadLine n) = BadLine n
+header_fault header.Truncated = HeaderTruncated
+header_fault header.TooLarge = HeaderTooLarge
+header_fault header.Read = Read
+header_fault header.Memory = OutOfMemory
 
 -- a file's name of why its key was not found
-abbrev pub of_unlock : UnlockFault → Fault
-of_unlock unlock.NoMatch = NoMatch
-of_unlock unlock.WrongKey = WrongKey
-of_unlock (unlock.Malformed fault) = Malformed fault
-of_unlock unlock.Memory = OutOfMemory
+abbrev pub unlock_fault : UnlockFault → Fault
+unlock_fault unlock.NoMatch = NoMatch
+unlock_fault unlock.WrongKey = WrongKey
+unlock_fault (unlock.Malformed fault) = Malformed fault
+unlock_fault unlock.Memory = OutOfMemory
 
 -- a file's name of the fault of its payload
-abbrev pub of_stream : StreamFault → Fault
-of_stream stream.NonceTruncated = NonceTruncated
-of_stream (stream.ChunkShort i) = ChunkShort i
-of_stream (stream.EmptyFinal i) = EmptyFinal i
-of_stream (stream.BadChunk i) = BadChunk i
-of_stream stream.TooManyChunks = TooManyChunks
-of_stream stream.Read = Read
-of_stream stream.Write = Write
-of_stream stream.Memory = OutOfMemory
+abbrev pub stream_fault : StreamFault → Fault
+stream_fault stream.NonceTruncated = NonceTruncated
+stream_fault (stream.ChunkShort i) = ChunkShort i
+stream_fault (stream.EmptyFinal i) = EmptyFinal i
+stream_fault (stream.BadChunk i) = BadChunk i
+stream_fault stream.TooManyChunks = TooManyChunks
+stream_fault stream.Read = Read
+stream_fault stream.Write = Write
+stream_fault stream.Memory = OutOfMemory
+
+-- the stanzas and the MAC of a header that was found
+abbrev pub parts_of : Found → HeaderParts
+parts_of found = record { stanzas = found.stanzas; mac = found.mac }
+
+-- a header with its text
+abbrev pub found_in : (text : Bytes) (h : HeaderParts) → Found
+found_in text h = record { stanzas = h.stanzas; mac = h.mac; text = text }
+
+-- a payload's reading, with the file's fault for its own
+abbrev pub with_file_fault : Reading StreamFault → Reading Fault
+with_file_fault r = record { front = r.front; fault = option_map stream_fault r.fault }
 
 -- what identities make of each list of stanzas: one answer for each identity, in order
 abbrev pub Answering : Type 0
@@ -53,7 +65,7 @@ Answering = List StanzaParts → List Unwrapped
 
 -- the key that was chosen, where the header's MAC is the one under it
 abbrev pub checked : (h : HeaderParts) (chosen : Result FileKey UnlockFault) → Result FileKey Fault
-checked h (Err fault) = Err (of_unlock fault)
+checked h (Err fault) = Err (unlock_fault fault)
 checked h (Ok k) = if bytes_eq h.mac (header_mac k.0 h.stanzas) then Ok k else Err BadMac
 
 -- the file key of a header, or the first fault up to the MAC
@@ -66,18 +78,14 @@ unlocked answers h =
 abbrev pub read_under : (limits : Bounds) (rest : Bytes) (result : Result FileKey Fault)
     → Reading Fault
 read_under limits rest (Err fault) = stops fault
-read_under limits rest (Ok k) = record {
-  front = (payload_reading k limits.max_chunks rest).front;
-  fault = option_map of_stream (payload_reading k limits.max_chunks rest).fault;
-}
+read_under limits rest (Ok k) = with_file_fault (payload_reading k limits.max_chunks rest)
 
 -- what b comes to, given its header verdict
 abbrev pub judged : (limits : Bounds) (answers : Answering) (b : Bytes)
     (result : Result Found HeaderFault) → Reading Fault
-judged limits answers b (Err fault) = stops (of_header fault)
+judged limits answers b (Err fault) = stops (header_fault fault)
 judged limits answers b (Ok found) =
-    read_under limits (drop (length found.text) b)
-    (unlocked answers (record { stanzas = found.stanzas; mac = found.mac }))
+    read_under limits (drop (length found.text) b) (unlocked answers (parts_of found))
 
 -- The verdict on b: the first fault, if there is one, and the plaintext of the chunks before it.
 pub record IsVerdict (limits : Bounds) (answers : Answering) (b : Bytes) (verdict : Reading Fault)

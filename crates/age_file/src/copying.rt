@@ -7,6 +7,9 @@ ghost use Rattle.age_file.specs.Device.{CountsRead, CountsWrite};
 use crate::fault::Fault;
 use age_header::{Sink, Source, fill_from, write_all};
 
+/// How many bytes are read and written at once.
+pub(crate) const BUFFER_SIZE: usize = 65_536;
+
 /// How many full pieces are copied at most, 2^105 bytes in all: more than any payload has, so that
 /// the loop ends.
 const MAX_PIECES: u128 = 1 << 89;

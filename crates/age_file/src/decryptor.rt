@@ -10,9 +10,10 @@ ghost use Rattle.age_file.specs.Verdict.{unlocked, Answering};
 ghost use Rattle.age_stream.specs.Sizes.{nonce_size};
 
 use crate::fault::Fault;
-use crate::fault_names::stream_fault;
-use crate::key_finding::{inspect, is_mixed, unlock_header};
+use crate::fault_conversions::stream_fault;
+use crate::inspecting::inspect;
 use crate::limits::Limits;
+use crate::unlocking::{is_mixed, unlock_header};
 use age_header::{Header, Source, Stanza};
 use age_recipient::Identity;
 use age_stream::{ChunkBuf, ChunkOpener, Refused, StreamReader};

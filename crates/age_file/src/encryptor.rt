@@ -7,10 +7,10 @@ ghost use Rattle.age_stream.specs.Sealing.{at_start};
 ghost use Rattle.age_stream.specs.Writer.{device_of, fault_of, sealer_of, sink_of};
 ghost use Rattle.age_file.specs.NewFile.{FailsHeading, Gathered, IsHeading};
 
+use crate::encrypting::write_front;
 use crate::fault::Fault;
 use crate::limits::{Fresh, Limits};
 use crate::new_header::header_for;
-use crate::writing::write_front;
 use age_header::{Header, Sink};
 use age_recipient::Recipient;
 use age_stream::{ChunkBuf, ChunkSealer, Refused, StreamWriter};
@@ -50,15 +50,15 @@ impl Encryptor {
         fresh: &Fresh,
         limits: &Limits,
     ) -> Result<Encryptor, Fault>
-        ensures ok { let given = Gathered (map (λ r. wraps r fresh.now.file_key) recipients.now)
+        ensures ok { let gathered = Gathered (map (λ r. wraps r fresh.now.file_key) recipients.now)
             (map (λ r. the_labels r) recipients.now) in
             IfOk result (λ e. (e.fresh ≡ fresh.now) × (e.limits ≡ limits.now)
             × (e.header.mac ≡ header_mac fresh.now.file_key.0 e.header.stanzas)
             × ((text : Bytes)
-            × IsHeading limits.now fresh.now.file_key given e.header.stanzas text)) }
-        ensures err { let given = Gathered (map (λ r. wraps r fresh.now.file_key) recipients.now)
+            × IsHeading limits.now fresh.now.file_key gathered e.header.stanzas text)) }
+        ensures err { let gathered = Gathered (map (λ r. wraps r fresh.now.file_key) recipients.now)
             (map (λ r. the_labels r) recipients.now) in
-            IfErr result (FailsHeading limits.now fresh.now.file_key given) }
+            IfErr result (FailsHeading limits.now fresh.now.file_key gathered) }
     {
         match header_for(alloc, recipients, &fresh.file_key, limits) {
             Ok(header) => Ok(Encryptor {

@@ -10,7 +10,7 @@ ghost use Rattle.age_recipient.specs.Labels.{incompatible};
 ghost use Rattle.age_stream.specs.Reading.{Reading, whole};
 ghost use Rattle.age_file.specs.declared.fault.Fault.{Fault};
 ghost use Rattle.age_file.specs.AgeFile.{AgeFile, Bounds};
-ghost use Rattle.age_file.specs.NewFile.{IsApart};
+ghost use Rattle.age_file.specs.NewFile.{IsIncompatible};
 ghost use Rattle.age_file.specs.Rewrap.{Rewrapped};
 ghost use Rattle.age_file.specs.Verdict.{Answering, IsVerdict};
 
@@ -41,9 +41,10 @@ pub fn pair_opens<M: Matched>(pair: &M)
 /// holds whatever labels their boxes return. The last two clauses are about the labels that the
 /// recipients mean.
 pub fn own_recipients()
-    ensures one { (meant : Labels) (place : Option ℕ) → IsApart (meant ∷ []) place → place ≡ None }
-    ensures keyed { (n : ℕ) (place : Option ℕ) → IsApart (replicate n (Labels.Names [])) place
-        → place ≡ None }
+    ensures one { (meant : Labels) (index : Option ℕ)
+        → IsIncompatible (meant ∷ []) index → index ≡ None }
+    ensures keyed { (n : ℕ) (index : Option ℕ)
+        → IsIncompatible (replicate n (Labels.Names [])) index → index ≡ None }
     ensures passphrase_first { (other : Labels) (others : List Labels)
         → incompatible (Labels.Alone ∷ other ∷ others) ≡ Some 1 }
     ensures passphrase_after { (n : ℕ) (others : List Labels)

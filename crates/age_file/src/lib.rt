@@ -29,20 +29,21 @@
 
 mod at_source;
 mod copying;
+mod decrypting;
 mod decryptor;
+mod encrypting;
 mod encryptor;
 mod fault;
-mod fault_names;
-mod key_finding;
+mod fault_conversions;
+mod inspecting;
 pub mod laws;
 mod limits;
 mod new_header;
 mod ranges;
-mod reading;
 mod rewrapping;
 #[cfg(test)]
 mod tests;
-mod writing;
+mod unlocking;
 
 pub use age_header::{
     DeviceFault, Header, HeaderFault, HeaderReader, MemSink, MemSource, ReadSource, Sink, Source,
@@ -56,13 +57,14 @@ pub use age_recipient::{
 pub use age_stream::{
     Done, FileAt, MemAt, RangeReader, ReadAt, Refused, StreamFault, StreamReader, StreamWriter,
 };
+pub use decrypting::decrypt;
 pub use decryptor::Decryptor;
+pub use encrypting::{encrypt, write_front};
 pub use encryptor::Encryptor;
 pub use fault::Fault;
-pub use key_finding::{inspect, unlock_header};
+pub use inspecting::inspect;
 pub use limits::{Fresh, Limits};
 pub use new_header::header_for;
 pub use ranges::open_ranges;
-pub use reading::decrypt;
 pub use rewrapping::rewrap;
-pub use writing::{encrypt, write_front};
+pub use unlocking::unlock_header;

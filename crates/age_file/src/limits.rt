@@ -5,6 +5,15 @@ ghost use Rattle.age_stream.specs.Sizes.{most_chunks};
 use age_recipient::FileKey;
 use std::marker::Model;
 
+/// The least limit on the size of a header, 1 KiB.
+const LEAST_MAX_HEADER: usize = 1_024;
+
+/// The greatest limit on the size of a header, 16 MiB.
+const MOST_MAX_HEADER: usize = 16_777_216;
+
+/// The limit on the size of a header where the caller gives none, 64 KiB.
+const DEFAULT_MAX_HEADER: usize = 65_536;
+
 /// The maximum number of chunks of a payload: a chunk's number has eleven bytes in its nonce.
 const MOST_CHUNKS: u128 = 1 << 88;
 
@@ -40,8 +49,8 @@ impl Limits {
         ensures none { IfNone result
             (IsBounds (record { max_header = max_header; max_chunks = max_chunks }) → ⊥) }
     {
-        if max_header < 1_024
-            || max_header > 16_777_216
+        if max_header < LEAST_MAX_HEADER
+            || max_header > MOST_MAX_HEADER
             || max_chunks < 1
             || max_chunks > MOST_CHUNKS
         {
@@ -77,7 +86,7 @@ impl Default for Limits {
     /// 65,536 bytes of a header, and 2^88 chunks of a payload.
     fn default() -> Limits {
         Limits {
-            max_header: 65_536,
+            max_header: DEFAULT_MAX_HEADER,
             max_chunks: MOST_CHUNKS,
         }
     }

@@ -5,11 +5,11 @@ ghost use Rattle.age_header.specs.Device.{Bytes};
 ghost use Rattle.age_header.specs.Mac.{header_mac};
 ghost use Rattle.age_recipient.specs.Labels.{MayLabel};
 ghost use Rattle.age_recipient.specs.Wrap.{WrapsAs};
-ghost use Rattle.age_file.specs.NewFile.{FailsHeading, Gathered, Gathers, IsApart, IsApartFrom, IsHeading, WrapsAll, gathered_from};
+ghost use Rattle.age_file.specs.NewFile.{FailsHeading, Gathered, Gathers, IsIncompatible, IsIncompatibleWith, IsHeading, WrapsAll, gathered_from};
 
 use crate::fault::Fault;
-use crate::key_finding::is_mixed;
 use crate::limits::Limits;
+use crate::unlocking::is_mixed;
 use age_header::{Header, Stanza, mac_of};
 use age_recipient::{FileKey, Labels, Recipient, WrapFault};
 use std::alloc::{AllocError, Global};
@@ -27,13 +27,13 @@ pub fn header_for(
     key: &FileKey,
     limits: &Limits,
 ) -> Result<Header, Fault>
-    ensures ok { let given = Gathered (map (λ r. wraps r key.now) recipients.now)
+    ensures ok { let gathered = Gathered (map (λ r. wraps r key.now) recipients.now)
         (map (λ r. the_labels r) recipients.now) in
         IfOk result (λ h. (h.mac ≡ header_mac key.now.0 h.stanzas)
-        × ((text : Bytes) × IsHeading limits.now key.now given h.stanzas text)) }
-    ensures err { let given = Gathered (map (λ r. wraps r key.now) recipients.now)
+        × ((text : Bytes) × IsHeading limits.now key.now gathered h.stanzas text)) }
+    ensures err { let gathered = Gathered (map (λ r. wraps r key.now) recipients.now)
         (map (λ r. the_labels r) recipients.now) in
-        IfErr result (FailsHeading limits.now key.now given) }
+        IfErr result (FailsHeading limits.now key.now gathered) }
 {
     let stanzas = match gather_stanzas(alloc, recipients, key) {
         Ok(stanzas) => stanzas,
@@ -63,15 +63,15 @@ fn gather_stanzas(
     recipients: &[Box<dyn Recipient>],
     key: &FileKey,
 ) -> Result<Vec<Stanza>, Fault>
-    ensures { let given = Gathered (map (λ r. wraps r key.now) recipients.now)
+    ensures { let gathered = Gathered (map (λ r. wraps r key.now) recipients.now)
         (map (λ r. the_labels r) recipients.now) in
-        Gathers given result }
+        Gathers gathered result }
 {
     let stanzas = match wrap_all(alloc, recipients, key) {
         Ok(stanzas) => stanzas,
         Err(fault) => return Err(fault),
     };
-    match first_apart(alloc, recipients) {
+    match first_incompatible(alloc, recipients) {
         Ok(None) => Ok(stanzas),
         Ok(Some(i)) => Err(Fault::IncompatibleRecipients(i)),
         Err(_) => Err(Fault::OutOfMemory),
@@ -103,26 +103,26 @@ fn wrap_all(
 }
 
 /// The least index of a recipient whose labels do not go together with those of recipient 0.
-fn first_apart(
+fn first_incompatible(
     alloc: Global,
     recipients: &[Box<dyn Recipient>],
 ) -> Result<Option<usize>, AllocError>
-    ensures { IfOk result (IsApart (map (λ r. the_labels r) recipients.now)) }
+    ensures { IfOk result (IsIncompatible (map (λ r. the_labels r) recipients.now)) }
 {
     match recipients.split_first() {
-        Some((first, others)) => apart_from(alloc, &labels_of(alloc, first)?, others),
+        Some((first, others)) => incompatible_with(alloc, &labels_of(alloc, first)?, others),
         None => Ok(None),
     }
 }
 
 /// The index, counted from 1, of the first of the others whose labels do not go together with
 /// these.
-fn apart_from(
+fn incompatible_with(
     alloc: Global,
     first: &Labels,
     others: &[Box<dyn Recipient>],
 ) -> Result<Option<usize>, AllocError>
-    ensures { IfOk result (IsApartFrom first.now (map (λ r. the_labels r) others.now)) }
+    ensures { IfOk result (IsIncompatibleWith first.now (map (λ r. the_labels r) others.now)) }
 {
     for (i, other) in others.iter().enumerate() {
         if !first.go_together(&labels_of(alloc, other)?) {

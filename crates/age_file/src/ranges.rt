@@ -3,14 +3,15 @@
 ghost use Rattle.std.specs.Prelude.{◌≡◌, ◌+◌, ◌-◌, ◌≤◌, ℕ, map, Err, Some, IfOk, IfErr, IfSome};
 ghost use Rattle.age_stream.specs.Ranges.{chunks_of, source_at_of};
 ghost use Rattle.age_file.specs.Device.{CountsRead};
-ghost use Rattle.age_file.specs.Ranges.{HasFront, IsOpenFault, IsRangesOf, MissesFront, MissesRanges};
+ghost use Rattle.age_file.specs.Ranges.{HasHeader, IsOpenFault, IsRangesOf, MissesHeader, MissesRanges};
 ghost use Rattle.age_file.specs.Verdict.{Answering};
 
 use crate::at_source::{AtSource, Origin};
 use crate::fault::Fault;
-use crate::fault_names::stream_fault;
-use crate::key_finding::{inspect, unlock_header};
+use crate::fault_conversions::stream_fault;
+use crate::inspecting::inspect;
 use crate::limits::Limits;
+use crate::unlocking::unlock_header;
 use age_header::Header;
 use age_recipient::Identity;
 use age_stream::{RangeReader, ReadAt};
@@ -18,7 +19,7 @@ use std::alloc::Global;
 use std::marker::Brand;
 
 /// A header, its source, and the offset of the first byte after it.
-struct Front<'a, D> {
+struct HeaderAt<'a, D> {
     header: Header,
     dev: &'a mut D,
     at: u64,
@@ -26,18 +27,18 @@ struct Front<'a, D> {
 
 /// Reads the header at the start of a source. `K` has the source's contents, and the number of
 /// bytes that had been read from it before.
-fn front_of<'a, D: ReadAt, K: Origin>(
+fn header_at<'a, D: ReadAt, K: Origin>(
     alloc: Global,
     dev: &'a mut D,
     limits: &Limits,
-) -> Result<Front<'a, D>, Fault>
+) -> Result<HeaderAt<'a, D>, Fault>
     requires bytes { K.bytes ≡ D.bytes dev.old }
     requires given { K.given ≡ D.given dev.old }
-    ensures stay { IfOk result (λ front. D.bytes front.dev.now ≡ K.bytes) }
-    ensures given { IfOk result (λ front. D.given front.dev.now ≤ K.given + front.at) }
-    ensures uncounted { IfOk result (λ front. D.failed front.dev.now ≡ D.failed dev.old) }
-    ensures header { IfOk result (λ front. HasFront limits.now K.bytes front.at front.header) }
-    ensures misses { IfErr result (MissesFront limits.now K.bytes) }
+    ensures stay { IfOk result (λ found. D.bytes found.dev.now ≡ K.bytes) }
+    ensures given { IfOk result (λ found. D.given found.dev.now ≤ K.given + found.at) }
+    ensures uncounted { IfOk result (λ found. D.failed found.dev.now ≡ D.failed dev.old) }
+    ensures header { IfOk result (λ found. HasHeader limits.now K.bytes found.at found.header) }
+    ensures misses { IfErr result (MissesHeader limits.now K.bytes) }
     ensures named { IfErr result IsOpenFault }
     ensures counted { IfErr result (λ fault. (last : D) × (D.bytes last ≡ K.bytes)
         × CountsRead {A = ℕ} (D.failed dev.old) (D.failed last) (Err fault)) }
@@ -46,7 +47,7 @@ fn front_of<'a, D: ReadAt, K: Origin>(
     match inspect(alloc, &mut source, limits) {
         Ok(header) => {
             let (dev, at) = source.into_parts();
-            Ok(Front { header, dev, at })
+            Ok(HeaderAt { header, dev, at })
         }
         Err(fault) => {
             let _ = source.into_parts();
@@ -56,22 +57,22 @@ fn front_of<'a, D: ReadAt, K: Origin>(
 }
 
 /// Reads the header at the start of a source.
-fn read_front<'a, D: ReadAt>(
+fn read_header_at<'a, D: ReadAt>(
     alloc: Global,
     dev: &'a mut D,
     limits: &Limits,
-) -> Result<Front<'a, D>, Fault>
-    ensures stay { IfOk result (λ front. D.bytes front.dev.now ≡ D.bytes dev.old) }
-    ensures given { IfOk result (λ front. D.given front.dev.now ≤ D.given dev.old + front.at) }
-    ensures uncounted { IfOk result (λ front. D.failed front.dev.now ≡ D.failed dev.old) }
+) -> Result<HeaderAt<'a, D>, Fault>
+    ensures stay { IfOk result (λ found. D.bytes found.dev.now ≡ D.bytes dev.old) }
+    ensures given { IfOk result (λ found. D.given found.dev.now ≤ D.given dev.old + found.at) }
+    ensures uncounted { IfOk result (λ found. D.failed found.dev.now ≡ D.failed dev.old) }
     ensures header { IfOk result
-        (λ front. HasFront limits.now (D.bytes dev.old) front.at front.header) }
-    ensures misses { IfErr result (MissesFront limits.now (D.bytes dev.old)) }
+        (λ found. HasHeader limits.now (D.bytes dev.old) found.at found.header) }
+    ensures misses { IfErr result (MissesHeader limits.now (D.bytes dev.old)) }
     ensures named { IfErr result IsOpenFault }
     ensures counted { IfErr result (λ fault. (last : D) × (D.bytes last ≡ D.bytes dev.old)
         × CountsRead {A = ℕ} (D.failed dev.old) (D.failed last) (Err fault)) }
 {
-    front_of::<D, Brand>(alloc, dev, limits)
+    header_at::<D, Brand>(alloc, dev, limits)
 }
 
 /// Opens a file for reading any part of its plaintext (C2SP `age.md`): reads its header from the
@@ -108,8 +109,8 @@ pub fn open_ranges<'a, D: ReadAt>(
     ensures counted { IfErr result (λ fault. (last : D) × (D.bytes last ≡ D.bytes dev.old)
         × CountsRead {A = ℕ} (D.failed dev.old) (D.failed last) (Err fault)) }
 {
-    let Front { header, dev, at } = match read_front(alloc, dev, limits) {
-        Ok(front) => front,
+    let HeaderAt { header, dev, at } = match read_header_at(alloc, dev, limits) {
+        Ok(found) => found,
         Err(fault) => return Err(fault),
     };
     let key = match unlock_header(alloc, identities, &header) {

@@ -7,11 +7,12 @@ ghost use Rattle.age_file.specs.NewFile.{Gathered};
 ghost use Rattle.age_file.specs.Rewrap.{Rewraps};
 ghost use Rattle.age_file.specs.Verdict.{Answering};
 
-use crate::copying::copy_all;
+use crate::copying::{BUFFER_SIZE, copy_all};
 use crate::fault::Fault;
-use crate::key_finding::{inspect, unlock_header};
+use crate::inspecting::inspect;
 use crate::limits::Limits;
 use crate::new_header::header_for;
+use crate::unlocking::unlock_header;
 use age_header::{Sink, Source, write_header};
 use age_recipient::{Identity, Recipient};
 use std::alloc::Global;
@@ -35,7 +36,7 @@ pub fn rewrap<S: Source, W: Sink>(
     recipients: &[Box<dyn Recipient>],
     limits: &Limits,
 ) -> Result<(), Fault>
-    ensures answer { let answers : Answering =
+    ensures rewraps { let answers : Answering =
         λ stanzas. map (λ i. meaning i stanzas) identities.now in
         Rewraps limits.now answers (λ key. Gathered (map (λ r. wraps r key) recipients.now)
         (map (λ r. the_labels r) recipients.now))
@@ -57,7 +58,7 @@ pub fn rewrap<S: Source, W: Sink>(
         Ok(new) => new,
         Err(fault) => return Err(fault),
     };
-    let Ok(buf) = vec![in alloc; 0u8; 65_536] else {
+    let Ok(buf) = vec![in alloc; 0u8; BUFFER_SIZE] else {
         return Err(Fault::OutOfMemory);
     };
     match write_header(&new, out) {
@@ -67,6 +68,6 @@ pub fn rewrap<S: Source, W: Sink>(
     let mut buf = buf;
     // So that with a buffered sink of this size each write but the last begins and ends at a
     // multiple of it.
-    let first = 65_536 - (new.text_len() % 65_536) as usize;
+    let first = BUFFER_SIZE - (new.text_len() % BUFFER_SIZE as u64) as usize;
     copy_all(input, out, buf.as_mut_slice(), first)
 }

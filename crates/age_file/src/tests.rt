@@ -101,7 +101,7 @@ fn decrypted(
     (answer, out.into_vec())
 }
 
-/// The answer on this many bytes in one chunk.
+/// The `Done` of this many bytes in one chunk.
 fn done(bytes: u128) -> Result<Done, Fault> {
     Ok(Done { bytes, chunks: 1 })
 }

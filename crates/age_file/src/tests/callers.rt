@@ -156,7 +156,7 @@ fn labelled(alloc: Global, all: &[Option<&[&str]>]) -> Result<Recipients, Fail> 
 fn recipients_with_equal_labels_go_together(rt: HostRuntime) -> Result<(), Fail> {
     let alloc = rt.alloc();
     let limits = Limits::default();
-    let apart = |i| Err(Fault::IncompatibleRecipients(i));
+    let incompatible = |i| Err(Fault::IncompatibleRecipients(i));
     let lists: [(&str, &[Option<&[&str]>], Result<Done, Fault>); 5] = [
         (
             "one set",
@@ -166,18 +166,18 @@ fn recipients_with_equal_labels_go_together(rt: HostRuntime) -> Result<(), Fail>
         (
             "third without a name",
             &[Some(&["a"]), Some(&["a"]), Some(&[])],
-            apart(2),
+            incompatible(2),
         ),
         (
             "second with a name",
             &[Some(&[]), Some(&["a"]), Some(&["b"])],
-            apart(1),
+            incompatible(1),
         ),
         ("alone", &[None], done(0)),
         (
             "one that stands alone beside another",
             &[Some(&[]), None],
-            apart(1),
+            incompatible(1),
         ),
     ];
     for (name, labels, expected) in lists {

@@ -129,7 +129,7 @@ impl Recipient for LabelledRecipient {
     }
 }
 
-/// CountingIdentity how often it is asked, and has no answer.
+/// Counts how often it is called, and returns `NotMine`.
 #[derive(Drop)]
 pub(super) struct CountingIdentity {
     pub(super) asked: Rc<Cell<u32>>,
@@ -146,7 +146,7 @@ impl Identity for CountingIdentity {
     }
 }
 
-/// FixedIdentity the same of any stanzas, as an agent might that holds a file key already.
+/// Returns the same result for any stanzas, like an agent that holds a file key already.
 #[derive(Drop)]
 pub(super) struct FixedIdentity {
     pub(super) answer: Unwrapped,

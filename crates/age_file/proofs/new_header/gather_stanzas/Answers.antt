@@ -1,5 +1,5 @@
 use Rattle.std.proofs.Common.{map}
-use Rattle.age_file.proofs.IsApartLemmas.{refused_first}
+use Rattle.age_file.proofs.IncompatibleLemmas.{refused_first}
 use Rattle.age_file.proofs.new_header.gather_stanzas.Goals as goal
 
 pub returns-in-Err : goal.returns-in-Err

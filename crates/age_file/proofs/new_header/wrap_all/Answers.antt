@@ -1,6 +1,6 @@
 use Rattle.std.proofs.Common.{sym, ◌∙◌, ap, inr, Err, ◌++◌, ◌≡◌, rules}
 use Rattle.age_file.specs.declared.fault.Fault.TheVariants.{Refused}
-use Rattle.age_file.specs.NewFile.{before}
+use Rattle.age_file.specs.NewFile.{preceded_by}
 use Rattle.age_file.proofs.GatheredLemmas.{gathered_step, gathered_more, refusal}
 use Rattle.age_file.proofs.new_header.wrap_all.Goals as goal
 
@@ -11,7 +11,7 @@ returns-in-Err-Refused g c =
       c.in-Err-Refused.code,
       ap (λ n. Refused c.loop-i.i n) c.in-Err-Refused.code-is,
       sym c.loop-i.invariant
-          ∙ ap (before c.loop-i.all.items) (gathered_step _ _ _ _ _ (Err c.in-Err-Refused.code) c.loop-i-test.true c.index-recipients-i.is
+          ∙ ap (preceded_by c.loop-i.all.items) (gathered_step _ _ _ _ _ (Err c.in-Err-Refused.code) c.loop-i-test.true c.index-recipients-i.is
           (refusal c.in-Err-Refused.field-0-is c.in-Err-Refused.ensures)),
     )
 

@@ -1,9 +1,9 @@
 use Rattle.std.proofs.Common.{◌≡◌, map, drop}
-use Rattle.age_file.specs.NewFile.{before, gathered_from}
+use Rattle.age_file.specs.NewFile.{preceded_by, gathered_from}
 use Rattle.age_file.proofs.new_header.wrap_all.Given as goal
 
--- what was gathered, before what is left, is what there is to gather
+-- what was gathered, followed by what is left, is what there is to gather
 abbrev pub invariant-loop-i : goal.invariant-loop-i
 invariant-loop-i g l =
-    before l.all.items (gathered_from l.i (drop l.i (map (λ r. (goal.Recipient-dyn g (r.vtable, r.value)).wraps r.value l.key) l.recipients)))
+    preceded_by l.all.items (gathered_from l.i (drop l.i (map (λ r. (goal.Recipient-dyn g (r.vtable, r.value)).wraps r.value l.key) l.recipients)))
     ≡ gathered_from 0 (map (λ r. (goal.Recipient-dyn g (r.vtable, r.value)).wraps r.value l.key) l.recipients)

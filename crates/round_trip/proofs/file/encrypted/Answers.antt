@@ -10,5 +10,5 @@ returns-in-Ok g c =
     let out : c.encrypt.new.out.out.items ≡ c.into_vec.result.items = cc (c.into_vec.ensures) in
     record {
       file = file_of_one c.args.limits.now c.args.fresh.now _ ((goal.Recipient-dyn g (c.args.recipient.vtable, c.args.recipient.value)).the_labels c.args.recipient.value ∷ []) c.args.plain.now c.into_vec.result.items c.in-Ok.field-0
-          (rw (list, come, empty, out) at c.in-Ok.ensures.answer);
+          (rw (list, come, empty, out) at c.in-Ok.ensures.encrypts);
     }

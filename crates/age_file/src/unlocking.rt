@@ -1,34 +1,16 @@
-//! Reading a header, and finding the file key in it.
+//! Finding the file key of a header.
 
 ghost use Rattle.std.specs.Prelude.{◌≡◌, ◌⊎◌, map, Err, IfErr};
 ghost use Rattle.std.specs.List.{list_any};
 ghost use Rattle.age_file.specs.AgeFile.{is_mixed, is_scrypt};
-ghost use Rattle.age_file.specs.Device.{CountsRead, IsInside};
-ghost use Rattle.age_file.specs.Inspect.{Inspects};
+ghost use Rattle.age_file.specs.Device.{IsNoDeviceFault};
 ghost use Rattle.age_file.specs.Verdict.{checked, unlocked};
 
 use crate::fault::Fault;
-use crate::fault_names::{header_fault, unlock_fault};
-use crate::limits::Limits;
-use age_header::{Header, HeaderReader, Source, Stanza, mac_of};
+use crate::fault_conversions::unlock_fault;
+use age_header::{Header, Stanza, mac_of};
 use age_recipient::{FileKey, Identity, UnlockFault, unlock};
 use std::alloc::Global;
-
-/// Reads the header at the start of a file (C2SP `age.md`), and from the source exactly the
-/// header's bytes. It does not verify the MAC.
-///
-/// # Errors
-/// The first of `NotAge`, `BadLine`, `HeaderTruncated` and `HeaderTooLarge` that applies, as
-/// `HeaderReader` says; `Read` if the source failed, `OutOfMemory` if an allocation was refused.
-pub fn inspect<S: Source>(alloc: Global, input: &mut S, limits: &Limits) -> Result<Header, Fault>
-    ensures verdict { Inspects limits.now (S.to_come input.old) (S.to_come input.new) result }
-    ensures reads { CountsRead (S.failed input.old) (S.failed input.new) result }
-{
-    match HeaderReader::new(limits.max_header()).read_from(alloc, input) {
-        Ok(header) => Ok(header),
-        Err(fault) => Err(header_fault(fault)),
-    }
-}
 
 /// Finds the file key of a header by these identities, tried in order, and verifies the header's
 /// MAC under it.
@@ -44,7 +26,7 @@ pub fn unlock_header(
 ) -> Result<FileKey, Fault>
     ensures key { (result ≡ Err Fault.OutOfMemory)
         ⊎ (result ≡ unlocked (λ stanzas. map (λ i. meaning i stanzas) identities.now) header.now) }
-    ensures inside { IfErr result IsInside }
+    ensures no_device { IfErr result IsNoDeviceFault }
 {
     if is_mixed(header.stanzas()) {
         return Err(Fault::MixedPassphrase);
@@ -59,7 +41,7 @@ fn checked(
     chosen: Result<FileKey, UnlockFault>,
 ) -> Result<FileKey, Fault>
     ensures key { (result ≡ Err Fault.OutOfMemory) ⊎ (result ≡ checked header.now chosen) }
-    ensures inside { IfErr result IsInside }
+    ensures no_device { IfErr result IsNoDeviceFault }
 {
     let key = match chosen {
         Ok(key) => key,

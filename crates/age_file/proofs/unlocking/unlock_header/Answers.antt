@@ -1,7 +1,7 @@
 use Rattle.std.proofs.Common.{◌∙◌, sym, List, map}
 use Rattle.age_header.specs.Header.{StanzaParts}
 use Rattle.age_file.proofs.FileLemmas.{checked-unlocked}
-use Rattle.age_file.proofs.key_finding.unlock_header.Goals as goal
+use Rattle.age_file.proofs.unlocking.unlock_header.Goals as goal
 
 pub returns-clause-key : goal.returns-clause-key
 returns-clause-key g c =

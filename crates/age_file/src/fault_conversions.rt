@@ -1,8 +1,8 @@
 //! Conversions of the errors of headers, keys and payloads to `Fault`.
 
 ghost use Rattle.std.specs.Prelude.{◌≡◌};
-ghost use Rattle.age_file.specs.Device.{IsInside};
-ghost use Rattle.age_file.specs.Verdict.{of_header, of_stream, of_unlock};
+ghost use Rattle.age_file.specs.Device.{IsNoDeviceFault};
+ghost use Rattle.age_file.specs.Verdict.{header_fault, stream_fault, unlock_fault};
 
 use crate::fault::Fault;
 use age_header::HeaderFault;
@@ -11,7 +11,7 @@ use age_stream::StreamFault;
 
 /// The `Fault` of a header's error.
 pub(crate) fn header_fault(fault: HeaderFault) -> Fault
-    ensures { result ≡ of_header fault }
+    ensures { result ≡ header_fault fault }
 {
     match fault {
         HeaderFault::NotAge => Fault::NotAge,
@@ -25,8 +25,8 @@ pub(crate) fn header_fault(fault: HeaderFault) -> Fault
 
 /// The `Fault` of an error of finding the file key.
 pub(crate) fn unlock_fault(fault: UnlockFault) -> Fault
-    ensures name { result ≡ of_unlock fault }
-    ensures inside { IsInside result }
+    ensures name { result ≡ unlock_fault fault }
+    ensures no_device { IsNoDeviceFault result }
 {
     match fault {
         UnlockFault::NoMatch => Fault::NoMatch,
@@ -38,7 +38,7 @@ pub(crate) fn unlock_fault(fault: UnlockFault) -> Fault
 
 /// The `Fault` of a payload's error.
 pub(crate) fn stream_fault(fault: StreamFault) -> Fault
-    ensures { result ≡ of_stream fault }
+    ensures { result ≡ stream_fault fault }
 {
     match fault {
         StreamFault::NonceTruncated => Fault::NonceTruncated,
@@ -53,9 +53,9 @@ pub(crate) fn stream_fault(fault: StreamFault) -> Fault
 }
 
 impl From<StreamFault> for Fault {
-    ghost use Rattle.age_file.specs.Verdict.{of_stream};
+    ghost use Rattle.age_file.specs.Verdict.{stream_fault};
 
-    ghost from_gives = { λ stream fault. fault ≡ of_stream stream };
+    ghost from_gives = { λ stream fault. fault ≡ stream_fault stream };
 
     fn from(fault: StreamFault) -> Fault {
         stream_fault(fault)

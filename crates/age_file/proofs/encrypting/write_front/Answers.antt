@@ -1,6 +1,6 @@
 use Rattle.std.proofs.Common.{List, ℕ, ◌++◌, refl}
 use Rattle.age_header.proofs.WriteLemmas.{done_start, done_more, done_part, part_at_exit, writes_last}
-use Rattle.age_file.proofs.writing.write_front.Goals as goal
+use Rattle.age_file.proofs.encrypting.write_front.Goals as goal
 
 pub returns-in_err-write_header-clause-text : goal.returns-in_err-write_header-clause-text
 returns-in_err-write_header-clause-text g c =

@@ -1,7 +1,7 @@
 use Rattle.std.proofs.Common.{◌≡◌, drop}
 use Rattle.std.specs.List.{list_any}
 use Rattle.age_file.specs.AgeFile.{is_scrypt}
-use Rattle.age_file.proofs.key_finding.has_scrypt.Given as goal
+use Rattle.age_file.proofs.unlocking.has_scrypt.Given as goal
 
 abbrev pub invariant-loop-stanza : goal.invariant-loop-stanza
 invariant-loop-stanza l =

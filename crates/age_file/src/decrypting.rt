@@ -1,4 +1,4 @@
-//! Reading a whole file.
+//! Decrypting a whole file.
 
 ghost use Rattle.std.specs.Prelude.{◌⊎◌, map, IfErr};
 ghost use Rattle.std.specs.Io.KnownBytes.{Keeps};
@@ -7,9 +7,10 @@ ghost use Rattle.age_file.specs.Device.{CountsRead, CountsWrite, IsLate};
 ghost use Rattle.age_file.specs.Verdict.{Answering};
 
 use crate::fault::Fault;
-use crate::fault_names::stream_fault;
-use crate::key_finding::{inspect, unlock_header};
+use crate::fault_conversions::stream_fault;
+use crate::inspecting::inspect;
 use crate::limits::Limits;
+use crate::unlocking::unlock_header;
 use age_header::{Sink, Source};
 use age_recipient::Identity;
 use age_stream::{Done, StreamReader};
@@ -37,7 +38,7 @@ pub fn decrypt<S: Source, W: Sink>(
     identities: &[Box<dyn Identity>],
     limits: &Limits,
 ) -> Result<Done, Fault>
-    ensures answer { let answers : Answering =
+    ensures decrypts { let answers : Answering =
         λ stanzas. map (λ i. meaning i stanzas) identities.now in
         Decrypts limits.now answers
         (S.to_come input.old) (W.taken out.old) (W.taken out.new) result }

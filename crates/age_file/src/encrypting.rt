@@ -1,14 +1,14 @@
-//! Writing a file.
+//! Encrypting a whole file.
 
 ghost use Rattle.std.specs.Prelude.{◌≡◌, ◌⊎◌, ◌++◌, map, IfErr};
 ghost use Rattle.std.specs.Io.KnownBytes.{Keeps};
 ghost use Rattle.age_header.specs.Device.{Bytes, Counts, Writes};
 ghost use Rattle.age_header.specs.Header.{Head};
 ghost use Rattle.age_file.specs.Device.{CountsRead, CountsWrite, IsLate};
-ghost use Rattle.age_file.specs.NewFile.{EncryptsGiven, RefusesFirst, Gathered, TookOf};
+ghost use Rattle.age_file.specs.NewFile.{EncryptsGiven, RefusesFirst, Gathered, TookWhileEncrypting};
 
 use crate::fault::Fault;
-use crate::fault_names::stream_fault;
+use crate::fault_conversions::stream_fault;
 use crate::limits::{Fresh, Limits};
 use crate::new_header::header_for;
 use age_header::{DeviceFault, Header, Sink, Source, write_all, write_header};
@@ -40,20 +40,21 @@ pub fn encrypt<S: Source, W: Sink>(
     fresh: &Fresh,
     limits: &Limits,
 ) -> Result<Done, Fault>
-    ensures answer { let given = Gathered (map (λ r. wraps r fresh.now.file_key) recipients.now)
+    ensures encrypts { let gathered =
+        Gathered (map (λ r. wraps r fresh.now.file_key) recipients.now)
         (map (λ r. the_labels r) recipients.now) in
-        EncryptsGiven limits.now fresh.now given
+        EncryptsGiven limits.now fresh.now gathered
         (S.to_come plain.old) (W.taken out.old) (W.taken out.new) result }
-    ensures refused { let given = Gathered (map (λ r. wraps r fresh.now.file_key) recipients.now)
+    ensures refused { let gathered = Gathered (map (λ r. wraps r fresh.now.file_key) recipients.now)
         (map (λ r. the_labels r) recipients.now) in
-        IfErr result (RefusesFirst limits.now fresh.now.file_key given) }
+        IfErr result (RefusesFirst limits.now fresh.now.file_key gathered) }
     ensures quiet { IfErr result
         (λ fault. IsLate fault ⊎ Keeps (W.taken out.old) (W.taken out.new)) }
     ensures reads { CountsRead (S.failed plain.old) (S.failed plain.new) result }
     ensures writes { CountsWrite (W.failed out.old) (W.failed out.new) result }
-    ensures took { let given = Gathered (map (λ r. wraps r fresh.now.file_key) recipients.now)
+    ensures took { let gathered = Gathered (map (λ r. wraps r fresh.now.file_key) recipients.now)
         (map (λ r. the_labels r) recipients.now) in
-        IfErr result (TookOf limits.now fresh.now given
+        IfErr result (TookWhileEncrypting limits.now fresh.now gathered
         (S.to_come plain.old) (S.to_come plain.new) (W.taken out.old) (W.taken out.new)) }
 {
     let header = header_for(alloc, recipients, &fresh.file_key, limits)?;

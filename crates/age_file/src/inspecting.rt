@@ -1,0 +1,26 @@
+//! Reading a file's header.
+
+ghost use Rattle.age_file.specs.Device.{CountsRead};
+ghost use Rattle.age_file.specs.Inspect.{Inspects};
+
+use crate::fault::Fault;
+use crate::fault_conversions::header_fault;
+use crate::limits::Limits;
+use age_header::{Header, HeaderReader, Source};
+use std::alloc::Global;
+
+/// Reads the header at the start of a file (C2SP `age.md`), and from the source exactly the
+/// header's bytes. It does not verify the MAC.
+///
+/// # Errors
+/// The first of `NotAge`, `BadLine`, `HeaderTruncated` and `HeaderTooLarge` that applies, as
+/// `HeaderReader` says; `Read` if the source failed, `OutOfMemory` if an allocation was refused.
+pub fn inspect<S: Source>(alloc: Global, input: &mut S, limits: &Limits) -> Result<Header, Fault>
+    ensures verdict { Inspects limits.now (S.to_come input.old) (S.to_come input.new) result }
+    ensures reads { CountsRead (S.failed input.old) (S.failed input.new) result }
+{
+    match HeaderReader::new(limits.max_header()).read_from(alloc, input) {
+        Ok(header) => Ok(header),
+        Err(fault) => Err(header_fault(fault)),
+    }
+}
