@@ -43,8 +43,8 @@ opened start file_len =
     }
 
 -- where piece i stands in the file, and how long it is
-abbrev pub place_of : (r : Ranges) (i : ℕ) → Report
-place_of r i =
+abbrev pub piece_report : (r : Ranges) (i : ℕ) → Report
+piece_report r i =
     record { len = piece_len r.sealed_len i; place = r.first + sealed_chunk_size * i; detail = 0 }
 
 -- the call returns this code alone, and no payload is open
@@ -60,7 +60,7 @@ abbrev pub OpensAt : (file_len : ℕ) (result' : Result Start Fault) (new : Rang
 OpensAt file_len (Ok start) new told result =
     ((file_len < start.first) × StaysClosed out_of_order new told result)
     ⊎ ((start.first ≤ file_len) × (result ≡ ok) × (new ≡ opened start file_len)
-    × (told ≡ place_of (opened start file_len) (last_index (file_len - start.first))))
+    × (told ≡ piece_report (opened start file_len) (last_index (file_len - start.first))))
 OpensAt file_len (Err fault) new told result =
     (result ≡ fault_code fault) × (told ≡ report_of 0 (Some fault)) × (new ≡ closed)
 

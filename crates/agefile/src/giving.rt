@@ -4,7 +4,7 @@ ghost use Rattle.std.specs.Prelude.{◌≡◌, ◌⊎◌, ◌≤◌, ◌++◌, d
 ghost use Rattle.agefile.specs.Answer.{Exceeds, Gives, GivesUp};
 ghost use Rattle.agefile.specs.Codes.{is_memory};
 
-use crate::code::{OK, OUT_OF_MEMORY, TOO_SMALL, code_of};
+use crate::code::{OK, OUT_OF_MEMORY, TOO_SMALL, fault_code};
 use crate::report::Report;
 use age_file::Fault;
 
@@ -30,7 +30,7 @@ pub(crate) fn give_part(text: &[u8], fault: Fault, out: &mut [u8], report: &mut 
     ensures { Gives text.now (Some fault) out.old out.new report.new result }
 {
     *report = Report::of_fault(text.len() as u64, fault);
-    give(text, code_of(fault), out, report)
+    give(text, fault_code(fault), out, report)
 }
 
 /// Copies a text to the buffer and returns the code, if the buffer has room for it; otherwise only

@@ -9,7 +9,7 @@ ghost use Rattle.agefile.specs.Codes.{out_of_memory};
 ghost use Rattle.agefile.specs.Limits.{front_size};
 
 use crate::bounds::limits;
-use crate::code::{OK, OUT_OF_MEMORY, OUT_OF_ORDER, code_of};
+use crate::code::{OK, OUT_OF_MEMORY, OUT_OF_ORDER, fault_code};
 use crate::giving::{give_part, give_up, give_whole};
 use crate::report::Report;
 use age_file::{Fault, Header, MemSource, Stanza, inspect};
@@ -68,7 +68,7 @@ pub extern "C" fn agefile_inspect(
         }
         Err(fault) => {
             *report = Report::of_fault(0, fault);
-            code_of(fault)
+            fault_code(fault)
         }
     }
 }
@@ -120,12 +120,12 @@ fn give_stanza(
     let Ok(text) = joined(alloc, found) else {
         return give_up(OUT_OF_MEMORY, args, report);
     };
-    *stanza = summary_of(found, text.as_bytes());
+    *stanza = stanza_summary(found, text.as_bytes());
     give_whole(text.as_bytes(), args, report)
 }
 
 /// The sizes of a stanza whose arguments are joined to this text.
-fn summary_of(stanza: &Stanza, text: &[u8]) -> StanzaSummary
+fn stanza_summary(stanza: &Stanza, text: &[u8]) -> StanzaSummary
     requires { text.now ≡ joined stanza.now.args }
     ensures { result ≡ stanza_summary stanza.now }
 {

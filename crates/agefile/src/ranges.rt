@@ -7,13 +7,13 @@ ghost use Rattle.age_recipient.specs.KeyedHolders.{key_unwraps};
 ghost use Rattle.age_recipient.specs.PassphraseHolders.{WorkFits, pass_unwraps};
 ghost use Rattle.agefile.specs.Answer.{alone};
 ghost use Rattle.agefile.specs.Limits.{limits};
-ghost use Rattle.agefile.specs.Ranges.{GivesFrom, OpensAt, OpensRanges, StaysClosed, Verified, closed, gives, has_byte, last_index, may_open, may_verify, piece_len, place_of, plain_of};
+ghost use Rattle.agefile.specs.Ranges.{GivesFrom, OpensAt, OpensRanges, StaysClosed, Verified, closed, gives, has_byte, last_index, may_open, may_verify, piece_len, piece_report, plain_of};
 ghost use Rattle.agefile.specs.Report.{report_of};
 ghost use Rattle.age_stream.specs.Sizes.{chunk_size};
 ghost use Rattle.agefile.specs.Codes.{ok, bad_work_factor, out_of_order};
 
 use crate::bounds::MAX_CHUNKS;
-use crate::code::{OK, OUT_OF_ORDER, WORK_FACTOR, code_of};
+use crate::code::{OK, OUT_OF_ORDER, WORK_FACTOR, fault_code};
 use crate::report::Report;
 use crate::start::{Start, start_for_key, start_for_passphrase};
 use crate::state::{CLOSED, OPEN};
@@ -127,7 +127,7 @@ fn open_at(
         Err(fault) => {
             *ranges = Ranges::closed();
             *report = Report::of_fault(0, fault);
-            return code_of(fault);
+            return fault_code(fault);
         }
     };
     if file_len < start.first {
@@ -183,7 +183,7 @@ pub extern "C" fn agefile_ranges_last(
         Err(fault) => {
             let fault = Fault::from(fault);
             *report = Report::of_fault(0, fault);
-            code_of(fault)
+            fault_code(fault)
         }
     }
 }
@@ -195,7 +195,7 @@ pub extern "C" fn agefile_ranges_locate(ranges: &Ranges, at: u64, report: &mut R
     ensures out_of_order { OnFalse (has_byte ranges.now at)
         ((result ≡ out_of_order) × (report.new ≡ report_of 0 None)) }
     ensures located { OnTrue (has_byte ranges.now at)
-        ((result ≡ ok) × (report.new ≡ place_of ranges.now (at / chunk_size))) }
+        ((result ≡ ok) × (report.new ≡ piece_report ranges.now (at / chunk_size))) }
 {
     *report = Report::of_len(0);
     if !has_byte(ranges, at) {
@@ -238,7 +238,7 @@ pub extern "C" fn agefile_ranges_chunk(
         Err(fault) => {
             let fault = Fault::from(fault);
             *report = Report::of_fault(0, fault);
-            code_of(fault)
+            fault_code(fault)
         }
     }
 }

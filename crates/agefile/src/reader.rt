@@ -8,7 +8,7 @@ ghost use Rattle.agefile.specs.Reader.{OpensAt, OpensReader, ReadsStep, StaysClo
 ghost use Rattle.agefile.specs.Codes.{bad_work_factor};
 
 use crate::bounds::MAX_CHUNKS;
-use crate::code::{OK, OUT_OF_ORDER, WORK_FACTOR, code_of};
+use crate::code::{OK, OUT_OF_ORDER, WORK_FACTOR, fault_code};
 use crate::report::Report;
 use crate::start::{Start, start_for_key, start_for_passphrase};
 use crate::state::{CLOSED, ENDED, FAILED, OPEN};
@@ -130,7 +130,7 @@ fn open_at(start: Result<Start, Fault>, reader: &mut Reader, report: &mut Report
         Err(fault) => {
             *reader = Reader::closed();
             *report = Report::of_fault(0, fault);
-            code_of(fault)
+            fault_code(fault)
         }
     }
 }
@@ -168,7 +168,7 @@ pub extern "C" fn agefile_reader_chunk(
             let fault = Fault::from(fault);
             reader.state = FAILED;
             *report = Report::of_fault(0, fault);
-            code_of(fault)
+            fault_code(fault)
         }
     }
 }

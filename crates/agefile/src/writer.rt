@@ -10,7 +10,7 @@ ghost use Rattle.agefile.specs.Writer.{GivesFront, OpensFor, OpensWriter, StaysC
 ghost use Rattle.agefile.specs.Codes.{bad_work_factor};
 
 use crate::bounds::{MAX_CHUNKS, limits};
-use crate::code::{OK, OUT_OF_MEMORY, OUT_OF_ORDER, WORK_FACTOR, code_of};
+use crate::code::{OK, OUT_OF_MEMORY, OUT_OF_ORDER, WORK_FACTOR, fault_code};
 use crate::encrypting::{fresh_of, part};
 use crate::giving::{give_up, give_whole};
 use crate::report::Report;
@@ -161,7 +161,7 @@ fn open_for(
     let fresh = fresh_of(seed);
     let header = match header_for(alloc, recipients, &fresh.file_key, &limits()) {
         Ok(header) => header,
-        Err(fault) => return stay_closed(code_of(fault), out, writer, report),
+        Err(fault) => return stay_closed(fault_code(fault), out, writer, report),
     };
     let mut sink = MemSink::new(Vec::new(alloc));
     match write_front(&header, &fresh.nonce, &mut sink) {
@@ -230,7 +230,7 @@ pub extern "C" fn agefile_writer_chunk(
     let number = writer.number as u128;
     if number >= MAX_CHUNKS {
         writer.state = FAILED;
-        return code_of(Fault::TooManyChunks);
+        return fault_code(Fault::TooManyChunks);
     }
     seal_chunk(&writer.key, number, last, chunk);
     writer.number += 1;
