@@ -116,24 +116,24 @@ verdict-from answers b start v (Ok found, verdict, is) h =
 
 -- ---- the laws
 
-refused-by : (b : List ℕ) (reader : Reader) (told : Report) (result : ℕ) (v : Reading Fault) (start : Result Start Fault) → OpensAt start reader told result → IsVerdictFrom b v start → result ≢ 0
-    → (v.front ≡ []) × (code_of v.fault ≡ result) × (told ≡ report_of 0 v.fault)
-refused-by b reader told result v (Ok start) opens from some = absurd (some opens.0)
-refused-by b reader told result v (Err fault) opens from some =
+refused-by : (b : List ℕ) (reader : Reader) (report : Report) (code : ℕ) (v : Reading Fault) (start : Result Start Fault) → OpensAt start reader report code → IsVerdictFrom b v start → code ≢ 0
+    → (v.front ≡ []) × (code_of v.fault ≡ code) × (report ≡ report_of 0 v.fault)
+refused-by b reader report code v (Ok start) opens from some = absurd (some opens.0)
+refused-by b reader report code v (Err fault) opens from some =
     (ap (λ (r : Reading Fault). r.front) from, ap (λ (r : Reading Fault). code_of r.fault) from ∙ sym opens.0, opens.1 ∙ sym (ap (λ (r : Reading Fault). report_of 0 r.fault) from))
 
-pub opening_refused : (answers : Answering) (b : List ℕ) (reader : Reader) (told : Report) (result : ℕ) (v : Reading Fault) → OpensReader answers (take 65552 b) reader told result
-    → IsVerdict limits answers b v → result ≢ 0 → result ≢ 17 → (v.front ≡ []) × (code_of v.fault ≡ result) × (told ≡ report_of 0 v.fault)
-opening_refused answers b reader told result v (start, inl memory, opens) h some other =
-    let code : OpensAt (Err OutOfMemory) reader told result = subst (λ s. OpensAt s reader told result) memory opens in
-    absurd (other code.0)
-opening_refused answers b reader told result v (start, inr is, opens) h some other =
-    refused-by b reader told result v start opens (verdict-from answers b start v (whole-start answers b start is) h) some
+pub opening_refused : (answers : Answering) (b : List ℕ) (reader : Reader) (report : Report) (code : ℕ) (v : Reading Fault) → OpensReader answers (take 65552 b) reader report code
+    → IsVerdict limits answers b v → code ≢ 0 → code ≢ 17 → (v.front ≡ []) × (code_of v.fault ≡ code) × (report ≡ report_of 0 v.fault)
+opening_refused answers b reader report code v (start, inl memory, opens) h some other =
+    let refused : OpensAt (Err OutOfMemory) reader report code = subst (λ s. OpensAt s reader report code) memory opens in
+    absurd (other refused.0)
+opening_refused answers b reader report code v (start, inr is, opens) h some other =
+    refused-by b reader report code v start opens (verdict-from answers b start v (whole-start answers b start is) h) some
 
-reads-by : (b : List ℕ) (reader : Reader) (told : Report) (text : List ℕ) (code place : ℕ) (v : Reading Fault) (start : Result Start Fault) → OpensAt start reader told 0 → IsVerdictFrom b v start
-    → ReadsRun reader (pieces (drop told.len b)) text code place → (v.front ≡ text) × ((code_of v.fault ≡ code) × ((report_of 0 v.fault).place ≡ place))
-reads-by b reader told text code place v (Err fault) opens from run = absurd (some-code fault (sym opens.0))
-reads-by b reader told text code place v (Ok start) opens from run =
+reads-by : (b : List ℕ) (reader : Reader) (report : Report) (text : List ℕ) (code place : ℕ) (v : Reading Fault) (start : Result Start Fault) → OpensAt start reader report 0 → IsVerdictFrom b v start
+    → ReadsRun reader (pieces (drop report.len b)) text code place → (v.front ≡ text) × ((code_of v.fault ≡ code) × ((report_of 0 v.fault).place ≡ place))
+reads-by b reader report text code place v (Err fault) opens from run = absurd (some-code fault (sym opens.0))
+reads-by b reader report text code place v (Ok start) opens from run =
     let there : ReadsRun (before_first start.key) (pieces (drop start.first b)) text code place =
     subst (λ r. ReadsRun r (pieces (drop start.first b)) text code place) opens.2
     (subst (λ (x : Report). ReadsRun reader (pieces (drop x.len b)) text code place) opens.1 run) in
@@ -142,11 +142,11 @@ reads-by b reader told text code place v (Ok start) opens from run =
       (ap (λ (r : Reading Fault). code_of r.fault) from ∙ sym h.1.0, ap (λ (r : Reading Fault). (report_of 0 r.fault).place) from ∙ sym h.1.1),
     )
 
-pub steps_read : (answers : Answering) (b : List ℕ) (reader : Reader) (told : Report) (text : List ℕ) (code place : ℕ) (v : Reading Fault) → OpensReader answers (take 65552 b) reader told 0
-    → ReadsRun reader (pieces (drop told.len b)) text code place → IsVerdict limits answers b v
+pub steps_read : (answers : Answering) (b : List ℕ) (reader : Reader) (report : Report) (text : List ℕ) (code place : ℕ) (v : Reading Fault) → OpensReader answers (take 65552 b) reader report 0
+    → ReadsRun reader (pieces (drop report.len b)) text code place → IsVerdict limits answers b v
     → (v.front ≡ text) × ((code_of v.fault ≡ code) × ((report_of 0 v.fault).place ≡ place))
-steps_read answers b reader told text code place v (start, inl memory, opens) run h =
-    let code : OpensAt (Err OutOfMemory) reader told 0 = subst (λ s. OpensAt s reader told 0) memory opens in
-    absurd (some-code OutOfMemory (sym code.0))
-steps_read answers b reader told text code place v (start, inr is, opens) run h =
-    reads-by b reader told text code place v start opens (verdict-from answers b start v (whole-start answers b start is) h) run
+steps_read answers b reader report text code place v (start, inl memory, opens) run h =
+    let refused : OpensAt (Err OutOfMemory) reader report 0 = subst (λ s. OpensAt s reader report 0) memory opens in
+    absurd (some-code OutOfMemory (sym refused.0))
+steps_read answers b reader report text code place v (start, inr is, opens) run h =
+    reads-by b reader report text code place v start opens (verdict-from answers b start v (whole-start answers b start is) h) run

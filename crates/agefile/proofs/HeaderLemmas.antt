@@ -81,55 +81,55 @@ found_len b text h ss mac len found head is =
     omega arith
 
 -- what a caller is given of a header
-pub inspected : (b h : List ℕ) (header : HeaderParts) (old : Summary) (told : Report) (len stanzas : ℕ) (mac : List ℕ) → HeaderOf b (Ok header) → told ≡ report_of 0 None
+pub inspected : (b h : List ℕ) (header : HeaderParts) (old : Summary) (report : Report) (len stanzas : ℕ) (mac : List ℕ) → HeaderOf b (Ok header) → report ≡ report_of 0 None
     → Head header.stanzas header.mac h → len ≡ min (length h) (2 ^ 64 - 1) → stanzas ≡ length header.stanzas → mac ≡ header.mac
-    → Inspected b old (record { header_len = len; stanzas = stanzas; mac = mac }) told 0
-inspected b h header old told len stanzas mac (text, found) none head is count same =
+    → Inspected b old (record { header_len = len; stanzas = stanzas; mac = mac }) report 0
+inspected b h header old report len stanzas mac (text, found) none head is count same =
     inr (
       Ok (record { stanzas = header.stanzas; mac = header.mac; text = text }),
       found,
       (refl, none, rw (found_len b text h header.stanzas header.mac len found head is, count, same) refl),
     )
 
-pub inspected_fault : (b : List ℕ) (old : Summary) (told : Report) (result : ℕ) (fault : Fault) → HeaderOf b (Err fault) → told ≡ report_of 0 (Some fault) → result ≡ fault_code fault
-    → Inspected b old old told result
-inspected_fault b old told result fault (inl memory) place code =
-    inl (code ∙ ap fault_code memory, place ∙ ap (λ f. report_of 0 (Some f)) memory, refl)
-inspected_fault b old told result fault (inr (reason, found, same)) place code =
-    inr (Err reason, found, ((code ∙ ap fault_code same, place ∙ ap (λ f. report_of 0 (Some f)) same), refl))
+pub inspected_fault : (b : List ℕ) (old : Summary) (report : Report) (code : ℕ) (fault : Fault) → HeaderOf b (Err fault) → report ≡ report_of 0 (Some fault) → code ≡ fault_code fault
+    → Inspected b old old report code
+inspected_fault b old report code fault (inl memory) place returned =
+    inl (returned ∙ ap fault_code memory, place ∙ ap (λ f. report_of 0 (Some f)) memory, refl)
+inspected_fault b old report code fault (inr (reason, found, same)) place returned =
+    inr (Err reason, found, ((returned ∙ ap fault_code same, place ∙ ap (λ f. report_of 0 (Some f)) same), refl))
 
 -- what a caller is given of a stanza
-pub stanza_none : (b : List ℕ) (header : HeaderParts) (index : ℕ) (old new : List ℕ) (before : StanzaSummary) (told : Report) (result : ℕ) → HeaderOf b (Ok header)
-    → length header.stanzas ≤ index → GivesUp 23 old new told result → AnswersStanza b index old new before before told result
-stanza_none b header index old new before told result (text, found) past up =
+pub stanza_none : (b : List ℕ) (header : HeaderParts) (index : ℕ) (old new : List ℕ) (before : StanzaSummary) (report : Report) (code : ℕ) → HeaderOf b (Ok header)
+    → length header.stanzas ≤ index → GivesUp 23 old new report code → AnswersStanza b index old new before before report code
+stanza_none b header index old new before report code (text, found) past up =
     inr (
       Ok (record { stanzas = header.stanzas; mac = header.mac; text = text }),
       found,
-      subst (λ s. GivesStanza s old new before before told result) (sym (slice_get_past header.stanzas index past)) (up, refl),
+      subst (λ s. GivesStanza s old new before before report code) (sym (slice_get_past header.stanzas index past)) (up, refl),
     )
 
-pub stanza_some : (b : List ℕ) (header : HeaderParts) (index : ℕ) (s : StanzaParts) (old new : List ℕ) (before after : StanzaSummary) (told : Report) (result : ℕ) → HeaderOf b (Ok header)
+pub stanza_some : (b : List ℕ) (header : HeaderParts) (index : ℕ) (s : StanzaParts) (old new : List ℕ) (before after : StanzaSummary) (report : Report) (code : ℕ) → HeaderOf b (Ok header)
     → slice_get header.stanzas index ≡ Some s
-    → ((GivesUp 17 old new told result × (after ≡ before)) ⊎ GivesStanza (Some s) old new before after told result) → AnswersStanza b index old new before after told result
-stanza_some b header index s old new before after told result of at (inl up) = inl up
-stanza_some b header index s old new before after told result (text, found) at (inr gives) =
+    → ((GivesUp 17 old new report code × (after ≡ before)) ⊎ GivesStanza (Some s) old new before after report code) → AnswersStanza b index old new before after report code
+stanza_some b header index s old new before after report code of at (inl up) = inl up
+stanza_some b header index s old new before after report code (text, found) at (inr gives) =
     inr (
       Ok (record { stanzas = header.stanzas; mac = header.mac; text = text }),
       found,
-      subst (λ z. GivesStanza z old new before after told result) (sym at) gives,
+      subst (λ z. GivesStanza z old new before after report code) (sym at) gives,
     )
 
-fault_of : (b : List ℕ) (index : ℕ) (old new : List ℕ) (before : StanzaSummary) (told : Report) (result : ℕ) (fault : Fault) → HeaderOf b (Err fault)
-    → Fits [] (Some fault) old new told result → AnswersStanza b index old new before before told result
-fault_of b index old new before told result fault (inl memory) fits =
-    inl (record { code = fits.code ∙ ap fault_code memory; report = fits.report ∙ ap (λ f. report_of 0 (Some f)) memory; buffer = fits.buffer }, refl)
-fault_of b index old new before told result fault (inr (reason, found, same)) fits =
-    inr (Err reason, found, ((fits.code ∙ ap fault_code same, fits.report ∙ ap (λ f. report_of 0 (Some f)) same), fits.buffer, refl))
+fault_of : (b : List ℕ) (index : ℕ) (old new : List ℕ) (before : StanzaSummary) (report : Report) (code : ℕ) (fault : Fault) → HeaderOf b (Err fault)
+    → Fits [] (Some fault) old new report code → AnswersStanza b index old new before before report code
+fault_of b index old new before report code fault (inl memory) fits =
+    inl (record { returned = fits.returned ∙ ap fault_code memory; reported = fits.reported ∙ ap (λ f. report_of 0 (Some f)) memory; buffer = fits.buffer }, refl)
+fault_of b index old new before report code fault (inr (reason, found, same)) fits =
+    inr (Err reason, found, ((fits.returned ∙ ap fault_code same, fits.reported ∙ ap (λ f. report_of 0 (Some f)) same), fits.buffer, refl))
 
-pub stanza_fault : (b : List ℕ) (index : ℕ) (old new : List ℕ) (before : StanzaSummary) (told : Report) (result : ℕ) (fault : Fault) → HeaderOf b (Err fault)
-    → Gives [] (Some fault) old new told result → AnswersStanza b index old new before before told result
-stanza_fault b index old new before told result fault of (inl fits) = fault_of b index old new before told result fault of fits
-stanza_fault b index old new before told result fault of (inr exceeds) = let less : length old < 0 = exceeds.exceeds in absurd (omega arith)
+pub stanza_fault : (b : List ℕ) (index : ℕ) (old new : List ℕ) (before : StanzaSummary) (report : Report) (code : ℕ) (fault : Fault) → HeaderOf b (Err fault)
+    → Gives [] (Some fault) old new report code → AnswersStanza b index old new before before report code
+stanza_fault b index old new before report code fault of (inl fits) = fault_of b index old new before report code fault of fits
+stanza_fault b index old new before report code fault of (inr exceeds) = let less : length old < 0 = exceeds.exceeds in absurd (omega arith)
 
 join_map : {X : Type 0} (f : X → List ℕ) (xs : List X) → flat_map (λ x. 32 ∷ [] ++ f x) xs ≡ flat_map (λ a. 32 ∷ [] ++ a) (map f xs)
 join_map f [] = refl

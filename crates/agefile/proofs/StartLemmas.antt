@@ -33,8 +33,8 @@ pub start_none : (answers : Answering) (b : List ℕ) (mid : Option (List ℕ)) 
     → CountsRead {A = HeaderParts} 0 0 (Err fault) → FindsStart answers b (Err fault)
 start_none answers b mid fault (Ok parts, is, h) count = absurd (cc)
 start_none answers b mid fault (Err header.Read, is, h) count =
-    let count2 : CountsRead {A = HeaderParts} 0 0 (Err Read) = subst (λ f. CountsRead {A = HeaderParts} 0 0 (Err f)) (err-err {A = HeaderParts} fault Read is) count in
-    absurd (omega (arith, count2))
+    let read_count : CountsRead {A = HeaderParts} 0 0 (Err Read) = subst (λ f. CountsRead {A = HeaderParts} 0 0 (Err f)) (err-err {A = HeaderParts} fault Read is) count in
+    absurd (omega (arith, read_count))
 start_none answers b mid fault (Err header.Memory, is, h) count = inl (ap Err (err-err {A = HeaderParts} fault OutOfMemory is))
 start_none answers b mid fault (Err header.NotAge, is, h) count = subst (λ f. FindsStart answers b (Err f)) (sym (err-err {A = HeaderParts} fault _ is)) (faulty answers b header.NotAge h)
 start_none answers b mid fault (Err (header.BadLine n), is, h) count = subst (λ f. FindsStart answers b (Err f)) (sym (err-err {A = HeaderParts} fault _ is)) (faulty answers b (header.BadLine n) h)

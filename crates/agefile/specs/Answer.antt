@@ -15,43 +15,43 @@ use Rattle.agefile.specs.Limits.{limits}
 use Rattle.agefile.specs.Report.{report_of}
 
 -- the call returns this code alone, and the buffer is as it was
-pub record GivesUp (number : ℕ) (old new : Bytes) (told : Report) (result : ℕ) : Type 0 where
-  pub code : result ≡ number
-  pub report : told ≡ report_of 0 None
+pub record GivesUp (expected : ℕ) (old new : Bytes) (report : Report) (code : ℕ) : Type 0 where
+  pub returned : code ≡ expected
+  pub reported : report ≡ report_of 0 None
   pub buffer : new ≡ old
 
 -- the buffer begins with the text, and its rest is as it was, and its fault is reported
-pub record Fits (text : Bytes) (fault : Option Fault) (old new : Bytes) (told : Report)
-    (result : ℕ) : Type 0 where
+pub record Fits (text : Bytes) (fault : Option Fault) (old new : Bytes) (report : Report)
+    (code : ℕ) : Type 0 where
   pub fits : length text ≤ length old
-  pub code : result ≡ code_of fault
-  pub report : told ≡ report_of (length text) fault
+  pub returned : code ≡ code_of fault
+  pub reported : report ≡ report_of (length text) fault
   pub buffer : new ≡ text ++ drop (length text) old
 
 -- the text is longer than the buffer, which is as it was; its length alone is reported
-pub record Exceeds (text old new : Bytes) (told : Report) (result : ℕ) : Type 0 where
+pub record Exceeds (text old new : Bytes) (report : Report) (code : ℕ) : Type 0 where
   pub exceeds : length old < length text
-  pub code : result ≡ too_small
-  pub report : told ≡ report_of (length text) None
+  pub returned : code ≡ too_small
+  pub reported : report ≡ report_of (length text) None
   pub buffer : new ≡ old
 
 -- a text is given, and a fault after it, where the buffer has room for the text
-abbrev pub Gives : (text : Bytes) (fault : Option Fault) (old new : Bytes) (told : Report)
-    (result : ℕ) → Type 0
-Gives text fault old new told result =
-    Fits text fault old new told result ⊎ Exceeds text old new told result
+abbrev pub Gives : (text : Bytes) (fault : Option Fault) (old new : Bytes) (report : Report)
+    (code : ℕ) → Type 0
+Gives text fault old new report code =
+    Fits text fault old new report code ⊎ Exceeds text old new report code
 
 -- the answers of one identity of this meaning
 abbrev pub alone : (List StanzaParts → Unwrapped) → Answering
 alone meaning = λ stanzas. meaning stanzas ∷ []
 
 -- what decrypting b gives: the plaintext of its verdict and the fault after it; or out of memory
-abbrev pub GivesPlain : (answers : Answering) (b old new : Bytes) (told : Report) (result : ℕ)
+abbrev pub GivesPlain : (answers : Answering) (b old new : Bytes) (report : Report) (code : ℕ)
     → Type 0
-GivesPlain answers b old new told result =
-    GivesUp out_of_memory old new told result
+GivesPlain answers b old new report code =
+    GivesUp out_of_memory old new report code
     ⊎ ((verdict : Reading Fault) × IsVerdict limits answers b verdict
-    × Gives verdict.front verdict.fault old new told result)
+    × Gives verdict.front verdict.fault old new report code)
 
 -- a seed: 48 bytes
 pub record IsSeed (seed : Bytes) : Type 0 where
@@ -72,20 +72,20 @@ only stanza given = given ≡ Ok (stanza ∷ [])
 
 -- what encrypting gives: the file of this plaintext and stanza under this seed; or out of memory
 abbrev pub GivesFile : (seed : Bytes) (stanza : FileKey → StanzaParts) (plain old new : Bytes)
-    (told : Report) (result : ℕ) → Type 0
-GivesFile seed stanza plain old new told result =
-    GivesUp out_of_memory old new told result
+    (report : Report) (code : ℕ) → Type 0
+GivesFile seed stanza plain old new report code =
+    GivesUp out_of_memory old new report code
     ⊎ ((file : Bytes)
     × NewFile limits (fresh_of seed) (only (stanza (fresh_of seed).file_key)) plain file
-    × Gives file None old new told result)
+    × Gives file None old new report code)
 
 -- the same for whatever recipients give. In a refusal, and where there are too many chunks, nothing
 -- is said of what the call returns: the exports have one recipient, which leaves neither case.
 abbrev pub GivesGathered : (seed : Bytes) (given : Result (List StanzaParts) Fault → Type 0)
-    (plain old new : Bytes) (told : Report) (result : ℕ) → Type 0
-GivesGathered seed given plain old new told result =
-    GivesUp out_of_memory old new told result
+    (plain old new : Bytes) (report : Report) (code : ℕ) → Type 0
+GivesGathered seed given plain old new report code =
+    GivesUp out_of_memory old new report code
     ⊎ (((fault : Fault) × IsRefusal limits (fresh_of seed).file_key given fault)
     ⊎ (((begun : Bytes) × CutFile limits (fresh_of seed) given plain begun)
     ⊎ ((file : Bytes) × NewFile limits (fresh_of seed) given plain file
-    × Gives file None old new told result)))
+    × Gives file None old new report code)))

@@ -48,28 +48,28 @@ piece_report r i =
     record { len = piece_len r.sealed_len i; place = r.first + sealed_chunk_size * i; detail = 0 }
 
 -- the call returns this code alone, and no payload is open
-pub record StaysClosed (number : ℕ) (new : Ranges) (told : Report) (result : ℕ) : Type 0 where
-  pub code : result ≡ number
-  pub report : told ≡ report_of 0 None
+pub record StaysClosed (expected : ℕ) (new : Ranges) (report : Report) (code : ℕ) : Type 0 where
+  pub returned : code ≡ expected
+  pub reported : report ≡ report_of 0 None
   pub ranges : new ≡ closed
 
 -- the payload is open, and its last piece is reported; or the fault is returned; or the file ends
 -- before its first piece
-abbrev pub OpensAt : (file_len : ℕ) (result' : Result Start Fault) (new : Ranges) (told : Report)
-    (result : ℕ) → Type 0
-OpensAt file_len (Ok start) new told result =
-    ((file_len < start.first) × StaysClosed out_of_order new told result)
-    ⊎ ((start.first ≤ file_len) × (result ≡ ok) × (new ≡ opened start file_len)
-    × (told ≡ piece_report (opened start file_len) (last_index (file_len - start.first))))
-OpensAt file_len (Err fault) new told result =
-    (result ≡ fault_code fault) × (told ≡ report_of 0 (Some fault)) × (new ≡ closed)
+abbrev pub OpensAt : (file_len : ℕ) (start : Result Start Fault) (new : Ranges) (report : Report)
+    (code : ℕ) → Type 0
+OpensAt file_len (Ok start) new report code =
+    ((file_len < start.first) × StaysClosed out_of_order new report code)
+    ⊎ ((start.first ≤ file_len) × (code ≡ ok) × (new ≡ opened start file_len)
+    × (report ≡ piece_report (opened start file_len) (last_index (file_len - start.first))))
+OpensAt file_len (Err fault) new report code =
+    (code ≡ fault_code fault) × (report ≡ report_of 0 (Some fault)) × (new ≡ closed)
 
 -- what opening a file of so many bytes with this front gives
 abbrev pub OpensRanges : (answers : Answering) (front : Bytes) (file_len : ℕ) (new : Ranges)
-    (told : Report) (result : ℕ) → Type 0
-OpensRanges answers front file_len new told result =
+    (report : Report) (code : ℕ) → Type 0
+OpensRanges answers front file_len new report code =
     (start : Result Start Fault) × FindsStart answers front start
-    × OpensAt file_len start new told result
+    × OpensAt file_len start new report code
 
 -- the bytes of piece i in a file
 abbrev pub piece_at : (r : Ranges) (b : Bytes) (i : ℕ) → Bytes
@@ -81,10 +81,10 @@ gives r i piece =
     outcome r.key limits.max_chunks i (nat_le r.sealed_len (sealed_chunk_size * (i + 1))) piece
 
 -- what the last piece gives, verified: on its text the plaintext's length is known
-abbrev pub Verified : (old new : Ranges) (chunk chunk2 : Bytes) (report : Report) (result : ℕ)
-    (result' : Result Bytes StreamFault) → Type 0
-Verified old new chunk chunk2 report result (Ok text) =
-    (result ≡ ok)
+abbrev pub Verified : (old new : Ranges) (chunk after : Bytes) (report : Report) (code : ℕ)
+    (piece_outcome : Result Bytes StreamFault) → Type 0
+Verified old new chunk after report code (Ok text) =
+    (code ≡ ok)
     × (new
     ≡ record {
       key = old.key;
@@ -92,10 +92,10 @@ Verified old new chunk chunk2 report result (Ok text) =
       sealed_len = old.sealed_len;
       state = state_verified;
     })
-    × (chunk2 ≡ text ++ drop (length text) chunk)
+    × (after ≡ text ++ drop (length text) chunk)
     × (report ≡ report_of (plain_of old.sealed_len) None)
-Verified old new chunk chunk2 report result (Err fault) =
-    (result ≡ fault_code (of_stream fault))
+Verified old new chunk after report code (Err fault) =
+    (code ≡ fault_code (of_stream fault))
     × (new
     ≡ record {
       key = old.key;
@@ -103,7 +103,7 @@ Verified old new chunk chunk2 report result (Err fault) =
       sealed_len = old.sealed_len;
       state = state_open;
     })
-    × (chunk2 ≡ chunk) × (report ≡ report_of 0 (Some (of_stream fault)))
+    × (after ≡ chunk) × (report ≡ report_of 0 (Some (of_stream fault)))
 
 -- the payload was opened, and these are as many bytes as the last piece has
 abbrev pub may_verify : (r : Ranges) (chunk : Bytes) → Bool
@@ -125,11 +125,11 @@ may_open r at chunk =
 
 -- what the piece that holds byte `at` gives: its text in front, from which the plaintext goes on at
 -- `at`
-abbrev pub GivesFrom : (at : ℕ) (chunk chunk2 : Bytes) (report : Report) (result : ℕ)
-    (result' : Result Bytes StreamFault) → Type 0
-GivesFrom at chunk chunk2 report result (Ok text) =
-    (result ≡ ok) × (chunk2 ≡ text ++ drop (length text) chunk)
+abbrev pub GivesFrom : (at : ℕ) (chunk after : Bytes) (report : Report) (code : ℕ)
+    (piece_outcome : Result Bytes StreamFault) → Type 0
+GivesFrom at chunk after report code (Ok text) =
+    (code ≡ ok) × (after ≡ text ++ drop (length text) chunk)
     × (report ≡ record { len = length text - at % chunk_size; place = at % chunk_size; detail = 0 })
-GivesFrom at chunk chunk2 report result (Err fault) =
-    (result ≡ fault_code (of_stream fault)) × (chunk2 ≡ chunk)
+GivesFrom at chunk after report code (Err fault) =
+    (code ≡ fault_code (of_stream fault)) × (after ≡ chunk)
     × (report ≡ report_of 0 (Some (of_stream fault)))
