@@ -23,7 +23,7 @@ use Rattle.agefile.specs.declared.report.Report.{Report}
 use Rattle.agefile.specs.Answer.{Fits, Gives, GivesUp}
 use Rattle.agefile.specs.Codes.{fault_code}
 use Rattle.agefile.specs.Report.{report_of}
-use Rattle.agefile.specs.Inspect.{AnswersStanza, GivesStanza, HeaderOf, Inspected, joined}
+use Rattle.agefile.specs.Inspect.{InspectsStanza, GivesStanza, HeaderOf, Inspected, joined}
 use Rattle.agefile.specs.Limits.{limits}
 
 -- what a reader answered
@@ -100,7 +100,7 @@ inspected_fault b old report code fault (inr (reason, found, same)) place return
 
 -- what a caller is given of a stanza
 pub stanza_none : (b : List ℕ) (header : HeaderParts) (index : ℕ) (old new : List ℕ) (before : StanzaSummary) (report : Report) (code : ℕ) → HeaderOf b (Ok header)
-    → length header.stanzas ≤ index → GivesUp 23 old new report code → AnswersStanza b index old new before before report code
+    → length header.stanzas ≤ index → GivesUp 23 old new report code → InspectsStanza b index old new before before report code
 stanza_none b header index old new before report code (text, found) past up =
     inr (
       Ok (record { stanzas = header.stanzas; mac = header.mac; text = text }),
@@ -110,7 +110,7 @@ stanza_none b header index old new before report code (text, found) past up =
 
 pub stanza_some : (b : List ℕ) (header : HeaderParts) (index : ℕ) (s : StanzaParts) (old new : List ℕ) (before after : StanzaSummary) (report : Report) (code : ℕ) → HeaderOf b (Ok header)
     → slice_get header.stanzas index ≡ Some s
-    → ((GivesUp 17 old new report code × (after ≡ before)) ⊎ GivesStanza (Some s) old new before after report code) → AnswersStanza b index old new before after report code
+    → ((GivesUp 17 old new report code × (after ≡ before)) ⊎ GivesStanza (Some s) old new before after report code) → InspectsStanza b index old new before after report code
 stanza_some b header index s old new before after report code of at (inl up) = inl up
 stanza_some b header index s old new before after report code (text, found) at (inr gives) =
     inr (
@@ -120,14 +120,14 @@ stanza_some b header index s old new before after report code (text, found) at (
     )
 
 fault_of : (b : List ℕ) (index : ℕ) (old new : List ℕ) (before : StanzaSummary) (report : Report) (code : ℕ) (fault : Fault) → HeaderOf b (Err fault)
-    → Fits [] (Some fault) old new report code → AnswersStanza b index old new before before report code
+    → Fits [] (Some fault) old new report code → InspectsStanza b index old new before before report code
 fault_of b index old new before report code fault (inl memory) fits =
     inl (record { returned = fits.returned ∙ ap fault_code memory; reported = fits.reported ∙ ap (λ f. report_of 0 (Some f)) memory; buffer = fits.buffer }, refl)
 fault_of b index old new before report code fault (inr (reason, found, same)) fits =
     inr (Err reason, found, ((fits.returned ∙ ap fault_code same, fits.reported ∙ ap (λ f. report_of 0 (Some f)) same), fits.buffer, refl))
 
 pub stanza_fault : (b : List ℕ) (index : ℕ) (old new : List ℕ) (before : StanzaSummary) (report : Report) (code : ℕ) (fault : Fault) → HeaderOf b (Err fault)
-    → Gives [] (Some fault) old new report code → AnswersStanza b index old new before before report code
+    → Gives [] (Some fault) old new report code → InspectsStanza b index old new before before report code
 stanza_fault b index old new before report code fault of (inl fits) = fault_of b index old new before report code fault of fits
 stanza_fault b index old new before report code fault of (inr exceeds) = let less : length old < 0 = exceeds.exceeds in absurd (omega arith)
 

@@ -78,9 +78,9 @@ StanzaOf (Err reason) index old new before after report code =
     ReportsFault reason report code × (new ≡ old) × (after ≡ before)
 
 -- what asking for a stanza of b's header gives; or out of memory, and nothing is given
-abbrev pub AnswersStanza : (b : Bytes) (index : ℕ) (old new : Bytes) (before after : StanzaSummary)
+abbrev pub InspectsStanza : (b : Bytes) (index : ℕ) (old new : Bytes) (before after : StanzaSummary)
     (report : Report) (code : ℕ) → Type 0
-AnswersStanza b index old new before after report code =
+InspectsStanza b index old new before after report code =
     (GivesUp out_of_memory old new report code × (after ≡ before))
     ⊎ ((verdict : Result Found HeaderFault) × HeaderVerdict b limits.max_header verdict
     × StanzaOf verdict index old new before after report code)

@@ -28,7 +28,7 @@ pub extern "C" fn agefile_decrypt_passphrase(
     out: &mut [u8],
     report: &mut Report,
 ) -> u32
-    ensures answer { WorkFits max_work
+    ensures fit { WorkFits max_work
         → GivesPlain (alone (pass_unwraps (record { pass = pass.now; max = max_work }))) file.now
         out.old out.new report.new result }
     ensures unfit { (WorkFits max_work → ⊥)

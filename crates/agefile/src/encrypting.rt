@@ -34,7 +34,7 @@ pub extern "C" fn agefile_encrypt_passphrase(
     out: &mut [u8],
     report: &mut Report,
 ) -> u32
-    ensures answer { WorkFits work
+    ensures fit { WorkFits work
         → GivesFile seed.now (pass_stanza pass.now work (salt_of seed.now)) plain.now out.old
         out.new report.new result }
     ensures unfit { (WorkFits work → ⊥)

@@ -4,7 +4,7 @@ ghost use Rattle.std.specs.Prelude.{◌≡◌, ◌⊎◌, take, Some, IfOk};
 ghost use Rattle.std.specs.String.{string_bytes};
 ghost use Rattle.age_kdf.specs.Bytes.{Bytes};
 ghost use Rattle.agefile.specs.Answer.{GivesUp};
-ghost use Rattle.agefile.specs.Inspect.{AnswersStanza, GivesStanza, HeaderOf, Inspected, joined, stanza_summary};
+ghost use Rattle.agefile.specs.Inspect.{GivesStanza, HeaderOf, Inspected, InspectsStanza, joined, stanza_summary};
 ghost use Rattle.agefile.specs.Codes.{out_of_memory};
 ghost use Rattle.agefile.specs.Limits.{front_size};
 
@@ -89,10 +89,10 @@ pub extern "C" fn agefile_stanza(
     stanza: &mut StanzaSummary,
     report: &mut Report,
 ) -> u32
-    ensures front { AnswersStanza front.now index args.old args.new stanza.old stanza.new report.new
-        result }
+    ensures front { InspectsStanza front.now index args.old args.new stanza.old stanza.new
+        report.new result }
     ensures file { (b : Bytes) → front.now ≡ take front_size b
-        → AnswersStanza b index args.old args.new stanza.old stanza.new report.new result }
+        → InspectsStanza b index args.old args.new stanza.old stanza.new report.new result }
 {
     let header = match header_of(alloc, front) {
         Ok(header) => header,

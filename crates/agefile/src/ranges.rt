@@ -71,7 +71,7 @@ pub extern "C" fn agefile_ranges_open_passphrase(
     ranges: &mut Ranges,
     report: &mut Report,
 ) -> u32
-    ensures answer { WorkFits max_work
+    ensures fit { WorkFits max_work
         → OpensRanges (alone (pass_unwraps (record { pass = pass.now; max = max_work }))) front.now
         file_len ranges.new report.new result }
     ensures unfit { (WorkFits max_work → ⊥)

@@ -70,7 +70,7 @@ pub extern "C" fn agefile_reader_open_passphrase(
     reader: &mut Reader,
     report: &mut Report,
 ) -> u32
-    ensures answer { WorkFits max_work
+    ensures fit { WorkFits max_work
         → OpensReader (alone (pass_unwraps (record { pass = pass.now; max = max_work }))) front.now
         reader.new report.new result }
     ensures unfit { (WorkFits max_work → ⊥)

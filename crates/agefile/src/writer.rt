@@ -83,7 +83,7 @@ pub extern "C" fn agefile_writer_open_passphrase(
     writer: &mut Writer,
     report: &mut Report,
 ) -> u32
-    ensures answer { WorkFits work
+    ensures fit { WorkFits work
         → OpensWriter seed.now (pass_stanza pass.now work (salt_of seed.now)) out.old out.new
         writer.new report.new result }
     ensures unfit { (WorkFits work → ⊥)
