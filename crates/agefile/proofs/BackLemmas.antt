@@ -13,7 +13,7 @@ use Rattle.age_recipient.specs.PassphraseHolders.{PairFits, pass_unwraps}
 use Rattle.age_recipient.specs.PassphraseStanza.{pass_stanza}
 use Rattle.age_recipient.specs.Salt.{IsSalt}
 use Rattle.age_file.specs.NewFile.{NewFile}
-use Rattle.agefile.specs.Answer.{IsSeed, alone, fresh_of, only, salt_of}
+use Rattle.agefile.specs.Giving.{IsSeed, alone, fresh_of, only, salt_of}
 use Rattle.agefile.specs.Limits.{limits}
 use Rattle.agefile.proofs.SizeLemmas.{key_size, salt_size}
 

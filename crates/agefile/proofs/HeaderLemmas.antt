@@ -20,7 +20,7 @@ use Rattle.age_file.specs.Inspect.{Inspects, file_result}
 use Rattle.agefile.specs.declared.inspecting.StanzaSummary.{StanzaSummary}
 use Rattle.agefile.specs.declared.inspecting.Summary.{Summary}
 use Rattle.agefile.specs.declared.report.Report.{Report}
-use Rattle.agefile.specs.Answer.{Fits, Gives, GivesUp}
+use Rattle.agefile.specs.Giving.{Fits, Gives, GivesUp}
 use Rattle.agefile.specs.Codes.{fault_code}
 use Rattle.agefile.specs.Report.{report_of}
 use Rattle.agefile.specs.Inspect.{InspectsStanza, GivesStanza, HeaderOf, Inspected, joined}

@@ -10,7 +10,7 @@ use Rattle.age_file.specs.Decrypt.{Decrypts, GivesVerdict}
 use Rattle.age_file.specs.Device.{CountsRead}
 use Rattle.age_file.specs.Verdict.{Answering}
 use Rattle.agefile.specs.declared.report.Report.{Report}
-use Rattle.agefile.specs.Answer.{Gives, GivesPlain, alone}
+use Rattle.agefile.specs.Giving.{Gives, GivesPlain, alone}
 use Rattle.agefile.specs.Codes.{is_memory}
 use Rattle.agefile.specs.Limits.{limits}
 

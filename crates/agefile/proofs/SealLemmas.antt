@@ -14,7 +14,7 @@ use Rattle.age_file.specs.AgeFile.{Bounds}
 use Rattle.age_file.specs.Device.{CountsRead}
 use Rattle.age_file.specs.NewFile.{EncryptsGiven, EncryptsText, Gathered, IsApart, IsRefusal, RefusesFirst, together}
 use Rattle.agefile.specs.declared.report.Report.{Report}
-use Rattle.agefile.specs.Answer.{Gives, GivesFile, GivesGathered, fresh_of, salt_of}
+use Rattle.agefile.specs.Giving.{Gives, GivesFile, GivesGathered, fresh_of, salt_of}
 use Rattle.agefile.specs.Codes.{is_memory}
 use Rattle.agefile.specs.Limits.{limits}
 use Rattle.agefile.proofs.SizeLemmas.{chunks_size, key_header, key_size, pass_header, salt_size}

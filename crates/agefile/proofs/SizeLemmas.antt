@@ -16,7 +16,7 @@ use Rattle.age_stream.specs.Cutting.{IsFilled}
 use Rattle.age_cipher.specs.Sealing.{sealed}
 use Rattle.age_header.specs.Mac.{header_mac}
 use Rattle.age_file.specs.NewFile.{NewFile}
-use Rattle.agefile.specs.Answer.{fresh_of, only, salt_of}
+use Rattle.agefile.specs.Giving.{fresh_of, only, salt_of}
 use Rattle.agefile.specs.Limits.{limits}
 use Rattle.agefile.specs.Sizes.{chunk_count, sealed_len}
 use Rattle.age_stream.specs.Payload.{chunks, is_end, payload, payload_key, chunk_nonce, sealed_from}

@@ -15,7 +15,7 @@ use Rattle.age_file.specs.Device.{CountsRead}
 use Rattle.age_file.specs.Inspect.{Inspects}
 use Rattle.age_file.specs.Verdict.{Answering, of_header, unlocked}
 use Rattle.agefile.specs.declared.start.Start.{Start}
-use Rattle.agefile.specs.Answer.{alone}
+use Rattle.agefile.specs.Giving.{alone}
 use Rattle.agefile.specs.Limits.{limits}
 use Rattle.agefile.specs.Start.{FindsStart, start_under}
 

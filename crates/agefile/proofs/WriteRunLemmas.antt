@@ -13,7 +13,7 @@ use Rattle.age_stream.proofs.CuttingLemmas.{is_cut}
 use Rattle.age_file.specs.NewFile.{NewFile}
 use Rattle.agefile.specs.declared.report.Report.{Report}
 use Rattle.agefile.specs.declared.writer.Writer.{Writer}
-use Rattle.agefile.specs.Answer.{fresh_of, only}
+use Rattle.agefile.specs.Giving.{fresh_of, only}
 use Rattle.agefile.specs.Limits.{limits}
 use Rattle.agefile.specs.Runs.{WritesRun}
 use Rattle.agefile.specs.Writer.{OpensWriter, WritesStep, after_chunk, may_be_last, accepts}

@@ -12,7 +12,7 @@ use Rattle.age_file.specs.AgeFile.{Bounds, is_mixed}
 use Rattle.age_file.specs.NewFile.{FailsHeading, Gathered, IsHeading}
 use Rattle.agefile.specs.declared.report.Report.{Report}
 use Rattle.agefile.specs.declared.writer.Writer.{Writer}
-use Rattle.agefile.specs.Answer.{fresh_of}
+use Rattle.agefile.specs.Giving.{fresh_of}
 use Rattle.agefile.specs.Codes.{fault_code}
 use Rattle.agefile.specs.Limits.{limits}
 use Rattle.agefile.specs.Writer.{GivesFront, OpensFor, OpensWriter, StaysClosed}

@@ -11,7 +11,7 @@ use Rattle.age_file.specs.Verdict.{of_header}
 use Rattle.agefile.specs.declared.inspecting.StanzaSummary.{StanzaSummary}
 use Rattle.agefile.specs.declared.inspecting.Summary.{Summary}
 use Rattle.agefile.specs.declared.report.Report.{Report}
-use Rattle.agefile.specs.Answer.{Gives, GivesUp}
+use Rattle.agefile.specs.Giving.{Gives, GivesUp}
 use Rattle.agefile.specs.Codes.{fault_code, ok, out_of_memory, out_of_order}
 use Rattle.agefile.specs.Limits.{limits}
 use Rattle.agefile.specs.Report.{report_of}

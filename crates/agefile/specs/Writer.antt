@@ -11,7 +11,7 @@ use Rattle.age_file.specs.declared.limits.Fresh.{Fresh}
 use Rattle.age_file.specs.NewFile.{IsHeading, IsRefusal}
 use Rattle.agefile.specs.declared.report.Report.{Report}
 use Rattle.agefile.specs.declared.writer.Writer.{Writer}
-use Rattle.agefile.specs.Answer.{Exceeds, Fits, GivesUp, fresh_of, only}
+use Rattle.agefile.specs.Giving.{Exceeds, Fits, GivesUp, fresh_of, only}
 use Rattle.agefile.specs.Limits.{limits}
 use Rattle.agefile.specs.Report.{report_of}
 use Rattle.agefile.specs.Steps.{IsOutOfOrder}

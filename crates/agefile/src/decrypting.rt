@@ -3,12 +3,12 @@
 ghost use Rattle.std.specs.Prelude.{◌≡◌, map};
 ghost use Rattle.age_recipient.specs.KeyedHolders.{key_unwraps};
 ghost use Rattle.age_recipient.specs.PassphraseHolders.{WorkFits, pass_unwraps};
-ghost use Rattle.agefile.specs.Answer.{GivesPlain, GivesUp, alone};
+ghost use Rattle.agefile.specs.Giving.{GivesPlain, GivesUp, alone};
 ghost use Rattle.agefile.specs.Codes.{bad_work_factor};
 
-use crate::bounds::limits;
 use crate::code::{OUT_OF_MEMORY, WORK_FACTOR};
 use crate::giving::{give_part, give_up, give_whole, is_memory};
+use crate::limits::limits;
 use crate::report::Report;
 use age_file::{Identity, KeyIdentity, MemSink, MemSource, PassError, PassIdentity, decrypt};
 use std::alloc::Global;

@@ -5,12 +5,12 @@ ghost use Rattle.age_recipient.specs.KeyedStanza.{keyed_stanza};
 ghost use Rattle.age_recipient.specs.PassphraseHolders.{WorkFits};
 ghost use Rattle.age_recipient.specs.PassphraseStanza.{pass_stanza};
 ghost use Rattle.age_file.specs.NewFile.{Gathered};
-ghost use Rattle.agefile.specs.Answer.{GivesFile, GivesUp, GivesGathered, fresh_of, salt_of};
+ghost use Rattle.agefile.specs.Giving.{GivesFile, GivesUp, GivesGathered, fresh_of, salt_of};
 ghost use Rattle.agefile.specs.Codes.{bad_work_factor};
 
-use crate::bounds::limits;
 use crate::code::{OUT_OF_MEMORY, WORK_FACTOR};
 use crate::giving::{give_part, give_up, give_whole, is_memory};
+use crate::limits::limits;
 use crate::report::Report;
 use age_file::{
     FileKey, Fresh, KeyRecipient, MemSink, MemSource, PassError, PassRecipient, Recipient, encrypt,

@@ -1,7 +1,7 @@
 //! Copying a call's output to the caller's buffer.
 
 ghost use Rattle.std.specs.Prelude.{◌≡◌, ◌⊎◌, ◌≤◌, ◌++◌, drop, length, Some, None};
-ghost use Rattle.agefile.specs.Answer.{Exceeds, Gives, GivesUp};
+ghost use Rattle.agefile.specs.Giving.{Exceeds, Gives, GivesUp};
 ghost use Rattle.agefile.specs.Codes.{is_memory};
 
 use crate::code::{OK, OUT_OF_MEMORY, TOO_SMALL, fault_code};

@@ -3,14 +3,14 @@
 ghost use Rattle.std.specs.Prelude.{◌≡◌, ◌⊎◌, take, Some, IfOk};
 ghost use Rattle.std.specs.String.{string_bytes};
 ghost use Rattle.age_kdf.specs.Bytes.{Bytes};
-ghost use Rattle.agefile.specs.Answer.{GivesUp};
+ghost use Rattle.agefile.specs.Giving.{GivesUp};
 ghost use Rattle.agefile.specs.Inspect.{GivesStanza, HeaderOf, Inspected, InspectsStanza, joined, stanza_summary};
 ghost use Rattle.agefile.specs.Codes.{out_of_memory};
 ghost use Rattle.agefile.specs.Limits.{front_size};
 
-use crate::bounds::limits;
 use crate::code::{OK, OUT_OF_MEMORY, OUT_OF_ORDER, fault_code};
 use crate::giving::{give_part, give_up, give_whole};
+use crate::limits::limits;
 use crate::report::Report;
 use age_file::{Fault, Header, MemSource, Stanza, inspect};
 use std::alloc::{AllocError, Global};

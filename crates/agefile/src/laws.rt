@@ -12,7 +12,7 @@ ghost use Rattle.age_file.specs.Verdict.{Answering, IsVerdict};
 ghost use Rattle.agefile.specs.declared.reader.Reader.{Reader};
 ghost use Rattle.agefile.specs.declared.report.Report.{Report};
 ghost use Rattle.agefile.specs.declared.writer.Writer.{Writer};
-ghost use Rattle.agefile.specs.Answer.{fresh_of, only};
+ghost use Rattle.agefile.specs.Giving.{fresh_of, only};
 ghost use Rattle.agefile.specs.Codes.{code_of, ok, out_of_memory, too_many_chunks};
 ghost use Rattle.agefile.specs.Limits.{limits, front_size};
 ghost use Rattle.agefile.specs.Reader.{OpensReader};

@@ -5,15 +5,15 @@ ghost use Rattle.std.specs.Bool.{OnFalse, OnTrue};
 ghost use Rattle.age_stream.specs.Reading.{outcome};
 ghost use Rattle.age_recipient.specs.KeyedHolders.{key_unwraps};
 ghost use Rattle.age_recipient.specs.PassphraseHolders.{WorkFits, pass_unwraps};
-ghost use Rattle.agefile.specs.Answer.{alone};
+ghost use Rattle.agefile.specs.Giving.{alone};
 ghost use Rattle.agefile.specs.Limits.{limits};
 ghost use Rattle.agefile.specs.Ranges.{GivesFrom, OpensAt, OpensRanges, StaysClosed, Verified, closed, gives, has_byte, last_index, may_open, may_verify, piece_len, piece_report, plain_of};
 ghost use Rattle.agefile.specs.Report.{report_of};
 ghost use Rattle.age_stream.specs.Sizes.{chunk_size};
 ghost use Rattle.agefile.specs.Codes.{ok, bad_work_factor, out_of_order};
 
-use crate::bounds::MAX_CHUNKS;
 use crate::code::{OK, OUT_OF_ORDER, WORK_FACTOR, fault_code};
+use crate::limits::MAX_CHUNKS;
 use crate::report::Report;
 use crate::start::{Start, start_for_key, start_for_passphrase};
 use crate::state::{CLOSED, OPEN};

@@ -3,12 +3,12 @@
 ghost use Rattle.std.specs.Prelude.{◌≡◌};
 ghost use Rattle.age_recipient.specs.KeyedHolders.{key_unwraps};
 ghost use Rattle.age_recipient.specs.PassphraseHolders.{WorkFits, pass_unwraps};
-ghost use Rattle.agefile.specs.Answer.{alone};
+ghost use Rattle.agefile.specs.Giving.{alone};
 ghost use Rattle.agefile.specs.Reader.{OpensAt, OpensReader, ReadsStep, StaysClosed, closed, accepts};
 ghost use Rattle.agefile.specs.Codes.{bad_work_factor};
 
-use crate::bounds::MAX_CHUNKS;
 use crate::code::{OK, OUT_OF_ORDER, WORK_FACTOR, fault_code};
+use crate::limits::MAX_CHUNKS;
 use crate::report::Report;
 use crate::start::{Start, start_for_key, start_for_passphrase};
 use crate::state::{CLOSED, ENDED, FAILED, OPEN};

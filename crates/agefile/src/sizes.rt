@@ -9,7 +9,7 @@ ghost use Rattle.age_stream.specs.Reading.{Reading};
 ghost use Rattle.age_file.specs.declared.fault.Fault.{Fault};
 ghost use Rattle.age_file.specs.NewFile.{NewFile};
 ghost use Rattle.age_file.specs.Verdict.{Answering, IsVerdict};
-ghost use Rattle.agefile.specs.Answer.{fresh_of, only, salt_of};
+ghost use Rattle.agefile.specs.Giving.{fresh_of, only, salt_of};
 ghost use Rattle.agefile.specs.Limits.{limits};
 ghost use Rattle.agefile.specs.Sizes.{plain_len_at_most, sealed_len};
 

@@ -10,7 +10,7 @@ ghost use Rattle.age_recipient.specs.PassphraseStanza.{pass_stanza};
 ghost use Rattle.age_stream.specs.Reading.{whole};
 ghost use Rattle.age_file.specs.NewFile.{NewFile};
 ghost use Rattle.age_file.specs.Verdict.{IsVerdict};
-ghost use Rattle.agefile.specs.Answer.{IsSeed, alone, fresh_of, only, salt_of};
+ghost use Rattle.agefile.specs.Giving.{IsSeed, alone, fresh_of, only, salt_of};
 ghost use Rattle.agefile.specs.Limits.{limits};
 
 use age_file::laws;

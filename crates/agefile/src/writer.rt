@@ -5,14 +5,14 @@ ghost use Rattle.age_recipient.specs.KeyedStanza.{keyed_stanza};
 ghost use Rattle.age_recipient.specs.PassphraseHolders.{WorkFits};
 ghost use Rattle.age_recipient.specs.PassphraseStanza.{pass_stanza};
 ghost use Rattle.age_file.specs.NewFile.{Gathered};
-ghost use Rattle.agefile.specs.Answer.{fresh_of, salt_of};
+ghost use Rattle.agefile.specs.Giving.{fresh_of, salt_of};
 ghost use Rattle.agefile.specs.Writer.{GivesFront, OpensFor, OpensWriter, StaysClosed, WritesStep, closed, may_be_last, accepts};
 ghost use Rattle.agefile.specs.Codes.{bad_work_factor};
 
-use crate::bounds::{MAX_CHUNKS, limits};
 use crate::code::{OK, OUT_OF_MEMORY, OUT_OF_ORDER, WORK_FACTOR, fault_code};
 use crate::encrypting::{fresh_of, part};
 use crate::giving::{give_up, give_whole};
+use crate::limits::{MAX_CHUNKS, limits};
 use crate::report::Report;
 use crate::state::{CLOSED, ENDED, FAILED, OPEN};
 use age_file::{

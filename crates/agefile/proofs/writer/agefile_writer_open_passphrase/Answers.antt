@@ -2,7 +2,7 @@ use Rattle.std.proofs.Common.{◌≡◌, ◌∙◌, ap, length, rules}
 use denote.Param.Object.{read_made}
 use Rattle.age_recipient.specs.PassphraseHolders.{pass_wraps}
 use Rattle.age_recipient.specs.PassphraseStanza.{pass_stanza}
-use Rattle.agefile.specs.Answer.{fresh_of, salt_of}
+use Rattle.agefile.specs.Giving.{fresh_of, salt_of}
 use Rattle.agefile.proofs.SealLemmas.{pass_short}
 use Rattle.agefile.proofs.WriterLemmas.{opens_one}
 use Rattle.agefile.proofs.writer.agefile_writer_open_passphrase.Goals as goal
