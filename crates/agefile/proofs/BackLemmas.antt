@@ -12,9 +12,7 @@ use Rattle.age_recipient.specs.Pairing.{key_pair_law, pair_law}
 use Rattle.age_recipient.specs.PassphraseHolders.{PairFits, pass_unwraps}
 use Rattle.age_recipient.specs.PassphraseStanza.{pass_stanza}
 use Rattle.age_recipient.specs.Salt.{IsSalt}
-use Rattle.age_file.specs.NewFile.{NewFile}
-use Rattle.agefile.specs.Giving.{IsSeed, alone, fresh_of, only, salt_of}
-use Rattle.agefile.specs.Limits.{limits}
+use Rattle.agefile.specs.Giving.{IsFileUnder, IsSeed, alone, fresh_of, only, salt_of}
 use Rattle.agefile.proofs.SizeLemmas.{key_size, salt_size}
 
 bytes_take : (n : ℕ) (b : List ℕ) → IsBytes b → IsBytes (take n b)
@@ -41,14 +39,14 @@ given_alone stanza stanzas h = cc
 
 -- the file key is chosen
 pub key_chosen : (key seed plain file : List ℕ) → IsSeed seed
-    → (is : NewFile limits (fresh_of seed) (only (keyed_stanza key (salt_of seed) (fresh_of seed).file_key)) plain file)
+    → (is : IsFileUnder seed (keyed_stanza key (salt_of seed)) plain file)
     → choice (alone (key_unwraps key) is.stanzas) ≡ Ok (fresh_of seed).file_key
 key_chosen key seed plain file seeded is =
     ap (λ answer. choice (answer ∷ []))
     (key_pair_law (record { key = key; salt = salt_of seed }) key (fresh_of seed).file_key is.stanzas refl (seed_salt seed seeded) (seed_key seed seeded) (ap Ok (given_alone _ is.stanzas is.heading.gives)))
 
 pub pass_chosen : (pass seed plain file : List ℕ) (work max : ℕ) → IsSeed seed → PairFits work max
-    → (is : NewFile limits (fresh_of seed) (only (pass_stanza pass work (salt_of seed) (fresh_of seed).file_key)) plain file)
+    → (is : IsFileUnder seed (pass_stanza pass work (salt_of seed)) plain file)
     → choice (alone (pass_unwraps (record { pass = pass; max = max })) is.stanzas) ≡ Ok (fresh_of seed).file_key
 pass_chosen pass seed plain file work max seeded fits is =
     ap (λ answer. choice (answer ∷ []))

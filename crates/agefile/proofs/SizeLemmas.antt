@@ -16,7 +16,7 @@ use Rattle.age_stream.specs.Cutting.{IsFilled}
 use Rattle.age_cipher.specs.Sealing.{sealed}
 use Rattle.age_header.specs.Mac.{header_mac}
 use Rattle.age_file.specs.NewFile.{NewFile}
-use Rattle.agefile.specs.Giving.{fresh_of, only, salt_of}
+use Rattle.agefile.specs.Giving.{IsFileUnder, fresh_of, only, salt_of}
 use Rattle.agefile.specs.Limits.{limits}
 use Rattle.agefile.specs.Sizes.{chunk_count, sealed_len}
 use Rattle.age_stream.specs.Payload.{chunks, is_end, payload, payload_key, chunk_nonce, sealed_from}
@@ -176,14 +176,14 @@ only_head seed stanza plain file is =
     subst (λ ss. Head ss (header_mac (fresh_of seed).file_key.0 is.stanzas) is.text) same is.heading.head
 
 pub key_file : (key seed plain file : List ℕ) → length seed ≡ 48
-    → NewFile limits (fresh_of seed) (only (keyed_stanza key (salt_of seed) (fresh_of seed).file_key)) plain file → length file ≡ sealed_len (length plain)
+    → IsFileUnder seed (keyed_stanza key (salt_of seed)) plain file → length file ≡ sealed_len (length plain)
 key_file key seed plain file size is =
     let all = file_size seed _ plain file is size in
     let head = key_header key (salt_of seed) (fresh_of seed).file_key _ is.text (salt_size seed size) (key_size seed size) (only_head seed _ plain file is) in
     omega arith
 
 pub pass_file : (pass seed plain file : List ℕ) (work : ℕ) → length seed ≡ 48 → work ≤ 30
-    → NewFile limits (fresh_of seed) (only (pass_stanza pass work (salt_of seed) (fresh_of seed).file_key)) plain file → length file < sealed_len (length plain)
+    → IsFileUnder seed (pass_stanza pass work (salt_of seed)) plain file → length file < sealed_len (length plain)
 pass_file pass seed plain file work size high is =
     let all = file_size seed _ plain file is size in
     let head = pass_header pass (salt_of seed) work (fresh_of seed).file_key _ is.text (salt_size seed size) (key_size seed size) high (only_head seed _ plain file is) in

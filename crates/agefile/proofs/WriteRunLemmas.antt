@@ -10,10 +10,9 @@ use Rattle.age_recipient.specs.declared.key.FileKey.{FileKey}
 use Rattle.age_stream.specs.Cutting.{IsFilled}
 use Rattle.age_stream.specs.Payload.{chunks, is_end, payload, payload_key, chunk_nonce, sealed_from}
 use Rattle.age_stream.proofs.CuttingLemmas.{is_cut}
-use Rattle.age_file.specs.NewFile.{NewFile}
 use Rattle.agefile.specs.declared.report.Report.{Report}
 use Rattle.agefile.specs.declared.writer.Writer.{Writer}
-use Rattle.agefile.specs.Giving.{fresh_of, only}
+use Rattle.agefile.specs.Giving.{IsFileUnder, fresh_of}
 use Rattle.agefile.specs.Limits.{limits}
 use Rattle.agefile.specs.Runs.{WritesRun}
 use Rattle.agefile.specs.Writer.{OpensWriter, WritesStep, after_chunk, may_be_last, accepts}
@@ -125,7 +124,7 @@ run_writes key i (c ∷ d ∷ more) out code sizes run =
 -- the whole file, or too many chunks
 abbrev pub WritesFile : List ℕ → (FileKey → StanzaParts) → List ℕ → List ℕ → ℕ → Type 0
 WritesFile seed stanza plain file code =
-    ((code ≡ 0) × NewFile limits (fresh_of seed) (only (stanza (fresh_of seed).file_key)) plain file) ⊎ ((code ≡ 14) × (limits.max_chunks < length (chunks plain)))
+    ((code ≡ 0) × IsFileUnder seed stanza plain file) ⊎ ((code ≡ 14) × (limits.max_chunks < length (chunks plain)))
 
 pub steps_write : (seed : List ℕ) (stanza : FileKey → StanzaParts) (plain old new : List ℕ) (writer : Writer) (report : Report) (out : List ℕ) (code : ℕ) → length seed ≡ 48
     → OpensWriter seed stanza old new writer report 0 → WritesRun writer (chunks plain) out code → WritesFile seed stanza plain (take report.len new ++ out) code

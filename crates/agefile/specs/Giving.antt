@@ -1,5 +1,5 @@
 -- What a call over whole buffers gives.
-use Rattle.std.specs.Prelude.{◌≡◌, ◌⊎◌, ◌<◌, ◌≤◌, ◌++◌, ℕ, List, [], ◌∷◌, length, slice_index, drop, take, Option, None, Result, Ok}
+use Rattle.std.specs.Prelude.{◌≡◌, ◌⊎◌, ◌<◌, ◌≤◌, ◌++◌, ◌*◌, ℕ, List, [], ◌∷◌, length, slice_index, drop, take, Option, None, Result, Ok}
 use Rattle.age_kdf.specs.Bytes.{Bytes}
 use Rattle.age_header.specs.Header.{StanzaParts}
 use Rattle.age_recipient.specs.declared.key.FileKey.{FileKey}
@@ -53,31 +53,52 @@ GivesPlain answers b old new report code =
     ⊎ ((verdict : Reading Fault) × IsVerdict limits answers b verdict
     × Gives verdict.front verdict.fault old new report code)
 
--- a seed: 48 bytes
+-- the length of each part of a seed
+abbrev pub part_size : ℕ
+part_size = 16
+
+-- where the last part of a seed begins, its salt
+abbrev pub salt_start : ℕ
+salt_start = 2 * part_size
+
+-- a seed has three parts: a file key, a payload's nonce, and a stanza's salt
+abbrev pub seed_size : ℕ
+seed_size = 3 * part_size
+
+-- a seed: as many bytes
 pub record IsSeed (seed : Bytes) : Type 0 where
-  pub len : length seed ≡ 48
+  pub len : length seed ≡ seed_size
   pub bytes : (i : ℕ) → slice_index seed i < 256
 
--- a seed is a file key, a payload's nonce, and a stanza's salt
+-- the file key and the nonce of a seed
 abbrev pub fresh_of : Bytes → Fresh
-fresh_of seed = record { file_key = record { 0 = take 16 seed }; nonce = take 16 (drop 16 seed) }
+fresh_of seed =
+    record {
+      file_key = record { 0 = take part_size seed };
+      nonce = take part_size (drop part_size seed);
+    }
 
 -- the salt of a seed
 abbrev pub salt_of : Bytes → Bytes
-salt_of seed = take 16 (drop 32 seed)
+salt_of seed = take part_size (drop salt_start seed)
 
 -- the recipients gave this stanza alone
 abbrev pub only : (stanza : StanzaParts) (given : Result (List StanzaParts) Fault) → Type 0
 only stanza given = given ≡ Ok (stanza ∷ [])
+
+-- this is the file of this plaintext and of this stanza alone under this seed
+abbrev pub IsFileUnder : (seed : Bytes) (stanza : FileKey → StanzaParts) (plain file : Bytes)
+    → Type 0
+IsFileUnder seed stanza plain file =
+    let fresh = fresh_of seed in
+    NewFile limits fresh (only (stanza fresh.file_key)) plain file
 
 -- what encrypting gives: the file of this plaintext and stanza under this seed; or out of memory
 abbrev pub GivesFile : (seed : Bytes) (stanza : FileKey → StanzaParts) (plain old new : Bytes)
     (report : Report) (code : ℕ) → Type 0
 GivesFile seed stanza plain old new report code =
     GivesUp out_of_memory old new report code
-    ⊎ ((file : Bytes)
-    × NewFile limits (fresh_of seed) (only (stanza (fresh_of seed).file_key)) plain file
-    × Gives file None old new report code)
+    ⊎ ((file : Bytes) × IsFileUnder seed stanza plain file × Gives file None old new report code)
 
 -- the same for whatever recipients give. In a refusal, and where there are too many chunks, nothing
 -- is said of what the call returns: the exports have one recipient, which leaves neither case.

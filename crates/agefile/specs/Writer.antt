@@ -57,11 +57,12 @@ GivesFront front fresh old new writer report code =
 abbrev pub OpensWriter : (seed : Bytes) (stanza : FileKey → StanzaParts) (old new : Bytes)
     (writer : Writer) (report : Report) (code : ℕ) → Type 0
 OpensWriter seed stanza old new writer report code =
+    let fresh = fresh_of seed in
+    let given = stanza fresh.file_key in
     StaysClosed out_of_memory old new writer report code
     ⊎ ((text : Bytes) × (length text ≤ longest_header)
-    × IsHeading limits (fresh_of seed).file_key (only (stanza (fresh_of seed).file_key))
-    (stanza (fresh_of seed).file_key ∷ []) text
-    × GivesFront (text ++ (fresh_of seed).nonce) (fresh_of seed) old new writer report code)
+    × IsHeading limits fresh.file_key (only given) (given ∷ []) text
+    × GivesFront (text ++ fresh.nonce) fresh old new writer report code)
 
 -- the same for whatever recipients give. In a refusal nothing is said of what the call returns: the
 -- exports have one recipient, which never refuses.

@@ -7,12 +7,11 @@ ghost use Rattle.age_recipient.specs.declared.key.FileKey.{FileKey};
 ghost use Rattle.age_stream.specs.Payload.{chunks, pieces};
 ghost use Rattle.age_stream.specs.Reading.{Reading, outcome};
 ghost use Rattle.age_file.specs.declared.fault.Fault.{Fault};
-ghost use Rattle.age_file.specs.NewFile.{NewFile};
 ghost use Rattle.age_file.specs.Verdict.{Answering, IsVerdict};
 ghost use Rattle.agefile.specs.declared.reader.Reader.{Reader};
 ghost use Rattle.agefile.specs.declared.report.Report.{Report};
 ghost use Rattle.agefile.specs.declared.writer.Writer.{Writer};
-ghost use Rattle.agefile.specs.Giving.{fresh_of, only};
+ghost use Rattle.agefile.specs.Giving.{IsFileUnder, seed_size};
 ghost use Rattle.agefile.specs.Codes.{code_of, ok, out_of_memory, too_many_chunks};
 ghost use Rattle.agefile.specs.Limits.{limits, front_size};
 ghost use Rattle.agefile.specs.Reader.{OpensReader};
@@ -49,11 +48,9 @@ pub fn steps_read()
 pub fn steps_write()
     ensures { (seed : Bytes) (stanza : FileKey → StanzaParts) (plain old new : Bytes)
         (writer : Writer) (report : Report) (out : Bytes) (code : ℕ)
-        → length seed ≡ 48 → OpensWriter seed stanza old new writer report ok
+        → length seed ≡ seed_size → OpensWriter seed stanza old new writer report ok
         → WritesRun writer (chunks plain) out code
-        → ((code ≡ ok)
-        × NewFile limits (fresh_of seed) (only (stanza (fresh_of seed).file_key)) plain
-        (take report.len new ++ out))
+        → ((code ≡ ok) × IsFileUnder seed stanza plain (take report.len new ++ out))
         ⊎ ((code ≡ too_many_chunks) × (limits.max_chunks < length (chunks plain))) }
 {}
 
