@@ -1,15 +1,14 @@
 -- The header in front of bytes that lie in memory.
-use Rattle.std.proofs.Common.{◌≡◌, ℕ, ◌<◌, ◌≤◌, ◌-◌, ◌^◌, List, [], ◌∷◌, ◌++◌, length, length-take, take, map, flat_map, min, ◌∙◌, sym, ap, refl, subst, inl, inr, arith, Option, Some, None, Result, Ok, Err}
+use Rattle.std.proofs.Common.{◌≡◌, ℕ, ◌<◌, ◌≤◌, ◌-◌, ◌^◌, List, [], ◌∷◌, ◌++◌, length, take, map, flat_map, min, ◌∙◌, sym, ap, refl, subst, inl, inr, arith, Option, Some, None, Result, Ok, Err}
 use Rattle.std.specs.Prelude.{String, IfOk, ◌⊎◌}
 use Rattle.std.specs.Global.{Global}
 use Rattle.std.specs.String.{string_bytes}
 use Rattle.std.specs.List.{join_by, slice_get}
-use Rattle.std.proofs.lemmas.List.{take-take}
 use Rattle.std.proofs.lemmas.Option.{slice_get_past}
 use Rattle.age_header.specs.declared.fault.HeaderFault.{HeaderFault}
 use Rattle.age_header.specs.declared.fault.HeaderFault.TheVariants as header
 use Rattle.age_header.specs.Header.{Head, HeaderParts, StanzaParts}
-use Rattle.age_header.specs.Verdict.{BeginsAsAge, Decides, Found, HeaderVerdict, IsUndecided}
+use Rattle.age_header.specs.Verdict.{HeaderVerdict}
 use Rattle.age_header.specs.Reader.{ReadsHeaderOf}
 use Rattle.age_header.proofs.OneText.{one_text}
 use Rattle.age_header.proofs.OneVerdict.{begins_found}
@@ -25,6 +24,7 @@ use Rattle.agefile.specs.Codes.{fault_code}
 use Rattle.agefile.specs.Report.{report_of}
 use Rattle.agefile.specs.Inspect.{InspectsStanza, GivesStanza, HeaderOf, Inspected, joined}
 use Rattle.agefile.specs.Limits.{limits}
+use Rattle.agefile.proofs.FrontLemmas.{whole_verdict}
 
 -- what a reader answered
 of_answer : (b : List ℕ) (after : Option (List ℕ)) (r : Result HeaderParts Fault) (answer : Result HeaderParts HeaderFault) → r ≡ file_result answer
@@ -40,29 +40,7 @@ header_found l b come after r at source count h =
     let inspects = subst (λ (s : Option (List ℕ)). Inspects limits s after r) source (subst (λ bounds. Inspects bounds come after r) at h) in
     of_answer b after r inspects.0 inspects.1 count inspects.2
 
--- the first 65,552 bytes of a file have its header verdict
-cut_front : (b : List ℕ) → take 65536 (take 65552 b) ≡ take 65536 b
-cut_front b = take-take 65536 65552 b (omega arith)
-
-whole_verdict : (b : List ℕ) (r : Result Found HeaderFault) → HeaderVerdict (take 65552 b) limits.max_header r → HeaderVerdict b limits.max_header r
-whole_verdict b (Ok found) h = record {
-  lines = h.lines;
-  begun = subst BeginsAsAge (cut_front b) h.begun;
-  decides = subst (Decides h.lines) (cut_front b) h.decides;
-  is = h.is;
-  head = h.head;
-}
-whole_verdict b (Err header.NotAge) h = λ begins. h (subst BeginsAsAge (sym (cut_front b)) begins)
-whole_verdict b (Err (header.BadLine n)) h = (subst BeginsAsAge (cut_front b) h.0, (h.1.0, h.1.1, subst (Decides h.1.0) (cut_front b) h.1.2, h.1.3))
-whole_verdict b (Err header.Truncated) h =
-    let short : length (take 65552 b) < 65536 = h.2 in
-    (subst BeginsAsAge (cut_front b) h.0, subst IsUndecided (cut_front b) h.1, omega (arith, short, length-take 65552 b))
-whole_verdict b (Err header.TooLarge) h =
-    let long : 65536 ≤ length (take 65552 b) = h.2 in
-    (subst BeginsAsAge (cut_front b) h.0, subst IsUndecided (cut_front b) h.1, omega (arith, long, length-take 65552 b))
-whole_verdict b (Err header.Read) h = absurd h
-whole_verdict b (Err header.Memory) h = absurd h
-
+-- the first 65,552 bytes of a file have its header
 whole_of : (b : List ℕ) (r : Result HeaderParts Fault) → HeaderOf (take 65552 b) r → HeaderOf b r
 whole_of b (Ok h) (text, found) = (text, whole_verdict b (Ok (record { stanzas = h.stanzas; mac = h.mac; text = text })) found)
 whole_of b (Err fault) (inl memory) = inl memory

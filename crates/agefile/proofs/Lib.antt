@@ -9,5 +9,6 @@ mod RunLemmas
 mod SealLemmas
 pub mod SizeLemmas
 mod StartLemmas
+mod StepsReadLemmas
 mod WriteRunLemmas
 mod WriterLemmas

@@ -22,9 +22,11 @@ use Rattle.agefile.specs.Limits.{limits}
 use Rattle.agefile.specs.Ranges.{OpensAt, OpensRanges, gives, piece_at, plain_of}
 use Rattle.agefile.specs.Report.{report_of}
 use Rattle.agefile.specs.Start.{IsStart, start_under}
-use Rattle.agefile.proofs.FrontLemmas.{IsVerdictFrom, renamed, verdict-from, whole-start}
+use Rattle.agefile.proofs.FrontLemmas.{whole-start}
 use Rattle.agefile.proofs.RangeLemmas.{slice-there}
 use Rattle.agefile.proofs.RunLemmas.{some-code}
+use Rattle.agefile.proofs.StartLemmas.{ok-ok}
+use Rattle.agefile.proofs.StepsReadLemmas.{IsVerdictFrom, renamed, verdict-from}
 
 -- the payload after a header of `at` bytes, under the file key
 record StartsPayload (b : List ℕ) (start : Start) (v : Reading Fault) : Type 0 where
@@ -34,9 +36,6 @@ record StartsPayload (b : List ℕ) (start : Start) (v : Reading Fault) : Type 0
   is_key : start.key ≡ payload_key key (take 16 (drop at b))
   long : 16 ≤ length (drop at b)
   reading : v ≡ renamed (payload_reading key limits.max_chunks (drop at b))
-
-ok-ok : (x y : Start) → ◌≡◌ {A = Result Start Fault} (Ok x) (Ok y) → x ≡ y
-ok-ok x y e = cc
 
 under-starts : (b : List ℕ) (n : ℕ) (start : Start) (v : Reading Fault) (key : Result FileKey Fault) → Ok start ≡ start_under n (drop n b) key
     → v ≡ read_under limits (drop n b) key → StartsPayload b start v
