@@ -1,9 +1,7 @@
 -- What a seed's stanza opens to.
-use Rattle.std.proofs.Common.{◌≡◌, ℕ, ◌+◌, List, [], ◌∷◌, length-take, take, drop, ap, refl, inl, inr, arith, Ok}
-use Rattle.std.proofs.lemmas.Bool.{cases_lt}
-use Rattle.std.proofs.lemmas.List.{get_or-take, get_or-drop, get_or_past}
-use Rattle.base64.specs.GeneralPurpose.{IsBytes}
+use Rattle.std.proofs.Common.{◌≡◌, ℕ, List, [], ◌∷◌, drop, ap, refl, Ok}
 use Rattle.age_header.specs.Header.{StanzaParts}
+use Rattle.age_header.proofs.TextLemmas.{bytes_drop, bytes_take}
 use Rattle.age_recipient.specs.Choice.{choice}
 use Rattle.age_recipient.specs.Key.{IsFileKey}
 use Rattle.age_recipient.specs.KeyedHolders.{key_unwraps}
@@ -14,17 +12,6 @@ use Rattle.age_recipient.specs.PassphraseStanza.{pass_stanza}
 use Rattle.age_recipient.specs.Salt.{IsSalt}
 use Rattle.agefile.specs.Giving.{IsFileUnder, IsSeed, alone, fresh_of, only, salt_of}
 use Rattle.agefile.proofs.SizeLemmas.{key_size, salt_size}
-
-bytes_take : (n : ℕ) (b : List ℕ) → IsBytes b → IsBytes (take n b)
-bytes_take n b h i = elim (cases_lt i n) [
-  | inl low ↦ rw (get_or-take n b i 0 low) (h i)
-  | inr high ↦
-      let e = get_or_past (take n b) i 0 (omega (arith, length-take n b)) in
-      omega arith
-]
-
-bytes_drop : (n : ℕ) (b : List ℕ) → IsBytes b → IsBytes (drop n b)
-bytes_drop n b h i = rw (get_or-drop n b i 0) (h (n + i))
 
 -- the file key and the salt of a seed
 seed_key : (seed : List ℕ) → IsSeed seed → IsFileKey (fresh_of seed).file_key

@@ -12,7 +12,8 @@ use Rattle.age_file.specs.declared.fault.Fault.TheVariants.{HeaderTooLarge, Mixe
 use Rattle.age_file.specs.declared.limits.Fresh.{Fresh}
 use Rattle.age_file.specs.AgeFile.{Bounds}
 use Rattle.age_file.specs.Device.{CountsRead}
-use Rattle.age_file.specs.NewFile.{EncryptsGiven, EncryptsText, Gathered, IsApart, IsRefusal, RefusesFirst, together}
+use Rattle.age_file.specs.NewFile.{EncryptsGiven, EncryptsText, Gathered, IsRefusal, RefusesFirst, together}
+use Rattle.age_file.proofs.OwnLabels.{one_place}
 use Rattle.agefile.specs.declared.report.Report.{Report}
 use Rattle.agefile.specs.Giving.{Gives, GivesFile, GivesGathered, fresh_of, salt_of}
 use Rattle.agefile.specs.Codes.{is_memory}
@@ -49,12 +50,6 @@ seals_part l fresh seed given plain old new come before after report code fault 
     (subst (λ f. EncryptsText limits f (given f.file_key) plain before after (Err fault)) seeds
     (subst (λ b. EncryptsText b fresh (given fresh.file_key) plain before after (Err fault)) at
     (subst (λ (s : Option (List ℕ)). EncryptsGiven l fresh (given fresh.file_key) s before after (Err fault)) source h)))
-
--- one recipient is apart from nobody
-one_place : (meant : Labels) (place : Option ℕ) → IsApart (meant ∷ []) place → place ≡ None
-one_place meant place ([], may, is) = absurd may
-one_place meant place (l ∷ [], may, is) = is
-one_place meant place (l ∷ m ∷ rest, may, is) = absurd may.1
 
 -- what one recipient gives that wraps a key in one stanza
 pub gathered_one : (stanza : StanzaParts) (meant : Labels) (given : Result (List StanzaParts) Fault) → Gathered (Ok (stanza ∷ []) ∷ []) (meant ∷ []) given → given ≡ Ok (stanza ∷ [])

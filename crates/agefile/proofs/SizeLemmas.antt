@@ -3,10 +3,11 @@ use Rattle.std.proofs.Common.{◌≡◌, ℕ, ◌+◌, ◌*◌, ◌/◌, ◌<◌
 use Rattle.std.specs.List.{AllByRecursion, concat}
 use Rattle.std.specs.Fmt.{decimal}
 use Rattle.std.proofs.lemmas.Fmt.{length-decimal-le}
-use Rattle.base64.proofs.RoundTrip.{length-encode_symbols}
 use Rattle.age_cipher.proofs.OpeningLemmas.{length-sealed}
-use Rattle.age_header.specs.Base64.{B64, alphabet, base64_of}
+use Rattle.age_header.specs.Base64.{B64, base64_of}
 use Rattle.age_header.specs.Header.{Head, IsFullLine, IsStanza, StanzaParts, argument_line, line, version_line}
+use Rattle.age_header.proofs.LengthLemmas.{line_size, version_size}
+use Rattle.age_header.proofs.TextLemmas.{signs_size}
 use Rattle.age_recipient.specs.declared.key.FileKey.{FileKey}
 use Rattle.age_recipient.specs.KeyedStanza.{keyed_stanza, wrap_key}
 use Rattle.age_recipient.specs.PassphraseStanza.{pass_key, pass_stanza}
@@ -30,17 +31,6 @@ b64_size (a ∷ []) (p ∷ q ∷ []) h = refl
 b64_size (a ∷ b ∷ []) (p ∷ q ∷ r ∷ []) h = refl
 b64_size (a ∷ b ∷ c ∷ bytes) (p ∷ q ∷ r ∷ s ∷ characters) h = let rest = b64_size bytes characters h.1 in omega arith
 b64_size _ _ h = absurd h
-
-signs_size : (b : List ℕ) → length (base64_of b) ≡ (4 * length b + 2) / 3
-unfolding base64_of
-signs_size b = length-encode_symbols alphabet b
-
-line_size : (t : List ℕ) → length (line t) ≡ length t + 1
-line_size t = length-append t (10 ∷ [])
-
-version_size : length version_line ≡ 22
-unfolding version_line
-version_size = refl
 
 full_size : (full : List (List ℕ)) → AllByRecursion IsFullLine full → length (concat full) ≡ 64 * length full
 full_size [] all = refl

@@ -14,13 +14,11 @@ use Rattle.age_file.specs.declared.fault.Fault.TheVariants.{NonceTruncated, OutO
 use Rattle.age_file.specs.Device.{CountsRead}
 use Rattle.age_file.specs.Inspect.{Inspects}
 use Rattle.age_file.specs.Verdict.{Answering, of_header, unlocked}
+use Rattle.age_file.proofs.DecryptLemmas.{err-err}
 use Rattle.agefile.specs.declared.start.Start.{Start}
 use Rattle.agefile.specs.Giving.{alone}
 use Rattle.agefile.specs.Limits.{limits}
 use Rattle.agefile.specs.Start.{FindsStart, start_under}
-
-err-err : {A : Type 0} (f g : Fault) → ◌≡◌ {A = Result A Fault} (Err f) (Err g) → f ≡ g
-err-err f g e = cc
 
 pub ok-ok : {A : Type 0} (x y : A) → ◌≡◌ {A = Result A Fault} (Ok x) (Ok y) → x ≡ y
 ok-ok x y e = cc
