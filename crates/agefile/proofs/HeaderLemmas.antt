@@ -26,7 +26,7 @@ use Rattle.agefile.specs.Inspect.{InspectsStanza, GivesStanza, HeaderOf, Inspect
 use Rattle.agefile.specs.Limits.{limits}
 use Rattle.agefile.proofs.FrontLemmas.{whole_verdict}
 
--- what a reader answered
+-- what a reader returned
 of_answer : (b : List ℕ) (after : Option (List ℕ)) (r : Result HeaderParts Fault) (answer : Result HeaderParts HeaderFault) → r ≡ file_result answer
     → CountsRead 0 0 r → ReadsHeaderOf b (Some b) after limits.max_header answer → HeaderOf b r
 of_answer b after r (Ok h) same count (text, verdict, taken) = subst (HeaderOf b) (sym same) (text, verdict)

@@ -17,7 +17,7 @@ out_of_memory = 17
 abbrev pub too_many_chunks : ℕ
 too_many_chunks = 14
 
--- the buffer has no room for what it was to get
+-- the buffer is too small for the output
 abbrev pub too_small : ℕ
 too_small = 21
 

@@ -35,7 +35,7 @@ pub record Exceeds (text old new : Bytes) (report : Report) (code : ℕ) : Type 
   pub reported : report ≡ report_of (length text) None
   pub buffer : new ≡ old
 
--- a text is given, and a fault after it, where the buffer has room for the text
+-- a text is given, and a fault after it, if the text fits the buffer
 abbrev pub Gives : (text : Bytes) (fault : Option Fault) (old new : Bytes) (report : Report)
     (code : ℕ) → Type 0
 Gives text fault old new report code =

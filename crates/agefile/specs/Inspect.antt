@@ -60,8 +60,8 @@ abbrev pub stanza_summary : StanzaParts → StanzaSummary
 stanza_summary s =
     record { args = length s.args; args_len = length (joined s.args); body_len = length s.body }
 
--- the stanza with this index is summed up and its arguments are given, where the buffer has room
--- for them; or there is none
+-- the stanza with this index is summed up, and its arguments are given if they fit the buffer; or
+-- there is none
 abbrev pub GivesStanza : (found : Option StanzaParts) (old new : Bytes)
     (before after : StanzaSummary) (report : Report) (code : ℕ) → Type 0
 GivesStanza (Some s) old new before after report code =

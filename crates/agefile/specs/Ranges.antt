@@ -16,11 +16,11 @@ use Rattle.agefile.specs.Start.{FindsStart}
 use Rattle.age_stream.specs.Sizes.{tag_size, chunk_size, sealed_chunk_size}
 use Rattle.agefile.specs.State.{state_closed, state_open, state_verified}
 
--- the number of the last of the pieces that so many bytes are
+-- the index of the last piece, if all pieces together have `sealed` bytes
 abbrev pub last_index : ℕ → ℕ
 last_index sealed = (sealed - 1) / sealed_chunk_size
 
--- how long piece i of so many bytes is
+-- the length of piece i, if all pieces together have `sealed` bytes
 abbrev pub piece_len : (sealed i : ℕ) → ℕ
 piece_len sealed i = min sealed_chunk_size (sealed - sealed_chunk_size * i)
 
@@ -32,7 +32,7 @@ plain_of sealed = sealed - tag_size * (last_index sealed + 1)
 abbrev pub closed : Ranges
 closed = record { key = replicate 32 0; first = 0; sealed_len = 0; state = state_closed }
 
--- the payload from its start to the end of a file of so many bytes
+-- the payload from its start to the end of a file of `file_len` bytes
 abbrev pub opened : (start : Start) (file_len : ℕ) → Ranges
 opened start file_len =
     record {
@@ -42,7 +42,7 @@ opened start file_len =
       state = state_open;
     }
 
--- where piece i stands in the file, and how long it is
+-- the offset of piece i in the file, and its length
 abbrev pub piece_report : (r : Ranges) (i : ℕ) → Report
 piece_report r i =
     record { len = piece_len r.sealed_len i; place = r.first + sealed_chunk_size * i; detail = 0 }
@@ -64,7 +64,7 @@ OpensAt file_len (Ok start) new report code =
 OpensAt file_len (Err fault) new report code =
     (code ≡ fault_code fault) × (report ≡ report_of 0 (Some fault)) × (new ≡ closed)
 
--- what opening a file of so many bytes with this front gives
+-- what opening a file of `file_len` bytes with this front gives
 abbrev pub OpensRanges : (answers : Answering) (front : Bytes) (file_len : ℕ) (new : Ranges)
     (report : Report) (code : ℕ) → Type 0
 OpensRanges answers front file_len new report code =
@@ -111,8 +111,8 @@ may_verify r chunk =
     nat_lt state_closed r.state
     && nat_eq (length chunk) (piece_len r.sealed_len (last_index r.sealed_len))
 
--- the last piece was verified, places in the file fit 64 bits, and the plaintext has a byte at this
--- place
+-- the last piece was verified, offsets in the file fit 64 bits, and the plaintext has a byte at
+-- this offset
 abbrev pub has_byte : (r : Ranges) (at : ℕ) → Bool
 has_byte r at =
     nat_eq r.state state_verified && nat_lt (r.first + r.sealed_len) (2 ^ 64)

@@ -39,7 +39,7 @@ pub record StaysClosed (expected : ℕ) (new : Reader) (report : Report) (code :
   pub reported : report ≡ report_of 0 None
   pub reader : new ≡ closed
 
--- the reader stands before chunk 0, and the report says where that begins; or the fault is returned
+-- chunk 0 is the reader's next, and the report has its offset; or the fault is returned
 abbrev pub OpensAt : (start : Result Start Fault) (new : Reader) (report : Report) (code : ℕ)
     → Type 0
 OpensAt (Ok start) new report code =
@@ -53,7 +53,7 @@ abbrev pub OpensReader : (answers : Answering) (front : Bytes) (new : Reader) (r
 OpensReader answers front new report code =
     (start : Result Start Fault) × FindsStart answers front start × OpensAt start new report code
 
--- whether a reader accepts a chunk of so many bytes: it is open, and the chunk is full, or the last
+-- whether a reader accepts a chunk of `len` bytes: it is open, and the chunk is full, or the last
 -- and no longer
 abbrev pub accepts : (r : Reader) (len : ℕ) (last : Bool) → Bool
 accepts r len last =

@@ -43,8 +43,8 @@ abbrev pub StaysClosed : (expected : ℕ) (old new : Bytes) (writer : Writer) (r
 StaysClosed expected old new writer report code =
     GivesUp expected old new report code × (writer ≡ closed)
 
--- a file's front, its header and its nonce, stands at the start of the buffer, and the writer
--- before chunk 0; or the buffer is too small for it
+-- a file's front, its header and its nonce, is at the start of the buffer, and chunk 0 is the
+-- writer's next; or the buffer is too small for it
 abbrev pub GivesFront : (front : Bytes) (fresh : Fresh) (old new : Bytes) (writer : Writer)
     (report : Report) (code : ℕ) → Type 0
 GivesFront front fresh old new writer report code =
@@ -75,11 +75,11 @@ OpensFor fresh given old new writer report code =
     × IsHeading limits fresh.file_key given stanzas text
     × GivesFront (text ++ fresh.nonce) fresh old new writer report code))
 
--- whether a last chunk of so many bytes has a tag and some text; chunk 0 may be a tag alone
+-- whether a last chunk of `len` bytes has a tag and some text; chunk 0 may be a tag alone
 abbrev pub may_be_last : (number len : ℕ) → Bool
 may_be_last number len = nat_lt tag_size len || (nat_eq len tag_size && nat_eq number 0)
 
--- whether a writer accepts a chunk of so many bytes: it is open, and the chunk is full, or the last
+-- whether a writer accepts a chunk of `len` bytes: it is open, and the chunk is full, or the last
 -- and no longer, with some text
 abbrev pub accepts : (w : Writer) (len : ℕ) (last : Bool) → Bool
 accepts w len last =

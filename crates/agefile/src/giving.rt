@@ -17,7 +17,7 @@ pub(crate) fn give_up(code: u32, out: &mut [u8], report: &mut Report) -> u32
     code
 }
 
-/// Copies a text to the buffer, if it has room for it.
+/// Copies a text to the buffer, if the text fits.
 pub(crate) fn give_whole(text: &[u8], out: &mut [u8], report: &mut Report) -> u32
     ensures { Gives text.now None out.old out.new report.new result }
 {
@@ -25,7 +25,7 @@ pub(crate) fn give_whole(text: &[u8], out: &mut [u8], report: &mut Report) -> u3
     give(text, OK, out, report)
 }
 
-/// Copies the text before a fault to the buffer, if it has room for it.
+/// Copies the text before a fault to the buffer, if the text fits.
 pub(crate) fn give_part(text: &[u8], fault: Fault, out: &mut [u8], report: &mut Report) -> u32
     ensures { Gives text.now (Some fault) out.old out.new report.new result }
 {
@@ -33,8 +33,8 @@ pub(crate) fn give_part(text: &[u8], fault: Fault, out: &mut [u8], report: &mut 
     give(text, fault_code(fault), out, report)
 }
 
-/// Copies a text to the buffer and returns the code, if the buffer has room for it; otherwise only
-/// the length is reported.
+/// Copies a text to the buffer and returns the code, if the text fits; otherwise only the length is
+/// reported.
 fn give(text: &[u8], code: u32, out: &mut [u8], report: &mut Report) -> u32
     ensures { ((length text.now ≤ length out.old) × (result ≡ code) × (report.new ≡ report.old)
         × (out.new ≡ text.now ++ drop (length text.now) out.old))

@@ -24,10 +24,10 @@ ghost use Rattle.agefile.specs.Ranges.{OpensRanges, gives, last_index, piece_at,
 ghost use Rattle.agefile.specs.Start.{IsStart};
 ghost use Rattle.age_stream.specs.Sizes.{chunk_size};
 
-/// Reading a file in steps gives what decrypting it does. The front of 65,552 bytes of a file b is
-/// enough to open it. A fault of the opening is the verdict's, before any plaintext. Otherwise the
-/// texts of the sealed chunks after the nonce, joined up to the first fault, are the verdict's
-/// plaintext, and that fault, with its line or chunk, is the verdict's.
+/// Reading a file in steps returns what decrypting it returns. The front of 65,552 bytes of a file
+/// b is enough to open it. A fault of the opening, except out of memory, is the verdict's, before
+/// any plaintext. Otherwise the texts of the sealed chunks after the nonce, joined up to the first
+/// fault, are the verdict's plaintext, and that fault, with its line or chunk, is the verdict's.
 pub fn steps_read()
     ensures refused { (answers : Answering) (b : Bytes) (reader : Reader) (report : Report)
         (code : ℕ) (v : Reading Fault)
@@ -42,7 +42,7 @@ pub fn steps_read()
         → (v.front ≡ text) × ((code_of v.fault ≡ code) × ((report_of 0 v.fault).place ≡ place)) }
 {}
 
-/// Writing a file in steps gives what encrypting does: the front that the opening wrote and the
+/// Writing a file in steps writes what encrypting writes: the front that the opening wrote and the
 /// sealed chunks of a plaintext, joined, are the plaintext's file. Otherwise the plaintext has more
 /// chunks than the limit, and a step returns 14.
 pub fn steps_write()
@@ -54,12 +54,12 @@ pub fn steps_write()
         ⊎ ((code ≡ too_many_chunks) × (limits.max_chunks < length (chunks plain))) }
 {}
 
-/// Reading ranges in steps gives parts of the plaintext. The front of 65,552 bytes of a file b and
-/// its length are enough to open it. A fault of the opening is the verdict's, before any plaintext.
-/// Otherwise what was opened is b's own payload: the piece that is verified first is its last one,
-/// and with it the plaintext's length is known. The text of a located piece, from the requested
-/// byte on, is a slice of the plaintext; if the verdict has no fault, it is a part of the verdict's
-/// plaintext.
+/// Reading ranges in steps returns parts of the plaintext. The front of 65,552 bytes of a file b
+/// and its length are enough to open it. A fault of the opening, except out of memory, is the
+/// verdict's, before any plaintext. Otherwise what was opened is b's own payload: the piece that is
+/// verified first is its last one, and with it the plaintext's length is known. The text of a
+/// located piece, from the requested byte on, is a slice of the plaintext; if the verdict has no
+/// fault, it is a part of the verdict's plaintext.
 pub fn ranges_in_steps()
     ensures refused { (answers : Answering) (b : Bytes) (r : Ranges) (report : Report) (code : ℕ)
         (v : Reading Fault)

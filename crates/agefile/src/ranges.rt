@@ -151,7 +151,13 @@ fn open_at(
 }
 
 /// Verifies the last sealed chunk, whose length and tag prove where the file ends, and opens it in
-/// place. It must come before the other calls.
+/// place. It must come before the other calls. On 0 its text is at the start of the buffer, and the
+/// report's length is the plaintext's.
+///
+/// # Errors
+/// 23 if no payload is open, or the chunk has another length: all is unchanged. Otherwise the first
+/// that applies of 11, 12 and 13, as `age_stream::open_chunk` says: the chunk is unchanged, and the
+/// payload counts as not verified.
 #[unsafe(no_mangle)]
 pub extern "C" fn agefile_ranges_last(
     ranges: &mut Ranges,
@@ -190,6 +196,10 @@ pub extern "C" fn agefile_ranges_last(
 
 /// Finds the sealed chunk that holds byte `at` of the plaintext: its offset in the file, and its
 /// length.
+///
+/// # Errors
+/// 23 if the last sealed chunk was not verified, the plaintext has no byte `at`, or offsets in the
+/// file do not fit 64 bits.
 #[unsafe(no_mangle)]
 pub extern "C" fn agefile_ranges_locate(ranges: &Ranges, at: u64, report: &mut Report) -> u32
     ensures out_of_order { OnFalse (has_byte ranges.now at)
@@ -209,6 +219,10 @@ pub extern "C" fn agefile_ranges_locate(ranges: &Ranges, at: u64, report: &mut R
 
 /// Opens the sealed chunk that holds byte `at` of the plaintext in place. The plaintext from `at`
 /// on is then in the chunk, from the reported offset on and of the reported length.
+///
+/// # Errors
+/// 23 as for `agefile_ranges_locate`, or if the chunk has another length; 13 if no plaintext seals
+/// to these bytes at this number. The chunk is unchanged.
 #[unsafe(no_mangle)]
 pub extern "C" fn agefile_ranges_chunk(
     ranges: &Ranges,

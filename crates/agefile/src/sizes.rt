@@ -21,8 +21,8 @@ const FRONT: u64 = 172;
 /// The shortest header, 70 bytes without its stanzas, and its payload's nonce.
 const LEAST_FRONT: u64 = 86;
 
-/// Room that suffices for the file of a plaintext of this many bytes under a key or a passphrase.
-/// It is the length under a key, saturating at the largest `u64`.
+/// A buffer size that suffices for the file of a plaintext of this many bytes under a key or a
+/// passphrase. It is the length under a key, saturating at the largest `u64`.
 #[unsafe(no_mangle)]
 pub extern "C" fn agefile_sealed_len(plain_len: u64) -> u64
     ensures value { result ≡ min (sealed_len plain_len) (2 ^ 64 - 1) }
@@ -41,8 +41,8 @@ pub extern "C" fn agefile_sealed_len(plain_len: u64) -> u64
         .saturating_add(TAG_SIZE as u64 * chunks)
 }
 
-/// Room that suffices for the plaintext of any file of this many bytes, and for the plaintext
-/// before a fault.
+/// A buffer size that suffices for the plaintext of any file of this many bytes, and for the
+/// plaintext before a fault.
 #[unsafe(no_mangle)]
 pub extern "C" fn agefile_plain_len_at_most(file_len: u64) -> u64
     ensures value { result ≡ plain_len_at_most file_len }

@@ -173,8 +173,8 @@ fn open_for(
     }
 }
 
-/// Copies a file's front to the buffer, and returns a writer before its first chunk, if the buffer
-/// has room for the front.
+/// Copies a file's front to the buffer, and returns a writer before its first chunk, if the front
+/// fits.
 fn give_front(
     front: &[u8],
     fresh: &Fresh,
