@@ -21,7 +21,7 @@ use Rattle.agefile.specs.Reader.{OpensAt, OpensReader, before_first}
 use Rattle.agefile.specs.Report.{report_of}
 use Rattle.agefile.specs.Runs.{ReadsRun}
 use Rattle.agefile.specs.Start.{IsStart, start_under}
-use Rattle.agefile.proofs.RunLemmas.{payload_reads, some-code}
+use Rattle.agefile.proofs.ReadsRunLemmas.{payload_reads, some-code}
 use Rattle.agefile.proofs.FrontLemmas.{whole-start}
 
 -- ---- the verdict, by the start

@@ -16,7 +16,7 @@ use Rattle.agefile.specs.Giving.{fresh_of}
 use Rattle.agefile.specs.Codes.{fault_code}
 use Rattle.agefile.specs.Limits.{limits}
 use Rattle.agefile.specs.Writer.{GivesFront, OpensFor, OpensWriter, StaysClosed}
-use Rattle.agefile.proofs.SealLemmas.{Given, IsShort, gathered_one, no_refusal}
+use Rattle.agefile.proofs.GivesFileLemmas.{Given, IsShort, gathered_one, no_refusal}
 
 -- no header was made
 fails-by : (fresh : Fresh) (given : Given) (old new : List ℕ) (writer : Writer) (report : Report) (code : ℕ) (fault : Fault)

@@ -3,7 +3,7 @@ use denote.Param.Object.{read_made}
 use Rattle.age_recipient.specs.PassphraseHolders.{pass_wraps}
 use Rattle.age_recipient.specs.PassphraseStanza.{pass_stanza}
 use Rattle.agefile.specs.Giving.{fresh_of, salt_of}
-use Rattle.agefile.proofs.SealLemmas.{pass_short, seals_one}
+use Rattle.agefile.proofs.GivesFileLemmas.{pass_short, seals_one}
 use Rattle.agefile.proofs.encrypting.agefile_encrypt_passphrase.Goals as goal
 use Rattle.agefile.proofs.encrypting.agefile_encrypt_passphrase.OwnLists.{own-1, entry-1-1, at-1-1, same-1-1}
 
