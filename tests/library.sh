@@ -117,7 +117,7 @@ number_of() {
 constants() {
     sed -nE 's/^    AGEFILE_([A-Z_]+) = ([0-9]+),?$/\1 \2/p' "$header" | sort | cmp -s - codes && [[ $(wc -l <codes) == 24 ]]
     check "the header's codes are the crate's"
-    [[ $(sed -nE 's/^const MAX_HEADER: usize = ([0-9_]+);/\1/p' "$root/crates/agefile/src/bounds.rt") == 65_536 ]] &&
+    [[ $(sed -nE 's/^const MAX_HEADER: usize = ([0-9_]+);/\1/p' "$root/crates/agefile/src/limits.rt") == 65_536 ]] &&
         grep -q '^#define AGEFILE_FRONT 65552 ' "$header"
     check "AGEFILE_FRONT is the crate's greatest header, and a nonce"
     local sealed tag

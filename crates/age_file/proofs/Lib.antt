@@ -1,11 +1,11 @@
 mod IncompatibleLemmas
 mod AtStateLemmas
 mod CopiesLemmas
-mod DecryptLemmas
+pub mod DecryptLemmas
 mod EncryptLemmas
 pub mod FileLemmas
 mod GatheredLemmas
-mod OwnLabels
+pub mod OwnLabels
 mod PayloadLemmas
 mod RangeLemmas
 mod RewrapLemmas

@@ -7,7 +7,7 @@ use Rattle.age_header.specs.Base64.{base64_of}
 use Rattle.age_header.specs.Text.{body_lines, body_text, stanza_text, signed, mac_end}
 use Rattle.age_header.proofs.TextLemmas.{signs_size}
 
-line_size : (t : List ℕ) → length (line t) ≡ length t + 1
+pub line_size : (t : List ℕ) → length (line t) ≡ length t + 1
 line_size t = length-append t (10 ∷ [])
 
 lines_size : (n : ℕ) (b : List ℕ) → 48 * n ≤ length b → length (body_lines n b) ≡ 65 * n + ((4 * (length b - 48 * n) + 2) / 3 + 1)
@@ -43,7 +43,7 @@ pub stanza_size : (s : StanzaParts) → length (stanza_text s) ≡ length (argum
 unfolding stanza_text
 stanza_size s = length-append (argument_line s.args) (body_text s.body)
 
-version_size : length version_line ≡ 22
+pub version_size : length version_line ≡ 22
 unfolding version_line
 version_size = refl
 

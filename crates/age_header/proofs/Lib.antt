@@ -4,7 +4,7 @@ mod Base64Lemmas
 mod FillLemmas
 mod FrontPaths
 pub mod MayGiveLemmas
-mod LengthLemmas
+pub mod LengthLemmas
 mod LineLemmas
 mod OneReading
 pub mod OneText
@@ -13,7 +13,7 @@ mod PathLemmas
 mod Spelled
 mod StepRuns
 mod TakeLemmas
-mod TextLemmas
+pub mod TextLemmas
 mod VerdictPaths
 mod SourceVerdicts
 mod FirstLine

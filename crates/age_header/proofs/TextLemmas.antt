@@ -65,7 +65,7 @@ pub args_step : {X : Type 0} (f : X → List ℕ) (xs : List X) (i : ℕ) (x : X
 args_step f xs i x low is =
     rw (flat_of_map f (drop i xs), flat_of_map f (drop (i + 1) xs)) (flat_step (λ x. 32 ∷ f x) (10 ∷ []) xs i x low is)
 
-bytes_take : (n : ℕ) (b : List ℕ) → IsBytes b → IsBytes (take n b)
+pub bytes_take : (n : ℕ) (b : List ℕ) → IsBytes b → IsBytes (take n b)
 bytes_take n b h i = elim (cases_lt i n) [
   | inl low ↦ rw (get_or-take n b i 0 low) (h i)
   | inr high ↦
@@ -73,7 +73,7 @@ bytes_take n b h i = elim (cases_lt i n) [
       omega arith
 ]
 
-bytes_drop : (n : ℕ) (b : List ℕ) → IsBytes b → IsBytes (drop n b)
+pub bytes_drop : (n : ℕ) (b : List ℕ) → IsBytes b → IsBytes (drop n b)
 bytes_drop n b h i = rw (get_or-drop n b i 0) (h (n + i))
 
 pub characters_are : (b : List ℕ) → IsBytes b → IsBase64 b (base64_of b)

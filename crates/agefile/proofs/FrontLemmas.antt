@@ -1,56 +1,43 @@
--- What is found in a file's front is what is found in the file, and what its steps give is the file's verdict.
-use Rattle.std.proofs.Common.{◌≡◌, ◌≢◌, ℕ, ◌+◌, ◌-◌, ◌<◌, ◌≤◌, List, [], length, take, drop, nat_lt, Bool, true, false, cond, sym, ◌∙◌, ap, refl, subst, arith, inl, inr, length-take, length-drop, Result, Ok, Err}
-use Rattle.std.specs.Prelude.{option_map}
+-- What is found in a file's front of 65,552 bytes is what is found in the file.
+use Rattle.std.proofs.Common.{◌≡◌, ℕ, ◌+◌, ◌-◌, ◌<◌, ◌≤◌, List, length, take, drop, nat_lt, cond, sym, ◌∙◌, ap, refl, subst, arith, inl, inr, length-take, length-drop, Result, Ok, Err}
 use Rattle.std.proofs.lemmas.Bool.{cases_lt, lt-ltb, le-ltb}
-use Rattle.std.proofs.lemmas.List.{take-take, drop-take, drop-drop}
+use Rattle.std.proofs.lemmas.List.{take-take, drop-take}
 use Rattle.age_header.specs.declared.fault.HeaderFault.{HeaderFault}
 use Rattle.age_header.specs.declared.fault.HeaderFault.TheVariants as header
 use Rattle.age_header.specs.Verdict.{BeginsAsAge, Decides, Found, HeaderVerdict, IsUndecided}
 use Rattle.age_header.proofs.OneVerdict.{begins_found}
 use Rattle.age_recipient.specs.declared.key.FileKey.{FileKey}
-use Rattle.age_stream.specs.declared.fault.StreamFault.{StreamFault}
-use Rattle.age_stream.specs.declared.fault.StreamFault.TheVariants as stream
-use Rattle.age_stream.specs.Payload.{payload_key, pieces}
-use Rattle.age_stream.specs.Reading.{Reading, reading_from, stops}
+use Rattle.age_stream.specs.Payload.{payload_key}
 use Rattle.age_file.specs.declared.fault.Fault.{Fault}
-use Rattle.age_file.specs.declared.fault.Fault.TheVariants.{NonceTruncated, OutOfMemory}
+use Rattle.age_file.specs.declared.fault.Fault.TheVariants.{NonceTruncated}
 use Rattle.age_file.specs.Rewrap.{parts_of}
-use Rattle.age_file.specs.Verdict.{Answering, IsVerdict, judged, of_header, of_stream, read_under, unlocked}
-use Rattle.age_file.proofs.FileLemmas.{one_verdict}
-use Rattle.agefile.specs.declared.reader.Reader.{Reader}
-use Rattle.agefile.specs.declared.report.Report.{Report}
+use Rattle.age_file.specs.Verdict.{Answering, unlocked}
 use Rattle.agefile.specs.declared.start.Start.{Start}
-use Rattle.agefile.specs.Codes.{code_of}
 use Rattle.agefile.specs.Limits.{limits}
-use Rattle.agefile.specs.Reader.{OpensAt, OpensReader, before_first}
-use Rattle.agefile.specs.Report.{report_of}
-use Rattle.agefile.specs.Runs.{ReadsRun}
 use Rattle.agefile.specs.Start.{IsStart, start_under}
-use Rattle.agefile.proofs.RunLemmas.{payload_reads, some-code}
 
--- ---- a front of 65,552 bytes is enough
+-- the first 65,552 bytes of a file have its header verdict
+cut_front : (b : List ℕ) → take 65536 (take 65552 b) ≡ take 65536 b
+cut_front b = take-take 65536 65552 b (omega arith)
 
-front-cut : (b : List ℕ) → take 65536 (take 65552 b) ≡ take 65536 b
-front-cut b = take-take 65536 65552 b (omega arith)
-
-whole-verdict : (b : List ℕ) (r : Result Found HeaderFault) → HeaderVerdict (take 65552 b) 65536 r → HeaderVerdict b 65536 r
-whole-verdict b (Ok found) h = record {
+pub whole_verdict : (b : List ℕ) (r : Result Found HeaderFault) → HeaderVerdict (take 65552 b) limits.max_header r → HeaderVerdict b limits.max_header r
+whole_verdict b (Ok found) h = record {
   lines = h.lines;
-  begun = subst BeginsAsAge (front-cut b) h.begun;
-  decides = subst (Decides h.lines) (front-cut b) h.decides;
+  begun = subst BeginsAsAge (cut_front b) h.begun;
+  decides = subst (Decides h.lines) (cut_front b) h.decides;
   is = h.is;
   head = h.head;
 }
-whole-verdict b (Err header.NotAge) h = λ begins. h (subst BeginsAsAge (sym (front-cut b)) begins)
-whole-verdict b (Err (header.BadLine n)) h = (subst BeginsAsAge (front-cut b) h.0, (h.1.0, h.1.1, subst (Decides h.1.0) (front-cut b) h.1.2, h.1.3))
-whole-verdict b (Err header.Truncated) h =
+whole_verdict b (Err header.NotAge) h = λ begins. h (subst BeginsAsAge (sym (cut_front b)) begins)
+whole_verdict b (Err (header.BadLine n)) h = (subst BeginsAsAge (cut_front b) h.0, (h.1.0, h.1.1, subst (Decides h.1.0) (cut_front b) h.1.2, h.1.3))
+whole_verdict b (Err header.Truncated) h =
     let short : length (take 65552 b) < 65536 = h.2 in
-    (subst BeginsAsAge (front-cut b) h.0, subst IsUndecided (front-cut b) h.1, omega (arith, short, length-take 65552 b))
-whole-verdict b (Err header.TooLarge) h =
+    (subst BeginsAsAge (cut_front b) h.0, subst IsUndecided (cut_front b) h.1, omega (arith, short, length-take 65552 b))
+whole_verdict b (Err header.TooLarge) h =
     let long : 65536 ≤ length (take 65552 b) = h.2 in
-    (subst BeginsAsAge (front-cut b) h.0, subst IsUndecided (front-cut b) h.1, omega (arith, long, length-take 65552 b))
-whole-verdict b (Err header.Read) h = absurd h
-whole-verdict b (Err header.Memory) h = absurd h
+    (subst BeginsAsAge (cut_front b) h.0, subst IsUndecided (cut_front b) h.1, omega (arith, long, length-take 65552 b))
+whole_verdict b (Err header.Read) h = absurd h
+whole_verdict b (Err header.Memory) h = absurd h
 
 -- sixteen bytes after the header
 nonce-front : (b : List ℕ) (n : ℕ) → n ≤ 65536 → take 16 (drop n (take 65552 b)) ≡ take 16 (drop n b)
@@ -74,79 +61,8 @@ start-under-front b n (Ok k) le =
     ∙ ap (λ x. cond (nat_lt (length (drop n b)) 16) (Err NonceTruncated) (Ok (record { first = n + 16; key = payload_key k x }))) (nonce-front b n le)
 
 pub whole-start : (answers : Answering) (b : List ℕ) (start : Result Start Fault) → IsStart answers (take 65552 b) start → IsStart answers b start
-whole-start answers b start (Err e, verdict, is) = (Err e, whole-verdict b (Err e) verdict, is)
+whole-start answers b start (Err e, verdict, is) = (Err e, whole_verdict b (Err e) verdict, is)
 whole-start answers b start (Ok found, verdict, is) =
-    let there = whole-verdict b (Ok found) verdict in
+    let there = whole_verdict b (Ok found) verdict in
     let fits : length found.text ≤ 65536 = (begins_found b 65536 found there).fits in
     (Ok found, there, is ∙ start-under-front b (length found.text) (unlocked answers (parts_of found)) fits)
-
--- ---- the verdict, by the start
-
--- what the verdict is, where the start is known
-abbrev pub IsVerdictFrom : List ℕ → Reading Fault → Result Start Fault → Type 0
-IsVerdictFrom b v (Err fault) = v ≡ stops fault
-IsVerdictFrom b v (Ok start) = v ≡ record {
-  front = (reading_from start.key limits.max_chunks 0 (drop start.first b)).front;
-  fault = option_map of_stream (reading_from start.key limits.max_chunks 0 (drop start.first b)).fault;
-}
-
--- a reading with its faults named as a file's
-unfoldable pub renamed : Reading StreamFault → Reading Fault
-renamed r = record { front = r.front; fault = option_map of_stream r.fault }
-
-payload-from : (b : List ℕ) (n : ℕ) (k : FileKey) (v : Reading Fault) (t : Bool)
-    → v ≡ renamed (cond t (stops stream.NonceTruncated) (reading_from (payload_key k (take 16 (drop n b))) limits.max_chunks 0 (drop 16 (drop n b))))
-    → IsVerdictFrom b v (cond t (Err NonceTruncated) (Ok (record { first = n + 16; key = payload_key k (take 16 (drop n b)) })))
-unfolding renamed
-payload-from b n k v true is = is
-payload-from b n k v false is = is ∙ ap (λ x. renamed (reading_from (payload_key k (take 16 (drop n b))) limits.max_chunks 0 x)) (drop-drop 16 n b)
-
-under-from : (b : List ℕ) (n : ℕ) (v : Reading Fault) (key : Result FileKey Fault) → v ≡ read_under limits (drop n b) key → IsVerdictFrom b v (start_under n (drop n b) key)
-unfolding renamed
-under-from b n v (Err fault) is = is
-under-from b n v (Ok k) is = payload-from b n k v (nat_lt (length (drop n b)) 16) is
-
-pub verdict-from : (answers : Answering) (b : List ℕ) (start : Result Start Fault) (v : Reading Fault) → IsStart answers b start → IsVerdict limits answers b v → IsVerdictFrom b v start
-verdict-from answers b start v (Err e, verdict, is) h =
-    subst (IsVerdictFrom b v) (sym is) (one_verdict limits answers b v (stops (of_header e)) h (record { header = Err e; header_verdict = verdict; is = refl }))
-verdict-from answers b start v (Ok found, verdict, is) h =
-    let w = judged limits answers b (Ok found) in
-    subst (IsVerdictFrom b v) (sym is) (under-from b (length found.text) v (unlocked answers (parts_of found))
-    (one_verdict limits answers b v w h (record { header = Ok found; header_verdict = verdict; is = refl })))
-
--- ---- the laws
-
-refused-by : (b : List ℕ) (reader : Reader) (told : Report) (result : ℕ) (v : Reading Fault) (start : Result Start Fault) → OpensAt start reader told result → IsVerdictFrom b v start → result ≢ 0
-    → (v.front ≡ []) × (code_of v.fault ≡ result) × (told ≡ report_of 0 v.fault)
-refused-by b reader told result v (Ok start) opens from some = absurd (some opens.0)
-refused-by b reader told result v (Err fault) opens from some =
-    (ap (λ (r : Reading Fault). r.front) from, ap (λ (r : Reading Fault). code_of r.fault) from ∙ sym opens.0, opens.1 ∙ sym (ap (λ (r : Reading Fault). report_of 0 r.fault) from))
-
-pub opening_refused : (answers : Answering) (b : List ℕ) (reader : Reader) (told : Report) (result : ℕ) (v : Reading Fault) → OpensReader answers (take 65552 b) reader told result
-    → IsVerdict limits answers b v → result ≢ 0 → result ≢ 17 → (v.front ≡ []) × (code_of v.fault ≡ result) × (told ≡ report_of 0 v.fault)
-opening_refused answers b reader told result v (start, inl memory, opens) h some other =
-    let code : OpensAt (Err OutOfMemory) reader told result = subst (λ s. OpensAt s reader told result) memory opens in
-    absurd (other code.0)
-opening_refused answers b reader told result v (start, inr is, opens) h some other =
-    refused-by b reader told result v start opens (verdict-from answers b start v (whole-start answers b start is) h) some
-
-reads-by : (b : List ℕ) (reader : Reader) (told : Report) (text : List ℕ) (code place : ℕ) (v : Reading Fault) (start : Result Start Fault) → OpensAt start reader told 0 → IsVerdictFrom b v start
-    → ReadsRun reader (pieces (drop told.len b)) text code place → (v.front ≡ text) × ((code_of v.fault ≡ code) × ((report_of 0 v.fault).place ≡ place))
-reads-by b reader told text code place v (Err fault) opens from run = absurd (some-code fault (sym opens.0))
-reads-by b reader told text code place v (Ok start) opens from run =
-    let there : ReadsRun (before_first start.key) (pieces (drop start.first b)) text code place =
-    subst (λ r. ReadsRun r (pieces (drop start.first b)) text code place) opens.2
-    (subst (λ (x : Report). ReadsRun reader (pieces (drop x.len b)) text code place) opens.1 run) in
-    let h = payload_reads start.key (drop start.first b) text code place there in (
-      ap (λ (r : Reading Fault). r.front) from ∙ sym h.0,
-      (ap (λ (r : Reading Fault). code_of r.fault) from ∙ sym h.1.0, ap (λ (r : Reading Fault). (report_of 0 r.fault).place) from ∙ sym h.1.1),
-    )
-
-pub steps_read : (answers : Answering) (b : List ℕ) (reader : Reader) (told : Report) (text : List ℕ) (code place : ℕ) (v : Reading Fault) → OpensReader answers (take 65552 b) reader told 0
-    → ReadsRun reader (pieces (drop told.len b)) text code place → IsVerdict limits answers b v
-    → (v.front ≡ text) × ((code_of v.fault ≡ code) × ((report_of 0 v.fault).place ≡ place))
-steps_read answers b reader told text code place v (start, inl memory, opens) run h =
-    let code : OpensAt (Err OutOfMemory) reader told 0 = subst (λ s. OpensAt s reader told 0) memory opens in
-    absurd (some-code OutOfMemory (sym code.0))
-steps_read answers b reader told text code place v (start, inr is, opens) run h =
-    reads-by b reader told text code place v start opens (verdict-from answers b start v (whole-start answers b start is) h) run

@@ -1,15 +1,14 @@
 -- The header in front of bytes that lie in memory.
-use Rattle.std.proofs.Common.{◌≡◌, ℕ, ◌<◌, ◌≤◌, ◌-◌, ◌^◌, List, [], ◌∷◌, ◌++◌, length, length-take, take, map, flat_map, min, ◌∙◌, sym, ap, refl, subst, inl, inr, arith, Option, Some, None, Result, Ok, Err}
+use Rattle.std.proofs.Common.{◌≡◌, ℕ, ◌<◌, ◌≤◌, ◌-◌, ◌^◌, List, [], ◌∷◌, ◌++◌, length, take, map, flat_map, min, ◌∙◌, sym, ap, refl, subst, inl, inr, arith, Option, Some, None, Result, Ok, Err}
 use Rattle.std.specs.Prelude.{String, IfOk, ◌⊎◌}
 use Rattle.std.specs.Global.{Global}
 use Rattle.std.specs.String.{string_bytes}
 use Rattle.std.specs.List.{join_by, slice_get}
-use Rattle.std.proofs.lemmas.List.{take-take}
 use Rattle.std.proofs.lemmas.Option.{slice_get_past}
 use Rattle.age_header.specs.declared.fault.HeaderFault.{HeaderFault}
 use Rattle.age_header.specs.declared.fault.HeaderFault.TheVariants as header
 use Rattle.age_header.specs.Header.{Head, HeaderParts, StanzaParts}
-use Rattle.age_header.specs.Verdict.{BeginsAsAge, Decides, Found, HeaderVerdict, IsUndecided}
+use Rattle.age_header.specs.Verdict.{HeaderVerdict}
 use Rattle.age_header.specs.Reader.{ReadsHeaderOf}
 use Rattle.age_header.proofs.OneText.{one_text}
 use Rattle.age_header.proofs.OneVerdict.{begins_found}
@@ -20,13 +19,14 @@ use Rattle.age_file.specs.Inspect.{Inspects, file_result}
 use Rattle.agefile.specs.declared.inspecting.StanzaSummary.{StanzaSummary}
 use Rattle.agefile.specs.declared.inspecting.Summary.{Summary}
 use Rattle.agefile.specs.declared.report.Report.{Report}
-use Rattle.agefile.specs.Answer.{Fits, Gives, GivesUp}
+use Rattle.agefile.specs.Giving.{Fits, Gives, GivesUp}
 use Rattle.agefile.specs.Codes.{fault_code}
 use Rattle.agefile.specs.Report.{report_of}
-use Rattle.agefile.specs.Inspect.{AnswersStanza, GivesStanza, HeaderOf, Inspected, joined}
+use Rattle.agefile.specs.Inspect.{InspectsStanza, GivesStanza, HeaderOf, Inspected, joined}
 use Rattle.agefile.specs.Limits.{limits}
+use Rattle.agefile.proofs.FrontLemmas.{whole_verdict}
 
--- what a reader answered
+-- what a reader returned
 of_answer : (b : List ℕ) (after : Option (List ℕ)) (r : Result HeaderParts Fault) (answer : Result HeaderParts HeaderFault) → r ≡ file_result answer
     → CountsRead 0 0 r → ReadsHeaderOf b (Some b) after limits.max_header answer → HeaderOf b r
 of_answer b after r (Ok h) same count (text, verdict, taken) = subst (HeaderOf b) (sym same) (text, verdict)
@@ -40,29 +40,7 @@ header_found l b come after r at source count h =
     let inspects = subst (λ (s : Option (List ℕ)). Inspects limits s after r) source (subst (λ bounds. Inspects bounds come after r) at h) in
     of_answer b after r inspects.0 inspects.1 count inspects.2
 
--- the first 65,552 bytes of a file have its header verdict
-cut_front : (b : List ℕ) → take 65536 (take 65552 b) ≡ take 65536 b
-cut_front b = take-take 65536 65552 b (omega arith)
-
-whole_verdict : (b : List ℕ) (r : Result Found HeaderFault) → HeaderVerdict (take 65552 b) limits.max_header r → HeaderVerdict b limits.max_header r
-whole_verdict b (Ok found) h = record {
-  lines = h.lines;
-  begun = subst BeginsAsAge (cut_front b) h.begun;
-  decides = subst (Decides h.lines) (cut_front b) h.decides;
-  is = h.is;
-  head = h.head;
-}
-whole_verdict b (Err header.NotAge) h = λ begins. h (subst BeginsAsAge (sym (cut_front b)) begins)
-whole_verdict b (Err (header.BadLine n)) h = (subst BeginsAsAge (cut_front b) h.0, (h.1.0, h.1.1, subst (Decides h.1.0) (cut_front b) h.1.2, h.1.3))
-whole_verdict b (Err header.Truncated) h =
-    let short : length (take 65552 b) < 65536 = h.2 in
-    (subst BeginsAsAge (cut_front b) h.0, subst IsUndecided (cut_front b) h.1, omega (arith, short, length-take 65552 b))
-whole_verdict b (Err header.TooLarge) h =
-    let long : 65536 ≤ length (take 65552 b) = h.2 in
-    (subst BeginsAsAge (cut_front b) h.0, subst IsUndecided (cut_front b) h.1, omega (arith, long, length-take 65552 b))
-whole_verdict b (Err header.Read) h = absurd h
-whole_verdict b (Err header.Memory) h = absurd h
-
+-- the first 65,552 bytes of a file have its header
 whole_of : (b : List ℕ) (r : Result HeaderParts Fault) → HeaderOf (take 65552 b) r → HeaderOf b r
 whole_of b (Ok h) (text, found) = (text, whole_verdict b (Ok (record { stanzas = h.stanzas; mac = h.mac; text = text })) found)
 whole_of b (Err fault) (inl memory) = inl memory
@@ -81,55 +59,55 @@ found_len b text h ss mac len found head is =
     omega arith
 
 -- what a caller is given of a header
-pub inspected : (b h : List ℕ) (header : HeaderParts) (old : Summary) (told : Report) (len stanzas : ℕ) (mac : List ℕ) → HeaderOf b (Ok header) → told ≡ report_of 0 None
+pub inspected : (b h : List ℕ) (header : HeaderParts) (old : Summary) (report : Report) (len stanzas : ℕ) (mac : List ℕ) → HeaderOf b (Ok header) → report ≡ report_of 0 None
     → Head header.stanzas header.mac h → len ≡ min (length h) (2 ^ 64 - 1) → stanzas ≡ length header.stanzas → mac ≡ header.mac
-    → Inspected b old (record { header_len = len; stanzas = stanzas; mac = mac }) told 0
-inspected b h header old told len stanzas mac (text, found) none head is count same =
+    → Inspected b old (record { header_len = len; stanzas = stanzas; mac = mac }) report 0
+inspected b h header old report len stanzas mac (text, found) none head is count same =
     inr (
       Ok (record { stanzas = header.stanzas; mac = header.mac; text = text }),
       found,
       (refl, none, rw (found_len b text h header.stanzas header.mac len found head is, count, same) refl),
     )
 
-pub inspected_fault : (b : List ℕ) (old : Summary) (told : Report) (result : ℕ) (fault : Fault) → HeaderOf b (Err fault) → told ≡ report_of 0 (Some fault) → result ≡ fault_code fault
-    → Inspected b old old told result
-inspected_fault b old told result fault (inl memory) place code =
-    inl (code ∙ ap fault_code memory, place ∙ ap (λ f. report_of 0 (Some f)) memory, refl)
-inspected_fault b old told result fault (inr (reason, found, same)) place code =
-    inr (Err reason, found, ((code ∙ ap fault_code same, place ∙ ap (λ f. report_of 0 (Some f)) same), refl))
+pub inspected_fault : (b : List ℕ) (old : Summary) (report : Report) (code : ℕ) (fault : Fault) → HeaderOf b (Err fault) → report ≡ report_of 0 (Some fault) → code ≡ fault_code fault
+    → Inspected b old old report code
+inspected_fault b old report code fault (inl memory) place returned =
+    inl (returned ∙ ap fault_code memory, place ∙ ap (λ f. report_of 0 (Some f)) memory, refl)
+inspected_fault b old report code fault (inr (reason, found, same)) place returned =
+    inr (Err reason, found, ((returned ∙ ap fault_code same, place ∙ ap (λ f. report_of 0 (Some f)) same), refl))
 
 -- what a caller is given of a stanza
-pub stanza_none : (b : List ℕ) (header : HeaderParts) (index : ℕ) (old new : List ℕ) (before : StanzaSummary) (told : Report) (result : ℕ) → HeaderOf b (Ok header)
-    → length header.stanzas ≤ index → GivesUp 23 old new told result → AnswersStanza b index old new before before told result
-stanza_none b header index old new before told result (text, found) past up =
+pub stanza_none : (b : List ℕ) (header : HeaderParts) (index : ℕ) (old new : List ℕ) (before : StanzaSummary) (report : Report) (code : ℕ) → HeaderOf b (Ok header)
+    → length header.stanzas ≤ index → GivesUp 23 old new report code → InspectsStanza b index old new before before report code
+stanza_none b header index old new before report code (text, found) past up =
     inr (
       Ok (record { stanzas = header.stanzas; mac = header.mac; text = text }),
       found,
-      subst (λ s. GivesStanza s old new before before told result) (sym (slice_get_past header.stanzas index past)) (up, refl),
+      subst (λ s. GivesStanza s old new before before report code) (sym (slice_get_past header.stanzas index past)) (up, refl),
     )
 
-pub stanza_some : (b : List ℕ) (header : HeaderParts) (index : ℕ) (s : StanzaParts) (old new : List ℕ) (before after : StanzaSummary) (told : Report) (result : ℕ) → HeaderOf b (Ok header)
+pub stanza_some : (b : List ℕ) (header : HeaderParts) (index : ℕ) (s : StanzaParts) (old new : List ℕ) (before after : StanzaSummary) (report : Report) (code : ℕ) → HeaderOf b (Ok header)
     → slice_get header.stanzas index ≡ Some s
-    → ((GivesUp 17 old new told result × (after ≡ before)) ⊎ GivesStanza (Some s) old new before after told result) → AnswersStanza b index old new before after told result
-stanza_some b header index s old new before after told result of at (inl up) = inl up
-stanza_some b header index s old new before after told result (text, found) at (inr gives) =
+    → ((GivesUp 17 old new report code × (after ≡ before)) ⊎ GivesStanza (Some s) old new before after report code) → InspectsStanza b index old new before after report code
+stanza_some b header index s old new before after report code of at (inl up) = inl up
+stanza_some b header index s old new before after report code (text, found) at (inr gives) =
     inr (
       Ok (record { stanzas = header.stanzas; mac = header.mac; text = text }),
       found,
-      subst (λ z. GivesStanza z old new before after told result) (sym at) gives,
+      subst (λ z. GivesStanza z old new before after report code) (sym at) gives,
     )
 
-fault_of : (b : List ℕ) (index : ℕ) (old new : List ℕ) (before : StanzaSummary) (told : Report) (result : ℕ) (fault : Fault) → HeaderOf b (Err fault)
-    → Fits [] (Some fault) old new told result → AnswersStanza b index old new before before told result
-fault_of b index old new before told result fault (inl memory) fits =
-    inl (record { code = fits.code ∙ ap fault_code memory; report = fits.report ∙ ap (λ f. report_of 0 (Some f)) memory; buffer = fits.buffer }, refl)
-fault_of b index old new before told result fault (inr (reason, found, same)) fits =
-    inr (Err reason, found, ((fits.code ∙ ap fault_code same, fits.report ∙ ap (λ f. report_of 0 (Some f)) same), fits.buffer, refl))
+fault_of : (b : List ℕ) (index : ℕ) (old new : List ℕ) (before : StanzaSummary) (report : Report) (code : ℕ) (fault : Fault) → HeaderOf b (Err fault)
+    → Fits [] (Some fault) old new report code → InspectsStanza b index old new before before report code
+fault_of b index old new before report code fault (inl memory) fits =
+    inl (record { returned = fits.returned ∙ ap fault_code memory; reported = fits.reported ∙ ap (λ f. report_of 0 (Some f)) memory; buffer = fits.buffer }, refl)
+fault_of b index old new before report code fault (inr (reason, found, same)) fits =
+    inr (Err reason, found, ((fits.returned ∙ ap fault_code same, fits.reported ∙ ap (λ f. report_of 0 (Some f)) same), fits.buffer, refl))
 
-pub stanza_fault : (b : List ℕ) (index : ℕ) (old new : List ℕ) (before : StanzaSummary) (told : Report) (result : ℕ) (fault : Fault) → HeaderOf b (Err fault)
-    → Gives [] (Some fault) old new told result → AnswersStanza b index old new before before told result
-stanza_fault b index old new before told result fault of (inl fits) = fault_of b index old new before told result fault of fits
-stanza_fault b index old new before told result fault of (inr exceeds) = let less : length old < 0 = exceeds.exceeds in absurd (omega arith)
+pub stanza_fault : (b : List ℕ) (index : ℕ) (old new : List ℕ) (before : StanzaSummary) (report : Report) (code : ℕ) (fault : Fault) → HeaderOf b (Err fault)
+    → Gives [] (Some fault) old new report code → InspectsStanza b index old new before before report code
+stanza_fault b index old new before report code fault of (inl fits) = fault_of b index old new before report code fault of fits
+stanza_fault b index old new before report code fault of (inr exceeds) = let less : length old < 0 = exceeds.exceeds in absurd (omega arith)
 
 join_map : {X : Type 0} (f : X → List ℕ) (xs : List X) → flat_map (λ x. 32 ∷ [] ++ f x) xs ≡ flat_map (λ a. 32 ∷ [] ++ a) (map f xs)
 join_map f [] = refl

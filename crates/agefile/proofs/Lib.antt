@@ -1,13 +1,14 @@
-mod BackLemmas
 mod FrontLemmas
+mod GivesFileLemmas
+mod GivesPlainLemmas
 mod HeaderLemmas
-mod PlainLemmas
 mod PlainSizes
 mod RangeFront
 pub mod RangeLemmas
-mod RunLemmas
-mod SealLemmas
+mod ReadsRunLemmas
+mod SeedLemmas
 pub mod SizeLemmas
 mod StartLemmas
-mod WriteRunLemmas
+mod StepsReadLemmas
 mod WriterLemmas
+mod WritesRunLemmas

@@ -22,9 +22,11 @@ use Rattle.agefile.specs.Limits.{limits}
 use Rattle.agefile.specs.Ranges.{OpensAt, OpensRanges, gives, piece_at, plain_of}
 use Rattle.agefile.specs.Report.{report_of}
 use Rattle.agefile.specs.Start.{IsStart, start_under}
-use Rattle.agefile.proofs.FrontLemmas.{IsVerdictFrom, renamed, verdict-from, whole-start}
+use Rattle.agefile.proofs.FrontLemmas.{whole-start}
 use Rattle.agefile.proofs.RangeLemmas.{slice-there}
-use Rattle.agefile.proofs.RunLemmas.{some-code}
+use Rattle.agefile.proofs.ReadsRunLemmas.{some-code}
+use Rattle.agefile.proofs.StartLemmas.{ok-ok}
+use Rattle.agefile.proofs.StepsReadLemmas.{IsVerdictFrom, renamed, verdict-from}
 
 -- the payload after a header of `at` bytes, under the file key
 record StartsPayload (b : List ℕ) (start : Start) (v : Reading Fault) : Type 0 where
@@ -34,9 +36,6 @@ record StartsPayload (b : List ℕ) (start : Start) (v : Reading Fault) : Type 0
   is_key : start.key ≡ payload_key key (take 16 (drop at b))
   long : 16 ≤ length (drop at b)
   reading : v ≡ renamed (payload_reading key limits.max_chunks (drop at b))
-
-ok-ok : (x y : Start) → ◌≡◌ {A = Result Start Fault} (Ok x) (Ok y) → x ≡ y
-ok-ok x y e = cc
 
 under-starts : (b : List ℕ) (n : ℕ) (start : Start) (v : Reading Fault) (key : Result FileKey Fault) → Ok start ≡ start_under n (drop n b) key
     → v ≡ read_under limits (drop n b) key → StartsPayload b start v
@@ -69,43 +68,43 @@ starts answers b start v (Ok found, verdict, is) h =
     (one_verdict limits answers b v (judged limits answers b (Ok found)) h (record { header = Ok found; header_verdict = verdict; is = refl }))
 
 -- what was opened is the file's own payload
-opened-by : (answers : Answering) (b : List ℕ) (r : Ranges) (told : Report) (start : Result Start Fault) → IsStart answers (take 65552 b) start → OpensAt (length b) start r told 0
+opened-by : (answers : Answering) (b : List ℕ) (r : Ranges) (report : Report) (start : Result Start Fault) → IsStart answers (take 65552 b) start → OpensAt (length b) start r report 0
     → IsStart answers b (Ok (record { first = r.first; key = r.key })) × (length b ≡ r.first + r.sealed_len)
-opened-by answers b r told (Err fault) is opens = absurd (some-code fault (sym opens.0))
-opened-by answers b r told (Ok start) is (inl (lt, closed)) = absurd (cc (closed.code))
-opened-by answers b r told (Ok start) is (inr (le, code, new, place)) =
+opened-by answers b r report (Err fault) is opens = absurd (some-code fault (sym opens.0))
+opened-by answers b r report (Ok start) is (inl (lt, closed)) = absurd (cc (closed.returned))
+opened-by answers b r report (Ok start) is (inr (le, returned, new, place)) =
     let first : r.first ≡ start.first = ap (λ (x : Ranges). x.first) new in
     let sealed : r.sealed_len ≡ length b - start.first = ap (λ (x : Ranges). x.sealed_len) new in (
       subst (λ (x : Ranges). IsStart answers b (Ok (record { first = x.first; key = x.key }))) (sym new) (whole-start answers b (Ok start) is),
       omega (arith, first, sealed, le),
     )
 
-pub opened-range : (answers : Answering) (b : List ℕ) (r : Ranges) (told : Report) → OpensRanges answers (take 65552 b) (length b) r told 0
+pub opened-range : (answers : Answering) (b : List ℕ) (r : Ranges) (report : Report) → OpensRanges answers (take 65552 b) (length b) r report 0
     → IsStart answers b (Ok (record { first = r.first; key = r.key })) × (length b ≡ r.first + r.sealed_len)
-opened-range answers b r told (start, inl memory, opens) =
-    let code : OpensAt (length b) (Err OutOfMemory) r told 0 = subst (λ s. OpensAt (length b) s r told 0) memory opens in
-    absurd (some-code OutOfMemory (sym code.0))
-opened-range answers b r told (start, inr is, opens) = opened-by answers b r told start is opens
+opened-range answers b r report (start, inl memory, opens) =
+    let refused : OpensAt (length b) (Err OutOfMemory) r report 0 = subst (λ s. OpensAt (length b) s r report 0) memory opens in
+    absurd (some-code OutOfMemory (sym refused.0))
+opened-range answers b r report (start, inr is, opens) = opened-by answers b r report start is opens
 
 -- a fault of the opening is the verdict's
-refused-by : (answers : Answering) (b : List ℕ) (r : Ranges) (told : Report) (result : ℕ) (v : Reading Fault) (start : Result Start Fault) → IsStart answers b start
-    → OpensAt (length b) start r told result → IsVerdict limits answers b v → result ≢ 0 → (v.front ≡ []) × (code_of v.fault ≡ result) × (told ≡ report_of 0 v.fault)
-refused-by answers b r told result v (Err fault) is opens h some =
+refused-by : (answers : Answering) (b : List ℕ) (r : Ranges) (report : Report) (code : ℕ) (v : Reading Fault) (start : Result Start Fault) → IsStart answers b start
+    → OpensAt (length b) start r report code → IsVerdict limits answers b v → code ≢ 0 → (v.front ≡ []) × (code_of v.fault ≡ code) × (report ≡ report_of 0 v.fault)
+refused-by answers b r report code v (Err fault) is opens h some =
     let from : IsVerdictFrom b v (Err fault) = verdict-from answers b (Err fault) v is h in
     (ap (λ (x : Reading Fault). x.front) from, ap (λ (x : Reading Fault). code_of x.fault) from ∙ sym opens.0, opens.1 ∙ sym (ap (λ (x : Reading Fault). report_of 0 x.fault) from))
-refused-by answers b r told result v (Ok start) is (inl (lt, closed)) h some =
+refused-by answers b r report code v (Ok start) is (inl (lt, closed)) h some =
     let p = starts answers b start v is h in
     let d : length (drop p.at b) ≡ length b - p.at = length-drop p.at b in
     absurd (omega (arith, lt, d, p.first, p.long))
-refused-by answers b r told result v (Ok start) is (inr (le, code, new, place)) h some = absurd (some code)
+refused-by answers b r report code v (Ok start) is (inr (le, returned, new, place)) h some = absurd (some returned)
 
-pub refused-range : (answers : Answering) (b : List ℕ) (r : Ranges) (told : Report) (result : ℕ) (v : Reading Fault) → OpensRanges answers (take 65552 b) (length b) r told result
-    → IsVerdict limits answers b v → result ≢ 0 → result ≢ 17 → (v.front ≡ []) × (code_of v.fault ≡ result) × (told ≡ report_of 0 v.fault)
-refused-range answers b r told result v (start, inl memory, opens) h some other =
-    let code : OpensAt (length b) (Err OutOfMemory) r told result = subst (λ s. OpensAt (length b) s r told result) memory opens in
-    absurd (other code.0)
-refused-range answers b r told result v (start, inr is, opens) h some other =
-    refused-by answers b r told result v start (whole-start answers b start is) opens h some
+pub refused-range : (answers : Answering) (b : List ℕ) (r : Ranges) (report : Report) (code : ℕ) (v : Reading Fault) → OpensRanges answers (take 65552 b) (length b) r report code
+    → IsVerdict limits answers b v → code ≢ 0 → code ≢ 17 → (v.front ≡ []) × (code_of v.fault ≡ code) × (report ≡ report_of 0 v.fault)
+refused-range answers b r report code v (start, inl memory, opens) h some other =
+    let refused : OpensAt (length b) (Err OutOfMemory) r report code = subst (λ s. OpensAt (length b) s r report code) memory opens in
+    absurd (other refused.0)
+refused-range answers b r report code v (start, inr is, opens) h some other =
+    refused-by answers b r report code v start (whole-start answers b start is) opens h some
 
 -- a text of a located piece is a part of the verdict's plaintext, where this has no fault
 no-fault : (f : Option StreamFault) → option_map of_stream f ≡ None → f ≡ None
@@ -115,13 +114,13 @@ no-fault (Some fault) e = absurd (cc)
 whole-reading : (r : Reading StreamFault) (plain : List ℕ) → r.front ≡ plain → r.fault ≡ None → r ≡ whole plain
 whole-reading r plain front none = ap (λ x. record { front = x; fault = r.fault }) front ∙ ap (λ x. record { front = plain; fault = x }) none
 
-pub range-of-verdict : (answers : Answering) (b : List ℕ) (r : Ranges) (told : Report) (v : Reading Fault) (at : ℕ) (text : List ℕ) → OpensRanges answers (take 65552 b) (length b) r told 0
+pub range-of-verdict : (answers : Answering) (b : List ℕ) (r : Ranges) (report : Report) (v : Reading Fault) (at : ℕ) (text : List ℕ) → OpensRanges answers (take 65552 b) (length b) r report 0
     → IsVerdict limits answers b v → v.fault ≡ None → at < plain_of r.sealed_len → gives r (at / 65536) (piece_at r b (at / 65536)) ≡ Ok text
     → drop (at % 65536) text ≡ take (length (drop (at % 65536) text)) (drop at v.front)
 unfolding renamed
-range-of-verdict answers b r told v at text opens h none within g =
+range-of-verdict answers b r report v at text opens h none within g =
     let xs : List ℕ = drop (at % 65536) text in
-    let o = opened-range answers b r told opens in
+    let o = opened-range answers b r report opens in
     let p = starts answers b (record { first = r.first; key = r.key }) v o.0 h in
     let reading : Reading StreamFault = payload_reading p.key limits.max_chunks (drop p.at b) in
     let front : reading.front ≡ v.front = sym (ap (λ (x : Reading Fault). x.front) p.reading) in

@@ -3,10 +3,11 @@ use Rattle.std.proofs.Common.{◌≡◌, ℕ, ◌+◌, ◌*◌, ◌/◌, ◌<◌
 use Rattle.std.specs.List.{AllByRecursion, concat}
 use Rattle.std.specs.Fmt.{decimal}
 use Rattle.std.proofs.lemmas.Fmt.{length-decimal-le}
-use Rattle.base64.proofs.RoundTrip.{length-encode_symbols}
 use Rattle.age_cipher.proofs.OpeningLemmas.{length-sealed}
-use Rattle.age_header.specs.Base64.{B64, alphabet, base64_of}
+use Rattle.age_header.specs.Base64.{B64, base64_of}
 use Rattle.age_header.specs.Header.{Head, IsFullLine, IsStanza, StanzaParts, argument_line, line, version_line}
+use Rattle.age_header.proofs.LengthLemmas.{line_size, version_size}
+use Rattle.age_header.proofs.TextLemmas.{signs_size}
 use Rattle.age_recipient.specs.declared.key.FileKey.{FileKey}
 use Rattle.age_recipient.specs.KeyedStanza.{keyed_stanza, wrap_key}
 use Rattle.age_recipient.specs.PassphraseStanza.{pass_key, pass_stanza}
@@ -16,7 +17,7 @@ use Rattle.age_stream.specs.Cutting.{IsFilled}
 use Rattle.age_cipher.specs.Sealing.{sealed}
 use Rattle.age_header.specs.Mac.{header_mac}
 use Rattle.age_file.specs.NewFile.{NewFile}
-use Rattle.agefile.specs.Answer.{fresh_of, only, salt_of}
+use Rattle.agefile.specs.Giving.{IsFileUnder, fresh_of, only, salt_of}
 use Rattle.agefile.specs.Limits.{limits}
 use Rattle.agefile.specs.Sizes.{chunk_count, sealed_len}
 use Rattle.age_stream.specs.Payload.{chunks, is_end, payload, payload_key, chunk_nonce, sealed_from}
@@ -30,17 +31,6 @@ b64_size (a ∷ []) (p ∷ q ∷ []) h = refl
 b64_size (a ∷ b ∷ []) (p ∷ q ∷ r ∷ []) h = refl
 b64_size (a ∷ b ∷ c ∷ bytes) (p ∷ q ∷ r ∷ s ∷ characters) h = let rest = b64_size bytes characters h.1 in omega arith
 b64_size _ _ h = absurd h
-
-signs_size : (b : List ℕ) → length (base64_of b) ≡ (4 * length b + 2) / 3
-unfolding base64_of
-signs_size b = length-encode_symbols alphabet b
-
-line_size : (t : List ℕ) → length (line t) ≡ length t + 1
-line_size t = length-append t (10 ∷ [])
-
-version_size : length version_line ≡ 22
-unfolding version_line
-version_size = refl
 
 full_size : (full : List (List ℕ)) → AllByRecursion IsFullLine full → length (concat full) ≡ 64 * length full
 full_size [] all = refl
@@ -176,14 +166,14 @@ only_head seed stanza plain file is =
     subst (λ ss. Head ss (header_mac (fresh_of seed).file_key.0 is.stanzas) is.text) same is.heading.head
 
 pub key_file : (key seed plain file : List ℕ) → length seed ≡ 48
-    → NewFile limits (fresh_of seed) (only (keyed_stanza key (salt_of seed) (fresh_of seed).file_key)) plain file → length file ≡ sealed_len (length plain)
+    → IsFileUnder seed (keyed_stanza key (salt_of seed)) plain file → length file ≡ sealed_len (length plain)
 key_file key seed plain file size is =
     let all = file_size seed _ plain file is size in
     let head = key_header key (salt_of seed) (fresh_of seed).file_key _ is.text (salt_size seed size) (key_size seed size) (only_head seed _ plain file is) in
     omega arith
 
 pub pass_file : (pass seed plain file : List ℕ) (work : ℕ) → length seed ≡ 48 → work ≤ 30
-    → NewFile limits (fresh_of seed) (only (pass_stanza pass work (salt_of seed) (fresh_of seed).file_key)) plain file → length file < sealed_len (length plain)
+    → IsFileUnder seed (pass_stanza pass work (salt_of seed)) plain file → length file < sealed_len (length plain)
 pass_file pass seed plain file work size high is =
     let all = file_size seed _ plain file is size in
     let head = pass_header pass (salt_of seed) work (fresh_of seed).file_key _ is.text (salt_size seed size) (key_size seed size) high (only_head seed _ plain file is) in

@@ -14,15 +14,13 @@ use Rattle.age_file.specs.declared.fault.Fault.TheVariants.{NonceTruncated, OutO
 use Rattle.age_file.specs.Device.{CountsRead}
 use Rattle.age_file.specs.Inspect.{Inspects}
 use Rattle.age_file.specs.Verdict.{Answering, of_header, unlocked}
+use Rattle.age_file.proofs.DecryptLemmas.{err-err}
 use Rattle.agefile.specs.declared.start.Start.{Start}
-use Rattle.agefile.specs.Answer.{alone}
+use Rattle.agefile.specs.Giving.{alone}
 use Rattle.agefile.specs.Limits.{limits}
 use Rattle.agefile.specs.Start.{FindsStart, start_under}
 
-err-err : {A : Type 0} (f g : Fault) → ◌≡◌ {A = Result A Fault} (Err f) (Err g) → f ≡ g
-err-err f g e = cc
-
-ok-ok : {A : Type 0} (x y : A) → ◌≡◌ {A = Result A Fault} (Ok x) (Ok y) → x ≡ y
+pub ok-ok : {A : Type 0} (x y : A) → ◌≡◌ {A = Result A Fault} (Ok x) (Ok y) → x ≡ y
 ok-ok x y e = cc
 
 -- no header was read
@@ -33,8 +31,8 @@ pub start_none : (answers : Answering) (b : List ℕ) (mid : Option (List ℕ)) 
     → CountsRead {A = HeaderParts} 0 0 (Err fault) → FindsStart answers b (Err fault)
 start_none answers b mid fault (Ok parts, is, h) count = absurd (cc)
 start_none answers b mid fault (Err header.Read, is, h) count =
-    let count2 : CountsRead {A = HeaderParts} 0 0 (Err Read) = subst (λ f. CountsRead {A = HeaderParts} 0 0 (Err f)) (err-err {A = HeaderParts} fault Read is) count in
-    absurd (omega (arith, count2))
+    let read_count : CountsRead {A = HeaderParts} 0 0 (Err Read) = subst (λ f. CountsRead {A = HeaderParts} 0 0 (Err f)) (err-err {A = HeaderParts} fault Read is) count in
+    absurd (omega (arith, read_count))
 start_none answers b mid fault (Err header.Memory, is, h) count = inl (ap Err (err-err {A = HeaderParts} fault OutOfMemory is))
 start_none answers b mid fault (Err header.NotAge, is, h) count = subst (λ f. FindsStart answers b (Err f)) (sym (err-err {A = HeaderParts} fault _ is)) (faulty answers b header.NotAge h)
 start_none answers b mid fault (Err (header.BadLine n), is, h) count = subst (λ f. FindsStart answers b (Err f)) (sym (err-err {A = HeaderParts} fault _ is)) (faulty answers b (header.BadLine n) h)

@@ -1,4 +1,4 @@
--- The numbers by which C knows a fault.
+-- The codes by which C knows a fault.
 use Rattle.std.specs.Prelude.{Bool, true, false, ℕ, ◌-◌, ◌^◌, min, Option, Some, None}
 use Rattle.age_recipient.specs.declared.unwrapped.StanzaFault.{StanzaFault}
 use Rattle.age_recipient.specs.declared.unwrapped.StanzaFault.TheVariants.{ArgCount, Salt, WorkFactorText, WorkFactorTooHigh, BodyLength, Other}
@@ -17,7 +17,7 @@ out_of_memory = 17
 abbrev pub too_many_chunks : ℕ
 too_many_chunks = 14
 
--- the buffer has no room for what it was to get
+-- the buffer is too small for the output
 abbrev pub too_small : ℕ
 too_small = 21
 
@@ -29,7 +29,7 @@ bad_work_factor = 22
 abbrev pub out_of_order : ℕ
 out_of_order = 23
 
--- a fault's number
+-- a fault's code
 abbrev pub fault_code : Fault → ℕ
 fault_code NotAge = 1
 fault_code (BadLine line) = 2
@@ -75,7 +75,7 @@ abbrev pub fault_detail : Fault → ℕ
 fault_detail (Malformed part) = part_number part
 fault_detail _ = 0
 
--- the number of a fault, or 0 where there is none
+-- the code of a fault, or 0 where there is none
 abbrev pub code_of : Option Fault → ℕ
 code_of None = ok
 code_of (Some fault) = fault_code fault

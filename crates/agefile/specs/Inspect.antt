@@ -11,7 +11,7 @@ use Rattle.age_file.specs.Verdict.{of_header}
 use Rattle.agefile.specs.declared.inspecting.StanzaSummary.{StanzaSummary}
 use Rattle.agefile.specs.declared.inspecting.Summary.{Summary}
 use Rattle.agefile.specs.declared.report.Report.{Report}
-use Rattle.agefile.specs.Answer.{Gives, GivesUp}
+use Rattle.agefile.specs.Giving.{Gives, GivesUp}
 use Rattle.agefile.specs.Codes.{fault_code, ok, out_of_memory, out_of_order}
 use Rattle.agefile.specs.Limits.{limits}
 use Rattle.agefile.specs.Report.{report_of}
@@ -28,9 +28,9 @@ HeaderOf b (Err fault) =
     × (fault ≡ of_header reason))
 
 -- a header's fault is returned, and its place reported
-abbrev pub TellsFault : (reason : HeaderFault) (told : Report) (result : ℕ) → Type 0
-TellsFault reason told result =
-    (result ≡ fault_code (of_header reason)) × (told ≡ report_of 0 (Some (of_header reason)))
+abbrev pub ReportsFault : (reason : HeaderFault) (report : Report) (code : ℕ) → Type 0
+ReportsFault reason report code =
+    (code ≡ fault_code (of_header reason)) × (report ≡ report_of 0 (Some (of_header reason)))
 
 -- what a header is summed up as
 abbrev pub summary_of : Found → Summary
@@ -38,18 +38,18 @@ summary_of found =
     record { header_len = length found.text; stanzas = length found.stanzas; mac = found.mac }
 
 -- the header is summed up, or its fault is returned and the summary is as it was
-abbrev pub SumsUp : (result' : Result Found HeaderFault) (old new : Summary) (told : Report)
-    (result : ℕ) → Type 0
-SumsUp (Ok found) old new told result =
-    (result ≡ ok) × (told ≡ report_of 0 None) × (new ≡ summary_of found)
-SumsUp (Err reason) old new told result = TellsFault reason told result × (new ≡ old)
+abbrev pub SumsUp : (verdict : Result Found HeaderFault) (old new : Summary) (report : Report)
+    (code : ℕ) → Type 0
+SumsUp (Ok found) old new report code =
+    (code ≡ ok) × (report ≡ report_of 0 None) × (new ≡ summary_of found)
+SumsUp (Err reason) old new report code = ReportsFault reason report code × (new ≡ old)
 
 -- what inspecting b gives, by its header verdict; or out of memory, with the summary as it was
-abbrev pub Inspected : (b : Bytes) (old new : Summary) (told : Report) (result : ℕ) → Type 0
-Inspected b old new told result =
-    ((result ≡ out_of_memory) × (told ≡ report_of 0 None) × (new ≡ old))
+abbrev pub Inspected : (b : Bytes) (old new : Summary) (report : Report) (code : ℕ) → Type 0
+Inspected b old new report code =
+    ((code ≡ out_of_memory) × (report ≡ report_of 0 None) × (new ≡ old))
     ⊎ ((verdict : Result Found HeaderFault) × HeaderVerdict b limits.max_header verdict
-    × SumsUp verdict old new told result)
+    × SumsUp verdict old new report code)
 
 -- the arguments of a stanza, joined by single spaces
 abbrev pub joined : List Bytes → Bytes
@@ -60,27 +60,27 @@ abbrev pub stanza_summary : StanzaParts → StanzaSummary
 stanza_summary s =
     record { args = length s.args; args_len = length (joined s.args); body_len = length s.body }
 
--- the stanza with this index is summed up and its arguments are given, where the buffer has room
--- for them; or there is none
+-- the stanza with this index is summed up, and its arguments are given if they fit the buffer; or
+-- there is none
 abbrev pub GivesStanza : (found : Option StanzaParts) (old new : Bytes)
-    (before after : StanzaSummary) (told : Report) (result : ℕ) → Type 0
-GivesStanza (Some s) old new before after told result =
-    Gives (joined s.args) None old new told result × (after ≡ stanza_summary s)
-GivesStanza None old new before after told result =
-    GivesUp out_of_order old new told result × (after ≡ before)
+    (before after : StanzaSummary) (report : Report) (code : ℕ) → Type 0
+GivesStanza (Some s) old new before after report code =
+    Gives (joined s.args) None old new report code × (after ≡ stanza_summary s)
+GivesStanza None old new before after report code =
+    GivesUp out_of_order old new report code × (after ≡ before)
 
 -- the same of an index in a header; or the header's fault is returned, and nothing is given
-abbrev pub StanzaOf : (result' : Result Found HeaderFault) (index : ℕ) (old new : Bytes)
-    (before after : StanzaSummary) (told : Report) (result : ℕ) → Type 0
-StanzaOf (Ok found) index old new before after told result =
-    GivesStanza (slice_get found.stanzas index) old new before after told result
-StanzaOf (Err reason) index old new before after told result =
-    TellsFault reason told result × (new ≡ old) × (after ≡ before)
+abbrev pub StanzaOf : (verdict : Result Found HeaderFault) (index : ℕ) (old new : Bytes)
+    (before after : StanzaSummary) (report : Report) (code : ℕ) → Type 0
+StanzaOf (Ok found) index old new before after report code =
+    GivesStanza (slice_get found.stanzas index) old new before after report code
+StanzaOf (Err reason) index old new before after report code =
+    ReportsFault reason report code × (new ≡ old) × (after ≡ before)
 
 -- what asking for a stanza of b's header gives; or out of memory, and nothing is given
-abbrev pub AnswersStanza : (b : Bytes) (index : ℕ) (old new : Bytes) (before after : StanzaSummary)
-    (told : Report) (result : ℕ) → Type 0
-AnswersStanza b index old new before after told result =
-    (GivesUp out_of_memory old new told result × (after ≡ before))
+abbrev pub InspectsStanza : (b : Bytes) (index : ℕ) (old new : Bytes) (before after : StanzaSummary)
+    (report : Report) (code : ℕ) → Type 0
+InspectsStanza b index old new before after report code =
+    (GivesUp out_of_memory old new report code × (after ≡ before))
     ⊎ ((verdict : Result Found HeaderFault) × HeaderVerdict b limits.max_header verdict
-    × StanzaOf verdict index old new before after told result)
+    × StanzaOf verdict index old new before after report code)

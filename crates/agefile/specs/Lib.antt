@@ -1,5 +1,5 @@
-pub mod Answer
 pub mod Codes
+pub mod Giving
 pub mod Inspect
 pub mod Limits
 pub mod Ranges

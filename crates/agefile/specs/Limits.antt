@@ -7,6 +7,6 @@ use Rattle.age_stream.specs.Sizes.{nonce_size}
 abbrev pub limits : Bounds
 limits = record { max_header = default_max_header; max_chunks = 2 ^ 64 - 1 }
 
--- the longest header, and the nonce after it: with so many bytes any file can be opened
+-- the longest header, and the nonce after it: these bytes suffice to open any file
 abbrev pub front_size : ℕ
 front_size = limits.max_header + nonce_size

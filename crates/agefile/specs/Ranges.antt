@@ -16,11 +16,11 @@ use Rattle.agefile.specs.Start.{FindsStart}
 use Rattle.age_stream.specs.Sizes.{tag_size, chunk_size, sealed_chunk_size}
 use Rattle.agefile.specs.State.{state_closed, state_open, state_verified}
 
--- the number of the last of the pieces that so many bytes are
+-- the index of the last piece, if all pieces together have `sealed` bytes
 abbrev pub last_index : ℕ → ℕ
 last_index sealed = (sealed - 1) / sealed_chunk_size
 
--- how long piece i of so many bytes is
+-- the length of piece i, if all pieces together have `sealed` bytes
 abbrev pub piece_len : (sealed i : ℕ) → ℕ
 piece_len sealed i = min sealed_chunk_size (sealed - sealed_chunk_size * i)
 
@@ -32,7 +32,7 @@ plain_of sealed = sealed - tag_size * (last_index sealed + 1)
 abbrev pub closed : Ranges
 closed = record { key = replicate 32 0; first = 0; sealed_len = 0; state = state_closed }
 
--- the payload from its start to the end of a file of so many bytes
+-- the payload from its start to the end of a file of `file_len` bytes
 abbrev pub opened : (start : Start) (file_len : ℕ) → Ranges
 opened start file_len =
     record {
@@ -42,34 +42,34 @@ opened start file_len =
       state = state_open;
     }
 
--- where piece i stands in the file, and how long it is
-abbrev pub place_of : (r : Ranges) (i : ℕ) → Report
-place_of r i =
+-- the offset of piece i in the file, and its length
+abbrev pub piece_report : (r : Ranges) (i : ℕ) → Report
+piece_report r i =
     record { len = piece_len r.sealed_len i; place = r.first + sealed_chunk_size * i; detail = 0 }
 
 -- the call returns this code alone, and no payload is open
-pub record StaysClosed (number : ℕ) (new : Ranges) (told : Report) (result : ℕ) : Type 0 where
-  pub code : result ≡ number
-  pub report : told ≡ report_of 0 None
+pub record StaysClosed (expected : ℕ) (new : Ranges) (report : Report) (code : ℕ) : Type 0 where
+  pub returned : code ≡ expected
+  pub reported : report ≡ report_of 0 None
   pub ranges : new ≡ closed
 
 -- the payload is open, and its last piece is reported; or the fault is returned; or the file ends
 -- before its first piece
-abbrev pub OpensAt : (file_len : ℕ) (result' : Result Start Fault) (new : Ranges) (told : Report)
-    (result : ℕ) → Type 0
-OpensAt file_len (Ok start) new told result =
-    ((file_len < start.first) × StaysClosed out_of_order new told result)
-    ⊎ ((start.first ≤ file_len) × (result ≡ ok) × (new ≡ opened start file_len)
-    × (told ≡ place_of (opened start file_len) (last_index (file_len - start.first))))
-OpensAt file_len (Err fault) new told result =
-    (result ≡ fault_code fault) × (told ≡ report_of 0 (Some fault)) × (new ≡ closed)
+abbrev pub OpensAt : (file_len : ℕ) (start : Result Start Fault) (new : Ranges) (report : Report)
+    (code : ℕ) → Type 0
+OpensAt file_len (Ok start) new report code =
+    ((file_len < start.first) × StaysClosed out_of_order new report code)
+    ⊎ ((start.first ≤ file_len) × (code ≡ ok) × (new ≡ opened start file_len)
+    × (report ≡ piece_report (opened start file_len) (last_index (file_len - start.first))))
+OpensAt file_len (Err fault) new report code =
+    (code ≡ fault_code fault) × (report ≡ report_of 0 (Some fault)) × (new ≡ closed)
 
--- what opening a file of so many bytes with this front gives
+-- what opening a file of `file_len` bytes with this front gives
 abbrev pub OpensRanges : (answers : Answering) (front : Bytes) (file_len : ℕ) (new : Ranges)
-    (told : Report) (result : ℕ) → Type 0
-OpensRanges answers front file_len new told result =
+    (report : Report) (code : ℕ) → Type 0
+OpensRanges answers front file_len new report code =
     (start : Result Start Fault) × FindsStart answers front start
-    × OpensAt file_len start new told result
+    × OpensAt file_len start new report code
 
 -- the bytes of piece i in a file
 abbrev pub piece_at : (r : Ranges) (b : Bytes) (i : ℕ) → Bytes
@@ -81,10 +81,10 @@ gives r i piece =
     outcome r.key limits.max_chunks i (nat_le r.sealed_len (sealed_chunk_size * (i + 1))) piece
 
 -- what the last piece gives, verified: on its text the plaintext's length is known
-abbrev pub Verified : (old new : Ranges) (chunk chunk2 : Bytes) (report : Report) (result : ℕ)
-    (result' : Result Bytes StreamFault) → Type 0
-Verified old new chunk chunk2 report result (Ok text) =
-    (result ≡ ok)
+abbrev pub Verified : (old new : Ranges) (chunk after : Bytes) (report : Report) (code : ℕ)
+    (piece_outcome : Result Bytes StreamFault) → Type 0
+Verified old new chunk after report code (Ok text) =
+    (code ≡ ok)
     × (new
     ≡ record {
       key = old.key;
@@ -92,10 +92,10 @@ Verified old new chunk chunk2 report result (Ok text) =
       sealed_len = old.sealed_len;
       state = state_verified;
     })
-    × (chunk2 ≡ text ++ drop (length text) chunk)
+    × (after ≡ text ++ drop (length text) chunk)
     × (report ≡ report_of (plain_of old.sealed_len) None)
-Verified old new chunk chunk2 report result (Err fault) =
-    (result ≡ fault_code (of_stream fault))
+Verified old new chunk after report code (Err fault) =
+    (code ≡ fault_code (of_stream fault))
     × (new
     ≡ record {
       key = old.key;
@@ -103,7 +103,7 @@ Verified old new chunk chunk2 report result (Err fault) =
       sealed_len = old.sealed_len;
       state = state_open;
     })
-    × (chunk2 ≡ chunk) × (report ≡ report_of 0 (Some (of_stream fault)))
+    × (after ≡ chunk) × (report ≡ report_of 0 (Some (of_stream fault)))
 
 -- the payload was opened, and these are as many bytes as the last piece has
 abbrev pub may_verify : (r : Ranges) (chunk : Bytes) → Bool
@@ -111,8 +111,8 @@ may_verify r chunk =
     nat_lt state_closed r.state
     && nat_eq (length chunk) (piece_len r.sealed_len (last_index r.sealed_len))
 
--- the last piece was verified, places in the file fit 64 bits, and the plaintext has a byte at this
--- place
+-- the last piece was verified, offsets in the file fit 64 bits, and the plaintext has a byte at
+-- this offset
 abbrev pub has_byte : (r : Ranges) (at : ℕ) → Bool
 has_byte r at =
     nat_eq r.state state_verified && nat_lt (r.first + r.sealed_len) (2 ^ 64)
@@ -125,11 +125,11 @@ may_open r at chunk =
 
 -- what the piece that holds byte `at` gives: its text in front, from which the plaintext goes on at
 -- `at`
-abbrev pub GivesFrom : (at : ℕ) (chunk chunk2 : Bytes) (report : Report) (result : ℕ)
-    (result' : Result Bytes StreamFault) → Type 0
-GivesFrom at chunk chunk2 report result (Ok text) =
-    (result ≡ ok) × (chunk2 ≡ text ++ drop (length text) chunk)
+abbrev pub GivesFrom : (at : ℕ) (chunk after : Bytes) (report : Report) (code : ℕ)
+    (piece_outcome : Result Bytes StreamFault) → Type 0
+GivesFrom at chunk after report code (Ok text) =
+    (code ≡ ok) × (after ≡ text ++ drop (length text) chunk)
     × (report ≡ record { len = length text - at % chunk_size; place = at % chunk_size; detail = 0 })
-GivesFrom at chunk chunk2 report result (Err fault) =
-    (result ≡ fault_code (of_stream fault)) × (chunk2 ≡ chunk)
+GivesFrom at chunk after report code (Err fault) =
+    (code ≡ fault_code (of_stream fault)) × (after ≡ chunk)
     × (report ≡ report_of 0 (Some (of_stream fault)))

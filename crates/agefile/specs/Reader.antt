@@ -34,26 +34,26 @@ abbrev pub failed : Reader → Reader
 failed r = record { key = r.key; number = r.number; state = state_failed }
 
 -- the call returns this code alone, and the reader is not open
-pub record StaysClosed (number : ℕ) (new : Reader) (told : Report) (result : ℕ) : Type 0 where
-  pub code : result ≡ number
-  pub report : told ≡ report_of 0 None
+pub record StaysClosed (expected : ℕ) (new : Reader) (report : Report) (code : ℕ) : Type 0 where
+  pub returned : code ≡ expected
+  pub reported : report ≡ report_of 0 None
   pub reader : new ≡ closed
 
--- the reader stands before chunk 0, and the report says where that begins; or the fault is returned
-abbrev pub OpensAt : (result' : Result Start Fault) (new : Reader) (told : Report) (result : ℕ)
+-- chunk 0 is the reader's next, and the report has its offset; or the fault is returned
+abbrev pub OpensAt : (start : Result Start Fault) (new : Reader) (report : Report) (code : ℕ)
     → Type 0
-OpensAt (Ok start) new told result =
-    (result ≡ ok) × (told ≡ report_of start.first None) × (new ≡ before_first start.key)
-OpensAt (Err fault) new told result =
-    (result ≡ fault_code fault) × (told ≡ report_of 0 (Some fault)) × (new ≡ closed)
+OpensAt (Ok start) new report code =
+    (code ≡ ok) × (report ≡ report_of start.first None) × (new ≡ before_first start.key)
+OpensAt (Err fault) new report code =
+    (code ≡ fault_code fault) × (report ≡ report_of 0 (Some fault)) × (new ≡ closed)
 
 -- what opening the file with this front gives
-abbrev pub OpensReader : (answers : Answering) (front : Bytes) (new : Reader) (told : Report)
-    (result : ℕ) → Type 0
-OpensReader answers front new told result =
-    (start : Result Start Fault) × FindsStart answers front start × OpensAt start new told result
+abbrev pub OpensReader : (answers : Answering) (front : Bytes) (new : Reader) (report : Report)
+    (code : ℕ) → Type 0
+OpensReader answers front new report code =
+    (start : Result Start Fault) × FindsStart answers front start × OpensAt start new report code
 
--- whether a reader accepts a chunk of so many bytes: it is open, and the chunk is full, or the last
+-- whether a reader accepts a chunk of `len` bytes: it is open, and the chunk is full, or the last
 -- and no longer
 abbrev pub accepts : (r : Reader) (len : ℕ) (last : Bool) → Bool
 accepts r len last =
@@ -62,20 +62,20 @@ accepts r len last =
 
 -- the chunk's buffer begins with the text, and its rest is as it was; or its fault is returned,
 -- and all of it is as it was
-abbrev pub Reads : (old new : Reader) (chunk after : Bytes) (last : Bool) (told : Report)
-    (result : ℕ) (result' : Result Bytes StreamFault) → Type 0
-Reads old new chunk after last told result (Ok text) =
-    (result ≡ ok) × (told ≡ report_of (length text) None) × (new ≡ after_chunk old last)
+abbrev pub Reads : (old new : Reader) (chunk after : Bytes) (last : Bool) (report : Report)
+    (code : ℕ) (piece_outcome : Result Bytes StreamFault) → Type 0
+Reads old new chunk after last report code (Ok text) =
+    (code ≡ ok) × (report ≡ report_of (length text) None) × (new ≡ after_chunk old last)
     × (after ≡ text ++ drop (length text) chunk)
-Reads old new chunk after last told result (Err fault) =
-    (result ≡ fault_code (of_stream fault)) × (told ≡ report_of 0 (Some (of_stream fault)))
+Reads old new chunk after last report code (Err fault) =
+    (code ≡ fault_code (of_stream fault)) × (report ≡ report_of 0 (Some (of_stream fault)))
     × (new ≡ failed old) × (after ≡ chunk)
 
 -- one call: the chunk's outcome as the next piece, where the reader accepts it
-abbrev pub ReadsStep : (old new : Reader) (chunk after : Bytes) (last : Bool) (told : Report)
-    (result : ℕ) → Type 0
-ReadsStep old new chunk after last told result =
-    ((accepts old (length chunk) last ≡ false) × IsOutOfOrder old new chunk after told result)
+abbrev pub ReadsStep : (old new : Reader) (chunk after : Bytes) (last : Bool) (report : Report)
+    (code : ℕ) → Type 0
+ReadsStep old new chunk after last report code =
+    ((accepts old (length chunk) last ≡ false) × IsOutOfOrder old new chunk after report code)
     ⊎ ((accepts old (length chunk) last ≡ true)
-    × Reads old new chunk after last told result
+    × Reads old new chunk after last report code
     (outcome old.key limits.max_chunks old.number last chunk))

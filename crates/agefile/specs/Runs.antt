@@ -16,19 +16,19 @@ use Rattle.agefile.specs.Codes.{ok}
 abbrev pub ReadsRun : (r : Reader) (pieces : List Bytes) (text : Bytes) (code place : ℕ) → Type 0
 ReadsRun r [] text code place = (text ≡ []) × ((code ≡ ok) × (place ≡ 0))
 ReadsRun r (chunk ∷ more) text code place =
-    (new : Reader) × (after : Bytes) × (told : Report) × (result : ℕ)
-    × ReadsStep r new chunk after (is_end more) told result
-    × (((result ≡ ok)
-    × ((rest : Bytes) × (text ≡ take told.len after ++ rest)
+    (new : Reader) × (after : Bytes) × (report : Report) × (step_code : ℕ)
+    × ReadsStep r new chunk after (is_end more) report step_code
+    × (((step_code ≡ ok)
+    × ((rest : Bytes) × (text ≡ take report.len after ++ rest)
     × ReadsRun new more rest code place))
-    ⊎ ((result ≢ ok) × ((text ≡ []) × ((code ≡ result) × (place ≡ told.place)))))
+    ⊎ ((step_code ≢ ok) × ((text ≡ []) × ((code ≡ step_code) × (place ≡ report.place)))))
 
 -- Calls of a writer on these texts in order, each followed by 16 bytes, the last as the last, up to
 -- the first that returns a code: the sealed chunks that they gave, joined, and that code, or 0.
 abbrev pub WritesRun : (w : Writer) (chunks : List Bytes) (out : Bytes) (code : ℕ) → Type 0
 WritesRun w [] out code = (out ≡ []) × (code ≡ ok)
 WritesRun w (text ∷ more) out code =
-    (new : Writer) × (room : Bytes) × (length room ≡ tag_size) × (after : Bytes) × (told : Report)
-    × (result : ℕ) × WritesStep w new (text ++ room) after (is_end more) told result
-    × (((result ≡ ok) × ((rest : Bytes) × (out ≡ after ++ rest) × WritesRun new more rest code))
-    ⊎ ((result ≢ ok) × ((out ≡ []) × (code ≡ result))))
+    (new : Writer) × (room : Bytes) × (length room ≡ tag_size) × (after : Bytes) × (report : Report)
+    × (step_code : ℕ) × WritesStep w new (text ++ room) after (is_end more) report step_code
+    × (((step_code ≡ ok) × ((rest : Bytes) × (out ≡ after ++ rest) × WritesRun new more rest code))
+    ⊎ ((step_code ≢ ok) × ((out ≡ []) × (code ≡ step_code))))

@@ -6,9 +6,9 @@ use Rattle.agefile.specs.Report.{report_of}
 use Rattle.agefile.specs.Codes.{out_of_order}
 
 -- the call doesn't fit the state, and changes nothing
-pub record IsOutOfOrder {S : Type 0} (old new : S) (chunk after : Bytes) (told : Report)
-    (result : ℕ) : Type 0 where
-  pub code : result ≡ out_of_order
-  pub report : told ≡ report_of 0 None
+pub record IsOutOfOrder {S : Type 0} (old new : S) (chunk after : Bytes) (report : Report)
+    (code : ℕ) : Type 0 where
+  pub returned : code ≡ out_of_order
+  pub reported : report ≡ report_of 0 None
   pub state : new ≡ old
   pub buffer : after ≡ chunk

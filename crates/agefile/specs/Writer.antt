@@ -11,7 +11,7 @@ use Rattle.age_file.specs.declared.limits.Fresh.{Fresh}
 use Rattle.age_file.specs.NewFile.{IsHeading, IsRefusal}
 use Rattle.agefile.specs.declared.report.Report.{Report}
 use Rattle.agefile.specs.declared.writer.Writer.{Writer}
-use Rattle.agefile.specs.Answer.{Exceeds, Fits, GivesUp, fresh_of, only}
+use Rattle.agefile.specs.Giving.{Exceeds, Fits, GivesUp, fresh_of, only}
 use Rattle.agefile.specs.Limits.{limits}
 use Rattle.agefile.specs.Report.{report_of}
 use Rattle.agefile.specs.Steps.{IsOutOfOrder}
@@ -38,47 +38,48 @@ abbrev pub failed : Writer → Writer
 failed w = record { key = w.key; number = w.number; state = state_failed }
 
 -- the call returns this code alone, the buffer is as it was, and the writer is not open
-abbrev pub StaysClosed : (number : ℕ) (old new : Bytes) (writer : Writer) (told : Report)
-    (result : ℕ) → Type 0
-StaysClosed number old new writer told result =
-    GivesUp number old new told result × (writer ≡ closed)
+abbrev pub StaysClosed : (expected : ℕ) (old new : Bytes) (writer : Writer) (report : Report)
+    (code : ℕ) → Type 0
+StaysClosed expected old new writer report code =
+    GivesUp expected old new report code × (writer ≡ closed)
 
--- a file's front, its header and its nonce, stands at the start of the buffer, and the writer
--- before chunk 0; or the buffer is too small for it
+-- a file's front, its header and its nonce, is at the start of the buffer, and chunk 0 is the
+-- writer's next; or the buffer is too small for it
 abbrev pub GivesFront : (front : Bytes) (fresh : Fresh) (old new : Bytes) (writer : Writer)
-    (told : Report) (result : ℕ) → Type 0
-GivesFront front fresh old new writer told result =
-    (Fits front None old new told result
+    (report : Report) (code : ℕ) → Type 0
+GivesFront front fresh old new writer report code =
+    (Fits front None old new report code
     × (writer ≡ before_first (payload_key fresh.file_key fresh.nonce)))
-    ⊎ (Exceeds front old new told result × (writer ≡ closed))
+    ⊎ (Exceeds front old new report code × (writer ≡ closed))
 
 -- what opening a new file under this seed gives, whose header has this stanza alone, and at most
 -- 156 bytes: its front; or out of memory
 abbrev pub OpensWriter : (seed : Bytes) (stanza : FileKey → StanzaParts) (old new : Bytes)
-    (writer : Writer) (told : Report) (result : ℕ) → Type 0
-OpensWriter seed stanza old new writer told result =
-    StaysClosed out_of_memory old new writer told result
+    (writer : Writer) (report : Report) (code : ℕ) → Type 0
+OpensWriter seed stanza old new writer report code =
+    let fresh = fresh_of seed in
+    let given = stanza fresh.file_key in
+    StaysClosed out_of_memory old new writer report code
     ⊎ ((text : Bytes) × (length text ≤ longest_header)
-    × IsHeading limits (fresh_of seed).file_key (only (stanza (fresh_of seed).file_key))
-    (stanza (fresh_of seed).file_key ∷ []) text
-    × GivesFront (text ++ (fresh_of seed).nonce) (fresh_of seed) old new writer told result)
+    × IsHeading limits fresh.file_key (only given) (given ∷ []) text
+    × GivesFront (text ++ fresh.nonce) fresh old new writer report code)
 
 -- the same for whatever recipients give. In a refusal nothing is said of what the call returns: the
 -- exports have one recipient, which never refuses.
 abbrev pub OpensFor : (fresh : Fresh) (given : Result (List StanzaParts) Fault → Type 0)
-    (old new : Bytes) (writer : Writer) (told : Report) (result : ℕ) → Type 0
-OpensFor fresh given old new writer told result =
-    StaysClosed out_of_memory old new writer told result
+    (old new : Bytes) (writer : Writer) (report : Report) (code : ℕ) → Type 0
+OpensFor fresh given old new writer report code =
+    StaysClosed out_of_memory old new writer report code
     ⊎ (((fault : Fault) × IsRefusal limits fresh.file_key given fault)
     ⊎ ((stanzas : List StanzaParts) × (text : Bytes)
     × IsHeading limits fresh.file_key given stanzas text
-    × GivesFront (text ++ fresh.nonce) fresh old new writer told result))
+    × GivesFront (text ++ fresh.nonce) fresh old new writer report code))
 
--- whether a last chunk of so many bytes has a tag and some text; chunk 0 may be a tag alone
+-- whether a last chunk of `len` bytes has a tag and some text; chunk 0 may be a tag alone
 abbrev pub may_be_last : (number len : ℕ) → Bool
 may_be_last number len = nat_lt tag_size len || (nat_eq len tag_size && nat_eq number 0)
 
--- whether a writer accepts a chunk of so many bytes: it is open, and the chunk is full, or the last
+-- whether a writer accepts a chunk of `len` bytes: it is open, and the chunk is full, or the last
 -- and no longer, with some text
 abbrev pub accepts : (w : Writer) (len : ℕ) (last : Bool) → Bool
 accepts w len last =
@@ -87,28 +88,28 @@ accepts w len last =
     else nat_eq len sealed_chunk_size)
 
 -- the chunk's text, all but the last 16 bytes, was sealed under its number
-pub record Seals (old new : Writer) (chunk after : Bytes) (last : Bool) (told : Report)
-    (result : ℕ) : Type 0 where
+pub record Seals (old new : Writer) (chunk after : Bytes) (last : Bool) (report : Report)
+    (code : ℕ) : Type 0 where
   pub few : old.number < limits.max_chunks
-  pub code : result ≡ ok
-  pub report : told ≡ report_of (length chunk) None
+  pub returned : code ≡ ok
+  pub reported : report ≡ report_of (length chunk) None
   pub writer : new ≡ after_chunk old last
   pub buffer : after
       ≡ sealed old.key (chunk_nonce old.number last) [] (take (length chunk - tag_size) chunk)
 
 -- the file has as many chunks as it may have
-pub record IsTooMany (old new : Writer) (chunk after : Bytes) (told : Report) (result : ℕ)
+pub record IsTooMany (old new : Writer) (chunk after : Bytes) (report : Report) (code : ℕ)
     : Type 0 where
   pub many : limits.max_chunks ≤ old.number
-  pub code : result ≡ too_many_chunks
-  pub report : told ≡ report_of 0 (Some TooManyChunks)
+  pub returned : code ≡ too_many_chunks
+  pub reported : report ≡ report_of 0 (Some TooManyChunks)
   pub writer : new ≡ failed old
   pub buffer : after ≡ chunk
 
 -- one call: the chunk is sealed as the next one, where the writer accepts it
-abbrev pub WritesStep : (old new : Writer) (chunk after : Bytes) (last : Bool) (told : Report)
-    (result : ℕ) → Type 0
-WritesStep old new chunk after last told result =
-    ((accepts old (length chunk) last ≡ false) × IsOutOfOrder old new chunk after told result)
+abbrev pub WritesStep : (old new : Writer) (chunk after : Bytes) (last : Bool) (report : Report)
+    (code : ℕ) → Type 0
+WritesStep old new chunk after last report code =
+    ((accepts old (length chunk) last ≡ false) × IsOutOfOrder old new chunk after report code)
     ⊎ ((accepts old (length chunk) last ≡ true)
-    × (IsTooMany old new chunk after told result ⊎ Seals old new chunk after last told result))
+    × (IsTooMany old new chunk after report code ⊎ Seals old new chunk after last report code))

@@ -21,7 +21,7 @@ pub(crate) const WORK_FACTOR: u32 = 22;
 pub(crate) const OUT_OF_ORDER: u32 = 23;
 
 /// The code of a fault.
-pub(crate) fn code_of(fault: Fault) -> u32
+pub(crate) fn fault_code(fault: Fault) -> u32
     ensures { result ≡ fault_code fault }
 {
     match fault {
@@ -50,7 +50,7 @@ pub(crate) fn code_of(fault: Fault) -> u32
 
 /// The line or the chunk of a fault, else 0. A chunk's number beyond `u64` saturates at the largest
 /// `u64`.
-pub(crate) fn place_of(fault: Fault) -> u64
+pub(crate) fn fault_place(fault: Fault) -> u64
     ensures { result ≡ fault_place fault }
 {
     match fault {
@@ -72,7 +72,7 @@ fn capped(n: u128) -> u64
 }
 
 /// The part of a stanza that is malformed, 1 to 5 or 0 for other parts; 0 for other faults.
-pub(crate) fn detail_of(fault: Fault) -> u64
+pub(crate) fn fault_detail(fault: Fault) -> u64
     ensures { result ≡ fault_detail fault }
 {
     match fault {

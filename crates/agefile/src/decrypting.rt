@@ -3,12 +3,12 @@
 ghost use Rattle.std.specs.Prelude.{◌≡◌, map};
 ghost use Rattle.age_recipient.specs.KeyedHolders.{key_unwraps};
 ghost use Rattle.age_recipient.specs.PassphraseHolders.{WorkFits, pass_unwraps};
-ghost use Rattle.agefile.specs.Answer.{GivesPlain, GivesUp, alone};
+ghost use Rattle.agefile.specs.Giving.{GivesPlain, GivesUp, alone};
 ghost use Rattle.agefile.specs.Codes.{bad_work_factor};
 
-use crate::bounds::limits;
 use crate::code::{OUT_OF_MEMORY, WORK_FACTOR};
 use crate::giving::{give_part, give_up, give_whole, is_memory};
+use crate::limits::limits;
 use crate::report::Report;
 use age_file::{Identity, KeyIdentity, MemSink, MemSource, PassError, PassIdentity, decrypt};
 use std::alloc::Global;
@@ -28,7 +28,7 @@ pub extern "C" fn agefile_decrypt_passphrase(
     out: &mut [u8],
     report: &mut Report,
 ) -> u32
-    ensures answer { WorkFits max_work
+    ensures fit { WorkFits max_work
         → GivesPlain (alone (pass_unwraps (record { pass = pass.now; max = max_work }))) file.now
         out.old out.new report.new result }
     ensures unfit { (WorkFits max_work → ⊥)

@@ -5,12 +5,12 @@ ghost use Rattle.age_recipient.specs.KeyedStanza.{keyed_stanza};
 ghost use Rattle.age_recipient.specs.PassphraseHolders.{WorkFits};
 ghost use Rattle.age_recipient.specs.PassphraseStanza.{pass_stanza};
 ghost use Rattle.age_file.specs.NewFile.{Gathered};
-ghost use Rattle.agefile.specs.Answer.{GivesFile, GivesUp, GivesGathered, fresh_of, salt_of};
+ghost use Rattle.agefile.specs.Giving.{GivesFile, GivesGathered, GivesUp, fresh_of, part_size, salt_of, salt_start};
 ghost use Rattle.agefile.specs.Codes.{bad_work_factor};
 
-use crate::bounds::limits;
 use crate::code::{OUT_OF_MEMORY, WORK_FACTOR};
 use crate::giving::{give_part, give_up, give_whole, is_memory};
+use crate::limits::limits;
 use crate::report::Report;
 use age_file::{
     FileKey, Fresh, KeyRecipient, MemSink, MemSource, PassError, PassRecipient, Recipient, encrypt,
@@ -34,7 +34,7 @@ pub extern "C" fn agefile_encrypt_passphrase(
     out: &mut [u8],
     report: &mut Report,
 ) -> u32
-    ensures answer { WorkFits work
+    ensures fit { WorkFits work
         → GivesFile seed.now (pass_stanza pass.now work (salt_of seed.now)) plain.now out.old
         out.new report.new result }
     ensures unfit { (WorkFits work → ⊥)
@@ -77,8 +77,8 @@ pub extern "C" fn agefile_encrypt_key(
 
 /// The 16 bytes of a seed from this offset on.
 pub(crate) fn part(seed: &[u8; 48], at: usize) -> [u8; 16]
-    requires { at ≤ 32 }
-    ensures { result ≡ take 16 (drop at seed.now) }
+    requires { at ≤ salt_start }
+    ensures { result ≡ take part_size (drop at seed.now) }
 {
     let mut bytes = [0; 16];
     bytes.copy_from_slice(&seed[at..at + 16]);

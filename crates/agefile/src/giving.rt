@@ -1,10 +1,10 @@
 //! Copying a call's output to the caller's buffer.
 
 ghost use Rattle.std.specs.Prelude.{◌≡◌, ◌⊎◌, ◌≤◌, ◌++◌, drop, length, Some, None};
-ghost use Rattle.agefile.specs.Answer.{Exceeds, Gives, GivesUp};
+ghost use Rattle.agefile.specs.Giving.{Exceeds, Gives, GivesUp};
 ghost use Rattle.agefile.specs.Codes.{is_memory};
 
-use crate::code::{OK, OUT_OF_MEMORY, TOO_SMALL, code_of};
+use crate::code::{OK, OUT_OF_MEMORY, TOO_SMALL, fault_code};
 use crate::report::Report;
 use age_file::Fault;
 
@@ -17,7 +17,7 @@ pub(crate) fn give_up(code: u32, out: &mut [u8], report: &mut Report) -> u32
     code
 }
 
-/// Copies a text to the buffer, if it has room for it.
+/// Copies a text to the buffer, if the text fits.
 pub(crate) fn give_whole(text: &[u8], out: &mut [u8], report: &mut Report) -> u32
     ensures { Gives text.now None out.old out.new report.new result }
 {
@@ -25,16 +25,16 @@ pub(crate) fn give_whole(text: &[u8], out: &mut [u8], report: &mut Report) -> u3
     give(text, OK, out, report)
 }
 
-/// Copies the text before a fault to the buffer, if it has room for it.
+/// Copies the text before a fault to the buffer, if the text fits.
 pub(crate) fn give_part(text: &[u8], fault: Fault, out: &mut [u8], report: &mut Report) -> u32
     ensures { Gives text.now (Some fault) out.old out.new report.new result }
 {
     *report = Report::of_fault(text.len() as u64, fault);
-    give(text, code_of(fault), out, report)
+    give(text, fault_code(fault), out, report)
 }
 
-/// Copies a text to the buffer and returns the code, if the buffer has room for it; otherwise only
-/// the length is reported.
+/// Copies a text to the buffer and returns the code, if the text fits; otherwise only the length is
+/// reported.
 fn give(text: &[u8], code: u32, out: &mut [u8], report: &mut Report) -> u32
     ensures { ((length text.now ≤ length out.old) × (result ≡ code) × (report.new ≡ report.old)
         × (out.new ≡ text.now ++ drop (length text.now) out.old))

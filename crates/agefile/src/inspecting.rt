@@ -3,14 +3,14 @@
 ghost use Rattle.std.specs.Prelude.{◌≡◌, ◌⊎◌, take, Some, IfOk};
 ghost use Rattle.std.specs.String.{string_bytes};
 ghost use Rattle.age_kdf.specs.Bytes.{Bytes};
-ghost use Rattle.agefile.specs.Answer.{GivesUp};
-ghost use Rattle.agefile.specs.Inspect.{AnswersStanza, GivesStanza, HeaderOf, Inspected, joined, stanza_summary};
+ghost use Rattle.agefile.specs.Giving.{GivesUp};
+ghost use Rattle.agefile.specs.Inspect.{GivesStanza, HeaderOf, Inspected, InspectsStanza, joined, stanza_summary};
 ghost use Rattle.agefile.specs.Codes.{out_of_memory};
 ghost use Rattle.agefile.specs.Limits.{front_size};
 
-use crate::bounds::limits;
-use crate::code::{OK, OUT_OF_MEMORY, OUT_OF_ORDER, code_of};
+use crate::code::{OK, OUT_OF_MEMORY, OUT_OF_ORDER, fault_code};
 use crate::giving::{give_part, give_up, give_whole};
+use crate::limits::limits;
 use crate::report::Report;
 use age_file::{Fault, Header, MemSource, Stanza, inspect};
 use std::alloc::{AllocError, Global};
@@ -68,7 +68,7 @@ pub extern "C" fn agefile_inspect(
         }
         Err(fault) => {
             *report = Report::of_fault(0, fault);
-            code_of(fault)
+            fault_code(fault)
         }
     }
 }
@@ -89,10 +89,10 @@ pub extern "C" fn agefile_stanza(
     stanza: &mut StanzaSummary,
     report: &mut Report,
 ) -> u32
-    ensures front { AnswersStanza front.now index args.old args.new stanza.old stanza.new report.new
-        result }
+    ensures front { InspectsStanza front.now index args.old args.new stanza.old stanza.new
+        report.new result }
     ensures file { (b : Bytes) → front.now ≡ take front_size b
-        → AnswersStanza b index args.old args.new stanza.old stanza.new report.new result }
+        → InspectsStanza b index args.old args.new stanza.old stanza.new report.new result }
 {
     let header = match header_of(alloc, front) {
         Ok(header) => header,
@@ -120,12 +120,12 @@ fn give_stanza(
     let Ok(text) = joined(alloc, found) else {
         return give_up(OUT_OF_MEMORY, args, report);
     };
-    *stanza = summary_of(found, text.as_bytes());
+    *stanza = stanza_summary(found, text.as_bytes());
     give_whole(text.as_bytes(), args, report)
 }
 
 /// The sizes of a stanza whose arguments are joined to this text.
-fn summary_of(stanza: &Stanza, text: &[u8]) -> StanzaSummary
+fn stanza_summary(stanza: &Stanza, text: &[u8]) -> StanzaSummary
     requires { text.now ≡ joined stanza.now.args }
     ensures { result ≡ stanza_summary stanza.now }
 {

@@ -7,12 +7,11 @@ ghost use Rattle.age_recipient.specs.declared.key.FileKey.{FileKey};
 ghost use Rattle.age_stream.specs.Payload.{chunks, pieces};
 ghost use Rattle.age_stream.specs.Reading.{Reading, outcome};
 ghost use Rattle.age_file.specs.declared.fault.Fault.{Fault};
-ghost use Rattle.age_file.specs.NewFile.{NewFile};
 ghost use Rattle.age_file.specs.Verdict.{Answering, IsVerdict};
 ghost use Rattle.agefile.specs.declared.reader.Reader.{Reader};
 ghost use Rattle.agefile.specs.declared.report.Report.{Report};
 ghost use Rattle.agefile.specs.declared.writer.Writer.{Writer};
-ghost use Rattle.agefile.specs.Answer.{fresh_of, only};
+ghost use Rattle.agefile.specs.Giving.{IsFileUnder, seed_size};
 ghost use Rattle.agefile.specs.Codes.{code_of, ok, out_of_memory, too_many_chunks};
 ghost use Rattle.agefile.specs.Limits.{limits, front_size};
 ghost use Rattle.agefile.specs.Reader.{OpensReader};
@@ -25,51 +24,50 @@ ghost use Rattle.agefile.specs.Ranges.{OpensRanges, gives, last_index, piece_at,
 ghost use Rattle.agefile.specs.Start.{IsStart};
 ghost use Rattle.age_stream.specs.Sizes.{chunk_size};
 
-/// Reading a file in steps gives what decrypting it does. The front of 65,552 bytes of a file b is
-/// enough to open it. A fault of the opening is the verdict's, before any plaintext. Otherwise the
-/// texts of the sealed chunks after the nonce, joined up to the first fault, are the verdict's
-/// plaintext, and that fault, with its line or chunk, is the verdict's.
+/// Reading a file in steps returns what decrypting it returns. The front of 65,552 bytes of a file
+/// b is enough to open it. A fault of the opening, except out of memory, is the verdict's, before
+/// any plaintext. Otherwise the texts of the sealed chunks after the nonce, joined up to the first
+/// fault, are the verdict's plaintext, and that fault, with its line or chunk, is the verdict's.
 pub fn steps_read()
-    ensures refused { (answers : Answering) (b : Bytes) (reader : Reader) (told : Report)
-        (result : ℕ) (v : Reading Fault)
-        → OpensReader answers (take front_size b) reader told result → IsVerdict limits answers b v
-        → result ≢ ok → result ≢ out_of_memory
-        → (v.front ≡ []) × (code_of v.fault ≡ result) × (told ≡ report_of 0 v.fault) }
-    ensures read { (answers : Answering) (b : Bytes) (reader : Reader) (told : Report)
+    ensures refused { (answers : Answering) (b : Bytes) (reader : Reader) (report : Report)
+        (code : ℕ) (v : Reading Fault)
+        → OpensReader answers (take front_size b) reader report code → IsVerdict limits answers b v
+        → code ≢ ok → code ≢ out_of_memory
+        → (v.front ≡ []) × (code_of v.fault ≡ code) × (report ≡ report_of 0 v.fault) }
+    ensures read { (answers : Answering) (b : Bytes) (reader : Reader) (report : Report)
         (text : Bytes) (code place : ℕ) (v : Reading Fault)
-        → OpensReader answers (take front_size b) reader told ok
-        → ReadsRun reader (pieces (drop told.len b)) text code place → IsVerdict limits answers b v
+        → OpensReader answers (take front_size b) reader report ok
+        → ReadsRun reader (pieces (drop report.len b)) text code place
+        → IsVerdict limits answers b v
         → (v.front ≡ text) × ((code_of v.fault ≡ code) × ((report_of 0 v.fault).place ≡ place)) }
 {}
 
-/// Writing a file in steps gives what encrypting does: the front that the opening wrote and the
+/// Writing a file in steps writes what encrypting writes: the front that the opening wrote and the
 /// sealed chunks of a plaintext, joined, are the plaintext's file. Otherwise the plaintext has more
 /// chunks than the limit, and a step returns 14.
 pub fn steps_write()
     ensures { (seed : Bytes) (stanza : FileKey → StanzaParts) (plain old new : Bytes)
-        (writer : Writer) (told : Report) (out : Bytes) (code : ℕ)
-        → length seed ≡ 48 → OpensWriter seed stanza old new writer told ok
+        (writer : Writer) (report : Report) (out : Bytes) (code : ℕ)
+        → length seed ≡ seed_size → OpensWriter seed stanza old new writer report ok
         → WritesRun writer (chunks plain) out code
-        → ((code ≡ ok)
-        × NewFile limits (fresh_of seed) (only (stanza (fresh_of seed).file_key)) plain
-        (take told.len new ++ out))
+        → ((code ≡ ok) × IsFileUnder seed stanza plain (take report.len new ++ out))
         ⊎ ((code ≡ too_many_chunks) × (limits.max_chunks < length (chunks plain))) }
 {}
 
-/// Reading ranges in steps gives parts of the plaintext. The front of 65,552 bytes of a file b and
-/// its length are enough to open it. A fault of the opening is the verdict's, before any plaintext.
-/// Otherwise what was opened is b's own payload: the piece that is verified first is its last one,
-/// and with it the plaintext's length is known. The text of a located piece, from the requested
-/// byte on, is a slice of the plaintext; if the verdict has no fault, it is a part of the verdict's
-/// plaintext.
+/// Reading ranges in steps returns parts of the plaintext. The front of 65,552 bytes of a file b
+/// and its length are enough to open it. A fault of the opening, except out of memory, is the
+/// verdict's, before any plaintext. Otherwise what was opened is b's own payload: the piece that is
+/// verified first is its last one, and with it the plaintext's length is known. The text of a
+/// located piece, from the requested byte on, is a slice of the plaintext; if the verdict has no
+/// fault, it is a part of the verdict's plaintext.
 pub fn ranges_in_steps()
-    ensures refused { (answers : Answering) (b : Bytes) (r : Ranges) (told : Report) (result : ℕ)
+    ensures refused { (answers : Answering) (b : Bytes) (r : Ranges) (report : Report) (code : ℕ)
         (v : Reading Fault)
-        → OpensRanges answers (take front_size b) (length b) r told result
-        → IsVerdict limits answers b v → result ≢ ok → result ≢ out_of_memory
-        → (v.front ≡ []) × (code_of v.fault ≡ result) × (told ≡ report_of 0 v.fault) }
-    ensures opened { (answers : Answering) (b : Bytes) (r : Ranges) (told : Report)
-        → OpensRanges answers (take front_size b) (length b) r told ok
+        → OpensRanges answers (take front_size b) (length b) r report code
+        → IsVerdict limits answers b v → code ≢ ok → code ≢ out_of_memory
+        → (v.front ≡ []) × (code_of v.fault ≡ code) × (report ≡ report_of 0 v.fault) }
+    ensures opened { (answers : Answering) (b : Bytes) (r : Ranges) (report : Report)
+        → OpensRanges answers (take front_size b) (length b) r report ok
         → IsStart answers b (Ok (record { first = r.first; key = r.key }))
         × (length b ≡ r.first + r.sealed_len) }
     ensures last { (r : Ranges) (b : Bytes) → length b ≡ r.first + r.sealed_len
@@ -84,9 +82,9 @@ pub fn ranges_in_steps()
         → gives r (at / chunk_size) (piece_at r b (at / chunk_size)) ≡ Ok text
         → (at % chunk_size < length text)
         × IsSlice r.key (drop r.first b) at (drop (at % chunk_size) text) }
-    ensures verdict { (answers : Answering) (b : Bytes) (r : Ranges) (told : Report)
+    ensures verdict { (answers : Answering) (b : Bytes) (r : Ranges) (report : Report)
         (v : Reading Fault) (at : ℕ) (text : Bytes)
-        → OpensRanges answers (take front_size b) (length b) r told ok
+        → OpensRanges answers (take front_size b) (length b) r report ok
         → IsVerdict limits answers b v → v.fault ≡ None → at < plain_of r.sealed_len
         → gives r (at / chunk_size) (piece_at r b (at / chunk_size)) ≡ Ok text
         → drop (at % chunk_size) text

@@ -17,13 +17,13 @@
 //! what is proved, are in docs/C.md.
 #![tactic(auto)]
 
-mod bounds;
 mod code;
 mod decrypting;
 mod encrypting;
 mod giving;
 mod inspecting;
 pub mod laws;
+mod limits;
 mod ranges;
 mod reader;
 mod report;

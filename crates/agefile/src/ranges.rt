@@ -5,15 +5,15 @@ ghost use Rattle.std.specs.Bool.{OnFalse, OnTrue};
 ghost use Rattle.age_stream.specs.Reading.{outcome};
 ghost use Rattle.age_recipient.specs.KeyedHolders.{key_unwraps};
 ghost use Rattle.age_recipient.specs.PassphraseHolders.{WorkFits, pass_unwraps};
-ghost use Rattle.agefile.specs.Answer.{alone};
+ghost use Rattle.agefile.specs.Giving.{alone};
 ghost use Rattle.agefile.specs.Limits.{limits};
-ghost use Rattle.agefile.specs.Ranges.{GivesFrom, OpensAt, OpensRanges, StaysClosed, Verified, closed, gives, has_byte, last_index, may_open, may_verify, piece_len, place_of, plain_of};
+ghost use Rattle.agefile.specs.Ranges.{GivesFrom, OpensAt, OpensRanges, StaysClosed, Verified, closed, gives, has_byte, last_index, may_open, may_verify, piece_len, piece_report, plain_of};
 ghost use Rattle.agefile.specs.Report.{report_of};
 ghost use Rattle.age_stream.specs.Sizes.{chunk_size};
 ghost use Rattle.agefile.specs.Codes.{ok, bad_work_factor, out_of_order};
 
-use crate::bounds::MAX_CHUNKS;
-use crate::code::{OK, OUT_OF_ORDER, WORK_FACTOR, code_of};
+use crate::code::{OK, OUT_OF_ORDER, WORK_FACTOR, fault_code};
+use crate::limits::MAX_CHUNKS;
 use crate::report::Report;
 use crate::start::{Start, start_for_key, start_for_passphrase};
 use crate::state::{CLOSED, OPEN};
@@ -71,7 +71,7 @@ pub extern "C" fn agefile_ranges_open_passphrase(
     ranges: &mut Ranges,
     report: &mut Report,
 ) -> u32
-    ensures answer { WorkFits max_work
+    ensures fit { WorkFits max_work
         → OpensRanges (alone (pass_unwraps (record { pass = pass.now; max = max_work }))) front.now
         file_len ranges.new report.new result }
     ensures unfit { (WorkFits max_work → ⊥)
@@ -127,7 +127,7 @@ fn open_at(
         Err(fault) => {
             *ranges = Ranges::closed();
             *report = Report::of_fault(0, fault);
-            return code_of(fault);
+            return fault_code(fault);
         }
     };
     if file_len < start.first {
@@ -151,7 +151,13 @@ fn open_at(
 }
 
 /// Verifies the last sealed chunk, whose length and tag prove where the file ends, and opens it in
-/// place. It must come before the other calls.
+/// place. It must come before the other calls. On 0 its text is at the start of the buffer, and the
+/// report's length is the plaintext's.
+///
+/// # Errors
+/// 23 if no payload is open, or the chunk has another length: all is unchanged. Otherwise the first
+/// that applies of 11, 12 and 13, as `age_stream::open_chunk` says: the chunk is unchanged, and the
+/// payload counts as not verified.
 #[unsafe(no_mangle)]
 pub extern "C" fn agefile_ranges_last(
     ranges: &mut Ranges,
@@ -183,19 +189,23 @@ pub extern "C" fn agefile_ranges_last(
         Err(fault) => {
             let fault = Fault::from(fault);
             *report = Report::of_fault(0, fault);
-            code_of(fault)
+            fault_code(fault)
         }
     }
 }
 
 /// Finds the sealed chunk that holds byte `at` of the plaintext: its offset in the file, and its
 /// length.
+///
+/// # Errors
+/// 23 if the last sealed chunk was not verified, the plaintext has no byte `at`, or offsets in the
+/// file do not fit 64 bits.
 #[unsafe(no_mangle)]
 pub extern "C" fn agefile_ranges_locate(ranges: &Ranges, at: u64, report: &mut Report) -> u32
     ensures out_of_order { OnFalse (has_byte ranges.now at)
         ((result ≡ out_of_order) × (report.new ≡ report_of 0 None)) }
     ensures located { OnTrue (has_byte ranges.now at)
-        ((result ≡ ok) × (report.new ≡ place_of ranges.now (at / chunk_size))) }
+        ((result ≡ ok) × (report.new ≡ piece_report ranges.now (at / chunk_size))) }
 {
     *report = Report::of_len(0);
     if !has_byte(ranges, at) {
@@ -209,6 +219,10 @@ pub extern "C" fn agefile_ranges_locate(ranges: &Ranges, at: u64, report: &mut R
 
 /// Opens the sealed chunk that holds byte `at` of the plaintext in place. The plaintext from `at`
 /// on is then in the chunk, from the reported offset on and of the reported length.
+///
+/// # Errors
+/// 23 as for `agefile_ranges_locate`, or if the chunk has another length; 13 if no plaintext seals
+/// to these bytes at this number. The chunk is unchanged.
 #[unsafe(no_mangle)]
 pub extern "C" fn agefile_ranges_chunk(
     ranges: &Ranges,
@@ -238,7 +252,7 @@ pub extern "C" fn agefile_ranges_chunk(
         Err(fault) => {
             let fault = Fault::from(fault);
             *report = Report::of_fault(0, fault);
-            code_of(fault)
+            fault_code(fault)
         }
     }
 }

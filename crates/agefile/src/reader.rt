@@ -3,12 +3,12 @@
 ghost use Rattle.std.specs.Prelude.{◌≡◌};
 ghost use Rattle.age_recipient.specs.KeyedHolders.{key_unwraps};
 ghost use Rattle.age_recipient.specs.PassphraseHolders.{WorkFits, pass_unwraps};
-ghost use Rattle.agefile.specs.Answer.{alone};
+ghost use Rattle.agefile.specs.Giving.{alone};
 ghost use Rattle.agefile.specs.Reader.{OpensAt, OpensReader, ReadsStep, StaysClosed, closed, accepts};
 ghost use Rattle.agefile.specs.Codes.{bad_work_factor};
 
-use crate::bounds::MAX_CHUNKS;
-use crate::code::{OK, OUT_OF_ORDER, WORK_FACTOR, code_of};
+use crate::code::{OK, OUT_OF_ORDER, WORK_FACTOR, fault_code};
+use crate::limits::MAX_CHUNKS;
 use crate::report::Report;
 use crate::start::{Start, start_for_key, start_for_passphrase};
 use crate::state::{CLOSED, ENDED, FAILED, OPEN};
@@ -70,7 +70,7 @@ pub extern "C" fn agefile_reader_open_passphrase(
     reader: &mut Reader,
     report: &mut Report,
 ) -> u32
-    ensures answer { WorkFits max_work
+    ensures fit { WorkFits max_work
         → OpensReader (alone (pass_unwraps (record { pass = pass.now; max = max_work }))) front.now
         reader.new report.new result }
     ensures unfit { (WorkFits max_work → ⊥)
@@ -130,7 +130,7 @@ fn open_at(start: Result<Start, Fault>, reader: &mut Reader, report: &mut Report
         Err(fault) => {
             *reader = Reader::closed();
             *report = Report::of_fault(0, fault);
-            code_of(fault)
+            fault_code(fault)
         }
     }
 }
@@ -168,7 +168,7 @@ pub extern "C" fn agefile_reader_chunk(
             let fault = Fault::from(fault);
             reader.state = FAILED;
             *report = Report::of_fault(0, fault);
-            code_of(fault)
+            fault_code(fault)
         }
     }
 }

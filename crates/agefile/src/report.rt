@@ -3,7 +3,7 @@
 ghost use Rattle.std.specs.Prelude.{◌≡◌, Some, None};
 ghost use Rattle.agefile.specs.Report.{report_of};
 
-use crate::code::{detail_of, place_of};
+use crate::code::{fault_detail, fault_place};
 use age_file::Fault;
 
 /// What a call returns beside its code. Each call sets all of it.
@@ -38,8 +38,8 @@ impl Report {
     {
         Report {
             len,
-            place: place_of(fault),
-            detail: detail_of(fault),
+            place: fault_place(fault),
+            detail: fault_detail(fault),
         }
     }
 }

@@ -7,9 +7,8 @@ ghost use Rattle.age_recipient.specs.PassphraseHolders.{WorkFits};
 ghost use Rattle.age_recipient.specs.PassphraseStanza.{pass_stanza};
 ghost use Rattle.age_stream.specs.Reading.{Reading};
 ghost use Rattle.age_file.specs.declared.fault.Fault.{Fault};
-ghost use Rattle.age_file.specs.NewFile.{NewFile};
 ghost use Rattle.age_file.specs.Verdict.{Answering, IsVerdict};
-ghost use Rattle.agefile.specs.Answer.{fresh_of, only, salt_of};
+ghost use Rattle.agefile.specs.Giving.{IsFileUnder, salt_of, seed_size};
 ghost use Rattle.agefile.specs.Limits.{limits};
 ghost use Rattle.agefile.specs.Sizes.{plain_len_at_most, sealed_len};
 
@@ -22,19 +21,18 @@ const FRONT: u64 = 172;
 /// The shortest header, 70 bytes without its stanzas, and its payload's nonce.
 const LEAST_FRONT: u64 = 86;
 
-/// Room that suffices for the file of a plaintext of this many bytes under a key or a passphrase.
-/// It is the length under a key, saturating at the largest `u64`.
+/// A buffer size that suffices for the file of a plaintext of this many bytes under a key or a
+/// passphrase. It is the length under a key, saturating at the largest `u64`.
 #[unsafe(no_mangle)]
 pub extern "C" fn agefile_sealed_len(plain_len: u64) -> u64
     ensures value { result ≡ min (sealed_len plain_len) (2 ^ 64 - 1) }
-    ensures key { (key seed plain file : Bytes) → length seed ≡ 48 → length plain ≡ plain_len
-        → NewFile limits (fresh_of seed)
-        (only (keyed_stanza key (salt_of seed) (fresh_of seed).file_key)) plain file
-        → length file ≡ sealed_len plain_len }
-    ensures pass { (pass seed plain file : Bytes) (work : ℕ) → length seed ≡ 48 → WorkFits work
+    ensures key { (key seed plain file : Bytes) → length seed ≡ seed_size
         → length plain ≡ plain_len
-        → NewFile limits (fresh_of seed)
-        (only (pass_stanza pass work (salt_of seed) (fresh_of seed).file_key)) plain file
+        → IsFileUnder seed (keyed_stanza key (salt_of seed)) plain file
+        → length file ≡ sealed_len plain_len }
+    ensures pass { (pass seed plain file : Bytes) (work : ℕ) → length seed ≡ seed_size
+        → WorkFits work → length plain ≡ plain_len
+        → IsFileUnder seed (pass_stanza pass work (salt_of seed)) plain file
         → length file < sealed_len plain_len }
 {
     let chunks = plain_len.saturating_sub(1) / CHUNK_SIZE as u64 + 1;
@@ -43,8 +41,8 @@ pub extern "C" fn agefile_sealed_len(plain_len: u64) -> u64
         .saturating_add(TAG_SIZE as u64 * chunks)
 }
 
-/// Room that suffices for the plaintext of any file of this many bytes, and for the plaintext
-/// before a fault.
+/// A buffer size that suffices for the plaintext of any file of this many bytes, and for the
+/// plaintext before a fault.
 #[unsafe(no_mangle)]
 pub extern "C" fn agefile_plain_len_at_most(file_len: u64) -> u64
     ensures value { result ≡ plain_len_at_most file_len }

@@ -3,10 +3,10 @@
 ghost use Rattle.std.specs.Prelude.{◌≡◌, IfNone, IfSome, map};
 ghost use Rattle.age_recipient.specs.KeyedHolders.{key_unwraps};
 ghost use Rattle.age_recipient.specs.PassphraseHolders.{WorkFits, pass_unwraps};
-ghost use Rattle.agefile.specs.Answer.{alone};
+ghost use Rattle.agefile.specs.Giving.{alone};
 ghost use Rattle.agefile.specs.Start.{FindsStart};
 
-use crate::bounds::limits;
+use crate::limits::limits;
 use age_file::{
     Fault, Identity, KeyIdentity, MemSource, PassError, PassIdentity, inspect, unlock_header,
 };

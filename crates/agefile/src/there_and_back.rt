@@ -8,9 +8,8 @@ ghost use Rattle.age_recipient.specs.KeyedStanza.{keyed_stanza};
 ghost use Rattle.age_recipient.specs.PassphraseHolders.{PairFits, pass_unwraps};
 ghost use Rattle.age_recipient.specs.PassphraseStanza.{pass_stanza};
 ghost use Rattle.age_stream.specs.Reading.{whole};
-ghost use Rattle.age_file.specs.NewFile.{NewFile};
 ghost use Rattle.age_file.specs.Verdict.{IsVerdict};
-ghost use Rattle.agefile.specs.Answer.{IsSeed, alone, fresh_of, only, salt_of};
+ghost use Rattle.agefile.specs.Giving.{IsFileUnder, IsSeed, alone, salt_of};
 ghost use Rattle.agefile.specs.Limits.{limits};
 
 use age_file::laws;
@@ -20,12 +19,10 @@ use age_file::laws;
 /// work factor. The seed is any 48 bytes.
 pub fn comes_back()
     ensures key { (key seed plain file : Bytes) → IsSeed seed
-        → NewFile limits (fresh_of seed)
-        (only (keyed_stanza key (salt_of seed) (fresh_of seed).file_key)) plain file
+        → IsFileUnder seed (keyed_stanza key (salt_of seed)) plain file
         → IsVerdict limits (alone (key_unwraps key)) file (whole plain) }
     ensures pass { (pass seed plain file : Bytes) (work max : ℕ) → IsSeed seed → PairFits work max
-        → NewFile limits (fresh_of seed)
-        (only (pass_stanza pass work (salt_of seed) (fresh_of seed).file_key)) plain file
+        → IsFileUnder seed (pass_stanza pass work (salt_of seed)) plain file
         → IsVerdict limits (alone (pass_unwraps (record { pass = pass; max = max }))) file
         (whole plain) }
 {

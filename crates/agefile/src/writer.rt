@@ -5,14 +5,14 @@ ghost use Rattle.age_recipient.specs.KeyedStanza.{keyed_stanza};
 ghost use Rattle.age_recipient.specs.PassphraseHolders.{WorkFits};
 ghost use Rattle.age_recipient.specs.PassphraseStanza.{pass_stanza};
 ghost use Rattle.age_file.specs.NewFile.{Gathered};
-ghost use Rattle.agefile.specs.Answer.{fresh_of, salt_of};
+ghost use Rattle.agefile.specs.Giving.{fresh_of, salt_of};
 ghost use Rattle.agefile.specs.Writer.{GivesFront, OpensFor, OpensWriter, StaysClosed, WritesStep, closed, may_be_last, accepts};
 ghost use Rattle.agefile.specs.Codes.{bad_work_factor};
 
-use crate::bounds::{MAX_CHUNKS, limits};
-use crate::code::{OK, OUT_OF_MEMORY, OUT_OF_ORDER, WORK_FACTOR, code_of};
+use crate::code::{OK, OUT_OF_MEMORY, OUT_OF_ORDER, WORK_FACTOR, fault_code};
 use crate::encrypting::{fresh_of, part};
 use crate::giving::{give_up, give_whole};
+use crate::limits::{MAX_CHUNKS, limits};
 use crate::report::Report;
 use crate::state::{CLOSED, ENDED, FAILED, OPEN};
 use age_file::{
@@ -83,7 +83,7 @@ pub extern "C" fn agefile_writer_open_passphrase(
     writer: &mut Writer,
     report: &mut Report,
 ) -> u32
-    ensures answer { WorkFits work
+    ensures fit { WorkFits work
         → OpensWriter seed.now (pass_stanza pass.now work (salt_of seed.now)) out.old out.new
         writer.new report.new result }
     ensures unfit { (WorkFits work → ⊥)
@@ -161,7 +161,7 @@ fn open_for(
     let fresh = fresh_of(seed);
     let header = match header_for(alloc, recipients, &fresh.file_key, &limits()) {
         Ok(header) => header,
-        Err(fault) => return stay_closed(code_of(fault), out, writer, report),
+        Err(fault) => return stay_closed(fault_code(fault), out, writer, report),
     };
     let mut sink = MemSink::new(Vec::new(alloc));
     match write_front(&header, &fresh.nonce, &mut sink) {
@@ -173,8 +173,8 @@ fn open_for(
     }
 }
 
-/// Copies a file's front to the buffer, and returns a writer before its first chunk, if the buffer
-/// has room for the front.
+/// Copies a file's front to the buffer, and returns a writer before its first chunk, if the front
+/// fits.
 fn give_front(
     front: &[u8],
     fresh: &Fresh,
@@ -230,7 +230,7 @@ pub extern "C" fn agefile_writer_chunk(
     let number = writer.number as u128;
     if number >= MAX_CHUNKS {
         writer.state = FAILED;
-        return code_of(Fault::TooManyChunks);
+        return fault_code(Fault::TooManyChunks);
     }
     seal_chunk(&writer.key, number, last, chunk);
     writer.number += 1;

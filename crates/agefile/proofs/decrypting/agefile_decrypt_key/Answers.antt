@@ -1,7 +1,7 @@
 use Rattle.std.proofs.Common.{◌∙◌, ap}
 use denote.Param.Object.{read_made}
 use Rattle.age_recipient.specs.KeyedHolders.{key_unwraps}
-use Rattle.agefile.proofs.PlainLemmas.{plain_meant}
+use Rattle.agefile.proofs.GivesPlainLemmas.{plain_meant}
 use Rattle.agefile.proofs.decrypting.agefile_decrypt_key.Goals as goal
 use Rattle.agefile.proofs.decrypting.agefile_decrypt_key.OwnLists.{own-1, entry-1-1, at-1-1, same-1-1}
 

@@ -1,6 +1,6 @@
 use Rattle.std.proofs.Common.{◌≡◌, false}
 use Rattle.agefile.specs.Codes.{is_memory}
-use Rattle.agefile.proofs.PlainLemmas.{plain_part}
+use Rattle.agefile.proofs.GivesPlainLemmas.{plain_part}
 use Rattle.agefile.proofs.decrypting.open_for.Goals as goal
 
 pub returns : goal.returns

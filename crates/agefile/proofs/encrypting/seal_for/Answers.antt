@@ -1,7 +1,7 @@
 use Rattle.std.proofs.Common.{◌≡◌, [], false, map, Some, rules}
 use Rattle.age_file.specs.NewFile.{Gathered}
 use Rattle.agefile.specs.Codes.{is_memory}
-use Rattle.agefile.proofs.SealLemmas.{seals_part, seals_whole}
+use Rattle.agefile.proofs.GivesFileLemmas.{seals_part, seals_whole}
 use Rattle.agefile.proofs.encrypting.seal_for.Goals as goal
 
 pub returns-in-Ok : goal.returns-in-Ok

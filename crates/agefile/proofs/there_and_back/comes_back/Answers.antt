@@ -1,8 +1,8 @@
 use Rattle.age_recipient.specs.KeyedHolders.{key_unwraps}
 use Rattle.age_recipient.specs.PassphraseHolders.{pass_unwraps}
-use Rattle.agefile.specs.Answer.{alone, fresh_of}
+use Rattle.agefile.specs.Giving.{alone, fresh_of}
 use Rattle.agefile.specs.Limits.{limits}
-use Rattle.agefile.proofs.BackLemmas.{key_chosen, pass_chosen}
+use Rattle.agefile.proofs.SeedLemmas.{key_chosen, pass_chosen}
 use Rattle.agefile.proofs.there_and_back.comes_back.Goals as goal
 
 pub returns-clause-key : goal.returns-clause-key

@@ -2,8 +2,8 @@ use Rattle.std.proofs.Common.{◌≡◌, ◌∙◌, ap, length, rules}
 use denote.Param.Object.{read_made}
 use Rattle.age_recipient.specs.KeyedHolders.{key_wraps}
 use Rattle.age_recipient.specs.KeyedStanza.{keyed_stanza}
-use Rattle.agefile.specs.Answer.{fresh_of, salt_of}
-use Rattle.agefile.proofs.SealLemmas.{key_short}
+use Rattle.agefile.specs.Giving.{fresh_of, salt_of}
+use Rattle.agefile.proofs.GivesFileLemmas.{key_short}
 use Rattle.agefile.proofs.WriterLemmas.{opens_one}
 use Rattle.agefile.proofs.writer.agefile_writer_open_key.Goals as goal
 use Rattle.agefile.proofs.writer.agefile_writer_open_key.OwnLists.{own-1, entry-1-1, at-1-1, same-1-1}

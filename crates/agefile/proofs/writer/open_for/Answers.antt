@@ -9,7 +9,7 @@ returns-in-Err g c =
     opens_none _ _ _
     (λ (key : FileKey). Gathered (map (λ r. (goal.Recipient-dyn g (r.vtable, r.value)).wraps r.value key) c.args.recipients.now)
     (map (λ r. (goal.Recipient-dyn g (r.vtable, r.value)).the_labels r.value) c.args.recipients.now))
-    _ _ _ _ _ c.in-Err.fault c.limits.ensures c.fresh_of-fresh.ensures c.in-Err.ensures.err (rw c.code_of.ensures at c.stay_closed.ensures)
+    _ _ _ _ _ c.in-Err.fault c.limits.ensures c.fresh_of-fresh.ensures c.in-Err.ensures.err (rw c.fault_code.ensures at c.stay_closed.ensures)
 
 pub returns-in-Ok-write_front : goal.returns-in-Ok-write_front
 returns-in-Ok-write_front g c =

@@ -22,7 +22,7 @@ use Rattle.agefile.specs.Runs.{ReadsRun}
 abbrev pub reader_at : List ℕ → ℕ → Reader
 reader_at key i = record { key = key; number = i; state = 1 }
 
--- no fault has the number 0
+-- no fault has the code 0
 pub some-code : (f : Fault) → fault_code f ≡ 0 → ⊥
 some-code NotAge e = absurd (omega arith)
 some-code (BadLine n) e = absurd (omega arith)
@@ -50,26 +50,26 @@ abbrev RunsBy : Reader → Bool → List (List ℕ) → List ℕ → ℕ → ℕ
 RunsBy r last more text code place (Ok t) = (rest : List ℕ) × (text ≡ t ++ rest) × ReadsRun (after_chunk r last) more rest code place
 RunsBy r last more text code place (Err f) = (text ≡ []) × ((code ≡ fault_code (of_stream f)) × (place ≡ fault_place (of_stream f)))
 
-read-by : (r new : Reader) (chunk after text : List ℕ) (more : List (List ℕ)) (last : Bool) (told : Report) (result code place : ℕ) (o : Result (List ℕ) StreamFault)
-    → Reads r new chunk after last told result o
-    → ((result ≡ 0) × ((rest : List ℕ) × (text ≡ take told.len after ++ rest) × ReadsRun new more rest code place))
-    ⊎ ((result ≢ 0) × ((text ≡ []) × ((code ≡ result) × (place ≡ told.place)))) → RunsBy r last more text code place o
-read-by r new chunk after text more last told result code place (Ok t) (is, report, state, buffer) (inl (zero, (rest, joined, run))) = (
+read-by : (r new : Reader) (chunk after text : List ℕ) (more : List (List ℕ)) (last : Bool) (report : Report) (step_code code place : ℕ) (o : Result (List ℕ) StreamFault)
+    → Reads r new chunk after last report step_code o
+    → ((step_code ≡ 0) × ((rest : List ℕ) × (text ≡ take report.len after ++ rest) × ReadsRun new more rest code place))
+    ⊎ ((step_code ≢ 0) × ((text ≡ []) × ((code ≡ step_code) × (place ≡ report.place)))) → RunsBy r last more text code place o
+read-by r new chunk after text more last report step_code code place (Ok t) (is, reported, state, buffer) (inl (zero, (rest, joined, run))) = (
   rest,
-  joined ∙ ap (λ n. take n after ++ rest) (ap (λ (x : Report). x.len) report) ∙ ap (λ b. take (length t) b ++ rest) buffer ∙ ap (λ x. x ++ rest) (take-append_seam t _),
+  joined ∙ ap (λ n. take n after ++ rest) (ap (λ (x : Report). x.len) reported) ∙ ap (λ b. take (length t) b ++ rest) buffer ∙ ap (λ x. x ++ rest) (take-append_seam t _),
   subst (λ n. ReadsRun n more rest code place) state run,
 )
-read-by r new chunk after text more last told result code place (Ok t) (is, report, state, buffer) (inr (nonzero, h)) = absurd (nonzero is)
-read-by r new chunk after text more last told result code place (Err f) (is, report, state, buffer) (inl (zero, h)) = absurd (some-code (of_stream f) (sym is ∙ zero))
-read-by r new chunk after text more last told result code place (Err f) (is, report, state, buffer) (inr (nonzero, (none, (codes, places)))) =
-    (none, (codes ∙ is, places ∙ ap (λ (x : Report). x.place) report))
+read-by r new chunk after text more last report step_code code place (Ok t) (is, reported, state, buffer) (inr (nonzero, h)) = absurd (nonzero is)
+read-by r new chunk after text more last report step_code code place (Err f) (is, reported, state, buffer) (inl (zero, h)) = absurd (some-code (of_stream f) (sym is ∙ zero))
+read-by r new chunk after text more last report step_code code place (Err f) (is, reported, state, buffer) (inr (nonzero, (none, (codes, places)))) =
+    (none, (codes ∙ is, places ∙ ap (λ (x : Report). x.place) reported))
 
 run-first : (key : List ℕ) (i : ℕ) (chunk text : List ℕ) (more : List (List ℕ)) (code place : ℕ) → accepts (reader_at key i) (length chunk) (is_end more) ≡ true
     → ReadsRun (reader_at key i) (chunk ∷ more) text code place
     → RunsBy (reader_at key i) (is_end more) more text code place (outcome key limits.max_chunks i (is_end more) chunk)
-run-first key i chunk text more code place fits (new, after, told, result, inl (unfit, _), on) = absurd (cc)
-run-first key i chunk text more code place fits (new, after, told, result, inr (_, reads), on) =
-    read-by (reader_at key i) new chunk after text more (is_end more) told result code place _ reads on
+run-first key i chunk text more code place fits (new, after, report, step_code, inl (unfit, _), on) = absurd (cc)
+run-first key i chunk text more code place fits (new, after, report, step_code, inr (_, reads), on) =
+    read-by (reader_at key i) new chunk after text more (is_end more) report step_code code place _ reads on
 
 -- the reading of pieces from number i on
 abbrev pub IsRead : List ℕ → ℕ → List (List ℕ) → List ℕ → ℕ → ℕ → Type 0

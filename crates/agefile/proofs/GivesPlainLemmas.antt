@@ -10,7 +10,7 @@ use Rattle.age_file.specs.Decrypt.{Decrypts, GivesVerdict}
 use Rattle.age_file.specs.Device.{CountsRead}
 use Rattle.age_file.specs.Verdict.{Answering}
 use Rattle.agefile.specs.declared.report.Report.{Report}
-use Rattle.agefile.specs.Answer.{Gives, GivesPlain, alone}
+use Rattle.agefile.specs.Giving.{Gives, GivesPlain, alone}
 use Rattle.agefile.specs.Codes.{is_memory}
 use Rattle.agefile.specs.Limits.{limits}
 
@@ -22,22 +22,22 @@ verdict_fault answers b before after Write inside count h = cc
 verdict_fault answers b before after Read inside count h = absurd (omega arith)
 verdict_fault answers b before after fault inside count h = h
 
-pub plain_whole : (answers : Answering) (b text old new : List ℕ) (told : Report) (result : ℕ) (done : Done)
-    → Decrypts limits answers (Some b) (Some []) (Some text) (Ok done) → Gives text None old new told result → GivesPlain answers b old new told result
-plain_whole answers b text old new told result done h given =
-    inr (h.0, h.1, subst (λ fault. Gives h.0.front fault old new told result) (sym h.2.0) (subst (λ t. Gives t None old new told result) h.3 given))
+pub plain_whole : (answers : Answering) (b text old new : List ℕ) (report : Report) (code : ℕ) (done : Done)
+    → Decrypts limits answers (Some b) (Some []) (Some text) (Ok done) → Gives text None old new report code → GivesPlain answers b old new report code
+plain_whole answers b text old new report code done h given =
+    inr (h.0, h.1, subst (λ fault. Gives h.0.front fault old new report code) (sym h.2.0) (subst (λ t. Gives t None old new report code) h.3 given))
 
-part_of : (answers : Answering) (b text old new : List ℕ) (told : Report) (result : ℕ) (fault : Fault)
-    → GivesVerdict limits answers b (Some []) (Some text) (Err fault) → Gives text (Some fault) old new told result → GivesPlain answers b old new told result
-part_of answers b text old new told result fault h given =
-    inr (h.0, h.1, subst (λ f. Gives h.0.front f old new told result) (sym h.2) (subst (λ t. Gives t (Some fault) old new told result) h.3 given))
+part_of : (answers : Answering) (b text old new : List ℕ) (report : Report) (code : ℕ) (fault : Fault)
+    → GivesVerdict limits answers b (Some []) (Some text) (Err fault) → Gives text (Some fault) old new report code → GivesPlain answers b old new report code
+part_of answers b text old new report code fault h given =
+    inr (h.0, h.1, subst (λ f. Gives h.0.front f old new report code) (sym h.2) (subst (λ t. Gives t (Some fault) old new report code) h.3 given))
 
 -- the same of devices in memory
-pub plain_part : (l : Bounds) (answers : Answering) (b text empty old new : List ℕ) (come before after : Option (List ℕ)) (told : Report) (result : ℕ) (fault : Fault)
+pub plain_part : (l : Bounds) (answers : Answering) (b text empty old new : List ℕ) (come before after : Option (List ℕ)) (report : Report) (code : ℕ) (fault : Fault)
     → l ≡ limits → come ≡ Some b → before ≡ Some empty → empty ≡ [] → after ≡ Some text → is_memory fault ≡ false → CountsRead {A = Done} 0 0 (Err fault)
-    → Decrypts l answers come before after (Err fault) → Gives text (Some fault) old new told result → GivesPlain answers b old new told result
-plain_part l answers b text empty old new come before after told result fault at source sink none taken inside count h given =
-    part_of answers b text old new told result fault
+    → Decrypts l answers come before after (Err fault) → Gives text (Some fault) old new report code → GivesPlain answers b old new report code
+plain_part l answers b text empty old new come before after report code fault at source sink none taken inside count h given =
+    part_of answers b text old new report code fault
     (verdict_fault answers b (Some []) (Some text) fault inside count
     (subst (λ a. Decrypts limits answers (Some b) (Some []) a (Err fault)) taken
     (subst (λ e. Decrypts limits answers (Some b) (Some e) after (Err fault)) none
@@ -46,11 +46,11 @@ plain_part l answers b text empty old new come before after told result fault at
     (subst (λ bounds. Decrypts bounds answers come before after (Err fault)) at h)))))) given
 
 -- the same of one identity in a list
-pub plain_alone : {X : Type 0} (m : X → List StanzaParts → Unwrapped) (items : List X) (x : X) (b old new : List ℕ) (told : Report) (result : ℕ) → items ≡ x ∷ []
-    → GivesPlain (λ s. map (λ i. m i s) items) b old new told result → GivesPlain (alone (m x)) b old new told result
-plain_alone m items x b old new told result one h = subst (λ xs. GivesPlain (λ s. map (λ i. m i s) xs) b old new told result) one h
+pub plain_alone : {X : Type 0} (m : X → List StanzaParts → Unwrapped) (items : List X) (x : X) (b old new : List ℕ) (report : Report) (code : ℕ) → items ≡ x ∷ []
+    → GivesPlain (λ s. map (λ i. m i s) items) b old new report code → GivesPlain (alone (m x)) b old new report code
+plain_alone m items x b old new report code one h = subst (λ xs. GivesPlain (λ s. map (λ i. m i s) xs) b old new report code) one h
 
 -- the same of one identity, known by its meaning
-pub plain_meant : (f g : List StanzaParts → Unwrapped) (b old new : List ℕ) (told : Report) (result : ℕ) → f ≡ g
-    → GivesPlain (alone f) b old new told result → GivesPlain (alone g) b old new told result
-plain_meant f g b old new told result same h = subst (λ m. GivesPlain (alone m) b old new told result) same h
+pub plain_meant : (f g : List StanzaParts → Unwrapped) (b old new : List ℕ) (report : Report) (code : ℕ) → f ≡ g
+    → GivesPlain (alone f) b old new report code → GivesPlain (alone g) b old new report code
+plain_meant f g b old new report code same h = subst (λ m. GivesPlain (alone m) b old new report code) same h

@@ -10,10 +10,9 @@ use Rattle.age_recipient.specs.declared.key.FileKey.{FileKey}
 use Rattle.age_stream.specs.Cutting.{IsFilled}
 use Rattle.age_stream.specs.Payload.{chunks, is_end, payload, payload_key, chunk_nonce, sealed_from}
 use Rattle.age_stream.proofs.CuttingLemmas.{is_cut}
-use Rattle.age_file.specs.NewFile.{NewFile}
 use Rattle.agefile.specs.declared.report.Report.{Report}
 use Rattle.agefile.specs.declared.writer.Writer.{Writer}
-use Rattle.agefile.specs.Answer.{fresh_of, only}
+use Rattle.agefile.specs.Giving.{IsFileUnder, fresh_of}
 use Rattle.agefile.specs.Limits.{limits}
 use Rattle.agefile.specs.Runs.{WritesRun}
 use Rattle.agefile.specs.Writer.{OpensWriter, WritesStep, after_chunk, may_be_last, accepts}
@@ -68,18 +67,18 @@ text-of c room size =
     let n : length (c ++ room) - 16 ≡ length c = omega (arith, length-append c room) in
     ap (λ k. take k (c ++ room)) n ∙ take-append_seam c room
 
-write-by : (key : List ℕ) (i : ℕ) (last : Bool) (c room : List ℕ) (more : List (List ℕ)) (out : List ℕ) (code : ℕ) (new : Writer) (after : List ℕ) (told : Report) (result : ℕ)
-    → accepts (writer_at key i) (length c + 16) last ≡ true → length room ≡ 16 → WritesStep (writer_at key i) new (c ++ room) after last told result
-    → ((result ≡ 0) × ((rest : List ℕ) × (out ≡ after ++ rest) × WritesRun new more rest code)) ⊎ ((result ≢ 0) × ((out ≡ []) × (code ≡ result)))
+write-by : (key : List ℕ) (i : ℕ) (last : Bool) (c room : List ℕ) (more : List (List ℕ)) (out : List ℕ) (code : ℕ) (new : Writer) (after : List ℕ) (report : Report) (step_code : ℕ)
+    → accepts (writer_at key i) (length c + 16) last ≡ true → length room ≡ 16 → WritesStep (writer_at key i) new (c ++ room) after last report step_code
+    → ((step_code ≡ 0) × ((rest : List ℕ) × (out ≡ after ++ rest) × WritesRun new more rest code)) ⊎ ((step_code ≢ 0) × ((out ≡ []) × (code ≡ step_code)))
     → WritesBy key i last c more out code
-write-by key i last c room more out code new after told result fits size (inl (unfit, _)) on =
+write-by key i last c room more out code new after report step_code fits size (inl (unfit, _)) on =
     let n : length (c ++ room) ≡ length c + 16 = omega (arith, length-append c room) in
     let clash : true ≡ false = sym fits ∙ ap (λ k. accepts (writer_at key i) k last) (sym n) ∙ unfit in
     absurd (cc)
-write-by key i last c room more out code new after told result fits size (inr (_, inl many)) (inl (zero, _)) =
-    let code14 : result ≡ 14 = many.code in absurd (omega arith)
-write-by key i last c room more out code new after told result fits size (inr (_, inl many)) (inr (_, (none, is))) = inr (many.many, is ∙ many.code)
-write-by key i last c room more out code new after told result fits size (inr (_, inr seals)) (inl (zero, (rest, joined, run))) =
+write-by key i last c room more out code new after report step_code fits size (inr (_, inl many)) (inl (zero, _)) =
+    let too_many : step_code ≡ 14 = many.returned in absurd (omega arith)
+write-by key i last c room more out code new after report step_code fits size (inr (_, inl many)) (inr (_, (none, is))) = inr (many.many, is ∙ many.returned)
+write-by key i last c room more out code new after report step_code fits size (inr (_, inr seals)) (inl (zero, (rest, joined, run))) =
     inl (
       seals.few,
       (
@@ -88,12 +87,12 @@ write-by key i last c room more out code new after told result fits size (inr (_
         subst (λ w. WritesRun w more rest code) seals.writer run,
       ),
     )
-write-by key i last c room more out code new after told result fits size (inr (_, inr seals)) (inr (nonzero, _)) = absurd (nonzero seals.code)
+write-by key i last c room more out code new after report step_code fits size (inr (_, inr seals)) (inr (nonzero, _)) = absurd (nonzero seals.returned)
 
 write-first : (key : List ℕ) (i : ℕ) (c : List ℕ) (more : List (List ℕ)) (out : List ℕ) (code : ℕ) → accepts (writer_at key i) (length c + 16) (is_end more) ≡ true
     → WritesRun (writer_at key i) (c ∷ more) out code → WritesBy key i (is_end more) c more out code
-write-first key i c more out code fits (new, room, size, after, told, result, step, on) =
-    write-by key i (is_end more) c room more out code new after told result fits size step on
+write-first key i c more out code fits (new, room, size, after, report, step_code, step, on) =
+    write-by key i (is_end more) c room more out code new after report step_code fits size step on
 
 -- ---- all steps
 
@@ -125,22 +124,22 @@ run_writes key i (c ∷ d ∷ more) out code sizes run =
 -- the whole file, or too many chunks
 abbrev pub WritesFile : List ℕ → (FileKey → StanzaParts) → List ℕ → List ℕ → ℕ → Type 0
 WritesFile seed stanza plain file code =
-    ((code ≡ 0) × NewFile limits (fresh_of seed) (only (stanza (fresh_of seed).file_key)) plain file) ⊎ ((code ≡ 14) × (limits.max_chunks < length (chunks plain)))
+    ((code ≡ 0) × IsFileUnder seed stanza plain file) ⊎ ((code ≡ 14) × (limits.max_chunks < length (chunks plain)))
 
-pub steps_write : (seed : List ℕ) (stanza : FileKey → StanzaParts) (plain old new : List ℕ) (writer : Writer) (told : Report) (out : List ℕ) (code : ℕ) → length seed ≡ 48
-    → OpensWriter seed stanza old new writer told 0 → WritesRun writer (chunks plain) out code → WritesFile seed stanza plain (take told.len new ++ out) code
-steps_write seed stanza plain old new writer told out code size (inl up) run = let none : ◌≡◌ {A = ℕ} 0 17 = up.0.code in absurd (omega arith)
-steps_write seed stanza plain old new writer told out code size (inr (text, short, heading, inr (exceeds, _))) run = let none : ◌≡◌ {A = ℕ} 0 21 = exceeds.code in absurd (omega arith)
-steps_write seed stanza plain old new writer told out code size (inr (text, short, heading, inl (fits, state))) run =
+pub steps_write : (seed : List ℕ) (stanza : FileKey → StanzaParts) (plain old new : List ℕ) (writer : Writer) (report : Report) (out : List ℕ) (code : ℕ) → length seed ≡ 48
+    → OpensWriter seed stanza old new writer report 0 → WritesRun writer (chunks plain) out code → WritesFile seed stanza plain (take report.len new ++ out) code
+steps_write seed stanza plain old new writer report out code size (inl up) run = let none : ◌≡◌ {A = ℕ} 0 17 = up.0.returned in absurd (omega arith)
+steps_write seed stanza plain old new writer report out code size (inr (text, short, heading, inr (exceeds, _))) run = let none : ◌≡◌ {A = ℕ} 0 21 = exceeds.returned in absurd (omega arith)
+steps_write seed stanza plain old new writer report out code size (inr (text, short, heading, inl (fits, state))) run =
     let k : FileKey = (fresh_of seed).file_key in
     let nonce : List ℕ = (fresh_of seed).nonce in
     let key : List ℕ = payload_key k nonce in
-    let front : take told.len new ≡ text ++ nonce =
-    ap (λ (x : Report). take x.len new) fits.report ∙ ap (take (length (text ++ nonce))) fits.buffer ∙ take-append_seam (text ++ nonce) _ in
+    let front : take report.len new ≡ text ++ nonce =
+    ap (λ (x : Report). take x.len new) fits.reported ∙ ap (take (length (text ++ nonce))) fits.buffer ∙ take-append_seam (text ++ nonce) _ in
     elim (run_writes key 0 (chunks plain) out code (plain-chunks plain) (subst (λ w. WritesRun w (chunks plain) out code) state run)) [
       | inr (is, many) ↦ inr (is, omega (arith, many))
       | inl (zero, (is, few)) ↦
-          let spelled : take told.len new ++ out ≡ text ++ payload k nonce plain =
+          let spelled : take report.len new ++ out ≡ text ++ payload k nonce plain =
           ap (λ t. t ++ out) front ∙ append_assoc text nonce out ∙ ap (λ t. text ++ (nonce ++ t)) is in
           inl (
             zero,

@@ -1,9 +1,7 @@
 -- What a seed's stanza opens to.
-use Rattle.std.proofs.Common.{◌≡◌, ℕ, ◌+◌, List, [], ◌∷◌, length-take, take, drop, ap, refl, inl, inr, arith, Ok}
-use Rattle.std.proofs.lemmas.Bool.{cases_lt}
-use Rattle.std.proofs.lemmas.List.{get_or-take, get_or-drop, get_or_past}
-use Rattle.base64.specs.GeneralPurpose.{IsBytes}
+use Rattle.std.proofs.Common.{◌≡◌, ℕ, List, [], ◌∷◌, drop, ap, refl, Ok}
 use Rattle.age_header.specs.Header.{StanzaParts}
+use Rattle.age_header.proofs.TextLemmas.{bytes_drop, bytes_take}
 use Rattle.age_recipient.specs.Choice.{choice}
 use Rattle.age_recipient.specs.Key.{IsFileKey}
 use Rattle.age_recipient.specs.KeyedHolders.{key_unwraps}
@@ -12,21 +10,8 @@ use Rattle.age_recipient.specs.Pairing.{key_pair_law, pair_law}
 use Rattle.age_recipient.specs.PassphraseHolders.{PairFits, pass_unwraps}
 use Rattle.age_recipient.specs.PassphraseStanza.{pass_stanza}
 use Rattle.age_recipient.specs.Salt.{IsSalt}
-use Rattle.age_file.specs.NewFile.{NewFile}
-use Rattle.agefile.specs.Answer.{IsSeed, alone, fresh_of, only, salt_of}
-use Rattle.agefile.specs.Limits.{limits}
+use Rattle.agefile.specs.Giving.{IsFileUnder, IsSeed, alone, fresh_of, only, salt_of}
 use Rattle.agefile.proofs.SizeLemmas.{key_size, salt_size}
-
-bytes_take : (n : ℕ) (b : List ℕ) → IsBytes b → IsBytes (take n b)
-bytes_take n b h i = elim (cases_lt i n) [
-  | inl low ↦ rw (get_or-take n b i 0 low) (h i)
-  | inr high ↦
-      let e = get_or_past (take n b) i 0 (omega (arith, length-take n b)) in
-      omega arith
-]
-
-bytes_drop : (n : ℕ) (b : List ℕ) → IsBytes b → IsBytes (drop n b)
-bytes_drop n b h i = rw (get_or-drop n b i 0) (h (n + i))
 
 -- the file key and the salt of a seed
 seed_key : (seed : List ℕ) → IsSeed seed → IsFileKey (fresh_of seed).file_key
@@ -41,14 +26,14 @@ given_alone stanza stanzas h = cc
 
 -- the file key is chosen
 pub key_chosen : (key seed plain file : List ℕ) → IsSeed seed
-    → (is : NewFile limits (fresh_of seed) (only (keyed_stanza key (salt_of seed) (fresh_of seed).file_key)) plain file)
+    → (is : IsFileUnder seed (keyed_stanza key (salt_of seed)) plain file)
     → choice (alone (key_unwraps key) is.stanzas) ≡ Ok (fresh_of seed).file_key
 key_chosen key seed plain file seeded is =
     ap (λ answer. choice (answer ∷ []))
     (key_pair_law (record { key = key; salt = salt_of seed }) key (fresh_of seed).file_key is.stanzas refl (seed_salt seed seeded) (seed_key seed seeded) (ap Ok (given_alone _ is.stanzas is.heading.gives)))
 
 pub pass_chosen : (pass seed plain file : List ℕ) (work max : ℕ) → IsSeed seed → PairFits work max
-    → (is : NewFile limits (fresh_of seed) (only (pass_stanza pass work (salt_of seed) (fresh_of seed).file_key)) plain file)
+    → (is : IsFileUnder seed (pass_stanza pass work (salt_of seed)) plain file)
     → choice (alone (pass_unwraps (record { pass = pass; max = max })) is.stanzas) ≡ Ok (fresh_of seed).file_key
 pass_chosen pass seed plain file work max seeded fits is =
     ap (λ answer. choice (answer ∷ []))

@@ -12,9 +12,10 @@ use Rattle.age_file.specs.declared.fault.Fault.TheVariants.{HeaderTooLarge, Mixe
 use Rattle.age_file.specs.declared.limits.Fresh.{Fresh}
 use Rattle.age_file.specs.AgeFile.{Bounds}
 use Rattle.age_file.specs.Device.{CountsRead}
-use Rattle.age_file.specs.NewFile.{EncryptsGiven, EncryptsText, Gathered, IsApart, IsRefusal, RefusesFirst, together}
+use Rattle.age_file.specs.NewFile.{EncryptsGiven, EncryptsText, Gathered, IsRefusal, RefusesFirst, together}
+use Rattle.age_file.proofs.OwnLabels.{one_place}
 use Rattle.agefile.specs.declared.report.Report.{Report}
-use Rattle.agefile.specs.Answer.{Gives, GivesFile, GivesGathered, fresh_of, salt_of}
+use Rattle.agefile.specs.Giving.{Gives, GivesFile, GivesGathered, fresh_of, salt_of}
 use Rattle.agefile.specs.Codes.{is_memory}
 use Rattle.agefile.specs.Limits.{limits}
 use Rattle.agefile.proofs.SizeLemmas.{chunks_size, key_header, key_size, pass_header, salt_size}
@@ -23,38 +24,32 @@ use Rattle.agefile.proofs.SizeLemmas.{chunks_size, key_header, key_size, pass_he
 abbrev pub Given : Type 1
 Given = Result (List StanzaParts) Fault → Type 0
 
-pub seals_whole : (seed : List ℕ) (given : Given) (plain text old new : List ℕ) (told : Report) (result : ℕ) (done : Done)
-    → EncryptsText limits (fresh_of seed) given plain (Some []) (Some text) (Ok done) → Gives text None old new told result → GivesGathered seed given plain old new told result
-seals_whole seed given plain text old new told result done h gives =
-    inr (inr (inr (h.0, h.1, subst (λ t. Gives t None old new told result) h.2 gives)))
+pub seals_whole : (seed : List ℕ) (given : Given) (plain text old new : List ℕ) (report : Report) (code : ℕ) (done : Done)
+    → EncryptsText limits (fresh_of seed) given plain (Some []) (Some text) (Ok done) → Gives text None old new report code → GivesGathered seed given plain old new report code
+seals_whole seed given plain text old new report code done h gives =
+    inr (inr (inr (h.0, h.1, subst (λ t. Gives t None old new report code) h.2 gives)))
 
 -- a fault that no device and no allocation caused is a refusal, or there are too many chunks
-part_of : (seed : List ℕ) (given : Given) (plain old new : List ℕ) (told : Report) (result : ℕ) (before after : Option (List ℕ)) (fault : Fault)
+part_of : (seed : List ℕ) (given : Given) (plain old new : List ℕ) (report : Report) (code : ℕ) (before after : Option (List ℕ)) (fault : Fault)
     → is_memory fault ≡ false → CountsRead {A = Done} 0 0 (Err fault) → RefusesFirst limits (fresh_of seed).file_key given fault
-    → EncryptsText limits (fresh_of seed) given plain before after (Err fault) → GivesGathered seed given plain old new told result
-part_of seed given plain old new told result before after OutOfMemory inside count first h = cc
-part_of seed given plain old new told result before after Write inside count first h = cc
-part_of seed given plain old new told result before after Read inside count first h = absurd (omega arith)
-part_of seed given plain old new told result before after TooManyChunks inside count first h = inr (inr (inl (h.0, h.1)))
-part_of seed given plain old new told result before after fault inside count first h = inr (inl (fault, first))
+    → EncryptsText limits (fresh_of seed) given plain before after (Err fault) → GivesGathered seed given plain old new report code
+part_of seed given plain old new report code before after OutOfMemory inside count first h = cc
+part_of seed given plain old new report code before after Write inside count first h = cc
+part_of seed given plain old new report code before after Read inside count first h = absurd (omega arith)
+part_of seed given plain old new report code before after TooManyChunks inside count first h = inr (inr (inl (h.0, h.1)))
+part_of seed given plain old new report code before after fault inside count first h = inr (inl (fault, first))
 
 -- the same of devices in memory
-pub seals_part : (l : Bounds) (fresh : Fresh) (seed : List ℕ) (given : FileKey → Given) (plain old new : List ℕ) (come before after : Option (List ℕ)) (told : Report) (result : ℕ) (fault : Fault)
+pub seals_part : (l : Bounds) (fresh : Fresh) (seed : List ℕ) (given : FileKey → Given) (plain old new : List ℕ) (come before after : Option (List ℕ)) (report : Report) (code : ℕ) (fault : Fault)
     → l ≡ limits → fresh ≡ fresh_of seed → come ≡ Some plain → is_memory fault ≡ false → CountsRead {A = Done} 0 0 (Err fault)
     → RefusesFirst l fresh.file_key (given fresh.file_key) fault → EncryptsGiven l fresh (given fresh.file_key) come before after (Err fault)
-    → GivesGathered seed (given (fresh_of seed).file_key) plain old new told result
-seals_part l fresh seed given plain old new come before after told result fault at seeds source inside count first h =
-    part_of seed (given (fresh_of seed).file_key) plain old new told result before after fault inside count
+    → GivesGathered seed (given (fresh_of seed).file_key) plain old new report code
+seals_part l fresh seed given plain old new come before after report code fault at seeds source inside count first h =
+    part_of seed (given (fresh_of seed).file_key) plain old new report code before after fault inside count
     (subst (λ f. RefusesFirst limits f.file_key (given f.file_key) fault) seeds (subst (λ b. RefusesFirst b fresh.file_key (given fresh.file_key) fault) at first))
     (subst (λ f. EncryptsText limits f (given f.file_key) plain before after (Err fault)) seeds
     (subst (λ b. EncryptsText b fresh (given fresh.file_key) plain before after (Err fault)) at
     (subst (λ (s : Option (List ℕ)). EncryptsGiven l fresh (given fresh.file_key) s before after (Err fault)) source h)))
-
--- one recipient is apart from nobody
-one_place : (meant : Labels) (place : Option ℕ) → IsApart (meant ∷ []) place → place ≡ None
-one_place meant place ([], may, is) = absurd may
-one_place meant place (l ∷ [], may, is) = is
-one_place meant place (l ∷ m ∷ rest, may, is) = absurd may.1
 
 -- what one recipient gives that wraps a key in one stanza
 pub gathered_one : (stanza : StanzaParts) (meant : Labels) (given : Result (List StanzaParts) Fault) → Gathered (Ok (stanza ∷ []) ∷ []) (meant ∷ []) given → given ≡ Ok (stanza ∷ [])
@@ -79,16 +74,16 @@ no_refusal k stanza meant HeaderTooLarge short h =
 no_refusal k stanza meant fault short h = absurd h
 
 -- what encrypting for one recipient gives that wraps a key in one stanza
-seals_stanza : (seed : List ℕ) (stanza : FileKey → StanzaParts) (meant : Labels) (plain old new : List ℕ) (told : Report) (result : ℕ)
+seals_stanza : (seed : List ℕ) (stanza : FileKey → StanzaParts) (meant : Labels) (plain old new : List ℕ) (report : Report) (code : ℕ)
     → IsShort (stanza (fresh_of seed).file_key) → length plain < 2 ^ 64
-    → GivesGathered seed (Gathered (Ok (stanza (fresh_of seed).file_key ∷ []) ∷ []) (meant ∷ [])) plain old new told result → GivesFile seed stanza plain old new told result
-seals_stanza seed stanza meant plain old new told result short bound (inl up) = inl up
-seals_stanza seed stanza meant plain old new told result short bound (inr (inl (fault, refused))) = absurd (no_refusal _ _ meant fault short refused)
-seals_stanza seed stanza meant plain old new told result short bound (inr (inr (inl (begun, cut)))) =
+    → GivesGathered seed (Gathered (Ok (stanza (fresh_of seed).file_key ∷ []) ∷ []) (meant ∷ [])) plain old new report code → GivesFile seed stanza plain old new report code
+seals_stanza seed stanza meant plain old new report code short bound (inl up) = inl up
+seals_stanza seed stanza meant plain old new report code short bound (inr (inl (fault, refused))) = absurd (no_refusal _ _ meant fault short refused)
+seals_stanza seed stanza meant plain old new report code short bound (inr (inr (inl (begun, cut)))) =
     let many : 2 ^ 64 - 1 < length (chunks plain) = cut.too_many in
     let few = chunks_size plain in
     absurd (omega arith)
-seals_stanza seed stanza meant plain old new told result short bound (inr (inr (inr (file, is, gives)))) =
+seals_stanza seed stanza meant plain old new report code short bound (inr (inr (inr (file, is, gives)))) =
     inr (
       file,
       record {
@@ -102,18 +97,18 @@ seals_stanza seed stanza meant plain old new told result short bound (inr (inr (
     )
 
 -- the same of a recipient known by what it wraps
-pub seals_one : (seed : List ℕ) (wrapped : Result (List StanzaParts) ℕ) (stanza : FileKey → StanzaParts) (meant : Labels) (plain old new : List ℕ) (told : Report) (result : ℕ)
+pub seals_one : (seed : List ℕ) (wrapped : Result (List StanzaParts) ℕ) (stanza : FileKey → StanzaParts) (meant : Labels) (plain old new : List ℕ) (report : Report) (code : ℕ)
     → wrapped ≡ Ok (stanza (fresh_of seed).file_key ∷ []) → IsShort (stanza (fresh_of seed).file_key) → length plain < 2 ^ 64
-    → GivesGathered seed (Gathered (wrapped ∷ []) (meant ∷ [])) plain old new told result → GivesFile seed stanza plain old new told result
-seals_one seed wrapped stanza meant plain old new told result wraps short bound h =
-    seals_stanza seed stanza meant plain old new told result short bound
-    (subst (λ w. GivesGathered seed (Gathered (w ∷ []) (meant ∷ [])) plain old new told result) wraps h)
+    → GivesGathered seed (Gathered (wrapped ∷ []) (meant ∷ [])) plain old new report code → GivesFile seed stanza plain old new report code
+seals_one seed wrapped stanza meant plain old new report code wraps short bound h =
+    seals_stanza seed stanza meant plain old new report code short bound
+    (subst (λ w. GivesGathered seed (Gathered (w ∷ []) (meant ∷ [])) plain old new report code) wraps h)
 
 -- the same of recipients in a list of one
-pub seals_alone : {X : Type 0} (w : X → Result (List StanzaParts) ℕ) (l : X → Labels) (items : List X) (x : X) (seed plain old new : List ℕ) (told : Report) (result : ℕ)
-    → items ≡ x ∷ [] → GivesGathered seed (Gathered (map w items) (map l items)) plain old new told result
-    → GivesGathered seed (Gathered (w x ∷ []) (l x ∷ [])) plain old new told result
-seals_alone w l items x seed plain old new told result one h = subst (λ xs. GivesGathered seed (Gathered (map w xs) (map l xs)) plain old new told result) one h
+pub seals_alone : {X : Type 0} (w : X → Result (List StanzaParts) ℕ) (l : X → Labels) (items : List X) (x : X) (seed plain old new : List ℕ) (report : Report) (code : ℕ)
+    → items ≡ x ∷ [] → GivesGathered seed (Gathered (map w items) (map l items)) plain old new report code
+    → GivesGathered seed (Gathered (w x ∷ []) (l x ∷ [])) plain old new report code
+seals_alone w l items x seed plain old new report code one h = subst (λ xs. GivesGathered seed (Gathered (map w xs) (map l xs)) plain old new report code) one h
 
 pub pass_short : (pass seed : List ℕ) (work : ℕ) → length seed ≡ 48 → work ≤ 30 → IsShort (pass_stanza pass work (salt_of seed) (fresh_of seed).file_key)
 pass_short pass seed work size high mac text h =

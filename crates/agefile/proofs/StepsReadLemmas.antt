@@ -1,0 +1,96 @@
+-- What the steps of a file give is its verdict.
+use Rattle.std.proofs.Common.{◌≡◌, ◌≢◌, ℕ, ◌+◌, List, [], length, take, drop, nat_lt, Bool, true, false, cond, sym, ◌∙◌, ap, refl, subst, inl, inr, Result, Ok, Err}
+use Rattle.std.specs.Prelude.{option_map}
+use Rattle.std.proofs.lemmas.List.{drop-drop}
+use Rattle.age_recipient.specs.declared.key.FileKey.{FileKey}
+use Rattle.age_stream.specs.declared.fault.StreamFault.{StreamFault}
+use Rattle.age_stream.specs.declared.fault.StreamFault.TheVariants as stream
+use Rattle.age_stream.specs.Payload.{payload_key, pieces}
+use Rattle.age_stream.specs.Reading.{Reading, reading_from, stops}
+use Rattle.age_file.specs.declared.fault.Fault.{Fault}
+use Rattle.age_file.specs.declared.fault.Fault.TheVariants.{NonceTruncated, OutOfMemory}
+use Rattle.age_file.specs.Rewrap.{parts_of}
+use Rattle.age_file.specs.Verdict.{Answering, IsVerdict, judged, of_header, of_stream, read_under, unlocked}
+use Rattle.age_file.proofs.FileLemmas.{one_verdict}
+use Rattle.agefile.specs.declared.reader.Reader.{Reader}
+use Rattle.agefile.specs.declared.report.Report.{Report}
+use Rattle.agefile.specs.declared.start.Start.{Start}
+use Rattle.agefile.specs.Codes.{code_of}
+use Rattle.agefile.specs.Limits.{limits}
+use Rattle.agefile.specs.Reader.{OpensAt, OpensReader, before_first}
+use Rattle.agefile.specs.Report.{report_of}
+use Rattle.agefile.specs.Runs.{ReadsRun}
+use Rattle.agefile.specs.Start.{IsStart, start_under}
+use Rattle.agefile.proofs.ReadsRunLemmas.{payload_reads, some-code}
+use Rattle.agefile.proofs.FrontLemmas.{whole-start}
+
+-- ---- the verdict, by the start
+
+-- what the verdict is, where the start is known
+abbrev pub IsVerdictFrom : List ℕ → Reading Fault → Result Start Fault → Type 0
+IsVerdictFrom b v (Err fault) = v ≡ stops fault
+IsVerdictFrom b v (Ok start) = v ≡ record {
+  front = (reading_from start.key limits.max_chunks 0 (drop start.first b)).front;
+  fault = option_map of_stream (reading_from start.key limits.max_chunks 0 (drop start.first b)).fault;
+}
+
+-- a reading with its faults named as a file's
+unfoldable pub renamed : Reading StreamFault → Reading Fault
+renamed r = record { front = r.front; fault = option_map of_stream r.fault }
+
+payload-from : (b : List ℕ) (n : ℕ) (k : FileKey) (v : Reading Fault) (t : Bool)
+    → v ≡ renamed (cond t (stops stream.NonceTruncated) (reading_from (payload_key k (take 16 (drop n b))) limits.max_chunks 0 (drop 16 (drop n b))))
+    → IsVerdictFrom b v (cond t (Err NonceTruncated) (Ok (record { first = n + 16; key = payload_key k (take 16 (drop n b)) })))
+unfolding renamed
+payload-from b n k v true is = is
+payload-from b n k v false is = is ∙ ap (λ x. renamed (reading_from (payload_key k (take 16 (drop n b))) limits.max_chunks 0 x)) (drop-drop 16 n b)
+
+under-from : (b : List ℕ) (n : ℕ) (v : Reading Fault) (key : Result FileKey Fault) → v ≡ read_under limits (drop n b) key → IsVerdictFrom b v (start_under n (drop n b) key)
+unfolding renamed
+under-from b n v (Err fault) is = is
+under-from b n v (Ok k) is = payload-from b n k v (nat_lt (length (drop n b)) 16) is
+
+pub verdict-from : (answers : Answering) (b : List ℕ) (start : Result Start Fault) (v : Reading Fault) → IsStart answers b start → IsVerdict limits answers b v → IsVerdictFrom b v start
+verdict-from answers b start v (Err e, verdict, is) h =
+    subst (IsVerdictFrom b v) (sym is) (one_verdict limits answers b v (stops (of_header e)) h (record { header = Err e; header_verdict = verdict; is = refl }))
+verdict-from answers b start v (Ok found, verdict, is) h =
+    let w = judged limits answers b (Ok found) in
+    subst (IsVerdictFrom b v) (sym is) (under-from b (length found.text) v (unlocked answers (parts_of found))
+    (one_verdict limits answers b v w h (record { header = Ok found; header_verdict = verdict; is = refl })))
+
+-- ---- the laws
+
+refused-by : (b : List ℕ) (reader : Reader) (report : Report) (code : ℕ) (v : Reading Fault) (start : Result Start Fault) → OpensAt start reader report code → IsVerdictFrom b v start → code ≢ 0
+    → (v.front ≡ []) × (code_of v.fault ≡ code) × (report ≡ report_of 0 v.fault)
+refused-by b reader report code v (Ok start) opens from some = absurd (some opens.0)
+refused-by b reader report code v (Err fault) opens from some =
+    (ap (λ (r : Reading Fault). r.front) from, ap (λ (r : Reading Fault). code_of r.fault) from ∙ sym opens.0, opens.1 ∙ sym (ap (λ (r : Reading Fault). report_of 0 r.fault) from))
+
+pub opening_refused : (answers : Answering) (b : List ℕ) (reader : Reader) (report : Report) (code : ℕ) (v : Reading Fault) → OpensReader answers (take 65552 b) reader report code
+    → IsVerdict limits answers b v → code ≢ 0 → code ≢ 17 → (v.front ≡ []) × (code_of v.fault ≡ code) × (report ≡ report_of 0 v.fault)
+opening_refused answers b reader report code v (start, inl memory, opens) h some other =
+    let refused : OpensAt (Err OutOfMemory) reader report code = subst (λ s. OpensAt s reader report code) memory opens in
+    absurd (other refused.0)
+opening_refused answers b reader report code v (start, inr is, opens) h some other =
+    refused-by b reader report code v start opens (verdict-from answers b start v (whole-start answers b start is) h) some
+
+reads-by : (b : List ℕ) (reader : Reader) (report : Report) (text : List ℕ) (code place : ℕ) (v : Reading Fault) (start : Result Start Fault) → OpensAt start reader report 0 → IsVerdictFrom b v start
+    → ReadsRun reader (pieces (drop report.len b)) text code place → (v.front ≡ text) × ((code_of v.fault ≡ code) × ((report_of 0 v.fault).place ≡ place))
+reads-by b reader report text code place v (Err fault) opens from run = absurd (some-code fault (sym opens.0))
+reads-by b reader report text code place v (Ok start) opens from run =
+    let there : ReadsRun (before_first start.key) (pieces (drop start.first b)) text code place =
+    subst (λ r. ReadsRun r (pieces (drop start.first b)) text code place) opens.2
+    (subst (λ (x : Report). ReadsRun reader (pieces (drop x.len b)) text code place) opens.1 run) in
+    let h = payload_reads start.key (drop start.first b) text code place there in (
+      ap (λ (r : Reading Fault). r.front) from ∙ sym h.0,
+      (ap (λ (r : Reading Fault). code_of r.fault) from ∙ sym h.1.0, ap (λ (r : Reading Fault). (report_of 0 r.fault).place) from ∙ sym h.1.1),
+    )
+
+pub steps_read : (answers : Answering) (b : List ℕ) (reader : Reader) (report : Report) (text : List ℕ) (code place : ℕ) (v : Reading Fault) → OpensReader answers (take 65552 b) reader report 0
+    → ReadsRun reader (pieces (drop report.len b)) text code place → IsVerdict limits answers b v
+    → (v.front ≡ text) × ((code_of v.fault ≡ code) × ((report_of 0 v.fault).place ≡ place))
+steps_read answers b reader report text code place v (start, inl memory, opens) run h =
+    let refused : OpensAt (Err OutOfMemory) reader report 0 = subst (λ s. OpensAt s reader report 0) memory opens in
+    absurd (some-code OutOfMemory (sym refused.0))
+steps_read answers b reader report text code place v (start, inr is, opens) run h =
+    reads-by b reader report text code place v start opens (verdict-from answers b start v (whole-start answers b start is) h) run
