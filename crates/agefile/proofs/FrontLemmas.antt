@@ -10,7 +10,7 @@ use Rattle.age_recipient.specs.declared.key.FileKey.{FileKey}
 use Rattle.age_stream.specs.Payload.{payload_key}
 use Rattle.age_file.specs.declared.fault.Fault.{Fault}
 use Rattle.age_file.specs.declared.fault.Fault.TheVariants.{NonceTruncated}
-use Rattle.age_file.specs.Rewrap.{parts_of}
+use Rattle.age_file.specs.Verdict.{parts_of}
 use Rattle.age_file.specs.Verdict.{Answering, unlocked}
 use Rattle.agefile.specs.declared.start.Start.{Start}
 use Rattle.agefile.specs.Limits.{limits}

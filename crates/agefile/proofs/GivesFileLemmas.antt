@@ -12,7 +12,7 @@ use Rattle.age_file.specs.declared.fault.Fault.TheVariants.{HeaderTooLarge, Mixe
 use Rattle.age_file.specs.declared.limits.Fresh.{Fresh}
 use Rattle.age_file.specs.AgeFile.{Bounds}
 use Rattle.age_file.specs.Device.{CountsRead}
-use Rattle.age_file.specs.NewFile.{EncryptsGiven, EncryptsText, Gathered, IsRefusal, RefusesFirst, together}
+use Rattle.age_file.specs.NewFile.{EncryptsGiven, EncryptsText, Gathered, IsRefusal, RefusesFirst, unless_incompatible}
 use Rattle.age_file.proofs.OwnLabels.{one_place}
 use Rattle.agefile.specs.declared.report.Report.{Report}
 use Rattle.agefile.specs.Giving.{Gives, GivesFile, GivesGathered, fresh_of, salt_of}
@@ -53,7 +53,7 @@ seals_part l fresh seed given plain old new come before after report code fault 
 
 -- what one recipient gives that wraps a key in one stanza
 pub gathered_one : (stanza : StanzaParts) (meant : Labels) (given : Result (List StanzaParts) Fault) → Gathered (Ok (stanza ∷ []) ∷ []) (meant ∷ []) given → given ≡ Ok (stanza ∷ [])
-gathered_one stanza meant given (place, apart, is) = is ∙ ap (together (Ok (stanza ∷ []))) (one_place meant place apart)
+gathered_one stanza meant given (place, apart, is) = is ∙ ap (unless_incompatible (Ok (stanza ∷ []))) (one_place meant place apart)
 
 -- each header of this stanza alone is short
 abbrev pub IsShort : StanzaParts → Type 0

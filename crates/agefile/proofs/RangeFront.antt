@@ -11,8 +11,8 @@ use Rattle.age_stream.specs.Slice.{IsSlice}
 use Rattle.age_stream.proofs.WholeSlices.{whole-slice}
 use Rattle.age_file.specs.declared.fault.Fault.{Fault}
 use Rattle.age_file.specs.declared.fault.Fault.TheVariants.{NonceTruncated, OutOfMemory}
-use Rattle.age_file.specs.Rewrap.{parts_of}
-use Rattle.age_file.specs.Verdict.{Answering, IsVerdict, judged, of_stream, read_under, unlocked}
+use Rattle.age_file.specs.Verdict.{parts_of}
+use Rattle.age_file.specs.Verdict.{Answering, IsVerdict, judged, stream_fault, read_under, unlocked}
 use Rattle.age_file.proofs.FileLemmas.{one_verdict}
 use Rattle.agefile.specs.declared.ranges.Ranges.{Ranges}
 use Rattle.agefile.specs.declared.report.Report.{Report}
@@ -107,7 +107,7 @@ refused-range answers b r report code v (start, inr is, opens) h some other =
     refused-by answers b r report code v start (whole-start answers b start is) opens h some
 
 -- a text of a located piece is a part of the verdict's plaintext, where this has no fault
-no-fault : (f : Option StreamFault) → option_map of_stream f ≡ None → f ≡ None
+no-fault : (f : Option StreamFault) → option_map stream_fault f ≡ None → f ≡ None
 no-fault None e = refl
 no-fault (Some fault) e = absurd (cc)
 

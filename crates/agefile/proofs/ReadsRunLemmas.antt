@@ -9,7 +9,7 @@ use Rattle.age_stream.specs.Reading.{first_fault, front, outcome, outcomes}
 use Rattle.age_stream.proofs.CuttingLemmas.{AtMost, cut-at_most}
 use Rattle.age_file.specs.declared.fault.Fault.{Fault}
 use Rattle.age_file.specs.declared.fault.Fault.TheVariants.{NotAge, BadLine, HeaderTruncated, HeaderTooLarge, MixedPassphrase, NoMatch, WrongKey, Malformed, BadMac, NonceTruncated, ChunkShort, EmptyFinal, BadChunk, TooManyChunks, Read, Write, OutOfMemory, NoRecipients, Refused, IncompatibleRecipients}
-use Rattle.age_file.specs.Verdict.{of_stream}
+use Rattle.age_file.specs.Verdict.{stream_fault}
 use Rattle.agefile.specs.declared.reader.Reader.{Reader}
 use Rattle.agefile.specs.declared.report.Report.{Report}
 use Rattle.agefile.specs.Codes.{code_of, fault_code, fault_place}
@@ -48,7 +48,7 @@ some-code (IncompatibleRecipients i) e = absurd (omega arith)
 -- what a run gives, where its first chunk's outcome is known
 abbrev RunsBy : Reader → Bool → List (List ℕ) → List ℕ → ℕ → ℕ → Result (List ℕ) StreamFault → Type 0
 RunsBy r last more text code place (Ok t) = (rest : List ℕ) × (text ≡ t ++ rest) × ReadsRun (after_chunk r last) more rest code place
-RunsBy r last more text code place (Err f) = (text ≡ []) × ((code ≡ fault_code (of_stream f)) × (place ≡ fault_place (of_stream f)))
+RunsBy r last more text code place (Err f) = (text ≡ []) × ((code ≡ fault_code (stream_fault f)) × (place ≡ fault_place (stream_fault f)))
 
 read-by : (r new : Reader) (chunk after text : List ℕ) (more : List (List ℕ)) (last : Bool) (report : Report) (step_code code place : ℕ) (o : Result (List ℕ) StreamFault)
     → Reads r new chunk after last report step_code o
@@ -60,7 +60,7 @@ read-by r new chunk after text more last report step_code code place (Ok t) (is,
   subst (λ n. ReadsRun n more rest code place) state run,
 )
 read-by r new chunk after text more last report step_code code place (Ok t) (is, reported, state, buffer) (inr (nonzero, h)) = absurd (nonzero is)
-read-by r new chunk after text more last report step_code code place (Err f) (is, reported, state, buffer) (inl (zero, h)) = absurd (some-code (of_stream f) (sym is ∙ zero))
+read-by r new chunk after text more last report step_code code place (Err f) (is, reported, state, buffer) (inl (zero, h)) = absurd (some-code (stream_fault f) (sym is ∙ zero))
 read-by r new chunk after text more last report step_code code place (Err f) (is, reported, state, buffer) (inr (nonzero, (none, (codes, places)))) =
     (none, (codes ∙ is, places ∙ ap (λ (x : Report). x.place) reported))
 
@@ -74,8 +74,8 @@ run-first key i chunk text more code place fits (new, after, report, step_code, 
 -- the reading of pieces from number i on
 abbrev pub IsRead : List ℕ → ℕ → List (List ℕ) → List ℕ → ℕ → ℕ → Type 0
 IsRead key i cs text code place = (text ≡ front (outcomes key limits.max_chunks i cs))
-    × ((code ≡ code_of (option_map of_stream (first_fault (outcomes key limits.max_chunks i cs))))
-    × (place ≡ (report_of 0 (option_map of_stream (first_fault (outcomes key limits.max_chunks i cs)))).place))
+    × ((code ≡ code_of (option_map stream_fault (first_fault (outcomes key limits.max_chunks i cs))))
+    × (place ≡ (report_of 0 (option_map stream_fault (first_fault (outcomes key limits.max_chunks i cs)))).place))
 
 last-fits : (key : List ℕ) (i : ℕ) (chunk : List ℕ) → length chunk ≤ 65552 → accepts (reader_at key i) (length chunk) true ≡ true
 last-fits key i chunk le = le-leb (length chunk) 65552 le
@@ -85,15 +85,15 @@ full-fits key i chunk is = ap (λ n. nat_eq n 65552) is
 
 read-last : (key : List ℕ) (i : ℕ) (chunk text : List ℕ) (code place : ℕ) (o : Result (List ℕ) StreamFault)
     → RunsBy (reader_at key i) true [] text code place o
-    → (text ≡ front (o ∷ [])) × ((code ≡ code_of (option_map of_stream (first_fault (o ∷ [])))) × (place ≡ (report_of 0 (option_map of_stream (first_fault (o ∷ [])))).place))
+    → (text ≡ front (o ∷ [])) × ((code ≡ code_of (option_map stream_fault (first_fault (o ∷ [])))) × (place ≡ (report_of 0 (option_map stream_fault (first_fault (o ∷ [])))).place))
 read-last key i chunk text code place (Ok t) (rest, joined, (none, (zero, nowhere))) = (joined ∙ ap (λ r. t ++ r) none, (zero, nowhere))
 read-last key i chunk text code place (Err f) h = h
 
 read-more : (key : List ℕ) (i : ℕ) (text : List ℕ) (code place : ℕ) (more : List (List ℕ)) (o : Result (List ℕ) StreamFault) (os : List (Result (List ℕ) StreamFault))
     → ((rest : List ℕ) → ReadsRun (reader_at key (i + 1)) more rest code place → (rest ≡ front os)
-    × ((code ≡ code_of (option_map of_stream (first_fault os))) × (place ≡ (report_of 0 (option_map of_stream (first_fault os))).place)))
+    × ((code ≡ code_of (option_map stream_fault (first_fault os))) × (place ≡ (report_of 0 (option_map stream_fault (first_fault os))).place)))
     → RunsBy (reader_at key i) false more text code place o
-    → (text ≡ front (o ∷ os)) × ((code ≡ code_of (option_map of_stream (first_fault (o ∷ os)))) × (place ≡ (report_of 0 (option_map of_stream (first_fault (o ∷ os)))).place))
+    → (text ≡ front (o ∷ os)) × ((code ≡ code_of (option_map stream_fault (first_fault (o ∷ os)))) × (place ≡ (report_of 0 (option_map stream_fault (first_fault (o ∷ os)))).place))
 read-more key i text code place more (Ok t) os next (rest, joined, run) = let h = next rest run in (joined ∙ ap (λ r. t ++ r) h.0, h.1)
 read-more key i text code place more (Err f) os next h = h
 

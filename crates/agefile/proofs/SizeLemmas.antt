@@ -4,13 +4,13 @@ use Rattle.std.specs.List.{AllByRecursion, concat}
 use Rattle.std.specs.Fmt.{decimal}
 use Rattle.std.proofs.lemmas.Fmt.{length-decimal-le}
 use Rattle.age_cipher.proofs.OpeningLemmas.{length-sealed}
-use Rattle.age_header.specs.Base64.{B64, base64_of}
+use Rattle.age_header.specs.Base64.{IsBase64, base64_of}
 use Rattle.age_header.specs.Header.{Head, IsFullLine, IsStanza, StanzaParts, argument_line, line, version_line}
 use Rattle.age_header.proofs.LengthLemmas.{line_size, version_size}
 use Rattle.age_header.proofs.TextLemmas.{signs_size}
 use Rattle.age_recipient.specs.declared.key.FileKey.{FileKey}
-use Rattle.age_recipient.specs.KeyedStanza.{keyed_stanza, wrap_key}
-use Rattle.age_recipient.specs.PassphraseStanza.{pass_key, pass_stanza}
+use Rattle.age_recipient.specs.KeyedStanza.{keyed_stanza, keyed_wrap_key}
+use Rattle.age_recipient.specs.PassphraseStanza.{pass_wrap_key, pass_stanza}
 use Rattle.age_recipient.specs.Sealing.{zero_nonce}
 use Rattle.age_stream.proofs.CuttingLemmas.{filled-some, is_cut}
 use Rattle.age_stream.specs.Cutting.{IsFilled}
@@ -24,8 +24,8 @@ use Rattle.age_stream.specs.Payload.{chunks, is_end, payload, payload_key, chunk
 
 -- ---- headers
 
-b64_size : (bytes characters : List ℕ) → B64 bytes characters → length characters ≡ (4 * length bytes + 2) / 3
-unfolding B64
+b64_size : (bytes characters : List ℕ) → IsBase64 bytes characters → length characters ≡ (4 * length bytes + 2) / 3
+unfolding IsBase64
 b64_size [] [] h = refl
 b64_size (a ∷ []) (p ∷ q ∷ []) h = refl
 b64_size (a ∷ b ∷ []) (p ∷ q ∷ r ∷ []) h = refl
@@ -84,7 +84,7 @@ pub pass_header : (pass salt : List ℕ) (work : ℕ) (k : FileKey) (mac text : 
     → Head (pass_stanza pass work salt k ∷ []) mac text → length text ≤ 150
 unfolding pass_stanza
 pass_header pass salt work k mac text salted keyed high h =
-    let body : length (pass_stanza pass work salt k).body ≡ 32 = length-sealed (pass_key pass salt work) zero_nonce [] k.0 ∙ omega arith in
+    let body : length (pass_stanza pass work salt k).body ≡ 32 = length-sealed (pass_wrap_key pass salt work) zero_nonce [] k.0 ∙ omega arith in
     let all = header_size (pass_stanza pass work salt k) mac text body h in
     let digits : length (decimal work) ≤ 2 = length-decimal-le 2 work (omega arith) (omega arith) (omega arith) in
     let characters : length (base64_of salt) ≡ 22 = omega (arith, signs_size salt) in
@@ -95,7 +95,7 @@ pub key_header : (key salt : List ℕ) (k : FileKey) (mac text : List ℕ) → l
     → Head (keyed_stanza key salt k ∷ []) mac text → length text ≡ 156
 unfolding keyed_stanza
 key_header key salt k mac text salted keyed h =
-    let body : length (keyed_stanza key salt k).body ≡ 32 = length-sealed (wrap_key key salt) zero_nonce [] k.0 ∙ omega arith in
+    let body : length (keyed_stanza key salt k).body ≡ 32 = length-sealed (keyed_wrap_key key salt) zero_nonce [] k.0 ∙ omega arith in
     let all = header_size (keyed_stanza key salt k) mac text body h in
     let characters : length (base64_of salt) ≡ 22 = omega (arith, signs_size salt) in
     let args : length (argument_line (keyed_stanza key salt k).args) ≡ 5 + (15 + length (base64_of salt)) = two_args (codes "example.org/key") (base64_of salt) in

@@ -13,7 +13,7 @@ use Rattle.age_file.specs.declared.fault.Fault.{Fault}
 use Rattle.age_file.specs.declared.fault.Fault.TheVariants.{NonceTruncated, OutOfMemory, Read}
 use Rattle.age_file.specs.Device.{CountsRead}
 use Rattle.age_file.specs.Inspect.{Inspects}
-use Rattle.age_file.specs.Verdict.{Answering, of_header, unlocked}
+use Rattle.age_file.specs.Verdict.{Answering, header_fault, unlocked}
 use Rattle.age_file.proofs.DecryptLemmas.{err-err}
 use Rattle.agefile.specs.declared.start.Start.{Start}
 use Rattle.agefile.specs.Giving.{alone}
@@ -24,7 +24,7 @@ pub ok-ok : {A : Type 0} (x y : A) → ◌≡◌ {A = Result A Fault} (Ok x) (Ok
 ok-ok x y e = cc
 
 -- no header was read
-faulty : (answers : Answering) (b : List ℕ) (g : HeaderFault) → HeaderVerdict b 65536 (Err g) → FindsStart answers b (Err (of_header g))
+faulty : (answers : Answering) (b : List ℕ) (g : HeaderFault) → HeaderVerdict b 65536 (Err g) → FindsStart answers b (Err (header_fault g))
 faulty answers b g verdict = inr (Err g, verdict, refl)
 
 pub start_none : (answers : Answering) (b : List ℕ) (mid : Option (List ℕ)) (fault : Fault) → Inspects limits (Some b) mid (Err fault)

@@ -9,8 +9,8 @@ use Rattle.age_stream.specs.Payload.{payload_key, pieces}
 use Rattle.age_stream.specs.Reading.{Reading, reading_from, stops}
 use Rattle.age_file.specs.declared.fault.Fault.{Fault}
 use Rattle.age_file.specs.declared.fault.Fault.TheVariants.{NonceTruncated, OutOfMemory}
-use Rattle.age_file.specs.Rewrap.{parts_of}
-use Rattle.age_file.specs.Verdict.{Answering, IsVerdict, judged, of_header, of_stream, read_under, unlocked}
+use Rattle.age_file.specs.Verdict.{parts_of}
+use Rattle.age_file.specs.Verdict.{Answering, IsVerdict, judged, header_fault, stream_fault, read_under, unlocked}
 use Rattle.age_file.proofs.FileLemmas.{one_verdict}
 use Rattle.agefile.specs.declared.reader.Reader.{Reader}
 use Rattle.agefile.specs.declared.report.Report.{Report}
@@ -31,12 +31,12 @@ abbrev pub IsVerdictFrom : List ℕ → Reading Fault → Result Start Fault →
 IsVerdictFrom b v (Err fault) = v ≡ stops fault
 IsVerdictFrom b v (Ok start) = v ≡ record {
   front = (reading_from start.key limits.max_chunks 0 (drop start.first b)).front;
-  fault = option_map of_stream (reading_from start.key limits.max_chunks 0 (drop start.first b)).fault;
+  fault = option_map stream_fault (reading_from start.key limits.max_chunks 0 (drop start.first b)).fault;
 }
 
 -- a reading with its faults named as a file's
 unfoldable pub renamed : Reading StreamFault → Reading Fault
-renamed r = record { front = r.front; fault = option_map of_stream r.fault }
+renamed r = record { front = r.front; fault = option_map stream_fault r.fault }
 
 payload-from : (b : List ℕ) (n : ℕ) (k : FileKey) (v : Reading Fault) (t : Bool)
     → v ≡ renamed (cond t (stops stream.NonceTruncated) (reading_from (payload_key k (take 16 (drop n b))) limits.max_chunks 0 (drop 16 (drop n b))))
@@ -52,7 +52,7 @@ under-from b n v (Ok k) is = payload-from b n k v (nat_lt (length (drop n b)) 16
 
 pub verdict-from : (answers : Answering) (b : List ℕ) (start : Result Start Fault) (v : Reading Fault) → IsStart answers b start → IsVerdict limits answers b v → IsVerdictFrom b v start
 verdict-from answers b start v (Err e, verdict, is) h =
-    subst (IsVerdictFrom b v) (sym is) (one_verdict limits answers b v (stops (of_header e)) h (record { header = Err e; header_verdict = verdict; is = refl }))
+    subst (IsVerdictFrom b v) (sym is) (one_verdict limits answers b v (stops (header_fault e)) h (record { header = Err e; header_verdict = verdict; is = refl }))
 verdict-from answers b start v (Ok found, verdict, is) h =
     let w = judged limits answers b (Ok found) in
     subst (IsVerdictFrom b v) (sym is) (under-from b (length found.text) v (unlocked answers (parts_of found))

@@ -15,47 +15,43 @@ use Rattle.agefile.specs.declared.writer.Writer.{Writer}
 use Rattle.agefile.specs.Giving.{fresh_of}
 use Rattle.agefile.specs.Codes.{fault_code}
 use Rattle.agefile.specs.Limits.{limits}
-use Rattle.agefile.specs.Writer.{GivesFront, OpensFor, OpensWriter, StaysClosed}
+use Rattle.agefile.specs.Writer.{GivesFront, OpensGathered, OpensWriter, StaysClosed}
 use Rattle.agefile.proofs.GivesFileLemmas.{Given, IsShort, gathered_one, no_refusal}
 
 -- no header was made
 fails-by : (fresh : Fresh) (given : Given) (old new : List ℕ) (writer : Writer) (report : Report) (code : ℕ) (fault : Fault)
-    → FailsHeading limits fresh.file_key given fault → StaysClosed (fault_code fault) old new writer report code → OpensFor fresh given old new writer report code
+    → FailsHeading limits fresh.file_key given fault → StaysClosed (fault_code fault) old new writer report code → OpensGathered fresh given old new writer report code
 fails-by fresh given old new writer report code fault (inl memory) closed = inl (subst (λ f. StaysClosed (fault_code f) old new writer report code) memory closed)
 fails-by fresh given old new writer report code fault (inr (inl (i, reason, is, refused))) closed = inr (inl (Refused i reason, refused))
-fails-by fresh given old new writer report code fault (inr (inr (inl (i, is, refused)))) closed = inr (inl (IncompatibleRecipients i, refused))
-fails-by fresh given old new writer report code fault (inr (inr (inr (inl (is, refused))))) closed = inr (inl (NoRecipients, refused))
-fails-by fresh given old new writer report code fault (inr (inr (inr (inr (inl (is, refused)))))) closed = inr (inl (MixedPassphrase, refused))
-fails-by fresh given old new writer report code fault (inr (inr (inr (inr (inr (is, refused)))))) closed = inr (inl (HeaderTooLarge, refused))
 
 pub opens_none : (l : Bounds) (fresh wanted : Fresh) (given : FileKey → Given) (old new : List ℕ) (writer : Writer) (report : Report) (code : ℕ) (fault : Fault)
     → l ≡ limits → fresh ≡ wanted → FailsHeading l fresh.file_key (given fresh.file_key) fault → StaysClosed (fault_code fault) old new writer report code
-    → OpensFor wanted (given wanted.file_key) old new writer report code
+    → OpensGathered wanted (given wanted.file_key) old new writer report code
 opens_none l fresh wanted given old new writer report code fault at seeds fails closed =
-    subst (λ (f : Fresh). OpensFor f (given f.file_key) old new writer report code) seeds
+    subst (λ (f : Fresh). OpensGathered f (given f.file_key) old new writer report code) seeds
     (fails-by fresh (given fresh.file_key) old new writer report code fault (subst (λ b. FailsHeading b fresh.file_key (given fresh.file_key) fault) at fails) closed)
 
 -- the header was made and written, and its nonce after it
 pub opens_front : (l : Bounds) (fresh wanted : Fresh) (given : FileKey → Given) (h : HeaderParts) (text written front old new : List ℕ) (writer : Writer) (report : Report) (code : ℕ)
     → l ≡ limits → fresh ≡ wanted → h.mac ≡ header_mac fresh.file_key.0 h.stanzas → IsHeading l fresh.file_key (given fresh.file_key) h.stanzas text
     → Head h.stanzas h.mac written → front ≡ written ++ fresh.nonce → GivesFront front fresh old new writer report code
-    → OpensFor wanted (given wanted.file_key) old new writer report code
+    → OpensGathered wanted (given wanted.file_key) old new writer report code
 opens_front l fresh wanted given h text written front old new writer report code at seeds mac heading head is gives =
     let here : IsHeading limits fresh.file_key (given fresh.file_key) h.stanzas text = subst (λ b. IsHeading b fresh.file_key (given fresh.file_key) h.stanzas text) at heading in
     let same : written ≡ text = one_text h.stanzas (header_mac fresh.file_key.0 h.stanzas) written text (subst (λ (m : List ℕ). Head h.stanzas m written) mac head) here.head in
-    subst (λ (f : Fresh). OpensFor f (given f.file_key) old new writer report code) seeds
+    subst (λ (f : Fresh). OpensGathered f (given f.file_key) old new writer report code) seeds
     (inr (inr (h.stanzas, text, here, subst (λ x. GivesFront x fresh old new writer report code) (is ∙ ap (λ t. t ++ fresh.nonce) same) gives)))
 
 -- of recipients in a list of one
 pub opens_alone : {X : Type 0} (w : X → Result (List StanzaParts) ℕ) (l : X → Labels) (items : List X) (x : X) (fresh : Fresh) (old new : List ℕ) (writer : Writer) (report : Report) (code : ℕ)
-    → items ≡ x ∷ [] → OpensFor fresh (Gathered (map w items) (map l items)) old new writer report code
-    → OpensFor fresh (Gathered (w x ∷ []) (l x ∷ [])) old new writer report code
-opens_alone w l items x fresh old new writer report code one h = subst (λ xs. OpensFor fresh (Gathered (map w xs) (map l xs)) old new writer report code) one h
+    → items ≡ x ∷ [] → OpensGathered fresh (Gathered (map w items) (map l items)) old new writer report code
+    → OpensGathered fresh (Gathered (w x ∷ []) (l x ∷ [])) old new writer report code
+opens_alone w l items x fresh old new writer report code one h = subst (λ xs. OpensGathered fresh (Gathered (map w xs) (map l xs)) old new writer report code) one h
 
 -- of one recipient that wraps a key in one stanza
 opens-stanza : (seed : List ℕ) (stanza : FileKey → StanzaParts) (meant : Labels) (old new : List ℕ) (writer : Writer) (report : Report) (code : ℕ)
     → IsShort (stanza (fresh_of seed).file_key)
-    → OpensFor (fresh_of seed) (Gathered (Ok (stanza (fresh_of seed).file_key ∷ []) ∷ []) (meant ∷ [])) old new writer report code
+    → OpensGathered (fresh_of seed) (Gathered (Ok (stanza (fresh_of seed).file_key ∷ []) ∷ []) (meant ∷ [])) old new writer report code
     → OpensWriter seed stanza old new writer report code
 opens-stanza seed stanza meant old new writer report code short (inl up) = inl up
 opens-stanza seed stanza meant old new writer report code short (inr (inl (fault, refused))) = absurd (no_refusal _ _ meant fault short refused)
@@ -72,7 +68,7 @@ opens-stanza seed stanza meant old new writer report code short (inr (inr (stanz
 
 pub opens_one : (seed : List ℕ) (wrapped : Result (List StanzaParts) ℕ) (stanza : FileKey → StanzaParts) (meant : Labels) (old new : List ℕ) (writer : Writer) (report : Report) (code : ℕ)
     → wrapped ≡ Ok (stanza (fresh_of seed).file_key ∷ []) → IsShort (stanza (fresh_of seed).file_key)
-    → OpensFor (fresh_of seed) (Gathered (wrapped ∷ []) (meant ∷ [])) old new writer report code → OpensWriter seed stanza old new writer report code
+    → OpensGathered (fresh_of seed) (Gathered (wrapped ∷ []) (meant ∷ [])) old new writer report code → OpensWriter seed stanza old new writer report code
 opens_one seed wrapped stanza meant old new writer report code wraps short h =
     opens-stanza seed stanza meant old new writer report code short
-    (subst (λ w. OpensFor (fresh_of seed) (Gathered (w ∷ []) (meant ∷ [])) old new writer report code) wraps h)
+    (subst (λ w. OpensGathered (fresh_of seed) (Gathered (w ∷ []) (meant ∷ [])) old new writer report code) wraps h)

@@ -7,7 +7,7 @@ use Rattle.age_recipient.specs.declared.unwrapped.Unwrapped.{Unwrapped}
 use Rattle.age_stream.specs.Reading.{Reading}
 use Rattle.age_file.specs.declared.fault.Fault.{Fault}
 use Rattle.age_file.specs.declared.limits.Fresh.{Fresh}
-use Rattle.age_file.specs.NewFile.{CutFile, IsRefusal, NewFile}
+use Rattle.age_file.specs.NewFile.{FileUpToLimit, IsRefusal, NewFile}
 use Rattle.age_file.specs.Verdict.{Answering, IsVerdict}
 use Rattle.agefile.specs.declared.report.Report.{Report}
 use Rattle.agefile.specs.Codes.{code_of, out_of_memory, too_small}
@@ -107,6 +107,6 @@ abbrev pub GivesGathered : (seed : Bytes) (given : Result (List StanzaParts) Fau
 GivesGathered seed given plain old new report code =
     GivesUp out_of_memory old new report code
     ⊎ (((fault : Fault) × IsRefusal limits (fresh_of seed).file_key given fault)
-    ⊎ (((begun : Bytes) × CutFile limits (fresh_of seed) given plain begun)
+    ⊎ (((begun : Bytes) × FileUpToLimit limits (fresh_of seed) given plain begun)
     ⊎ ((file : Bytes) × NewFile limits (fresh_of seed) given plain file
     × Gives file None old new report code)))

@@ -7,7 +7,7 @@ use Rattle.age_header.specs.Header.{HeaderParts, StanzaParts}
 use Rattle.age_header.specs.Verdict.{Found, HeaderVerdict}
 use Rattle.age_file.specs.declared.fault.Fault.{Fault}
 use Rattle.age_file.specs.declared.fault.Fault.TheVariants.{OutOfMemory}
-use Rattle.age_file.specs.Verdict.{of_header}
+use Rattle.age_file.specs.Verdict.{header_fault}
 use Rattle.agefile.specs.declared.inspecting.StanzaSummary.{StanzaSummary}
 use Rattle.agefile.specs.declared.inspecting.Summary.{Summary}
 use Rattle.agefile.specs.declared.report.Report.{Report}
@@ -25,12 +25,12 @@ HeaderOf b (Ok h) =
 HeaderOf b (Err fault) =
     (fault ≡ OutOfMemory)
     ⊎ ((reason : HeaderFault) × HeaderVerdict b limits.max_header (Err reason)
-    × (fault ≡ of_header reason))
+    × (fault ≡ header_fault reason))
 
 -- a header's fault is returned, and its place reported
 abbrev pub ReportsFault : (reason : HeaderFault) (report : Report) (code : ℕ) → Type 0
 ReportsFault reason report code =
-    (code ≡ fault_code (of_header reason)) × (report ≡ report_of 0 (Some (of_header reason)))
+    (code ≡ fault_code (header_fault reason)) × (report ≡ report_of 0 (Some (header_fault reason)))
 
 -- what a header is summed up as
 abbrev pub summary_of : Found → Summary

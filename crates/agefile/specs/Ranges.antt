@@ -5,7 +5,7 @@ use Rattle.age_kdf.specs.Bytes.{Bytes}
 use Rattle.age_stream.specs.declared.fault.StreamFault.{StreamFault}
 use Rattle.age_stream.specs.Reading.{outcome}
 use Rattle.age_file.specs.declared.fault.Fault.{Fault}
-use Rattle.age_file.specs.Verdict.{Answering, of_stream}
+use Rattle.age_file.specs.Verdict.{Answering, stream_fault}
 use Rattle.agefile.specs.declared.ranges.Ranges.{Ranges}
 use Rattle.agefile.specs.declared.report.Report.{Report}
 use Rattle.agefile.specs.declared.start.Start.{Start}
@@ -95,7 +95,7 @@ Verified old new chunk after report code (Ok text) =
     × (after ≡ text ++ drop (length text) chunk)
     × (report ≡ report_of (plain_of old.sealed_len) None)
 Verified old new chunk after report code (Err fault) =
-    (code ≡ fault_code (of_stream fault))
+    (code ≡ fault_code (stream_fault fault))
     × (new
     ≡ record {
       key = old.key;
@@ -103,7 +103,7 @@ Verified old new chunk after report code (Err fault) =
       sealed_len = old.sealed_len;
       state = state_open;
     })
-    × (after ≡ chunk) × (report ≡ report_of 0 (Some (of_stream fault)))
+    × (after ≡ chunk) × (report ≡ report_of 0 (Some (stream_fault fault)))
 
 -- the payload was opened, and these are as many bytes as the last piece has
 abbrev pub may_verify : (r : Ranges) (chunk : Bytes) → Bool
@@ -131,5 +131,5 @@ GivesFrom at chunk after report code (Ok text) =
     (code ≡ ok) × (after ≡ text ++ drop (length text) chunk)
     × (report ≡ record { len = length text - at % chunk_size; place = at % chunk_size; detail = 0 })
 GivesFrom at chunk after report code (Err fault) =
-    (code ≡ fault_code (of_stream fault)) × (after ≡ chunk)
-    × (report ≡ report_of 0 (Some (of_stream fault)))
+    (code ≡ fault_code (stream_fault fault)) × (after ≡ chunk)
+    × (report ≡ report_of 0 (Some (stream_fault fault)))

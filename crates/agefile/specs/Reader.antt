@@ -4,7 +4,7 @@ use Rattle.age_kdf.specs.Bytes.{Bytes}
 use Rattle.age_stream.specs.declared.fault.StreamFault.{StreamFault}
 use Rattle.age_stream.specs.Reading.{outcome}
 use Rattle.age_file.specs.declared.fault.Fault.{Fault}
-use Rattle.age_file.specs.Verdict.{Answering, of_stream}
+use Rattle.age_file.specs.Verdict.{Answering, stream_fault}
 use Rattle.agefile.specs.declared.reader.Reader.{Reader}
 use Rattle.agefile.specs.declared.report.Report.{Report}
 use Rattle.agefile.specs.declared.start.Start.{Start}
@@ -68,7 +68,7 @@ Reads old new chunk after last report code (Ok text) =
     (code ≡ ok) × (report ≡ report_of (length text) None) × (new ≡ after_chunk old last)
     × (after ≡ text ++ drop (length text) chunk)
 Reads old new chunk after last report code (Err fault) =
-    (code ≡ fault_code (of_stream fault)) × (report ≡ report_of 0 (Some (of_stream fault)))
+    (code ≡ fault_code (stream_fault fault)) × (report ≡ report_of 0 (Some (stream_fault fault)))
     × (new ≡ failed old) × (after ≡ chunk)
 
 -- one call: the chunk's outcome as the next piece, where the reader accepts it

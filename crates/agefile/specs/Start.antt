@@ -7,8 +7,8 @@ use Rattle.age_recipient.specs.declared.key.FileKey.{FileKey}
 use Rattle.age_stream.specs.Payload.{payload_key}
 use Rattle.age_file.specs.declared.fault.Fault.{Fault}
 use Rattle.age_file.specs.declared.fault.Fault.TheVariants.{NonceTruncated, OutOfMemory}
-use Rattle.age_file.specs.Rewrap.{parts_of}
-use Rattle.age_file.specs.Verdict.{Answering, of_header, unlocked}
+use Rattle.age_file.specs.Verdict.{parts_of}
+use Rattle.age_file.specs.Verdict.{Answering, header_fault, unlocked}
 use Rattle.agefile.specs.declared.start.Start.{Start}
 use Rattle.agefile.specs.Limits.{limits}
 use Rattle.age_stream.specs.Sizes.{nonce_size}
@@ -25,7 +25,7 @@ start_under len rest (Ok k) =
 -- the start of b, or the first fault before its first chunk, given its header verdict
 abbrev pub start_of : (answers : Answering) (b : Bytes) (result : Result Found HeaderFault)
     → Result Start Fault
-start_of answers b (Err fault) = Err (of_header fault)
+start_of answers b (Err fault) = Err (header_fault fault)
 start_of answers b (Ok found) =
     start_under (length found.text) (drop (length found.text) b) (unlocked answers (parts_of found))
 

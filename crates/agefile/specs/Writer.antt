@@ -66,9 +66,9 @@ OpensWriter seed stanza old new writer report code =
 
 -- the same for whatever recipients give. In a refusal nothing is said of what the call returns: the
 -- exports have one recipient, which never refuses.
-abbrev pub OpensFor : (fresh : Fresh) (given : Result (List StanzaParts) Fault → Type 0)
+abbrev pub OpensGathered : (fresh : Fresh) (given : Result (List StanzaParts) Fault → Type 0)
     (old new : Bytes) (writer : Writer) (report : Report) (code : ℕ) → Type 0
-OpensFor fresh given old new writer report code =
+OpensGathered fresh given old new writer report code =
     StaysClosed out_of_memory old new writer report code
     ⊎ (((fault : Fault) × IsRefusal limits fresh.file_key given fault)
     ⊎ ((stanzas : List StanzaParts) × (text : Bytes)

@@ -6,7 +6,7 @@ ghost use Rattle.age_recipient.specs.PassphraseHolders.{WorkFits};
 ghost use Rattle.age_recipient.specs.PassphraseStanza.{pass_stanza};
 ghost use Rattle.age_file.specs.NewFile.{Gathered};
 ghost use Rattle.agefile.specs.Giving.{fresh_of, salt_of};
-ghost use Rattle.agefile.specs.Writer.{GivesFront, OpensFor, OpensWriter, StaysClosed, WritesStep, closed, may_be_last, accepts};
+ghost use Rattle.agefile.specs.Writer.{GivesFront, OpensGathered, OpensWriter, StaysClosed, WritesStep, closed, may_be_last, accepts};
 ghost use Rattle.agefile.specs.Codes.{bad_work_factor};
 
 use crate::code::{OK, OUT_OF_MEMORY, OUT_OF_ORDER, WORK_FACTOR, fault_code};
@@ -134,7 +134,7 @@ fn open_with(
     writer: &mut Writer,
     report: &mut Report,
 ) -> u32
-    ensures { OpensFor (fresh_of seed.now)
+    ensures { OpensGathered (fresh_of seed.now)
         (Gathered (wraps recipient (fresh_of seed.now).file_key ∷ []) (the_labels recipient ∷ []))
         out.old out.new writer.new report.new result }
 {
@@ -153,7 +153,7 @@ fn open_for(
     writer: &mut Writer,
     report: &mut Report,
 ) -> u32
-    ensures { OpensFor (fresh_of seed.now) (Gathered
+    ensures { OpensGathered (fresh_of seed.now) (Gathered
         (map (λ r. wraps r (fresh_of seed.now).file_key) recipients.now)
         (map (λ r. the_labels r) recipients.now))
         out.old out.new writer.new report.new result }

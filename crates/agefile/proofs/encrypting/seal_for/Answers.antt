@@ -10,7 +10,7 @@ returns-in-Ok g c =
     let empty : c.new-sink.result.out.items ≡ [] = search rules in
     let taken : c.encrypt-answer.new.out.out.items ≡ c.into_vec-file.result.items = cc (c.into_vec-file.ensures) in
     seals_whole _ _ _ _ _ _ _ _ _
-    (rw (c.limits.ensures, c.fresh_of-fresh.ensures, come, empty, taken) at c.in-Ok.ensures.answer) (rw c.as_slice.ensures.value at c.give_whole.ensures)
+    (rw (c.limits.ensures, c.fresh_of-fresh.ensures, come, empty, taken) at c.in-Ok.ensures.encrypts) (rw c.as_slice.ensures.value at c.give_whole.ensures)
 
 pub returns : goal.returns
 returns g c =
@@ -19,4 +19,4 @@ returns g c =
     (λ key. Gathered (map (λ r. (goal.Recipient-dyn g (r.vtable, r.value)).wraps r.value key) c.args.recipients.now)
     (map (λ r. (goal.Recipient-dyn g (r.vtable, r.value)).the_labels r.value) c.args.recipients.now))
     _ _ _ _ (Some c.new-sink.result.out.items) (Some c.encrypt-answer.new.out.out.items) _ _ c.in-Err.fault
-    c.limits.ensures c.fresh_of-fresh.ensures c.new-source.ensures inside c.in-Err.ensures.reads c.in-Err.ensures.refused c.in-Err.ensures.answer
+    c.limits.ensures c.fresh_of-fresh.ensures c.new-source.ensures inside c.in-Err.ensures.reads c.in-Err.ensures.refused c.in-Err.ensures.encrypts
