@@ -31,12 +31,12 @@ use Rattle.age_file.specs.Verdict.{of_header, of_stream, Answering, checked, unl
 never_stops : (p : List ℕ) (f : Fault) → whole p ≡ stops f → ⊥
 never_stops p f h = none-some f (ap (λ (r : Reading Fault). r.fault) h)
 
-no_stream_fault : (o : Option StreamFault) → option_map of_stream o ≡ None → o ≡ None
+pub no_stream_fault : (o : Option StreamFault) → option_map of_stream o ≡ None → o ≡ None
 no_stream_fault None h = refl
 no_stream_fault (Some f) h = absurd (none-some (of_stream f) (sym h))
 
 -- a reading with its fault renamed
-abbrev renamed : Reading StreamFault → Reading Fault
+abbrev pub renamed : Reading StreamFault → Reading Fault
 renamed r = record { front = r.front; fault = option_map of_stream r.fault }
 
 -- what a payload was read from
