@@ -30,7 +30,7 @@ use Rattle.age_file.specs.Verdict.{Answering, IsVerdict, checked, header_fault, 
 never_stops : (p : List ℕ) (f : Fault) → whole p ≡ stops f → ⊥
 never_stops p f h = none-some f (ap (λ (r : Reading Fault). r.fault) h)
 
-no_stream_fault : (o : Option StreamFault) → option_map stream_fault o ≡ None → o ≡ None
+pub no_stream_fault : (o : Option StreamFault) → option_map stream_fault o ≡ None → o ≡ None
 no_stream_fault None h = refl
 no_stream_fault (Some f) h = absurd (none-some (stream_fault f) (sym h))
 

@@ -13,12 +13,12 @@ use Rattle.age_file.specs.declared.limits.Fresh.{Fresh}
 use Rattle.age_file.specs.AgeFile.{Bounds}
 use Rattle.age_file.specs.Device.{CountsRead}
 use Rattle.age_file.specs.NewFile.{EncryptsGiven, EncryptsText, Gathered, IsRefusal, RefusesFirst, unless_incompatible}
-use Rattle.age_file.proofs.OwnLabels.{one_place}
+use Rattle.age_file.proofs.OwnLabels.{one_index}
 use Rattle.agefile.specs.declared.report.Report.{Report}
 use Rattle.agefile.specs.Giving.{Gives, GivesFile, GivesGathered, fresh_of, salt_of}
 use Rattle.agefile.specs.Codes.{is_memory}
 use Rattle.agefile.specs.Limits.{limits}
-use Rattle.agefile.proofs.SizeLemmas.{chunks_size, key_header, key_size, pass_header, salt_size}
+use Rattle.agefile.proofs.SizeLemmas.{chunks_size, key_header, pass_header, seed_key_size, seed_salt_size}
 
 -- what recipients give
 abbrev pub Given : Type 1
@@ -53,7 +53,7 @@ seals_part l fresh seed given plain old new come before after report code fault 
 
 -- what one recipient gives that wraps a key in one stanza
 pub gathered_one : (stanza : StanzaParts) (meant : Labels) (given : Result (List StanzaParts) Fault) → Gathered (Ok (stanza ∷ []) ∷ []) (meant ∷ []) given → given ≡ Ok (stanza ∷ [])
-gathered_one stanza meant given (place, apart, is) = is ∙ ap (unless_incompatible (Ok (stanza ∷ []))) (one_place meant place apart)
+gathered_one stanza meant given (index, incompatible, is) = is ∙ ap (unless_incompatible (Ok (stanza ∷ []))) (one_index meant index incompatible)
 
 -- each header of this stanza alone is short
 abbrev pub IsShort : StanzaParts → Type 0
@@ -112,8 +112,8 @@ seals_alone w l items x seed plain old new report code one h = subst (λ xs. Giv
 
 pub pass_short : (pass seed : List ℕ) (work : ℕ) → length seed ≡ 48 → work ≤ 30 → IsShort (pass_stanza pass work (salt_of seed) (fresh_of seed).file_key)
 pass_short pass seed work size high mac text h =
-    let small = pass_header pass (salt_of seed) work (fresh_of seed).file_key mac text (salt_size seed size) (key_size seed size) high h in omega arith
+    let small = pass_header pass (salt_of seed) work (fresh_of seed).file_key mac text (seed_salt_size seed size) (seed_key_size seed size) high h in omega arith
 
 pub key_short : (key seed : List ℕ) → length seed ≡ 48 → IsShort (keyed_stanza key (salt_of seed) (fresh_of seed).file_key)
 key_short key seed size mac text h =
-    let small = key_header key (salt_of seed) (fresh_of seed).file_key mac text (salt_size seed size) (key_size seed size) h in omega arith
+    let small = key_header key (salt_of seed) (fresh_of seed).file_key mac text (seed_salt_size seed size) (seed_key_size seed size) h in omega arith

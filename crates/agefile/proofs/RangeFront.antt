@@ -1,6 +1,5 @@
 -- A file that is opened for ranges by its front, and its verdict.
-use Rattle.std.proofs.Common.{◌≡◌, ◌≢◌, ℕ, List, [], ◌+◌, ◌-◌, ◌/◌, ◌%◌, ◌<◌, ◌≤◌, length, length-drop, take, drop, nat_lt, sym, ◌∙◌, ap, refl, subst, arith, inl, inr, Option, Some, None, Result, Ok, Err}
-use Rattle.std.specs.Prelude.{option_map}
+use Rattle.std.proofs.Common.{◌≡◌, ◌≢◌, ℕ, List, [], ◌+◌, ◌-◌, ◌/◌, ◌%◌, ◌<◌, ◌≤◌, length, length-drop, take, drop, nat_lt, sym, ◌∙◌, ap, refl, subst, arith, inl, inr, None, Result, Ok, Err}
 use Rattle.std.proofs.lemmas.Bool.{cases_lt, lt-ltb, le-ltb, cond-true, cond-false}
 use Rattle.std.proofs.lemmas.List.{drop-drop}
 use Rattle.age_recipient.specs.declared.key.FileKey.{FileKey}
@@ -11,9 +10,8 @@ use Rattle.age_stream.specs.Slice.{IsSlice}
 use Rattle.age_stream.proofs.WholeSlices.{whole-slice}
 use Rattle.age_file.specs.declared.fault.Fault.{Fault}
 use Rattle.age_file.specs.declared.fault.Fault.TheVariants.{NonceTruncated, OutOfMemory}
-use Rattle.age_file.specs.Verdict.{parts_of}
-use Rattle.age_file.specs.Verdict.{Answering, IsVerdict, judged, stream_fault, read_under, unlocked}
-use Rattle.age_file.proofs.FileLemmas.{one_verdict}
+use Rattle.age_file.specs.Verdict.{Answering, IsVerdict, judged, parts_of, read_under, unlocked, with_file_fault}
+use Rattle.age_file.proofs.FileLemmas.{no_stream_fault, one_verdict}
 use Rattle.agefile.specs.declared.ranges.Ranges.{Ranges}
 use Rattle.agefile.specs.declared.report.Report.{Report}
 use Rattle.agefile.specs.declared.start.Start.{Start}
@@ -26,7 +24,7 @@ use Rattle.agefile.proofs.FrontLemmas.{whole-start}
 use Rattle.agefile.proofs.RangeLemmas.{slice-there}
 use Rattle.agefile.proofs.ReadsRunLemmas.{some-code}
 use Rattle.agefile.proofs.StartLemmas.{ok-ok}
-use Rattle.agefile.proofs.StepsReadLemmas.{IsVerdictFrom, renamed, verdict-from}
+use Rattle.agefile.proofs.StepsReadLemmas.{IsVerdictFrom, verdict-from}
 
 -- the payload after a header of `at` bytes, under the file key
 record StartsPayload (b : List ℕ) (start : Start) (v : Reading Fault) : Type 0 where
@@ -35,11 +33,10 @@ record StartsPayload (b : List ℕ) (start : Start) (v : Reading Fault) : Type 0
   first : start.first ≡ at + 16
   is_key : start.key ≡ payload_key key (take 16 (drop at b))
   long : 16 ≤ length (drop at b)
-  reading : v ≡ renamed (payload_reading key limits.max_chunks (drop at b))
+  reading : v ≡ with_file_fault (payload_reading key limits.max_chunks (drop at b))
 
 under-starts : (b : List ℕ) (n : ℕ) (start : Start) (v : Reading Fault) (key : Result FileKey Fault) → Ok start ≡ start_under n (drop n b) key
     → v ≡ read_under limits (drop n b) key → StartsPayload b start v
-unfolding renamed
 under-starts b n start v (Err fault) is e = absurd (cc)
 under-starts b n start v (Ok k) is e =
     let other : Result Start Fault = Err NonceTruncated in
@@ -107,24 +104,19 @@ refused-range answers b r report code v (start, inr is, opens) h some other =
     refused-by answers b r report code v start (whole-start answers b start is) opens h some
 
 -- a text of a located piece is a part of the verdict's plaintext, where this has no fault
-no-fault : (f : Option StreamFault) → option_map stream_fault f ≡ None → f ≡ None
-no-fault None e = refl
-no-fault (Some fault) e = absurd (cc)
-
 whole-reading : (r : Reading StreamFault) (plain : List ℕ) → r.front ≡ plain → r.fault ≡ None → r ≡ whole plain
 whole-reading r plain front none = ap (λ x. record { front = x; fault = r.fault }) front ∙ ap (λ x. record { front = plain; fault = x }) none
 
 pub range-of-verdict : (answers : Answering) (b : List ℕ) (r : Ranges) (report : Report) (v : Reading Fault) (at : ℕ) (text : List ℕ) → OpensRanges answers (take 65552 b) (length b) r report 0
     → IsVerdict limits answers b v → v.fault ≡ None → at < plain_of r.sealed_len → gives r (at / 65536) (piece_at r b (at / 65536)) ≡ Ok text
     → drop (at % 65536) text ≡ take (length (drop (at % 65536) text)) (drop at v.front)
-unfolding renamed
 range-of-verdict answers b r report v at text opens h none within g =
     let xs : List ℕ = drop (at % 65536) text in
     let o = opened-range answers b r report opens in
     let p = starts answers b (record { first = r.first; key = r.key }) v o.0 h in
     let reading : Reading StreamFault = payload_reading p.key limits.max_chunks (drop p.at b) in
     let front : reading.front ≡ v.front = sym (ap (λ (x : Reading Fault). x.front) p.reading) in
-    let fault : reading.fault ≡ None = no-fault reading.fault (sym (ap (λ (x : Reading Fault). x.fault) p.reading) ∙ none) in
+    let fault : reading.fault ≡ None = no_stream_fault reading.fault (sym (ap (λ (x : Reading Fault). x.fault) p.reading) ∙ none) in
     let rest : drop r.first b ≡ drop 16 (drop p.at b) = ap (λ n. drop n b) p.first ∙ sym (drop-drop 16 p.at b) in
     let slice = (slice-there r b text at o.1 within g).1 in
     let there : IsSlice (payload_key p.key (take 16 (drop p.at b))) (drop 16 (drop p.at b)) at xs =

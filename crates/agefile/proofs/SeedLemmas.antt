@@ -11,14 +11,14 @@ use Rattle.age_recipient.specs.PassphraseHolders.{PairFits, pass_unwraps}
 use Rattle.age_recipient.specs.PassphraseStanza.{pass_stanza}
 use Rattle.age_recipient.specs.Salt.{IsSalt}
 use Rattle.agefile.specs.Giving.{IsFileUnder, IsSeed, alone, fresh_of, only, salt_of}
-use Rattle.agefile.proofs.SizeLemmas.{key_size, salt_size}
+use Rattle.agefile.proofs.SizeLemmas.{seed_key_size, seed_salt_size}
 
 -- the file key and the salt of a seed
 seed_key : (seed : List ℕ) → IsSeed seed → IsFileKey (fresh_of seed).file_key
-seed_key seed is = record { len = key_size seed is.len; bytes = bytes_take 16 seed is.bytes }
+seed_key seed is = record { len = seed_key_size seed is.len; bytes = bytes_take 16 seed is.bytes }
 
 seed_salt : (seed : List ℕ) → IsSeed seed → IsSalt (salt_of seed)
-seed_salt seed is = record { len = salt_size seed is.len; bytes = bytes_take 16 (drop 32 seed) (bytes_drop 32 seed is.bytes) }
+seed_salt seed is = record { len = seed_salt_size seed is.len; bytes = bytes_take 16 (drop 32 seed) (bytes_drop 32 seed is.bytes) }
 
 -- the stanza that was given alone
 given_alone : (stanza : StanzaParts) (stanzas : List StanzaParts) → only stanza (Ok stanzas) → stanza ∷ [] ≡ stanzas

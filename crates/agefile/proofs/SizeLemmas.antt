@@ -142,20 +142,20 @@ payload_size k nonce plain =
 -- ---- files
 
 -- the salt, the file key and the nonce of a seed have 16 bytes
-pub salt_size : (seed : List ℕ) → length seed ≡ 48 → length (salt_of seed) ≡ 16
-salt_size seed size = omega (arith, length-take 16 (drop 32 seed), length-drop 32 seed)
+pub seed_salt_size : (seed : List ℕ) → length seed ≡ 48 → length (salt_of seed) ≡ 16
+seed_salt_size seed size = omega (arith, length-take 16 (drop 32 seed), length-drop 32 seed)
 
-pub key_size : (seed : List ℕ) → length seed ≡ 48 → length (fresh_of seed).file_key.0 ≡ 16
-key_size seed size = omega (arith, length-take 16 seed)
+pub seed_key_size : (seed : List ℕ) → length seed ≡ 48 → length (fresh_of seed).file_key.0 ≡ 16
+seed_key_size seed size = omega (arith, length-take 16 seed)
 
-nonce_size : (seed : List ℕ) → length seed ≡ 48 → length (fresh_of seed).nonce ≡ 16
-nonce_size seed size = omega (arith, length-take 16 (drop 16 seed), length-drop 16 seed)
+seed_nonce_size : (seed : List ℕ) → length seed ≡ 48 → length (fresh_of seed).nonce ≡ 16
+seed_nonce_size seed size = omega (arith, length-take 16 (drop 16 seed), length-drop 16 seed)
 
 file_size : (seed : List ℕ) (stanza : StanzaParts) (plain file : List ℕ) (is : NewFile limits (fresh_of seed) (only stanza) plain file) → length seed ≡ 48
     → length file ≡ length is.text + (16 + (length plain + 16 * chunk_count (length plain)))
 file_size seed stanza plain file is size =
     let sealed = payload_size (fresh_of seed).file_key (fresh_of seed).nonce plain in
-    let nonce = nonce_size seed size in
+    let nonce = seed_nonce_size seed size in
     ap length is.spelled ∙ omega (arith, length-append is.text (payload (fresh_of seed).file_key (fresh_of seed).nonce plain))
 
 -- a header of the stanza alone
@@ -169,12 +169,12 @@ pub key_file : (key seed plain file : List ℕ) → length seed ≡ 48
     → IsFileUnder seed (keyed_stanza key (salt_of seed)) plain file → length file ≡ sealed_len (length plain)
 key_file key seed plain file size is =
     let all = file_size seed _ plain file is size in
-    let head = key_header key (salt_of seed) (fresh_of seed).file_key _ is.text (salt_size seed size) (key_size seed size) (only_head seed _ plain file is) in
+    let head = key_header key (salt_of seed) (fresh_of seed).file_key _ is.text (seed_salt_size seed size) (seed_key_size seed size) (only_head seed _ plain file is) in
     omega arith
 
 pub pass_file : (pass seed plain file : List ℕ) (work : ℕ) → length seed ≡ 48 → work ≤ 30
     → IsFileUnder seed (pass_stanza pass work (salt_of seed)) plain file → length file < sealed_len (length plain)
 pass_file pass seed plain file work size high is =
     let all = file_size seed _ plain file is size in
-    let head = pass_header pass (salt_of seed) work (fresh_of seed).file_key _ is.text (salt_size seed size) (key_size seed size) high (only_head seed _ plain file is) in
+    let head = pass_header pass (salt_of seed) work (fresh_of seed).file_key _ is.text (seed_salt_size seed size) (seed_key_size seed size) high (only_head seed _ plain file is) in
     omega arith

@@ -3,14 +3,12 @@ use Rattle.std.proofs.Common.{◌≡◌, ◌≢◌, ℕ, ◌+◌, List, [], leng
 use Rattle.std.specs.Prelude.{option_map}
 use Rattle.std.proofs.lemmas.List.{drop-drop}
 use Rattle.age_recipient.specs.declared.key.FileKey.{FileKey}
-use Rattle.age_stream.specs.declared.fault.StreamFault.{StreamFault}
 use Rattle.age_stream.specs.declared.fault.StreamFault.TheVariants as stream
 use Rattle.age_stream.specs.Payload.{payload_key, pieces}
 use Rattle.age_stream.specs.Reading.{Reading, reading_from, stops}
 use Rattle.age_file.specs.declared.fault.Fault.{Fault}
 use Rattle.age_file.specs.declared.fault.Fault.TheVariants.{NonceTruncated, OutOfMemory}
-use Rattle.age_file.specs.Verdict.{parts_of}
-use Rattle.age_file.specs.Verdict.{Answering, IsVerdict, judged, header_fault, stream_fault, read_under, unlocked}
+use Rattle.age_file.specs.Verdict.{Answering, IsVerdict, judged, header_fault, parts_of, read_under, stream_fault, unlocked, with_file_fault}
 use Rattle.age_file.proofs.FileLemmas.{one_verdict}
 use Rattle.agefile.specs.declared.reader.Reader.{Reader}
 use Rattle.agefile.specs.declared.report.Report.{Report}
@@ -34,19 +32,13 @@ IsVerdictFrom b v (Ok start) = v ≡ record {
   fault = option_map stream_fault (reading_from start.key limits.max_chunks 0 (drop start.first b)).fault;
 }
 
--- a reading with its faults named as a file's
-unfoldable pub renamed : Reading StreamFault → Reading Fault
-renamed r = record { front = r.front; fault = option_map stream_fault r.fault }
-
 payload-from : (b : List ℕ) (n : ℕ) (k : FileKey) (v : Reading Fault) (t : Bool)
-    → v ≡ renamed (cond t (stops stream.NonceTruncated) (reading_from (payload_key k (take 16 (drop n b))) limits.max_chunks 0 (drop 16 (drop n b))))
+    → v ≡ with_file_fault (cond t (stops stream.NonceTruncated) (reading_from (payload_key k (take 16 (drop n b))) limits.max_chunks 0 (drop 16 (drop n b))))
     → IsVerdictFrom b v (cond t (Err NonceTruncated) (Ok (record { first = n + 16; key = payload_key k (take 16 (drop n b)) })))
-unfolding renamed
 payload-from b n k v true is = is
-payload-from b n k v false is = is ∙ ap (λ x. renamed (reading_from (payload_key k (take 16 (drop n b))) limits.max_chunks 0 x)) (drop-drop 16 n b)
+payload-from b n k v false is = is ∙ ap (λ x. with_file_fault (reading_from (payload_key k (take 16 (drop n b))) limits.max_chunks 0 x)) (drop-drop 16 n b)
 
 under-from : (b : List ℕ) (n : ℕ) (v : Reading Fault) (key : Result FileKey Fault) → v ≡ read_under limits (drop n b) key → IsVerdictFrom b v (start_under n (drop n b) key)
-unfolding renamed
 under-from b n v (Err fault) is = is
 under-from b n v (Ok k) is = payload-from b n k v (nat_lt (length (drop n b)) 16) is
 

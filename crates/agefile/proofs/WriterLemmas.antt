@@ -22,7 +22,7 @@ use Rattle.agefile.proofs.GivesFileLemmas.{Given, IsShort, gathered_one, no_refu
 fails-by : (fresh : Fresh) (given : Given) (old new : List ℕ) (writer : Writer) (report : Report) (code : ℕ) (fault : Fault)
     → FailsHeading limits fresh.file_key given fault → StaysClosed (fault_code fault) old new writer report code → OpensGathered fresh given old new writer report code
 fails-by fresh given old new writer report code fault (inl memory) closed = inl (subst (λ f. StaysClosed (fault_code f) old new writer report code) memory closed)
-fails-by fresh given old new writer report code fault (inr (inl (i, reason, is, refused))) closed = inr (inl (Refused i reason, refused))
+fails-by fresh given old new writer report code fault (inr refused) closed = inr (inl (fault, refused))
 
 pub opens_none : (l : Bounds) (fresh wanted : Fresh) (given : FileKey → Given) (old new : List ℕ) (writer : Writer) (report : Report) (code : ℕ) (fault : Fault)
     → l ≡ limits → fresh ≡ wanted → FailsHeading l fresh.file_key (given fresh.file_key) fault → StaysClosed (fault_code fault) old new writer report code

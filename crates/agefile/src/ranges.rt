@@ -257,7 +257,8 @@ pub extern "C" fn agefile_ranges_chunk(
     }
 }
 
-/// Whether the last chunk was verified and the plaintext has a byte at this offset.
+/// Whether the last chunk was verified, offsets in the file fit 64 bits, and the plaintext has a
+/// byte at this offset.
 fn has_byte(ranges: &Ranges, at: u64) -> bool
     ensures { result ≡ has_byte ranges.now at }
 {
@@ -266,14 +267,14 @@ fn has_byte(ranges: &Ranges, at: u64) -> bool
         && at < plain_of(ranges.sealed_len)
 }
 
-/// The number of the last piece, if all pieces have this many bytes.
+/// The index of the last piece, if all pieces together have this many bytes.
 fn last_index(sealed_len: u64) -> u64
     ensures { result ≡ last_index sealed_len }
 {
     sealed_len.saturating_sub(1) / SEALED_CHUNK_SIZE as u64
 }
 
-/// The length of piece i, if all pieces have this many bytes.
+/// The length of piece i, if all pieces together have this many bytes.
 fn piece_len(sealed_len: u64, i: u64) -> usize
     requires { i ≤ last_index sealed_len }
     ensures { result ≡ piece_len sealed_len i }
