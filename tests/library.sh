@@ -120,13 +120,14 @@ constants() {
     [[ $(sed -nE 's/^const MAX_HEADER: usize = ([0-9_]+);/\1/p' "$root/crates/agefile/src/limits.rt") == 65_536 ]] &&
         grep -q '^#define AGEFILE_FRONT 65552 ' "$header"
     check "AGEFILE_FRONT is the crate's greatest header, and a nonce"
-    local sealed tag
-    sealed=$(number_of "$root/crates/agefile/src/state.rt" SEALED_CHUNK)
-    tag=$(number_of "$root/crates/agefile/src/state.rt" TAG)
-    [[ $sealed -gt 0 && $(number_of "$header" AGEFILE_SEALED_CHUNK) -eq $sealed && $(number_of "$header" AGEFILE_TEXT_CHUNK) -eq $((sealed - tag)) ]]
+    local chunk tag sealed
+    chunk=$(number_of "$root/crates/age_stream/src/sizes.rt" CHUNK_SIZE)
+    tag=$(number_of "$root/crates/age_stream/src/sizes.rt" TAG_SIZE)
+    sealed=$((chunk + tag))
+    [[ $chunk -gt 0 && $tag -gt 0 && $(number_of "$header" AGEFILE_SEALED_CHUNK) -eq $sealed && $(number_of "$header" AGEFILE_TEXT_CHUNK) -eq $chunk ]]
     check "the header's lengths of chunks are the crate's"
     [[ $(number_of "$root/python/agefile.py" _SEALED_CHUNK) -eq $sealed && $(number_of "$root/rust/src/stream.rs" SEALED_CHUNK) -eq $sealed &&
-        $(number_of "$root/rust/src/stream.rs" TEXT_CHUNK) -eq $((sealed - tag)) && $(number_of "$root/rust/src/stream.rs" TAG) -eq $tag &&
+        $(number_of "$root/rust/src/stream.rs" TEXT_CHUNK) -eq $chunk && $(number_of "$root/rust/src/stream.rs" TAG) -eq $tag &&
         $(number_of "$root/python/agefile.py" _FRONT) -eq 65552 && $(number_of "$root/rust/src/whole.rs" FRONT) -eq 65552 ]]
     check "the lengths in Python and Rust are the crate's"
     [[ $(number_of "$header" AGEFILE_HEADER_ROOM) -ge $(number_of "$root/crates/agefile/src/sizes.rt" FRONT) ]]

@@ -6,13 +6,10 @@ use crate::buffering::{buffer_of, end, limits_of};
 use crate::decrypt::identities_of;
 use crate::fault::Fault;
 use crate::secret::Secret;
-use age_file::{RangeReader, ReadAt, Sink, WriteSink, open_ranges, write_all};
+use age_file::{CHUNK_SIZE, RangeReader, ReadAt, Sink, WriteSink, open_ranges, write_all};
 use age_words::Job;
 use std::alloc::Global;
 use std::io::Write;
-
-/// The plaintext of each chunk but the last, in bytes.
-const CHUNK_SIZE: usize = 65_536;
 
 /// Writes the plaintext of the input from the job's offset on, at most as many bytes as the job
 /// requests. On a fault of a chunk the plaintext up to that chunk was written.

@@ -35,7 +35,7 @@ impl<'a, S: Source> Decryptor<'a, S> {
     /// A file with this header; the source returns the bytes after it.
     fn over(input: &'a mut S, header: Header, limits: &Limits) -> Decryptor<'a, S>
         ensures same_reference { (input_of result).ghost_name ≡ input.entry.ghost_name }
-        ensures kept { (input_of result).now ≡ input.old }
+        ensures unchanged { (input_of result).now ≡ input.old }
         ensures header { header_of result ≡ header }
         ensures limits { limits_of result ≡ limits.now }
     {

@@ -19,9 +19,11 @@
 //! identities. The contracts and the laws in `laws` cite it. The terms are defined in
 //! docs/DESIGN.md, "Words".
 //!
-//! `fault` has the texts of the errors, and `limits` the ranges of the limits. The chunk size is in
-//! `age_stream` (`specs/Sizes.antt`), the range of work factors in `age_recipient`
-//! (`specs/PassphraseHolders.antt`).
+//! `fault` has the texts of the errors, and `limits` the limits of a header and of the number of
+//! chunks. The chunk size is in `age_stream` (`src/sizes.rt`, `specs/Sizes.antt`), the range of
+//! work factors in `age_recipient` (`specs/PassphraseHolders.antt`), and the program's default of
+//! them in `age_words` (`src/options.rt`). CONTRIBUTING.md, "Where a change goes", says what
+//! follows from a change of each.
 //!
 //! Limits: those of `Limits`. A source is read to its end. What was written before an error is
 //! genuine, but incomplete.
@@ -55,7 +57,8 @@ pub use age_recipient::{
     WrapFault, unlock,
 };
 pub use age_stream::{
-    Done, FileAt, MemAt, RangeReader, ReadAt, Refused, StreamFault, StreamReader, StreamWriter,
+    CHUNK_SIZE, Done, FileAt, MemAt, RangeReader, ReadAt, Refused, StreamFault, StreamReader,
+    StreamWriter,
 };
 pub use decrypting::decrypt;
 pub use decryptor::Decryptor;

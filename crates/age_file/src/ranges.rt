@@ -97,7 +97,7 @@ pub fn open_ranges<'a, D: ReadAt>(
         λ stanzas. map (λ i. meaning i stanzas) identities.now in
         IfOk result (λ reader. IfSome (D.bytes dev.old) (λ b. IsRangesOf limits.now answers b
         (chunks_of reader) (D.given dev.old) (D.given (source_at_of reader).now))) }
-    ensures kept { IfOk result (λ reader. ((chunks_of reader).index
+    ensures kept_chunk { IfOk result (λ reader. ((chunks_of reader).index
         ≡ Some ((chunks_of reader).layout.count - 1))
         × ((chunks_of reader).opened ≡ 1)) }
     ensures uncounted { IfOk result

@@ -61,7 +61,8 @@ impl HeaderReader {
         alloc: Global,
         input: &mut S,
     ) -> Result<Header, HeaderFault>
-        ensures kept { IfSome self.old.fault (λ e. (result ≡ Err e) × (input.new ≡ input.old)) }
+        ensures kept_fault { IfSome self.old.fault
+            (λ e. (result ≡ Err e) × (input.new ≡ input.old)) }
         ensures keeps { self.new ≡ record { max = self.old.max; fault = fault_of result } }
         ensures count { IfNone self.old.fault
             (CountsRead (S.failed input.old) (S.failed input.new) result) }

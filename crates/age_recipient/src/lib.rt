@@ -14,7 +14,8 @@
 //! bytes. A caller's own kind implements `Recipient` or `Identity`, and states its meaning as a
 //! function.
 //!
-//! Limits: work factors are 1 to 30. There are no X25519, SSH or plugin recipients.
+//! Limits: work factors are 1 to 30 (`passphrase/work.rt`, `specs/PassphraseHolders.antt`). There
+//! are no X25519, SSH or plugin recipients.
 #![tactic(auto)]
 
 mod choice;

@@ -14,6 +14,8 @@
 //! `RangeReader` reads any part of a plaintext. `open_chunk` and `seal_chunk` work on one chunk in
 //! the caller's memory.
 //!
+//! `sizes` has the sizes of a payload's parts, `specs/Sizes.antt` the same for clauses.
+//!
 //! Limits: at most 2^88 chunks of 65,536 bytes. A payload is complete only if its last chunk was
 //! read.
 #![tactic(auto)]

@@ -1,7 +1,7 @@
 //! Runs one part of `age_cipher` over many chunks and prints a checksum, to be timed from outside.
 //!
-//! `cipher_bench PART MIB BYTE`: PART is `seal`, `open`, `chacha20` or `poly1305`, MIB how many MiB,
-//! and BYTE the number of which key and text consist. `bench/cipher.sh` builds and times it.
+//! `cipher_bench PART MIB BYTE`: PART is `seal`, `open`, `chacha20` or `poly1305`, MIB says how
+//! many MiB, and key and text consist of BYTE. `bench/cipher.sh` builds and times it.
 #![tactic(auto)]
 
 ghost use Rattle.std.specs.Prelude.{◌≡◌, IfOk, length, vec_len, ◌≤◌};

@@ -1,7 +1,7 @@
 //! One scrypt key, for the benchmark: `kdf_bench LOG_N R P` derives 32 bytes and prints them.
 //!
-//! If the memory is refused it says so, and whether the output is unchanged. `bench/scrypt.py` builds
-//! and times it.
+//! If the memory is refused it says so, and whether the output is unchanged. `bench/scrypt.py`
+//! builds and times it.
 #![tactic(auto)]
 
 use age_kdf::{ScryptParams, scrypt};

@@ -1,5 +1,12 @@
 //! What is encrypted for the recipient of a pair is decrypted by its identity to the same
 //! plaintext. The proofs use the contracts and laws of `age_file` alone.
+//!
+//! ```
+//! let text = key_there_and_back(alloc, key, salt, plain, &fresh, &limits)?; // equals `plain`
+//! ```
+//!
+//! Limits: one recipient, and all in memory. The error is a refused allocation or a limit that was
+//! exceeded.
 #![tactic(auto)]
 
 mod file;
