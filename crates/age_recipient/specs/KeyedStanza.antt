@@ -15,7 +15,7 @@ use Rattle.age_recipient.specs.Answer.{after_type, typed_answer}
 use Rattle.age_recipient.specs.Salt.{salt_of}
 use Rattle.age_recipient.specs.Sealing.{sealed_key, unsealed, sealed_key_size}
 
--- the type of the stanza, its first argument
+-- the type of the stanza, which is its first argument, and the info of its wrap key
 abbrev pub keyed_type : Bytes
 keyed_type = codes "example.org/key"
 
