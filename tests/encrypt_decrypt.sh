@@ -233,7 +233,7 @@ cut_files() {
     LC_ALL=C sed 's/^--- R/--- S/' whole >made
     decrypt -p pass made
     ! cmp -s whole made && has_ended 1 "agep: header check failed"
-    check "the first sign of the MAC changed"
+    check "the first character of the MAC changed"
 }
 
 # A file of two chunks, damaged after its header: what is written is the plaintext of the chunks

@@ -231,7 +231,7 @@ refused_files() {
     head -c 149 old.age >cut.age
     LC_ALL=C sed 's/^--- R/--- S/' old.age >mac.age
     ! cmp -s old.age mac.age
-    check "the first sign of the MAC changed"
+    check "the first character of the MAC changed"
     for row in "-p other.pass -P new.pass old.age|wrong passphrase or key" "-p other.pass -K new.key old.age|wrong passphrase or key" \
         "-k new.key -P new.pass key.age|wrong passphrase or key" "-k key -K new.key old.age|no key fits this file" \
         "-p pass -K new.key mac.age|header check failed" "-p pass -K new.key cut.age|header is cut short" \

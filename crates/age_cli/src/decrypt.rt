@@ -20,7 +20,14 @@ pub(crate) fn decrypt<'a, R: Read, W: Write>(
 ) -> Result<(), Fault<'a>>
     requires { IsInRange job.now }
 {
-    let identities = identities_of(alloc, job, secret)?;
+    let mut identities: Vec<Box<dyn Identity>> = Vec::new(alloc);
+    match secret {
+        Secret::Passphrase(passphrase) => {
+            let identity = pass_identity(alloc, job, passphrase.as_slice())?;
+            identities.push(Box::new(alloc, identity)?)?;
+        }
+        Secret::Key(key) => identities.push(Box::new(alloc, KeyIdentity::new(*key))?)?,
+    }
     let limits = limits_of(job);
     let mut source = file_source(alloc, input)?;
     let mut buffered = buffer_of(alloc, out)?;
@@ -34,27 +41,12 @@ pub(crate) fn decrypt<'a, R: Read, W: Write>(
     end(buffered, result.err())
 }
 
-/// The one identity of this secret.
-pub(crate) fn identities_of<'a>(
+/// The identity of this passphrase, with the job's greatest work factor.
+pub(crate) fn pass_identity<'a>(
     alloc: Global,
     job: &Job,
-    secret: &Secret,
-) -> Result<Vec<Box<dyn Identity>>, Fault<'a>>
-    requires { IsInRange job.now }
-{
-    let mut identities: Vec<Box<dyn Identity>> = Vec::new(alloc);
-    match secret {
-        Secret::Passphrase(passphrase) => {
-            let identity = pass_identity(alloc, job, passphrase.as_slice())?;
-            identities.push(Box::new(alloc, identity)?)?;
-        }
-        Secret::Key(key) => identities.push(Box::new(alloc, KeyIdentity::new(*key))?)?,
-    }
-    Ok(identities)
-}
-
-/// The identity of this passphrase, with the job's greatest work factor.
-fn pass_identity<'a>(alloc: Global, job: &Job, passphrase: &[u8]) -> Result<PassIdentity, Fault<'a>>
+    passphrase: &[u8],
+) -> Result<PassIdentity, Fault<'a>>
     requires { IsInRange job.now }
 {
     match PassIdentity::new(alloc, passphrase, job.max_work) {

@@ -20,7 +20,14 @@ pub(crate) fn encrypt<'a, R: Read, W: Write>(
 ) -> Result<(), Fault<'a>>
     requires { IsInRange job.now }
 {
-    let recipients = recipients_of(alloc, job, secret, seed.salt)?;
+    let mut recipients: Vec<Box<dyn Recipient>> = Vec::new(alloc);
+    match secret {
+        Secret::Passphrase(passphrase) => {
+            let recipient = pass_recipient(alloc, job, passphrase.as_slice(), seed.salt)?;
+            recipients.push(Box::new(alloc, recipient)?)?;
+        }
+        Secret::Key(key) => recipients.push(Box::new(alloc, KeyRecipient::new(*key, seed.salt))?)?,
+    }
     let limits = limits_of(job);
     let mut source = ReadSource::new(input);
     let mut buffered = buffer_of(alloc, out)?;
@@ -35,28 +42,8 @@ pub(crate) fn encrypt<'a, R: Read, W: Write>(
     end(buffered, result.err())
 }
 
-/// The one recipient of this secret.
-pub(crate) fn recipients_of<'a>(
-    alloc: Global,
-    job: &Job,
-    secret: &Secret,
-    salt: [u8; 16],
-) -> Result<Vec<Box<dyn Recipient>>, Fault<'a>>
-    requires { IsInRange job.now }
-{
-    let mut recipients: Vec<Box<dyn Recipient>> = Vec::new(alloc);
-    match secret {
-        Secret::Passphrase(passphrase) => {
-            let recipient = pass_recipient(alloc, job, passphrase.as_slice(), salt)?;
-            recipients.push(Box::new(alloc, recipient)?)?;
-        }
-        Secret::Key(key) => recipients.push(Box::new(alloc, KeyRecipient::new(*key, salt))?)?,
-    }
-    Ok(recipients)
-}
-
 /// The recipient of this passphrase, with the job's work factor.
-fn pass_recipient<'a>(
+pub(crate) fn pass_recipient<'a>(
     alloc: Global,
     job: &Job,
     passphrase: &[u8],

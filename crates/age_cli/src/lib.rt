@@ -8,7 +8,7 @@
 //! calls it with the standard streams. The command line is read by `age_words`, and the work is
 //! done by `age_file`.
 //!
-//! `program` has the commands and the statuses; a module of its own has each command. `fault` and
+//! `program` has the commands and the statuses; each command has a module of its own. `fault` and
 //! `file_names` have the texts of errors, `buffering` the sizes of buffers.
 //!
 //! Limits: the program cannot promise what files hold. The scripts under `tests/` show which

@@ -3,10 +3,12 @@ ghost use Rattle.std.specs.Prelude.{◌≤◌, ◌≡◌, length};
 ghost use Rattle.age_words.specs.Job.{IsInRange, most_offset};
 
 use crate::buffering::{buffer_of, end, limits_of};
-use crate::decrypt::identities_of;
+use crate::decrypt::pass_identity;
 use crate::fault::Fault;
 use crate::secret::Secret;
-use age_file::{CHUNK_SIZE, RangeReader, ReadAt, Sink, WriteSink, open_ranges, write_all};
+use age_file::{
+    CHUNK_SIZE, Identity, KeyIdentity, RangeReader, ReadAt, Sink, WriteSink, open_ranges, write_all,
+};
 use age_words::Job;
 use std::alloc::Global;
 use std::io::Write;
@@ -22,7 +24,14 @@ pub(crate) fn range<'a, D: ReadAt, W: Write>(
 ) -> Result<(), Fault<'a>>
     requires { IsInRange job.now }
 {
-    let identities = identities_of(alloc, job, secret)?;
+    let mut identities: Vec<Box<dyn Identity>> = Vec::new(alloc);
+    match secret {
+        Secret::Passphrase(passphrase) => {
+            let identity = pass_identity(alloc, job, passphrase.as_slice())?;
+            identities.push(Box::new(alloc, identity)?)?;
+        }
+        Secret::Key(key) => identities.push(Box::new(alloc, KeyIdentity::new(*key))?)?,
+    }
     let limits = limits_of(job);
     let mut piece = vec![in alloc; 0u8; CHUNK_SIZE]?;
     let mut buffered = buffer_of(alloc, out)?;

@@ -2,11 +2,11 @@
 ghost use Rattle.age_words.specs.Job.{IsInRange};
 
 use crate::buffering::{buffer_of, end, file_source, limits_of};
-use crate::decrypt::identities_of;
-use crate::encrypt::recipients_of;
+use crate::decrypt::pass_identity;
+use crate::encrypt::pass_recipient;
 use crate::fault::Fault;
 use crate::secret::Secret;
-use age_file::WriteSink;
+use age_file::{Identity, KeyIdentity, KeyRecipient, Recipient, WriteSink};
 use age_words::Job;
 use std::alloc::Global;
 use std::io::{Read, Write};
@@ -24,8 +24,22 @@ pub(crate) fn rewrap<'a, R: Read, W: Write>(
 ) -> Result<(), Fault<'a>>
     requires { IsInRange job.now }
 {
-    let identities = identities_of(alloc, job, old)?;
-    let recipients = recipients_of(alloc, job, new, salt)?;
+    let mut identities: Vec<Box<dyn Identity>> = Vec::new(alloc);
+    match old {
+        Secret::Passphrase(passphrase) => {
+            let identity = pass_identity(alloc, job, passphrase.as_slice())?;
+            identities.push(Box::new(alloc, identity)?)?;
+        }
+        Secret::Key(key) => identities.push(Box::new(alloc, KeyIdentity::new(*key))?)?,
+    }
+    let mut recipients: Vec<Box<dyn Recipient>> = Vec::new(alloc);
+    match new {
+        Secret::Passphrase(passphrase) => {
+            let recipient = pass_recipient(alloc, job, passphrase.as_slice(), salt)?;
+            recipients.push(Box::new(alloc, recipient)?)?;
+        }
+        Secret::Key(key) => recipients.push(Box::new(alloc, KeyRecipient::new(*key, salt))?)?,
+    }
     let limits = limits_of(job);
     let mut source = file_source(alloc, input)?;
     let mut buffered = buffer_of(alloc, out)?;

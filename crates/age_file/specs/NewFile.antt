@@ -102,7 +102,7 @@ pub record NewFile (limits : Bounds) (fresh : Fresh) (gathered : Gathering) (pla
 
 -- what was written of a plaintext of too many chunks: the header, the nonce, and the sealed chunks
 -- with an index below max_chunks - 1
-pub record FileUpToLimit (limits : Bounds) (fresh : Fresh) (gathered : Gathering) (plain : Bytes)
+pub record FileBelowLimit (limits : Bounds) (fresh : Fresh) (gathered : Gathering) (plain : Bytes)
     (gained : Bytes) : Type 0 where
   pub stanzas : List StanzaParts
   pub text : Bytes
@@ -130,7 +130,7 @@ EncryptsText limits fresh gathered plain old new (Ok done) =
     (gained : Bytes) × NewFile limits fresh gathered plain gained × Appends old new gained
     × (done.bytes ≡ length plain) × (done.chunks ≡ length (chunks plain))
 EncryptsText limits fresh gathered plain old new (Err TooManyChunks) =
-    (gained : Bytes) × FileUpToLimit limits fresh gathered plain gained × Appends old new gained
+    (gained : Bytes) × FileBelowLimit limits fresh gathered plain gained × Appends old new gained
 EncryptsText limits fresh gathered plain old new (Err Read) =
     BegunFile limits fresh gathered plain old new
 EncryptsText limits fresh gathered plain old new (Err Write) =

@@ -7,7 +7,7 @@ ghost use Rattle.age_file.specs.Device.{CountsRead, CountsWrite};
 use crate::fault::Fault;
 use age_header::{Sink, Source, fill_from, write_all};
 
-/// How many bytes are read and written at once.
+/// The length of the buffer of `copy_all`, and of each full piece but the first.
 pub(crate) const BUFFER_SIZE: usize = 65_536;
 
 /// How many full pieces are copied at most, 2^105 bytes in all: more than any payload has, so that

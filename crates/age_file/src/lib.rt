@@ -21,8 +21,8 @@
 //!
 //! `fault` has the texts of the errors, and `limits` the limits of a header and of the number of
 //! chunks. The chunk size is in `age_stream` (`src/sizes.rt`, `specs/Sizes.antt`), the range of
-//! work factors in `age_recipient` (`specs/PassphraseHolders.antt`), and the program's default of
-//! them in `age_words` (`src/options.rt`). CONTRIBUTING.md, "Where a change goes", says what
+//! work factors in `age_recipient` (`specs/PassphraseHolders.antt`), and the program's default work
+//! factors in `age_words` (`src/options.rt`). CONTRIBUTING.md, "Where a change goes", says what
 //! follows from a change of each.
 //!
 //! Limits: those of `Limits`. A source is read to its end. What was written before an error is

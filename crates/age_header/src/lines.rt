@@ -17,7 +17,7 @@ pub(crate) enum LineEnd {
     Lf,
     /// The end of the input.
     Input,
-    /// The limit `max_len`: the line is longer.
+    /// The line is longer than `max_len`.
     Room,
 }
 

@@ -43,16 +43,18 @@ pub(crate) const LEAST_WORK: u64 = 1;
 
 pub(crate) const MOST_WORK: u64 = 30;
 
-/// The work factor that `encrypt` and `rewrap` write if the arguments name none: the option's
-/// default, and what the job of a command without this option holds.
+/// The work factor that `encrypt` and `rewrap` write if the arguments name none, as `clap` takes
+/// it.
 pub(crate) const DEFAULT_WORK_TEXT: &str = "18";
 
+/// The same as a number, which the job of a command without this option holds.
 pub(crate) const DEFAULT_WORK: u8 = 18;
 
-/// The greatest work factor that `decrypt`, `range` and `rewrap` accept if the arguments name none:
-/// the option's default, and what the job of a command without this option holds.
+/// The greatest work factor that `decrypt`, `range` and `rewrap` accept if the arguments name none,
+/// as `clap` takes it.
 pub(crate) const DEFAULT_MAX_WORK_TEXT: &str = "22";
 
+/// The same as a number, which the job of a command without this option holds.
 pub(crate) const DEFAULT_MAX_WORK: u8 = 22;
 
 pub(crate) const LEAST_HEADER: u64 = 1024;

@@ -1,4 +1,4 @@
--- What a caller is given of a plaintext that was encrypted through memory.
+-- What a caller is gathered of a plaintext that was encrypted through memory.
 use Rattle.std.proofs.Common.{◌≡◌, ℕ, ◌≤◌, ◌<◌, ◌-◌, ◌^◌, List, [], ◌∷◌, length, map, false, ◌∙◌, ap, subst, inl, inr, arith, Option, Some, None, Result, Ok, Err}
 use Rattle.age_header.specs.Header.{Head, StanzaParts}
 use Rattle.age_recipient.specs.declared.key.FileKey.{FileKey}
@@ -12,7 +12,7 @@ use Rattle.age_file.specs.declared.fault.Fault.TheVariants.{HeaderTooLarge, Mixe
 use Rattle.age_file.specs.declared.limits.Fresh.{Fresh}
 use Rattle.age_file.specs.AgeFile.{Bounds}
 use Rattle.age_file.specs.Device.{CountsRead}
-use Rattle.age_file.specs.NewFile.{EncryptsGiven, EncryptsText, Gathered, IsRefusal, RefusesFirst, unless_incompatible}
+use Rattle.age_file.specs.NewFile.{EncryptsGiven, EncryptsText, Gathered, Gathering, IsRefusal, RefusesFirst, unless_incompatible}
 use Rattle.age_file.proofs.OwnLabels.{one_index}
 use Rattle.agefile.specs.declared.report.Report.{Report}
 use Rattle.agefile.specs.Giving.{Gives, GivesFile, GivesGathered, fresh_of, salt_of}
@@ -20,40 +20,36 @@ use Rattle.agefile.specs.Codes.{is_memory}
 use Rattle.agefile.specs.Limits.{limits}
 use Rattle.agefile.proofs.SizeLemmas.{chunks_size, key_header, pass_header, seed_key_size, seed_salt_size}
 
--- what recipients give
-abbrev pub Given : Type 1
-Given = Result (List StanzaParts) Fault → Type 0
-
-pub seals_whole : (seed : List ℕ) (given : Given) (plain text old new : List ℕ) (report : Report) (code : ℕ) (done : Done)
-    → EncryptsText limits (fresh_of seed) given plain (Some []) (Some text) (Ok done) → Gives text None old new report code → GivesGathered seed given plain old new report code
-seals_whole seed given plain text old new report code done h gives =
+pub seals_whole : (seed : List ℕ) (gathered : Gathering) (plain text old new : List ℕ) (report : Report) (code : ℕ) (done : Done)
+    → EncryptsText limits (fresh_of seed) gathered plain (Some []) (Some text) (Ok done) → Gives text None old new report code → GivesGathered seed gathered plain old new report code
+seals_whole seed gathered plain text old new report code done h gives =
     inr (inr (inr (h.0, h.1, subst (λ t. Gives t None old new report code) h.2 gives)))
 
 -- a fault that no device and no allocation caused is a refusal, or there are too many chunks
-part_of : (seed : List ℕ) (given : Given) (plain old new : List ℕ) (report : Report) (code : ℕ) (before after : Option (List ℕ)) (fault : Fault)
-    → is_memory fault ≡ false → CountsRead {A = Done} 0 0 (Err fault) → RefusesFirst limits (fresh_of seed).file_key given fault
-    → EncryptsText limits (fresh_of seed) given plain before after (Err fault) → GivesGathered seed given plain old new report code
-part_of seed given plain old new report code before after OutOfMemory inside count first h = cc
-part_of seed given plain old new report code before after Write inside count first h = cc
-part_of seed given plain old new report code before after Read inside count first h = absurd (omega arith)
-part_of seed given plain old new report code before after TooManyChunks inside count first h = inr (inr (inl (h.0, h.1)))
-part_of seed given plain old new report code before after fault inside count first h = inr (inl (fault, first))
+part_of : (seed : List ℕ) (gathered : Gathering) (plain old new : List ℕ) (report : Report) (code : ℕ) (before after : Option (List ℕ)) (fault : Fault)
+    → is_memory fault ≡ false → CountsRead {A = Done} 0 0 (Err fault) → RefusesFirst limits (fresh_of seed).file_key gathered fault
+    → EncryptsText limits (fresh_of seed) gathered plain before after (Err fault) → GivesGathered seed gathered plain old new report code
+part_of seed gathered plain old new report code before after OutOfMemory inside count first h = cc
+part_of seed gathered plain old new report code before after Write inside count first h = cc
+part_of seed gathered plain old new report code before after Read inside count first h = absurd (omega arith)
+part_of seed gathered plain old new report code before after TooManyChunks inside count first h = inr (inr (inl (h.0, h.1)))
+part_of seed gathered plain old new report code before after fault inside count first h = inr (inl (fault, first))
 
 -- the same of devices in memory
-pub seals_part : (l : Bounds) (fresh : Fresh) (seed : List ℕ) (given : FileKey → Given) (plain old new : List ℕ) (come before after : Option (List ℕ)) (report : Report) (code : ℕ) (fault : Fault)
+pub seals_part : (l : Bounds) (fresh : Fresh) (seed : List ℕ) (gathered : FileKey → Gathering) (plain old new : List ℕ) (come before after : Option (List ℕ)) (report : Report) (code : ℕ) (fault : Fault)
     → l ≡ limits → fresh ≡ fresh_of seed → come ≡ Some plain → is_memory fault ≡ false → CountsRead {A = Done} 0 0 (Err fault)
-    → RefusesFirst l fresh.file_key (given fresh.file_key) fault → EncryptsGiven l fresh (given fresh.file_key) come before after (Err fault)
-    → GivesGathered seed (given (fresh_of seed).file_key) plain old new report code
-seals_part l fresh seed given plain old new come before after report code fault at seeds source inside count first h =
-    part_of seed (given (fresh_of seed).file_key) plain old new report code before after fault inside count
-    (subst (λ f. RefusesFirst limits f.file_key (given f.file_key) fault) seeds (subst (λ b. RefusesFirst b fresh.file_key (given fresh.file_key) fault) at first))
-    (subst (λ f. EncryptsText limits f (given f.file_key) plain before after (Err fault)) seeds
-    (subst (λ b. EncryptsText b fresh (given fresh.file_key) plain before after (Err fault)) at
-    (subst (λ (s : Option (List ℕ)). EncryptsGiven l fresh (given fresh.file_key) s before after (Err fault)) source h)))
+    → RefusesFirst l fresh.file_key (gathered fresh.file_key) fault → EncryptsGiven l fresh (gathered fresh.file_key) come before after (Err fault)
+    → GivesGathered seed (gathered (fresh_of seed).file_key) plain old new report code
+seals_part l fresh seed gathered plain old new come before after report code fault at seeds source inside count first h =
+    part_of seed (gathered (fresh_of seed).file_key) plain old new report code before after fault inside count
+    (subst (λ f. RefusesFirst limits f.file_key (gathered f.file_key) fault) seeds (subst (λ b. RefusesFirst b fresh.file_key (gathered fresh.file_key) fault) at first))
+    (subst (λ f. EncryptsText limits f (gathered f.file_key) plain before after (Err fault)) seeds
+    (subst (λ b. EncryptsText b fresh (gathered fresh.file_key) plain before after (Err fault)) at
+    (subst (λ (s : Option (List ℕ)). EncryptsGiven l fresh (gathered fresh.file_key) s before after (Err fault)) source h)))
 
 -- what one recipient gives that wraps a key in one stanza
-pub gathered_one : (stanza : StanzaParts) (meant : Labels) (given : Result (List StanzaParts) Fault) → Gathered (Ok (stanza ∷ []) ∷ []) (meant ∷ []) given → given ≡ Ok (stanza ∷ [])
-gathered_one stanza meant given (index, incompatible, is) = is ∙ ap (unless_incompatible (Ok (stanza ∷ []))) (one_index meant index incompatible)
+pub gathered_one : (stanza : StanzaParts) (meant : Labels) (gathered : Result (List StanzaParts) Fault) → Gathered (Ok (stanza ∷ []) ∷ []) (meant ∷ []) gathered → gathered ≡ Ok (stanza ∷ [])
+gathered_one stanza meant gathered (index, incompatible, is) = is ∙ ap (unless_incompatible (Ok (stanza ∷ []))) (one_index meant index incompatible)
 
 -- each header of this stanza alone is short
 abbrev pub IsShort : StanzaParts → Type 0
@@ -65,7 +61,7 @@ pub no_refusal : (k : FileKey) (stanza : StanzaParts) (meant : Labels) (fault : 
 no_refusal k stanza meant (Refused i code) short h = let same = gathered_one stanza meant _ h in cc
 no_refusal k stanza meant (IncompatibleRecipients i) short h = let same = gathered_one stanza meant _ h in cc
 no_refusal k stanza meant NoRecipients short h = let same = gathered_one stanza meant _ h in cc
-no_refusal k stanza meant MixedPassphrase short (stanzas, given, mixed) = let same : stanzas ≡ stanza ∷ [] = cc (gathered_one stanza meant _ given) in cc (rw same at mixed)
+no_refusal k stanza meant MixedPassphrase short (stanzas, gathered, mixed) = let same : stanzas ≡ stanza ∷ [] = cc (gathered_one stanza meant _ gathered) in cc (rw same at mixed)
 no_refusal k stanza meant HeaderTooLarge short h =
     let same : h.stanzas ≡ stanza ∷ [] = cc (gathered_one stanza meant _ h.gives) in
     let small : length h.text ≤ 156 = short _ h.text (rw same at h.head) in

@@ -9,37 +9,37 @@ use Rattle.age_file.specs.declared.fault.Fault.{Fault}
 use Rattle.age_file.specs.declared.fault.Fault.TheVariants.{HeaderTooLarge, IncompatibleRecipients, MixedPassphrase, NoRecipients, Refused}
 use Rattle.age_file.specs.declared.limits.Fresh.{Fresh}
 use Rattle.age_file.specs.AgeFile.{Bounds, is_mixed}
-use Rattle.age_file.specs.NewFile.{FailsHeading, Gathered, IsHeading}
+use Rattle.age_file.specs.NewFile.{FailsHeading, Gathered, Gathering, IsHeading}
 use Rattle.agefile.specs.declared.report.Report.{Report}
 use Rattle.agefile.specs.declared.writer.Writer.{Writer}
 use Rattle.agefile.specs.Giving.{fresh_of}
 use Rattle.agefile.specs.Codes.{fault_code}
 use Rattle.agefile.specs.Limits.{limits}
 use Rattle.agefile.specs.Writer.{GivesFront, OpensGathered, OpensWriter, StaysClosed}
-use Rattle.agefile.proofs.GivesFileLemmas.{Given, IsShort, gathered_one, no_refusal}
+use Rattle.agefile.proofs.GivesFileLemmas.{IsShort, gathered_one, no_refusal}
 
 -- no header was made
-fails-by : (fresh : Fresh) (given : Given) (old new : List ℕ) (writer : Writer) (report : Report) (code : ℕ) (fault : Fault)
-    → FailsHeading limits fresh.file_key given fault → StaysClosed (fault_code fault) old new writer report code → OpensGathered fresh given old new writer report code
-fails-by fresh given old new writer report code fault (inl memory) closed = inl (subst (λ f. StaysClosed (fault_code f) old new writer report code) memory closed)
-fails-by fresh given old new writer report code fault (inr refused) closed = inr (inl (fault, refused))
+fails-by : (fresh : Fresh) (gathered : Gathering) (old new : List ℕ) (writer : Writer) (report : Report) (code : ℕ) (fault : Fault)
+    → FailsHeading limits fresh.file_key gathered fault → StaysClosed (fault_code fault) old new writer report code → OpensGathered fresh gathered old new writer report code
+fails-by fresh gathered old new writer report code fault (inl memory) closed = inl (subst (λ f. StaysClosed (fault_code f) old new writer report code) memory closed)
+fails-by fresh gathered old new writer report code fault (inr refused) closed = inr (inl (fault, refused))
 
-pub opens_none : (l : Bounds) (fresh wanted : Fresh) (given : FileKey → Given) (old new : List ℕ) (writer : Writer) (report : Report) (code : ℕ) (fault : Fault)
-    → l ≡ limits → fresh ≡ wanted → FailsHeading l fresh.file_key (given fresh.file_key) fault → StaysClosed (fault_code fault) old new writer report code
-    → OpensGathered wanted (given wanted.file_key) old new writer report code
-opens_none l fresh wanted given old new writer report code fault at seeds fails closed =
-    subst (λ (f : Fresh). OpensGathered f (given f.file_key) old new writer report code) seeds
-    (fails-by fresh (given fresh.file_key) old new writer report code fault (subst (λ b. FailsHeading b fresh.file_key (given fresh.file_key) fault) at fails) closed)
+pub opens_none : (l : Bounds) (fresh wanted : Fresh) (gathered : FileKey → Gathering) (old new : List ℕ) (writer : Writer) (report : Report) (code : ℕ) (fault : Fault)
+    → l ≡ limits → fresh ≡ wanted → FailsHeading l fresh.file_key (gathered fresh.file_key) fault → StaysClosed (fault_code fault) old new writer report code
+    → OpensGathered wanted (gathered wanted.file_key) old new writer report code
+opens_none l fresh wanted gathered old new writer report code fault at seeds fails closed =
+    subst (λ (f : Fresh). OpensGathered f (gathered f.file_key) old new writer report code) seeds
+    (fails-by fresh (gathered fresh.file_key) old new writer report code fault (subst (λ b. FailsHeading b fresh.file_key (gathered fresh.file_key) fault) at fails) closed)
 
 -- the header was made and written, and its nonce after it
-pub opens_front : (l : Bounds) (fresh wanted : Fresh) (given : FileKey → Given) (h : HeaderParts) (text written front old new : List ℕ) (writer : Writer) (report : Report) (code : ℕ)
-    → l ≡ limits → fresh ≡ wanted → h.mac ≡ header_mac fresh.file_key.0 h.stanzas → IsHeading l fresh.file_key (given fresh.file_key) h.stanzas text
+pub opens_front : (l : Bounds) (fresh wanted : Fresh) (gathered : FileKey → Gathering) (h : HeaderParts) (text written front old new : List ℕ) (writer : Writer) (report : Report) (code : ℕ)
+    → l ≡ limits → fresh ≡ wanted → h.mac ≡ header_mac fresh.file_key.0 h.stanzas → IsHeading l fresh.file_key (gathered fresh.file_key) h.stanzas text
     → Head h.stanzas h.mac written → front ≡ written ++ fresh.nonce → GivesFront front fresh old new writer report code
-    → OpensGathered wanted (given wanted.file_key) old new writer report code
-opens_front l fresh wanted given h text written front old new writer report code at seeds mac heading head is gives =
-    let here : IsHeading limits fresh.file_key (given fresh.file_key) h.stanzas text = subst (λ b. IsHeading b fresh.file_key (given fresh.file_key) h.stanzas text) at heading in
+    → OpensGathered wanted (gathered wanted.file_key) old new writer report code
+opens_front l fresh wanted gathered h text written front old new writer report code at seeds mac heading head is gives =
+    let here : IsHeading limits fresh.file_key (gathered fresh.file_key) h.stanzas text = subst (λ b. IsHeading b fresh.file_key (gathered fresh.file_key) h.stanzas text) at heading in
     let same : written ≡ text = one_text h.stanzas (header_mac fresh.file_key.0 h.stanzas) written text (subst (λ (m : List ℕ). Head h.stanzas m written) mac head) here.head in
-    subst (λ (f : Fresh). OpensGathered f (given f.file_key) old new writer report code) seeds
+    subst (λ (f : Fresh). OpensGathered f (gathered f.file_key) old new writer report code) seeds
     (inr (inr (h.stanzas, text, here, subst (λ x. GivesFront x fresh old new writer report code) (is ∙ ap (λ t. t ++ fresh.nonce) same) gives)))
 
 -- of recipients in a list of one

@@ -7,7 +7,7 @@ use Rattle.age_recipient.specs.declared.unwrapped.Unwrapped.{Unwrapped}
 use Rattle.age_stream.specs.Reading.{Reading}
 use Rattle.age_file.specs.declared.fault.Fault.{Fault}
 use Rattle.age_file.specs.declared.limits.Fresh.{Fresh}
-use Rattle.age_file.specs.NewFile.{FileUpToLimit, IsRefusal, NewFile}
+use Rattle.age_file.specs.NewFile.{FileBelowLimit, Gathering, IsRefusal, NewFile}
 use Rattle.age_file.specs.Verdict.{Answering, IsVerdict}
 use Rattle.agefile.specs.declared.report.Report.{Report}
 use Rattle.agefile.specs.Codes.{code_of, out_of_memory, too_small}
@@ -35,7 +35,7 @@ pub record Exceeds (text old new : Bytes) (report : Report) (code : ℕ) : Type 
   pub reported : report ≡ report_of (length text) None
   pub buffer : new ≡ old
 
--- a text is given, and a fault after it, if the text fits the buffer
+-- a text is gathered, and a fault after it, if the text fits the buffer
 abbrev pub Gives : (text : Bytes) (fault : Option Fault) (old new : Bytes) (report : Report)
     (code : ℕ) → Type 0
 Gives text fault old new report code =
@@ -65,7 +65,7 @@ salt_start = 2 * part_size
 abbrev pub seed_size : ℕ
 seed_size = 3 * part_size
 
--- a seed: as many bytes
+-- a seed: 48 bytes
 pub record IsSeed (seed : Bytes) : Type 0 where
   pub len : length seed ≡ seed_size
   pub bytes : (i : ℕ) → slice_index seed i < 256
@@ -83,8 +83,8 @@ abbrev pub salt_of : Bytes → Bytes
 salt_of seed = take part_size (drop salt_start seed)
 
 -- the recipients gave this stanza alone
-abbrev pub only : (stanza : StanzaParts) (given : Result (List StanzaParts) Fault) → Type 0
-only stanza given = given ≡ Ok (stanza ∷ [])
+abbrev pub only : (stanza : StanzaParts) (gathered : Result (List StanzaParts) Fault) → Type 0
+only stanza gathered = gathered ≡ Ok (stanza ∷ [])
 
 -- this is the file of this plaintext and of this stanza alone under this seed
 abbrev pub IsFileUnder : (seed : Bytes) (stanza : FileKey → StanzaParts) (plain file : Bytes)
@@ -102,11 +102,11 @@ GivesFile seed stanza plain old new report code =
 
 -- the same for whatever recipients give. In a refusal, and where there are too many chunks, nothing
 -- is said of what the call returns: the exports have one recipient, which leaves neither case.
-abbrev pub GivesGathered : (seed : Bytes) (given : Result (List StanzaParts) Fault → Type 0)
+abbrev pub GivesGathered : (seed : Bytes) (gathered : Gathering)
     (plain old new : Bytes) (report : Report) (code : ℕ) → Type 0
-GivesGathered seed given plain old new report code =
+GivesGathered seed gathered plain old new report code =
     GivesUp out_of_memory old new report code
-    ⊎ (((fault : Fault) × IsRefusal limits (fresh_of seed).file_key given fault)
-    ⊎ (((begun : Bytes) × FileUpToLimit limits (fresh_of seed) given plain begun)
-    ⊎ ((file : Bytes) × NewFile limits (fresh_of seed) given plain file
+    ⊎ (((fault : Fault) × IsRefusal limits (fresh_of seed).file_key gathered fault)
+    ⊎ (((begun : Bytes) × FileBelowLimit limits (fresh_of seed) gathered plain begun)
+    ⊎ ((file : Bytes) × NewFile limits (fresh_of seed) gathered plain file
     × Gives file None old new report code)))

@@ -8,7 +8,7 @@ use Rattle.age_stream.specs.Payload.{payload_key, chunk_nonce}
 use Rattle.age_file.specs.declared.fault.Fault.{Fault}
 use Rattle.age_file.specs.declared.fault.Fault.TheVariants.{TooManyChunks}
 use Rattle.age_file.specs.declared.limits.Fresh.{Fresh}
-use Rattle.age_file.specs.NewFile.{IsHeading, IsRefusal}
+use Rattle.age_file.specs.NewFile.{Gathering, IsHeading, IsRefusal}
 use Rattle.agefile.specs.declared.report.Report.{Report}
 use Rattle.agefile.specs.declared.writer.Writer.{Writer}
 use Rattle.agefile.specs.Giving.{Exceeds, Fits, GivesUp, fresh_of, only}
@@ -58,21 +58,21 @@ abbrev pub OpensWriter : (seed : Bytes) (stanza : FileKey → StanzaParts) (old 
     (writer : Writer) (report : Report) (code : ℕ) → Type 0
 OpensWriter seed stanza old new writer report code =
     let fresh = fresh_of seed in
-    let given = stanza fresh.file_key in
+    let own = stanza fresh.file_key in
     StaysClosed out_of_memory old new writer report code
     ⊎ ((text : Bytes) × (length text ≤ longest_header)
-    × IsHeading limits fresh.file_key (only given) (given ∷ []) text
+    × IsHeading limits fresh.file_key (only own) (own ∷ []) text
     × GivesFront (text ++ fresh.nonce) fresh old new writer report code)
 
 -- the same for whatever recipients give. In a refusal nothing is said of what the call returns: the
 -- exports have one recipient, which never refuses.
-abbrev pub OpensGathered : (fresh : Fresh) (given : Result (List StanzaParts) Fault → Type 0)
+abbrev pub OpensGathered : (fresh : Fresh) (gathered : Gathering)
     (old new : Bytes) (writer : Writer) (report : Report) (code : ℕ) → Type 0
-OpensGathered fresh given old new writer report code =
+OpensGathered fresh gathered old new writer report code =
     StaysClosed out_of_memory old new writer report code
-    ⊎ (((fault : Fault) × IsRefusal limits fresh.file_key given fault)
+    ⊎ (((fault : Fault) × IsRefusal limits fresh.file_key gathered fault)
     ⊎ ((stanzas : List StanzaParts) × (text : Bytes)
-    × IsHeading limits fresh.file_key given stanzas text
+    × IsHeading limits fresh.file_key gathered stanzas text
     × GivesFront (text ++ fresh.nonce) fresh old new writer report code))
 
 -- whether a last chunk of `len` bytes has a tag and some text; chunk 0 may be a tag alone

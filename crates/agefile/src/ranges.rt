@@ -155,9 +155,9 @@ fn open_at(
 /// report's length is the plaintext's.
 ///
 /// # Errors
-/// 23 if no payload is open, or the chunk has another length: all is unchanged. Otherwise the first
-/// that applies of 11, 12 and 13, as `age_stream::open_chunk` says: the chunk is unchanged, and the
-/// payload counts as not verified.
+/// 23 if no payload is open, or the chunk has another length: only the report changes. Otherwise
+/// the first that applies of 11, 12 and 13, as `age_stream::open_chunk` says: the chunk is
+/// unchanged, and the payload counts as not verified.
 #[unsafe(no_mangle)]
 pub extern "C" fn agefile_ranges_last(
     ranges: &mut Ranges,

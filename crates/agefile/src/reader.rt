@@ -139,9 +139,9 @@ fn open_at(start: Result<Start, Fault>, reader: &mut Reader, report: &mut Report
 /// text is at the start of the buffer, and the report has its length. It allocates nothing.
 ///
 /// # Errors
-/// 23 if the reader is not open, or the chunk has another length: all is unchanged. Otherwise the
-/// first that applies of 14, 11, 12 and 13, as `age_stream::open_chunk` says: the chunk is
-/// unchanged, and the reader accepts no other.
+/// 23 if the reader is not open, or the chunk has another length: only the report changes.
+/// Otherwise the first that applies of 14, 11, 12 and 13, as `age_stream::open_chunk` says: the
+/// chunk is unchanged, and the reader accepts no other.
 #[unsafe(no_mangle)]
 pub extern "C" fn agefile_reader_chunk(
     reader: &mut Reader,

@@ -5,8 +5,8 @@
 //! let text = key_there_and_back(alloc, key, salt, plain, &fresh, &limits)?; // equals `plain`
 //! ```
 //!
-//! Limits: one recipient, and all in memory. The error is a refused allocation or a limit that was
-//! exceeded.
+//! Limits: one recipient, and all in memory. Once the file was written, the only error is a refused
+//! allocation.
 #![tactic(auto)]
 
 mod file;

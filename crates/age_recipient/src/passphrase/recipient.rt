@@ -27,7 +27,7 @@ pub enum PassError {
 /// Wraps a file key under a passphrase (C2SP `age.md`, "The scrypt recipient type"). The salt must
 /// be 16 random bytes, fresh for each file. The work factor is the base-2 logarithm of the KiB of
 /// memory that wrapping and unwrapping take; 18 is usual, and takes about a second. A
-/// passphrase recipient must be a file's only one: with another `encrypt` returns
+/// passphrase recipient must be a file's only one: if there is another, `encrypt` returns
 /// `IncompatibleRecipients`.
 #[derive(Drop)]
 pub struct PassRecipient {
