@@ -1,13 +1,13 @@
 -- What a call of `encrypt` has written.
-use Rattle.std.proofs.Common.{◌≡◌, ◌⊎◌, ℕ, ◌+◌, ◌-◌, ◌*◌, ◌<◌, ◌≤◌, List, [], ◌++◌, length, take, refl, sym, subst, inl, inr, arith, Option, None, IfNone, Some, Result, Ok, Err, append_assoc}
+use Rattle.std.proofs.Common.{Bool, true, false, ◌≡◌, ◌⊎◌, ℕ, ◌+◌, ◌-◌, ◌*◌, ◌<◌, ◌≤◌, List, [], ◌++◌, length, take, refl, sym, subst, inl, inr, arith, Option, None, IfNone, Some, Result, Ok, Err, append_assoc}
 use Rattle.std.proofs.lemmas.List.{append-nil, length-append}
 use Rattle.std.specs.List.{concat}
 use Rattle.std.specs.Io.KnownBytes.{Appends}
-use Rattle.std.proofs.KnownBytes.{Appends-nil, Appends-trans, Consumes-nil}
+use Rattle.std.proofs.KnownBytes.{Appends-nil, Appends-trans}
 use Rattle.age_header.specs.Device.{GaveAtMost, MayGive, WritesPart}
 use Rattle.age_header.specs.Header.{StanzaParts, Head}
 use Rattle.age_header.specs.Mac.{header_mac}
-use Rattle.age_header.proofs.MayGiveLemmas.{may-some}
+use Rattle.age_header.proofs.MayGiveLemmas.{may-more, may-some}
 use Rattle.age_header.proofs.OneText.{one_text}
 use Rattle.age_header.proofs.WriteLemmas.{done_part}
 use Rattle.age_recipient.specs.declared.key.FileKey.{FileKey}
@@ -15,13 +15,14 @@ use Rattle.age_stream.specs.declared.done.Done.{Done}
 use Rattle.age_stream.specs.declared.fault.StreamFault.{StreamFault}
 use Rattle.age_stream.specs.declared.fault.StreamFault.TheVariants as stream
 use Rattle.age_stream.specs.Payload.{chunks, payload, payload_key, sealed_chunks}
-use Rattle.age_stream.specs.Sealing.{SealerState, SealsAll, Stopped, StopsIn, at_start}
+use Rattle.age_stream.specs.Sealing.{Fills, SealerState, SealsAll, Stopped, StopsIn, at_start}
+use Rattle.age_stream.proofs.SealingLemmas.{filled-finishes, filled-seals}
 use Rattle.age_file.specs.declared.fault.Fault.{Fault}
 use Rattle.age_file.specs.declared.fault.Fault.TheVariants.{TooManyChunks, Read, Write, OutOfMemory}
 use Rattle.age_file.specs.declared.limits.Fresh.{Fresh}
 use Rattle.age_file.specs.AgeFile.{Bounds}
 use Rattle.age_file.specs.Device.{IsLate}
-use Rattle.age_file.specs.NewFile.{BegunFile, EncryptsGiven, EncryptsText, Gathering, IsHeading, RefusesFirst, TookWhileEncrypting, TookChunks}
+use Rattle.age_file.specs.NewFile.{BegunFile, EncryptsGiven, EncryptsText, Gathering, IsHeading, MayFillChunk, RefusesFirst, SealsRest, TookWhileEncrypting, TookChunks}
 use Rattle.age_file.specs.Verdict.{stream_fault}
 use Rattle.age_file.proofs.DecryptLemmas.{file_result}
 
@@ -70,6 +71,13 @@ encrypts_begun limits fresh gathered stanzas mac from old new header (text, head
       heading = m.heading;
       part = done_part old old new (text ++ payload fresh.file_key fresh.nonce plain.0) (front ++ rest) front rest (record { front = []; took = Appends-nil old; is = is }) refl part;
     })
+
+-- the first chunk was not read, and nothing was written
+pub encrypts_unread : (limits : Bounds) (fresh : Fresh) (gathered : Gathering) (stanzas : List StanzaParts) (mac : List ℕ) (from old : Option (List ℕ))
+    → HeaderMade limits fresh.file_key gathered stanzas mac → EncryptsGiven limits fresh gathered from old old (Err Read)
+encrypts_unread limits fresh gathered stanzas mac from old (is, (text, heading)) =
+    let plain = may-some from in
+    encrypts_of limits fresh gathered plain.0 from old old (Err Read) plain.1 (record { stanzas = stanzas; text = text; heading = heading; part = (0, Appends-nil old) })
 
 -- a prefix of the payload was written after them
 begun : (limits : Bounds) (fresh : Fresh) (gathered : Gathering) (text plain : List ℕ) (a b c : Option (List ℕ)) → Made limits fresh.file_key gathered text → Appends a b (text ++ fresh.nonce)
@@ -123,13 +131,18 @@ up_to_limit limits fresh gathered text plain a b c m front many rest =
       subst (Appends a c) (append_assoc text fresh.nonce out) (Appends-trans a b c (text ++ fresh.nonce) out front put),
     )
 
--- a sealer that was just made
-from_start : (s : SealerState) (key : List ℕ) (m max : ℕ) (from to b c : Option (List ℕ)) (r : Result Done StreamFault) → s ≡ at_start key m → m ≡ max → IfNone s.fault (SealsAll s from to b c r) → SealsAll (at_start key max) from to b c r
-from_start s key m max from to b c r is same h = subst (λ n. SealsAll (at_start key n) from to b c r) same (subst (λ x. IfNone x.fault (SealsAll x from to b c r)) is h)
+-- a sealer that was just made was filled
+pub filled : (s t : SealerState) (key : List ℕ) (m max : ℕ) (more : Bool) (from mid : Option (List ℕ)) → s ≡ at_start key m → m ≡ max → IfNone s.fault (Fills s t from mid (Ok more))
+    → Fills (at_start key max) t from mid (Ok more)
+filled s t key m max more from mid is same h =
+    subst (λ n. Fills (at_start key n) t from mid (Ok more)) same (subst (λ x. IfNone x.fault (Fills x t from mid (Ok more))) is h)
 
--- of a clause of a sealer that was just made, what it says where no fault is kept
-pub just_made : (P : Type 0) (s : SealerState) (key : List ℕ) (m : ℕ) → s ≡ at_start key m → IfNone s.fault P → P
-just_made P s key m is h = subst (λ (x : SealerState). IfNone x.fault P) is h
+-- and then sealed what it held and what came
+pub sealed_filled : (key : List ℕ) (max : ℕ) (t : SealerState) (more : Bool) (from mid to a c : Option (List ℕ)) (r : Result Done StreamFault) → 1 ≤ max
+    → Fills (at_start key max) t from mid (Ok more) → SealsRest t more mid to a c r → SealsAll (at_start key max) from to a c r
+sealed_filled key max t true from mid to a c r some fills seals = filled-seals key max t true from mid to a c r fills seals
+sealed_filled key max t false from mid to a c r some fills (finishes, same) =
+    subst (λ k. SealsAll (at_start key max) from k a c r) (sym same) (filled-finishes key max t from mid a c r some fills finishes)
 
 -- the payload after the header and the nonce
 encrypts_payload : (limits : Bounds) (fresh : Fresh) (gathered : Gathering) (text : List ℕ) (from to a b c : Option (List ℕ)) (r : Result Done StreamFault) → length fresh.nonce ≡ 16
@@ -152,20 +165,33 @@ encrypts_payload limits fresh gathered text from to a b c (Err fault) sixteen m 
     go (stream.EmptyFinal i) h = absurd h
     go (stream.BadChunk i) h = absurd h
 
--- the header, the nonce and the payload, by the sealer that was just made
-pub encrypts_sealed : (limits : Bounds) (fresh : Fresh) (gathered : Gathering) (stanzas : List StanzaParts) (mac : List ℕ) (from to a b c : Option (List ℕ)) (s : SealerState) (max : ℕ) (r : Result Done StreamFault)
+-- the header, the nonce and the payload
+pub encrypts_sealed : (limits : Bounds) (fresh : Fresh) (gathered : Gathering) (stanzas : List StanzaParts) (mac : List ℕ) (from to a b c : Option (List ℕ)) (r : Result Done StreamFault)
     → HeaderMade limits fresh.file_key gathered stanzas mac → FrontWritten stanzas mac (λ text. Appends a b (text ++ fresh.nonce)) → length fresh.nonce ≡ 16
-    → s ≡ at_start (payload_key fresh.file_key fresh.nonce) max → max ≡ limits.max_chunks → IfNone s.fault (SealsAll s from to b c r) → EncryptsGiven limits fresh gathered from a c (file_result r)
-encrypts_sealed limits fresh gathered stanzas mac from to a b c s max r header (text, head, front) sixteen is same seals =
-    encrypts_payload limits fresh gathered text from to a b c r sixteen (made limits fresh.file_key gathered stanzas mac text header head) front
-    (from_start s (payload_key fresh.file_key fresh.nonce) max limits.max_chunks from to b c r is same seals)
+    → SealsAll (at_start (payload_key fresh.file_key fresh.nonce) limits.max_chunks) from to b c r → EncryptsGiven limits fresh gathered from a c (file_result r)
+encrypts_sealed limits fresh gathered stanzas mac from to a b c r header (text, head, front) sixteen seals =
+    encrypts_payload limits fresh gathered text from to a b c r sixteen (made limits fresh.file_key gathered stanzas mac text header head) front seals
+
+-- a read failed after something was written: the source may give a whole chunk
+pub read_late : (key : List ℕ) (max : ℕ) (t : SealerState) (more : Bool) (from mid to a c : Option (List ℕ)) (fault : StreamFault)
+    → Fills (at_start key max) t from mid (Ok more) → SealsRest t more mid to a c (Err fault) → stream_fault fault ≡ Read → MayFillChunk from
+read_late key max t true from mid to a c fault (x, took, is, fits, full, ended) seals read =
+    let d = may-some mid in
+    let l : length x ≡ 65536 = subst (λ (u : SealerState). length u.held ≡ 65536) is (full refl) in
+    (x ++ d.0, may-more from mid x d.0 took d.1, omega (arith, length-append x d.0, l))
+read_late key max t false from mid to a c fault fills ((write, part), same) read = absurd (not-read (subst (λ f. stream_fault f ≡ Read) write read))
+  where
+    not-read : stream_fault stream.Write ≡ Read → ⊥
+    not-read e = cc
 
 -- ---- what was taken
 
-pub takes_begun : (limits : Bounds) (fresh : Fresh) (gathered : Gathering) (stanzas : List StanzaParts) (mac : List ℕ) (from old new : Option (List ℕ))
-    → HeaderMade limits fresh.file_key gathered stanzas mac → FrontWritten stanzas mac (λ text. WritesPart old new (text ++ fresh.nonce)) → TookWhileEncrypting limits fresh gathered from from old new Write
-takes_begun limits fresh gathered stanzas mac from old new header (text, head, part) =
+pub takes_begun : (limits : Bounds) (fresh : Fresh) (gathered : Gathering) (stanzas : List StanzaParts) (mac : List ℕ) (key : List ℕ) (max : ℕ) (t : SealerState) (more : Bool)
+    (from mid old new : Option (List ℕ)) → HeaderMade limits fresh.file_key gathered stanzas mac → FrontWritten stanzas mac (λ text. WritesPart old new (text ++ fresh.nonce))
+    → Fills (at_start key max) t from mid (Ok more) → TookWhileEncrypting limits fresh gathered from mid old new Write
+takes_begun limits fresh gathered stanzas mac key max t more from mid old new header (text, head, part) (x, gave, is, fits, full, ended) =
     let m = made limits fresh.file_key gathered stanzas mac text header head in
+    let le : length x ≤ 65536 = subst (λ (u : SealerState). length u.held ≤ 65536) is fits in
     record {
       stanzas = m.stanzas;
       text = text;
@@ -174,12 +200,12 @@ takes_begun limits fresh gathered stanzas mac from old new header (text, head, p
       gained = part.1;
       n = 0;
       whole = omega arith;
-      gave = ([], Consumes-nil from, omega arith);
+      gave = (x, gave, omega (arith, le));
     }
 
 took : (limits : Bounds) (fresh : Fresh) (gathered : Gathering) (text : List ℕ) (from to a b c : Option (List ℕ)) (chunk : ℕ) (fault : StreamFault) → length fresh.nonce ≡ 16
     → Made limits fresh.file_key gathered text → Appends a b (text ++ fresh.nonce) → Stopped (payload_key fresh.file_key fresh.nonce) limits.max_chunks 0 chunk [] from to b c fault
-    → GaveAtMost (65536 * (chunk + 1 - 0) + 1) from to → TookChunks limits fresh gathered from to a c
+    → GaveAtMost (65536 * (chunk + 1 - 0) + 1 - 0) from to → TookChunks limits fresh gathered from to a c
 took limits fresh gathered text from to a b c chunk fault sixteen m front s gave =
     let l : length ((text ++ fresh.nonce) ++ s.wrote.0) ≡ length (text ++ fresh.nonce) + length s.wrote.0 = length-append (text ++ fresh.nonce) s.wrote.0 in
     let h : length (text ++ fresh.nonce) ≡ length text + length fresh.nonce = length-append text fresh.nonce in
@@ -208,7 +234,7 @@ takes_payload limits fresh gathered text from to a b c stream.Write sixteen m fr
     not-read : stream.Write ≡ stream.Read → ⊥
     not-read e = cc
 
-    go : (stream.Write ≡ stream.Read) ⊎ GaveAtMost (65536 * (chunk + 1 - 0) + 1) from to → TookChunks limits fresh gathered from to a c
+    go : (stream.Write ≡ stream.Read) ⊎ GaveAtMost (65536 * (chunk + 1 - 0) + 1 - 0) from to → TookChunks limits fresh gathered from to a c
     go (inl e) = absurd (not-read e)
     go (inr gave) = took limits fresh gathered text from to a b c chunk stream.Write sixteen m front s gave
 takes_payload limits fresh gathered text from to a b c stream.TooManyChunks sixteen m front (chunk, s) = go s.gave
@@ -216,7 +242,7 @@ takes_payload limits fresh gathered text from to a b c stream.TooManyChunks sixt
     not-read : stream.TooManyChunks ≡ stream.Read → ⊥
     not-read e = cc
 
-    go : (stream.TooManyChunks ≡ stream.Read) ⊎ GaveAtMost (65536 * (chunk + 1 - 0) + 1) from to → TookChunks limits fresh gathered from to a c
+    go : (stream.TooManyChunks ≡ stream.Read) ⊎ GaveAtMost (65536 * (chunk + 1 - 0) + 1 - 0) from to → TookChunks limits fresh gathered from to a c
     go (inl e) = absurd (not-read e)
     go (inr gave) = took limits fresh gathered text from to a b c chunk stream.TooManyChunks sixteen m front s gave
 
@@ -232,9 +258,8 @@ refuses_none limits fresh gathered from to b c (stream.ChunkShort i) h = absurd 
 refuses_none limits fresh gathered from to b c (stream.EmptyFinal i) h = absurd h.1.stops
 refuses_none limits fresh gathered from to b c (stream.BadChunk i) h = absurd h.1.stops
 
-pub takes_sealed : (limits : Bounds) (fresh : Fresh) (gathered : Gathering) (stanzas : List StanzaParts) (mac : List ℕ) (from to a b c : Option (List ℕ)) (s : SealerState) (max : ℕ) (fault : StreamFault)
+pub takes_sealed : (limits : Bounds) (fresh : Fresh) (gathered : Gathering) (stanzas : List StanzaParts) (mac : List ℕ) (from to a b c : Option (List ℕ)) (fault : StreamFault)
     → HeaderMade limits fresh.file_key gathered stanzas mac → FrontWritten stanzas mac (λ text. Appends a b (text ++ fresh.nonce)) → length fresh.nonce ≡ 16
-    → s ≡ at_start (payload_key fresh.file_key fresh.nonce) max → max ≡ limits.max_chunks → IfNone s.fault (SealsAll s from to b c (Err fault)) → TookWhileEncrypting limits fresh gathered from to a c (stream_fault fault)
-takes_sealed limits fresh gathered stanzas mac from to a b c s max fault header (text, head, front) sixteen is same seals =
-    takes_payload limits fresh gathered text from to a b c fault sixteen (made limits fresh.file_key gathered stanzas mac text header head) front
-    (from_start s (payload_key fresh.file_key fresh.nonce) max limits.max_chunks from to b c (Err fault) is same seals)
+    → SealsAll (at_start (payload_key fresh.file_key fresh.nonce) limits.max_chunks) from to b c (Err fault) → TookWhileEncrypting limits fresh gathered from to a c (stream_fault fault)
+takes_sealed limits fresh gathered stanzas mac from to a b c fault header (text, head, front) sixteen seals =
+    takes_payload limits fresh gathered text from to a b c fault sixteen (made limits fresh.file_key gathered stanzas mac text header head) front seals

@@ -1,15 +1,17 @@
 -- What a new file is: the stanzas of its recipients, its header, and its payload (C2SP age.md).
-use Rattle.std.specs.Prelude.{◌≡◌, ℕ, ◌+◌, ◌-◌, ◌*◌, ◌<◌, ◌≤◌, ◌⊎◌, true, false, ⊤, List, [], ◌∷◌, ◌++◌, length, take, Result, Ok, Err, Option, Some, None, Vec}
+use Rattle.std.specs.Prelude.{◌≡◌, ℕ, ◌+◌, ◌-◌, ◌*◌, ◌<◌, ◌≤◌, ◌⊎◌, Bool, true, false, ⊤, List, [], ◌∷◌, ◌++◌, length, take, Result, Ok, Err, Option, Some, None, Vec}
 use Rattle.std.specs.Global.{Global}
 use Rattle.std.specs.List.{AllZip, concat}
 use Rattle.std.specs.Io.KnownBytes.{Appends}
-use Rattle.age_header.specs.Device.{Bytes, Known, GaveAtMost, WritesPart}
+use Rattle.age_header.specs.Device.{Bytes, Known, GaveAtMost, MayGive, WritesPart}
 use Rattle.age_header.specs.Header.{StanzaParts, Head}
 use Rattle.age_header.specs.Mac.{header_mac}
 use Rattle.age_recipient.specs.declared.key.FileKey.{FileKey}
 use Rattle.age_recipient.specs.declared.labels.Labels.{Labels}
 use Rattle.age_recipient.specs.Labels.{MayLabel, incompatible}
 use Rattle.age_stream.specs.declared.done.Done.{Done}
+use Rattle.age_stream.specs.declared.fault.StreamFault.{StreamFault}
+use Rattle.age_stream.specs.Sealing.{FinishesBy, SealerState, SealsAll}
 use Rattle.age_stream.specs.Payload.{chunks, payload, sealed_chunks}
 use Rattle.age_file.specs.declared.fault.Fault.{Fault}
 use Rattle.age_file.specs.declared.fault.Fault.TheVariants.{HeaderTooLarge, MixedPassphrase, TooManyChunks, Read, Write, OutOfMemory, NoRecipients, Refused, IncompatibleRecipients}
@@ -174,6 +176,17 @@ Gathers gathered (Err fault) = (fault ≡ OutOfMemory)
 abbrev pub FailsHeading : (limits : Bounds) (k : FileKey) (gathered : Gathering) (fault : Fault)
     → Type 0
 FailsHeading limits k gathered fault = (fault ≡ OutOfMemory) ⊎ IsRefusal limits k gathered fault
+
+-- a sealer that keeps no fault seals what it holds: with all that an open source gives, or as the
+-- last chunk where the source has ended
+abbrev pub SealsRest : (s : SealerState) (is_open : Bool) (from to old new : Known)
+    (result : Result Done StreamFault) → Type 0
+SealsRest s true from to old new result = SealsAll s from to old new result
+SealsRest s false from to old new result = FinishesBy s old new result × (to ≡ from)
+
+-- the source may give a whole chunk
+abbrev pub MayFillChunk : (from : Known) → Type 0
+MayFillChunk from = (text : Bytes) × MayGive from text × (chunk_size ≤ length text)
 
 -- Of the source at most so much was taken: with n full sealed chunks written after the header and
 -- the nonce, n + 2 chunks of text.

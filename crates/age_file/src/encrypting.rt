@@ -1,11 +1,12 @@
 //! Encrypting a whole file.
 
-ghost use Rattle.std.specs.Prelude.{◌≡◌, ◌⊎◌, ◌++◌, map, IfErr};
+ghost use Rattle.std.specs.Prelude.{◌≡◌, ◌⊎◌, ◌++◌, Err, None, map, IfErr};
 ghost use Rattle.std.specs.Io.KnownBytes.{Keeps};
 ghost use Rattle.age_header.specs.Device.{Bytes, Counts, Writes};
 ghost use Rattle.age_header.specs.Header.{Head};
 ghost use Rattle.age_file.specs.Device.{CountsRead, CountsWrite, IsLate};
-ghost use Rattle.age_file.specs.NewFile.{EncryptsGiven, RefusesFirst, Gathered, TookWhileEncrypting};
+ghost use Rattle.age_file.specs.NewFile.{EncryptsGiven, RefusesFirst, Gathered, MayFillChunk, SealsRest, TookWhileEncrypting};
+ghost use Rattle.age_stream.specs.Counts as stream;
 
 use crate::fault::Fault;
 use crate::fault_conversions::stream_fault;
@@ -13,12 +14,13 @@ use crate::limits::{Fresh, Limits};
 use crate::new_header::header_for;
 use age_header::{DeviceFault, Header, Sink, Source, write_all, write_header};
 use age_recipient::Recipient;
-use age_stream::{ChunkBuf, ChunkSealer, Done, StreamWriter};
+use age_stream::{ChunkBuf, ChunkSealer, Done, StreamFault, StreamWriter};
 use std::alloc::Global;
 
 /// Writes the age file (C2SP `age.md`) of a plaintext, which is all bytes left in the source, for
-/// these recipients. It allocates before it writes the first byte. It writes each chunk as soon as
-/// a byte after it was read.
+/// these recipients. It allocates before it writes the first byte, and writes the first byte once
+/// the first chunk is full or the source has ended. It writes each chunk as soon as a byte after it
+/// was read.
 ///
 /// `fresh`, and the salts of the recipients, must be random and used only for this file: the same
 /// values again repeat the keys of a file. A passphrase recipient takes 2^work KiB of memory while
@@ -31,7 +33,7 @@ use std::alloc::Global;
 /// alone, `HeaderTooLarge`. On these, and on `OutOfMemory`, nothing was written. `TooManyChunks` if
 /// the plaintext has more chunks than are allowed: the header, the nonce and the sealed chunks with
 /// an index below the limit less one were written. `Read` and `Write` if a device failed: a prefix
-/// of the file was written.
+/// of the file was written; on `Read` before the first chunk was full, nothing.
 pub fn encrypt<S: Source, W: Sink>(
     alloc: Global,
     plain: &mut S,
@@ -50,6 +52,8 @@ pub fn encrypt<S: Source, W: Sink>(
         IfErr result (RefusesFirst limits.now fresh.now.file_key gathered) }
     ensures quiet { IfErr result
         (λ fault. IsLate fault ⊎ Keeps (W.taken out.old) (W.taken out.new)) }
+    ensures spared { result ≡ Err Fault.Read
+        → (out.new ≡ out.old) ⊎ MayFillChunk (S.to_come plain.old) }
     ensures reads { CountsRead (S.failed plain.old) (S.failed plain.new) result }
     ensures writes { CountsWrite (W.failed out.old) (W.failed out.new) result }
     ensures took { let gathered = Gathered (map (λ r. wraps r fresh.now.file_key) recipients.now)
@@ -61,15 +65,39 @@ pub fn encrypt<S: Source, W: Sink>(
     let Ok(buf) = ChunkBuf::new(alloc) else {
         return Err(Fault::OutOfMemory);
     };
+    let mut sealer = ChunkSealer::new(&fresh.file_key, &fresh.nonce, limits.max_chunks(), buf);
+    let is_open = match sealer.fill(plain) {
+        Ok(is_open) => is_open,
+        Err(_) => return Err(Fault::Read),
+    };
     match write_front(&header, &fresh.nonce, out) {
         Ok(()) => {}
         Err(_) => return Err(Fault::Write),
     }
-    let sealer = ChunkSealer::new(&fresh.file_key, &fresh.nonce, limits.max_chunks(), buf);
-    match StreamWriter::over(out, sealer).seal_from(plain) {
+    match seal_rest(sealer, is_open, plain, out) {
         Ok(done) => Ok(done),
         Err(fault) => Err(stream_fault(fault)),
     }
+}
+
+/// Seals what the sealer holds, with all that the source still gives if it is open.
+fn seal_rest<S: Source, W: Sink>(
+    sealer: ChunkSealer,
+    is_open: bool,
+    plain: &mut S,
+    out: &mut W,
+) -> Result<Done, StreamFault>
+    requires { sealer.fault ≡ None }
+    ensures seals { SealsRest sealer is_open (S.to_come plain.old) (S.to_come plain.new)
+        (W.taken out.old) (W.taken out.new) result }
+    ensures reads { stream.CountsRead (S.failed plain.old) (S.failed plain.new) result }
+    ensures writes { stream.CountsWrite (W.failed out.old) (W.failed out.new) result }
+{
+    let writer = StreamWriter::over(out, sealer);
+    if is_open {
+        return writer.seal_from(plain);
+    }
+    writer.finish()
 }
 
 /// Writes a header, and then the nonce of its payload, 16 bytes.

@@ -1,5 +1,5 @@
 -- Full chunks that go out, one after another.
-use Rattle.std.proofs.Common.{◌≡◌, ◌⊎◌, ◌∙◌, ◌++◌, ◌+◌, ◌-◌, ◌*◌, ◌<◌, ◌≤◌, ℕ, List, [], ◌∷◌, length, take, drop, ap, sym, subst, arith, append-nil, append_assoc, length-append, refl, Option, Some, None, Result, Ok, Err, false, inl, inr, zero, suc, slice_set, slice_index_or}
+use Rattle.std.proofs.Common.{Bool, ◌≡◌, ◌⊎◌, ◌∙◌, ◌++◌, ◌+◌, ◌-◌, ◌*◌, ◌<◌, ◌≤◌, ℕ, List, [], ◌∷◌, length, take, drop, ap, sym, subst, arith, append-nil, append_assoc, length-append, refl, Option, Some, None, Result, Ok, Err, false, inl, inr, zero, suc, slice_set, slice_index_or}
 use Rattle.std.specs.List.{concat}
 use Rattle.std.specs.Io.KnownBytes.{Appends, Consumes, IsAtEnd}
 use Rattle.std.proofs.KnownBytes.{Appends-trans, Appends-nil, Consumes-trans}
@@ -17,7 +17,7 @@ use Rattle.age_stream.specs.Cutting.{cut, cut_into}
 use Rattle.age_stream.specs.Payload.{chunk_nonce, sealed_from}
 use Rattle.std.specs.Prelude.{IfNone}
 use Rattle.age_stream.specs.declared.done.Done.{Done as StreamDone}
-use Rattle.age_stream.specs.Sealing.{FinishesBy, SealerState, SealsAll, TakesAll, Fed, IsFed, Stopped, WroteAtLeast, sealed_after}
+use Rattle.age_stream.specs.Sealing.{FinishesBy, Fills, SealerState, SealsAll, StopsIn, TakesAll, Fed, IsFed, Stopped, WroteAtLeast, at_start, sealed_after}
 use Rattle.age_stream.proofs.CuttingLemmas.{concat-append, cut-fits, cut-full}
 use Rattle.age_stream.proofs.PayloadLemmas.{length-each}
 use Rattle.age_stream.proofs.ReadingLemmas.{is_end-cut, cut-some}
@@ -133,7 +133,7 @@ stopped-read key max i j held text now from mid to a b took f =
     }
 
 gave-full : (key : List ℕ) (i j : ℕ) (held text now piece full next : List ℕ) (from mid to a b : Option (List ℕ)) → IsFull now piece full next → Fed key i j held text now a b
-    → Consumes from mid text → Consumes mid to piece → GaveAtMost (65536 * (j + 1 - i) + 1) from to
+    → Consumes from mid text → Consumes mid to piece → GaveAtMost (65536 * (j + 1 - i) + 1 - length held) from to
 gave-full key i j held text now piece full next from mid to a b h f took more =
     (text ++ piece, Consumes-trans from mid to text piece took more, omega (arith, length-append text piece, f.bytes, f.count, piece-len now piece full next h))
 
@@ -331,3 +331,79 @@ seals-err s t from to a b fault none takes =
 pub when-none : {P : Type 0} (fault : Option StreamFault) → (fault ≡ None → P) → IfNone fault P
 when-none None f = f refl
 when-none (Some kept) f = tt
+
+-- ---- a payload whose first chunk was filled before anything was written
+
+-- what was held is cut as if it came
+cut-held : (x more : List ℕ) → length x ≤ 65536 → cut_into 65536 [] (x ++ more) ≡ cut_into 65536 x more
+cut-held x more fits = cut-fits 65536 [] x more (omega (arith, fits))
+
+-- a sealer that was filled seals what came and what comes
+pub filled-seals : (key : List ℕ) (max : ℕ) (t : SealerState) (more : Bool) (from mid to a c : Option (List ℕ)) (r : Result StreamDone StreamFault)
+    → Fills (at_start key max) t from mid (Ok more) → SealsAll t mid to a c r → SealsAll (at_start key max) from to a c r
+filled-seals key max t more from mid to a c r (x, took, is, fits, full, ended) seals =
+    go r (subst (λ (u : SealerState). SealsAll u mid to a c r) is seals)
+  where
+    le : length x ≤ 65536
+    le = subst (λ (u : SealerState). length u.held ≤ 65536) is fits
+
+    go : (q : Result StreamDone StreamFault) → SealsAll (record (at_start key max) { held = x }) mid to a c q → SealsAll (at_start key max) from to a c q
+    go (Ok done) (text, may, put, within, bytes, count) =
+        let same : cut_into 65536 [] (x ++ text) ≡ cut_into 65536 x text = cut-held x text le in (
+          x ++ text,
+          may-more from mid x text took may,
+          subst (λ cs. Appends a c (concat (sealed_from key 0 cs))) (sym same) put,
+          subst (λ (cs : List (List ℕ)). 0 + length cs ≤ max) (sym same) within,
+          omega (arith, bytes, length-append x text),
+          subst (λ (cs : List (List ℕ)). done.chunks ≡ 0 + length cs) (sym same) count,
+        )
+    go (Err fault) (j, s) = (j, record {
+      text = x ++ s.text;
+      may = may-more from mid x s.text took s.may;
+      stops = stops fault s.stops;
+      wrote = s.wrote;
+      gave = gave s.gave;
+    })
+      where
+        same : cut_into 65536 [] (x ++ s.text) ≡ cut_into 65536 x s.text
+        same = cut-held x s.text le
+
+        stops : (f : StreamFault) → StopsIn key max 0 x s.text a c f → StopsIn key max 0 [] (x ++ s.text) a c f
+        stops Read h = subst (λ cs. WritesPart a c (concat (sealed_from key 0 cs))) (sym same) h
+        stops Write h = subst (λ cs. WritesPart a c (concat (sealed_from key 0 cs))) (sym same) h
+        stops TooManyChunks h =
+            subst (λ (cs : List (List ℕ)). (max < 0 + length cs) × Appends a c (concat (take (max - 1 - 0) (sealed_from key 0 cs)))) (sym same) h
+        stops _ h = absurd h
+
+        gave : (fault ≡ Read) ⊎ GaveAtMost (65536 * (j + 1 - 0) + 1 - length x) mid to → (fault ≡ Read) ⊎ GaveAtMost (65536 * (j + 1 - 0) + 1 - 0) from to
+        gave (inl e) = inl e
+        gave (inr g) = inr (x ++ g.0, Consumes-trans from mid to x g.0 took g.1, omega (arith, length-append x g.0, g.2, le))
+
+-- a sealer that was filled with all that came seals it as the last chunk
+pub filled-finishes : (key : List ℕ) (max : ℕ) (t : SealerState) (from to a c : Option (List ℕ)) (r : Result StreamDone StreamFault) → 1 ≤ max
+    → Fills (at_start key max) t from to (Ok false) → FinishesBy t a c r → SealsAll (at_start key max) from to a c r
+filled-finishes key max t from to a c r some (x, took, is, fits, full, ended) finishes =
+    go r (subst (λ (u : SealerState). FinishesBy u a c r) is finishes)
+  where
+    le : length x ≤ 65536
+    le = subst (λ (u : SealerState). length u.held ≤ 65536) is fits
+
+    same : cut_into 65536 [] x ≡ x ∷ []
+    same = ap (cut_into 65536 []) (sym (append-nil x)) ∙ cut-held x [] le
+
+    go : (q : Result StreamDone StreamFault) → FinishesBy (record (at_start key max) { held = x }) a c q → SealsAll (at_start key max) from to a c q
+    go (Ok done) (put, bytes, count) = (
+      x,
+      may-end from to x took (ended refl),
+      subst (λ cs. Appends a c (concat (sealed_from key 0 cs))) (sym same) put,
+      subst (λ (cs : List (List ℕ)). 0 + length cs ≤ max) (sym same) (omega (arith, some)),
+      omega (arith, bytes),
+      subst (λ (cs : List (List ℕ)). done.chunks ≡ 0 + length cs) (sym same) (omega (arith, count)),
+    )
+    go (Err fault) (write, part) = (0, record {
+      text = x;
+      may = may-end from to x took (ended refl);
+      stops = subst (λ f. StopsIn key max 0 [] x a c f) (sym write) (subst (λ cs. WritesPart a c (concat (sealed_from key 0 cs))) (sym same) part);
+      wrote = (_, part.1, omega arith);
+      gave = inr (x, took, omega (arith, le));
+    })

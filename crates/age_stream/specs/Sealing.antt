@@ -1,5 +1,5 @@
 -- A sealer of chunks between two calls, and what a call does.
-use Rattle.std.specs.Prelude.{ℕ, List, [], ◌++◌, ◌≡◌, ◌⊎◌, ◌≤◌, ◌<◌, ◌+◌, ◌-◌, ◌*◌, length, take, drop, false, MatchResult, Option, Some, None, Result, Ok, Err}
+use Rattle.std.specs.Prelude.{ℕ, List, [], ◌++◌, ◌≡◌, ◌⊎◌, ◌≤◌, ◌<◌, ◌+◌, ◌-◌, ◌*◌, length, take, drop, Bool, true, false, MatchResult, Option, Some, None, Result, Ok, Err}
 use Rattle.std.specs.Io.KnownBytes.{Appends, Consumes, IsAtEnd}
 use Rattle.std.specs.List.{concat}
 use Rattle.age_cipher.specs.Bytes.{Key}
@@ -80,7 +80,17 @@ pub record Stopped (key : Key) (max i j : ℕ) (held : Bytes) (from to old new :
   pub may : MayGive from text
   pub stops : StopsIn key max i held text old new fault
   pub wrote : WroteAtLeast (sealed_chunk_size * (j - i)) old new
-  pub gave : (fault ≡ Read) ⊎ GaveAtMost (chunk_size * (j + 1 - i) + 1) from to
+  pub gave : (fault ≡ Read) ⊎ GaveAtMost (chunk_size * (j + 1 - i) + 1 - length held) from to
+
+-- a sealer that keeps no fault holds a full chunk, and the source may give more; or it holds all
+-- that the source gave, with what it held before; or a read failed
+abbrev pub Fills : (s t : SealerState) (from to : Known) (result : Result Bool StreamFault) → Type 0
+Fills s t from to (Ok more) =
+    (text : Bytes) × Consumes from to text × (t ≡ record s { held = s.held ++ text })
+    × (length t.held ≤ chunk_size) × (more ≡ true → length t.held ≡ chunk_size)
+    × (more ≡ false → IsAtEnd to)
+Fills s t from to (Err fault) =
+    (fault ≡ Read) × (t.key ≡ s.key) × (t.max_chunks ≡ s.max_chunks) × (t.fault ≡ Some Read)
 
 -- all that a source gives was taken by a sealer that keeps no fault
 abbrev pub TakesAll : {A : Type 0} (s t : SealerState) (from to old new : Known)

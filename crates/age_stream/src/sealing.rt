@@ -5,7 +5,7 @@ ghost use Rattle.age_cipher.specs.Sealing.{sealed};
 ghost use Rattle.age_header.specs.Device.{Counts, Writes};
 ghost use Rattle.age_header.specs.Filling.{Filled};
 ghost use Rattle.age_stream.specs.Counts.{CountsRead, CountsWrite};
-ghost use Rattle.age_stream.specs.Sealing.{IsFed, PutsFull, Stopped, TakesAll, FinishesBy};
+ghost use Rattle.age_stream.specs.Sealing.{Fills, IsFed, PutsFull, Stopped, TakesAll, FinishesBy};
 ghost use Rattle.age_stream.specs.Payload.{payload_key, chunk_nonce};
 ghost use Rattle.age_stream.specs.Sizes.{chunk_size, sealed_chunk_size, most_chunks, tag_size, chunk_buf_size};
 
@@ -67,6 +67,34 @@ impl ChunkSealer {
             buf: buf.into_bytes(),
             len: 0,
             fault: None,
+        }
+    }
+
+    /// Reads until a full chunk is held, or the source is at its end, and returns whether the source
+    /// may give more. It writes nothing.
+    ///
+    /// # Errors
+    /// `Read` if the source failed.
+    pub fn fill<S: Source>(&mut self, plain: &mut S) -> Result<bool, StreamFault>
+        ensures kept_fault { IfSome self.old.fault (λ f. (result ≡ Err f) × (self.new ≡ self.old)
+            × (plain.new ≡ plain.old)) }
+        ensures fills { IfNone self.old.fault
+            (Fills self.old self.new (S.to_come plain.old) (S.to_come plain.new) result) }
+        ensures reads { IfNone self.old.fault
+            (CountsRead (S.failed plain.old) (S.failed plain.new) result) }
+    {
+        if let Some(kept) = self.fault {
+            return Err(kept);
+        }
+        match fill_up_to(plain, self.buf.as_mut_slice(), self.len, CHUNK_SIZE) {
+            Ok(len) => {
+                self.len = len;
+                Ok(len == CHUNK_SIZE)
+            }
+            Err(_) => {
+                self.fault = Some(StreamFault::Read);
+                Err(StreamFault::Read)
+            }
         }
     }
 
@@ -168,7 +196,7 @@ fn feed<S: Source, W: Sink>(
 {
     let mut held = len;
     loop {
-        let n = match fill_chunk(plain, bytes, held) {
+        let n = match fill_up_to(plain, bytes, held, CHUNK_SIZE + 1) {
             Ok(n) => n,
             Err(_) => return Err(StreamFault::Read),
         };
@@ -182,18 +210,23 @@ fn feed<S: Source, W: Sink>(
     }
 }
 
-/// Reads after the first `held` bytes until there are a full chunk and one byte, or the source is
-/// at its end.
-fn fill_chunk<S: Source>(plain: &mut S, bytes: &mut [u8], held: usize) -> Result<usize, DeviceFault>
+/// Reads after the first `held` bytes until there are `most`, or the source is at its end.
+fn fill_up_to<S: Source>(
+    plain: &mut S,
+    bytes: &mut [u8],
+    held: usize,
+    most: usize,
+) -> Result<usize, DeviceFault>
     requires size { length bytes.old ≡ chunk_buf_size }
-    requires held { held ≤ chunk_size }
+    requires held { held ≤ most }
+    requires most { most ≤ chunk_size + 1 }
     ensures size { length bytes.new ≡ chunk_buf_size }
-    ensures bytes { IfOk result (λ n. (n ≤ chunk_size + 1)
+    ensures bytes { IfOk result (λ n. (n ≤ most)
         × Filled held n bytes.old bytes.new (S.to_come plain.old) (S.to_come plain.new)) }
-    ensures end { IfOk result (λ n. n ≤ chunk_size → IsAtEnd (S.to_come plain.new)) }
+    ensures end { IfOk result (λ n. n < most → IsAtEnd (S.to_come plain.new)) }
     ensures count { Counts (S.failed plain.old) (S.failed plain.new) result }
 {
-    let (front, _) = bytes.split_at_mut(CHUNK_SIZE + 1);
+    let (front, _) = bytes.split_at_mut(most);
     fill_from(plain, front, held)
 }
 

@@ -90,25 +90,31 @@ fn failing_read_leaves_a_beginning_of_the_plaintext(rt: HostRuntime) -> Result<(
     Ok(())
 }
 
-/// A source of a plaintext that fails leaves a prefix of the file.
+/// A source of a plaintext of two chunks that fails: nothing is written before the first chunk is
+/// full, which 66 reads of at most 1,000 bytes do, and a prefix of the file after that.
 #[test]
 fn failing_plaintext_leaves_a_beginning_of_the_file(rt: HostRuntime) -> Result<(), Fail> {
     let alloc = rt.alloc();
     let limits = Limits::default();
     let recipients = key_recipients(alloc, 3)?;
-    let (_, whole) = encrypted(alloc, b"abc", &recipients, &limits);
-    let mut source = FailingSource::new(b"abc", 1, 2);
-    let mut sink = LimitedSink::new(Vec::new(alloc), 1_000);
-    let answer = encrypt(
-        alloc,
-        &mut source,
-        &mut sink,
-        recipients.as_slice(),
-        &FRESH,
-        &limits,
-    );
-    assert!(rt; answer == Err(Fault::Read));
-    assert!(rt; sink.bytes.len() == 172 && whole.as_slice().starts_with(sink.bytes.as_slice()));
+    let plain = sevens(alloc, 65_537)?;
+    let (_, whole) = encrypted(alloc, plain.as_slice(), &recipients, &limits);
+    for (failing, len) in [(1, 0), (66, 0), (67, 172), (68, 172 + 65_552)] {
+        let mut source = FailingSource::new(plain.as_slice(), 1_000, failing);
+        let mut sink = LimitedSink::new(Vec::new(alloc), 100_000);
+        let answer = encrypt(
+            alloc,
+            &mut source,
+            &mut sink,
+            recipients.as_slice(),
+            &FRESH,
+            &limits,
+        );
+        assert!(rt; answer == Err(Fault::Read), "read {failing}");
+        assert_eq!(rt; sink.bytes.len(), len, "read {failing}");
+        assert!(rt; whole.as_slice().starts_with(sink.bytes.as_slice()), "read {failing}");
+        assert_eq!(rt; source.reads, failing);
+    }
     Ok(())
 }
 

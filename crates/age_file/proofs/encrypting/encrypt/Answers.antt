@@ -1,26 +1,38 @@
-use Rattle.std.proofs.Common.{rules, ◌∙◌, Ok, Err}
-use Rattle.age_file.proofs.EncryptLemmas.{encrypts_begun, encrypts_sealed, takes_begun, takes_sealed}
+use Rattle.std.proofs.Common.{rules, Ok, Err, inr}
+use Rattle.age_file.proofs.EncryptLemmas.{encrypts_begun, encrypts_sealed, encrypts_unread, filled, read_late, sealed_filled, takes_begun, takes_sealed}
 use Rattle.age_file.proofs.encrypting.encrypt.Goals as goal
 
 pub returns-in-Err-clause-encrypts : goal.returns-in-Err-clause-encrypts
-returns-in-Err-clause-encrypts g c =
-    encrypts_begun _ _ _ _ _ _ _ _ c.in_ok-header.ensures.ok c.in-Err.ensures.text
+returns-in-Err-clause-encrypts g c = encrypts_unread _ _ _ _ _ _ _ c.in_ok-header.ensures.ok
 
-pub returns-in-Err-clause-took : goal.returns-in-Err-clause-took
-returns-in-Err-clause-took g c =
-    takes_begun _ _ _ _ _ _ _ _ c.in_ok-header.ensures.ok c.in-Err.ensures.text
+pub returns-in-Err-write_front-clause-encrypts : goal.returns-in-Err-write_front-clause-encrypts
+returns-in-Err-write_front-clause-encrypts g c =
+    encrypts_begun _ _ _ _ _ _ _ _ c.in_ok-header.ensures.ok c.in-Err-write_front.ensures.text
 
-pub returns-in-Ok-seal_from-clause-encrypts : goal.returns-in-Ok-seal_from-clause-encrypts
-returns-in-Ok-seal_from-clause-encrypts g c =
-    encrypts_sealed _ c.args.fresh.now _ _ _ _ (g.S.Source.to_come c.seal_from.new.plain) _ (g.W.Sink.taken c.write_front.new.out) _ c.over.result.sealer _ (Ok c.in-Ok-seal_from.done)
-    c.in_ok-header.ensures.ok c.in-Ok-write_front.ensures.text (search rules) (c.over.ensures.sealer ∙ c.new-sealer.ensures) c.max_chunks.ensures.value (search rules)
+pub returns-in-Err-write_front-clause-took : goal.returns-in-Err-write_front-clause-took
+returns-in-Err-write_front-clause-took g c =
+    let fills = filled _ _ _ _ _ _ _ _ c.new-sealer.ensures c.max_chunks.ensures.value c.in-Ok-fill.ensures.fills in
+    takes_begun _ _ _ _ _ _ _ _ _ _ _ _ _ c.in_ok-header.ensures.ok c.in-Err-write_front.ensures.text fills
+
+pub returns-in-Ok-seal_rest-clause-encrypts : goal.returns-in-Ok-seal_rest-clause-encrypts
+returns-in-Ok-seal_rest-clause-encrypts g c =
+    let fills = filled _ _ _ _ _ _ _ _ c.new-sealer.ensures c.max_chunks.ensures.value c.in-Ok-fill.ensures.fills in
+    let seals = sealed_filled _ _ _ _ _ _ _ _ _ _ c.max_chunks.ensures.range.chunks_low fills c.in-Ok-seal_rest.ensures.seals in
+    encrypts_sealed _ c.args.fresh.now _ _ _ _ (g.S.Source.to_come c.seal_rest.new.plain) _ _ _ (Ok c.in-Ok-seal_rest.done) c.in_ok-header.ensures.ok c.in-Ok-write_front.ensures.text (search rules) seals
 
 pub returns-clause-encrypts : goal.returns-clause-encrypts
 returns-clause-encrypts g c =
-    rw c.stream_fault.ensures (encrypts_sealed _ c.args.fresh.now _ _ _ _ (g.S.Source.to_come c.seal_from.new.plain) _ (g.W.Sink.taken c.write_front.new.out) _ c.over.result.sealer _ (Err c.in-Err-seal_from.fault)
-    c.in_ok-header.ensures.ok c.in-Ok-write_front.ensures.text (search rules) (c.over.ensures.sealer ∙ c.new-sealer.ensures) c.max_chunks.ensures.value (search rules))
+    let fills = filled _ _ _ _ _ _ _ _ c.new-sealer.ensures c.max_chunks.ensures.value c.in-Ok-fill.ensures.fills in
+    let seals = sealed_filled _ _ _ _ _ _ _ _ _ _ c.max_chunks.ensures.range.chunks_low fills c.in-Err-seal_rest.ensures.seals in
+    rw c.stream_fault.ensures (encrypts_sealed _ c.args.fresh.now _ _ _ _ _ _ _ _ (Err c.in-Err-seal_rest.fault) c.in_ok-header.ensures.ok c.in-Ok-write_front.ensures.text (search rules) seals)
+
+pub returns-clause-spared : goal.returns-clause-spared
+returns-clause-spared g c = λ read.
+    let fills = filled _ _ _ _ _ _ _ _ c.new-sealer.ensures c.max_chunks.ensures.value c.in-Ok-fill.ensures.fills in
+    inr (read_late _ _ _ _ _ _ _ _ _ _ fills c.in-Err-seal_rest.ensures.seals (cc))
 
 pub returns-clause-took : goal.returns-clause-took
 returns-clause-took g c =
-    rw c.stream_fault.ensures (takes_sealed _ c.args.fresh.now _ _ _ _ _ _ (g.W.Sink.taken c.write_front.new.out) _ c.over.result.sealer _ c.in-Err-seal_from.fault
-    c.in_ok-header.ensures.ok c.in-Ok-write_front.ensures.text (search rules) (c.over.ensures.sealer ∙ c.new-sealer.ensures) c.max_chunks.ensures.value (search rules))
+    let fills = filled _ _ _ _ _ _ _ _ c.new-sealer.ensures c.max_chunks.ensures.value c.in-Ok-fill.ensures.fills in
+    let seals = sealed_filled _ _ _ _ _ _ _ _ _ _ c.max_chunks.ensures.range.chunks_low fills c.in-Err-seal_rest.ensures.seals in
+    rw c.stream_fault.ensures (takes_sealed _ c.args.fresh.now _ _ _ _ _ _ _ _ c.in-Err-seal_rest.fault c.in_ok-header.ensures.ok c.in-Ok-write_front.ensures.text (search rules) seals)

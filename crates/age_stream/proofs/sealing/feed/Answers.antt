@@ -35,7 +35,7 @@ pub returns-in-Err-put_full-clause-fed : goal.returns-in-Err-put_full-clause-fed
 returns-in-Err-put_full-clause-fed g c =
     let inv = c.loop-n.invariant.fed in
     let f = c.in-Ok.ensures.bytes.1 in
-    let h = full-is c.loop-n.held c.in-Ok.n c.loop-n.bytes c.fill_chunk.new.bytes _ _ (omega arith) c.in-Ok.ensures.bytes.0 c.loop-n.invariant.held c.loop-n.invariant.size c.in-Ok.ensures.size f in
+    let h = full-is c.loop-n.held c.in-Ok.n c.loop-n.bytes c.fill_up_to.new.bytes _ _ (omega arith) c.in-Ok.ensures.bytes.0 c.loop-n.invariant.held c.loop-n.invariant.size c.in-Ok.ensures.size f in
     stopped-full c.args.key.now c.args.max c.args.index.now c.loop-n.index c.put_full.new.index (take c.args.len c.args.bytes.now) inv.0 _ f.piece _ _ _ _ _ _ _ _ c.in-Err-put_full.fault
     h c.loop-n.invariant.within inv.1 f.bytes inv.2 c.in-Err-put_full.ensures.puts
 
@@ -43,7 +43,7 @@ pub loop-n-preserved : goal.loop-n-preserved
 loop-n-preserved g c =
     let inv = c.loop-n.invariant.fed in
     let f = c.in-Ok.ensures.bytes.1 in
-    let filled : List ℕ = c.fill_chunk.new.bytes in
+    let filled : List ℕ = c.fill_up_to.new.bytes in
     let h = full-is c.loop-n.held c.in-Ok.n c.loop-n.bytes filled _ _ (omega arith) c.in-Ok.ensures.bytes.0 c.loop-n.invariant.held c.loop-n.invariant.size c.in-Ok.ensures.size f in
     let puts = c.in_default.ensures.puts in
     record {
