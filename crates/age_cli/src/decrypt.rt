@@ -9,7 +9,7 @@ use age_words::Job;
 use std::alloc::Global;
 use std::io::{Read, Write};
 
-/// Decrypts the input to the output, with the one identity of this secret. On a fault of the
+/// Decrypts the input to the output, with the identities of this secret. On a fault of the
 /// payload the plaintext of the chunks before it was written.
 pub(crate) fn decrypt<'a, R: Read, W: Write>(
     alloc: Global,
@@ -26,7 +26,11 @@ pub(crate) fn decrypt<'a, R: Read, W: Write>(
             let identity = pass_identity(alloc, job, passphrase.as_slice())?;
             identities.push(Box::new(alloc, identity)?)?;
         }
-        Secret::Key(key) => identities.push(Box::new(alloc, KeyIdentity::new(*key))?)?,
+        Secret::Keys(keys) => {
+            for key in keys.as_slice() {
+                identities.push(Box::new(alloc, KeyIdentity::new(*key))?)?;
+            }
+        }
     }
     let limits = limits_of(job);
     let mut source = file_source(alloc, input)?;

@@ -9,7 +9,7 @@ use age_words::Job;
 use std::alloc::Global;
 use std::io::{Read, Write};
 
-/// Encrypts the input to the output, for the one recipient of this secret.
+/// Encrypts the input to the output, for the recipients of this secret.
 pub(crate) fn encrypt<'a, R: Read, W: Write>(
     alloc: Global,
     job: &Job,
@@ -26,7 +26,11 @@ pub(crate) fn encrypt<'a, R: Read, W: Write>(
             let recipient = pass_recipient(alloc, job, passphrase.as_slice(), seed.salt)?;
             recipients.push(Box::new(alloc, recipient)?)?;
         }
-        Secret::Key(key) => recipients.push(Box::new(alloc, KeyRecipient::new(*key, seed.salt))?)?,
+        Secret::Keys(keys) => {
+            for key in keys.as_slice() {
+                recipients.push(Box::new(alloc, KeyRecipient::new(*key, seed.salt))?)?;
+            }
+        }
     }
     let limits = limits_of(job);
     let mut source = ReadSource::new(input);

@@ -9,7 +9,8 @@
 //! done by `age_file`.
 //!
 //! `program` has the commands and the statuses; each command has a module of its own. `fault` and
-//! `file_names` have the texts of errors, `buffering` the sizes of buffers.
+//! `file_names` have the texts of errors, `failure` and `hint` those of `--verbose`, for which
+//! `watched` keeps what a failed read or write told. `buffering` has the sizes of buffers.
 //!
 //! Limits: the program cannot promise what files hold. The scripts under `tests/` show which
 //! arguments do what.
@@ -18,15 +19,18 @@
 mod buffering;
 mod decrypt;
 mod encrypt;
+mod failure;
 mod fault;
 mod file_names;
 mod files;
+mod hint;
 mod inspect;
 mod output;
 mod program;
 mod range;
 mod rewrap;
 mod secret;
+mod watched;
 
 pub use age_words::{Command, Job, WordsFault, read_words};
 pub use program::run;

@@ -2,6 +2,7 @@
 ghost use Rattle.std.specs.Prelude.{◌≡◌, ◌<◌, false, length, IfOk, IsOk};
 ghost use Rattle.age_cli.specs.Mode.{new_mode};
 
+use crate::failure::{Doing, Failure};
 use crate::fault::Fault;
 use crate::file_names::Name;
 use crate::files::refuse_read_file;
@@ -23,13 +24,19 @@ pub(crate) struct Output<F> {
 }
 
 /// Opens the file of this name for writing, and creates it if it does not exist.
-pub(crate) fn create<'a, F: Files>(
+pub(crate) fn create<'a, F: Files + AllocGlobal>(
     rt: &F,
-    job: &Job,
+    job: &'a Job,
     name: &'a str,
-) -> Result<Output<F::File>, Fault<'a>> {
+) -> Result<Output<F::File>, Failure<'a>> {
     refuse_read_file(rt, job, name)?;
-    open_output(rt, new_mode(job.command), name).map_err(|_| Fault::CannotCreate(Name(name)))
+    match open_output(rt, new_mode(job.command), name) {
+        Ok(output) => Ok(output),
+        Err(reason) => {
+            let fault = Fault::CannotCreate(Name(name));
+            Err(Failure::of_system(fault, Doing::Creating, name, reason))
+        }
+    }
 }
 
 fn open_output<F: Files>(rt: &F, mode: u32, name: &str) -> io::Result<Output<F::File>>
@@ -80,14 +87,17 @@ impl<F: OpenFile> Output<F> {
         Ok(())
     }
 
-    /// Ends the output after success: a regular file is then synced to its device.
-    pub(crate) fn finish(mut self) -> Result<(), Fault<'static>>
+    /// Ends the output of this name after success: a regular file is then synced to its device.
+    pub(crate) fn finish<'a>(mut self, name: &'a str) -> Result<(), Failure<'a>>
     where
         F: Drop,
     {
-        match self.empty().and_then(|()| self.sync()) {
+        if let Err(reason) = self.empty() {
+            return Err(failed_write(Doing::Truncating, name, reason));
+        }
+        match self.sync() {
             Ok(()) => Ok(()),
-            Err(_) => Err(Fault::AgeFile(age_file::Fault::Write)),
+            Err(reason) => Err(failed_write(Doing::Syncing, name, reason)),
         }
     }
 
@@ -97,6 +107,10 @@ impl<F: OpenFile> Output<F> {
         }
         Ok(())
     }
+}
+
+fn failed_write<'a>(doing: Doing, name: &'a str, reason: io::Error) -> Failure<'a> {
+    Failure::of_system(Fault::AgeFile(age_file::Fault::Write), doing, name, reason)
 }
 
 impl<F: Write + OpenFile> Write for Output<F> {

@@ -2,7 +2,7 @@
 ghost use Rattle.std.specs.Prelude.{◌≤◌, ◌≡◌, length};
 ghost use Rattle.age_words.specs.Job.{IsInRange, most_offset};
 
-use crate::buffering::{buffer_of, end, limits_of};
+use crate::buffering::{buffer_of, end, limits_of, source_at_offsets};
 use crate::decrypt::pass_identity;
 use crate::fault::Fault;
 use crate::secret::Secret;
@@ -11,15 +11,15 @@ use age_file::{
 };
 use age_words::Job;
 use std::alloc::Global;
-use std::io::Write;
+use std::io::{Read, Seek, Write};
 
 /// Writes the plaintext of the input from the job's offset on, at most as many bytes as the job
 /// requests. On a fault of a chunk the plaintext up to that chunk was written.
-pub(crate) fn range<'a, D: ReadAt, W: Write>(
+pub(crate) fn range<'a, R: Read + Seek, W: Write>(
     alloc: Global,
     job: &Job,
     secret: &Secret,
-    input: &mut D,
+    input: &mut R,
     out: &mut W,
 ) -> Result<(), Fault<'a>>
     requires { IsInRange job.now }
@@ -30,12 +30,17 @@ pub(crate) fn range<'a, D: ReadAt, W: Write>(
             let identity = pass_identity(alloc, job, passphrase.as_slice())?;
             identities.push(Box::new(alloc, identity)?)?;
         }
-        Secret::Key(key) => identities.push(Box::new(alloc, KeyIdentity::new(*key))?)?,
+        Secret::Keys(keys) => {
+            for key in keys.as_slice() {
+                identities.push(Box::new(alloc, KeyIdentity::new(*key))?)?;
+            }
+        }
     }
     let limits = limits_of(job);
     let mut piece = vec![in alloc; 0u8; CHUNK_SIZE]?;
     let mut buffered = buffer_of(alloc, out)?;
-    let result = match open_ranges(alloc, input, identities.as_slice(), &limits) {
+    let mut source = source_at_offsets(alloc, input)?;
+    let result = match open_ranges(alloc, &mut source, identities.as_slice(), &limits) {
         Ok(mut reader) => write_range(
             &mut reader,
             job.at,

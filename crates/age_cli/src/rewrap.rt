@@ -11,7 +11,7 @@ use age_words::Job;
 use std::alloc::Global;
 use std::io::{Read, Write};
 
-/// Copies the input to the output with a new header, for the one recipient of the new secret, if
+/// Copies the input to the output with a new header, for the recipients of the new secret, if
 /// the old secret opens the old header.
 pub(crate) fn rewrap<'a, R: Read, W: Write>(
     alloc: Global,
@@ -30,7 +30,11 @@ pub(crate) fn rewrap<'a, R: Read, W: Write>(
             let identity = pass_identity(alloc, job, passphrase.as_slice())?;
             identities.push(Box::new(alloc, identity)?)?;
         }
-        Secret::Key(key) => identities.push(Box::new(alloc, KeyIdentity::new(*key))?)?,
+        Secret::Keys(keys) => {
+            for key in keys.as_slice() {
+                identities.push(Box::new(alloc, KeyIdentity::new(*key))?)?;
+            }
+        }
     }
     let mut recipients: Vec<Box<dyn Recipient>> = Vec::new(alloc);
     match new {
@@ -38,7 +42,11 @@ pub(crate) fn rewrap<'a, R: Read, W: Write>(
             let recipient = pass_recipient(alloc, job, passphrase.as_slice(), salt)?;
             recipients.push(Box::new(alloc, recipient)?)?;
         }
-        Secret::Key(key) => recipients.push(Box::new(alloc, KeyRecipient::new(*key, salt))?)?,
+        Secret::Keys(keys) => {
+            for key in keys.as_slice() {
+                recipients.push(Box::new(alloc, KeyRecipient::new(*key, salt))?)?;
+            }
+        }
     }
     let limits = limits_of(job);
     let mut source = file_source(alloc, input)?;

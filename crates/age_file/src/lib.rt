@@ -57,8 +57,8 @@ pub use age_recipient::{
     WrapFault, unlock,
 };
 pub use age_stream::{
-    CHUNK_SIZE, Done, FileAt, MemAt, RangeReader, ReadAt, Refused, StreamFault, StreamReader,
-    StreamWriter,
+    CHUNK_SIZE, Done, FileAt, MemAt, NONCE_SIZE, RangeReader, ReadAt, Refused, SEALED_CHUNK_SIZE,
+    StreamFault, StreamReader, StreamWriter, TAG_SIZE,
 };
 pub use decrypting::decrypt;
 pub use decryptor::Decryptor;

@@ -26,12 +26,17 @@ pub struct Job {
     pub command: Command,
     /// The file that holds the passphrase.
     pub pass: Option<String>,
-    /// The file that holds the key of 32 bytes.
+    /// The file that holds the key of 32 bytes, the first of several.
     pub key: Option<String>,
+    /// The files of the keys after the first.
+    pub more_keys: Vec<String>,
     /// The file that holds the passphrase for which `rewrap` makes a header.
     pub new_pass: Option<String>,
-    /// The file that holds the key of 32 bytes for which `rewrap` makes a header.
+    /// The file that holds the key of 32 bytes for which `rewrap` makes a header, the first of
+    /// several.
     pub new_key: Option<String>,
+    /// The files of the new keys after the first.
+    pub more_new_keys: Vec<String>,
     /// The work factor that `encrypt` and `rewrap` write, 1 to 30.
     pub work: u8,
     /// The file whose first 48 bytes are the file key, the nonce and the salt that `encrypt` uses;
@@ -54,6 +59,8 @@ pub struct Job {
     pub at: u64,
     /// The maximum number of bytes that `range` writes, at most 9,223,372,036,854,775,807.
     pub len: u64,
+    /// Whether a second line says more about an error.
+    pub verbose: bool,
 }
 
 /// Why the arguments make no job.

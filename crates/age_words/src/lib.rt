@@ -18,4 +18,5 @@ mod texts;
 mod words;
 
 pub use job::{Command, Job, WordsFault};
+pub use options::{DEFAULT_SEED, MOST_HEADER, MOST_WORK};
 pub use words::read_words;

@@ -5,8 +5,8 @@ ghost use Rattle.clap.specs.Words.{app_of};
 use crate::texts::{
     DECRYPT_END, ENCRYPT_END, ENCRYPTED_OUTPUT_HELP, FILE_KEY_HELP, INPUT_HELP, INSPECT_END,
     KEY_HELP, MAX_HEADER_HELP, MAX_WORK_HELP, NEW_KEY_HELP, NEW_PASS_HELP, PASS_HELP,
-    PLAIN_OUTPUT_HELP, RANGE_END, REWRAP_END, SALT_HELP, SEED_HELP, SEEKABLE_INPUT_HELP, WHOLE_END,
-    WORK_HELP,
+    PLAIN_OUTPUT_HELP, RANGE_END, REWRAP_END, SALT_HELP, SEED_HELP, SEEKABLE_INPUT_HELP,
+    VERBOSE_HELP, WHOLE_END, WORK_HELP,
 };
 use clap::{Arg, ArgAction, Command, value_parser};
 use std::alloc::{AllocError, Global};
@@ -39,9 +39,12 @@ pub(crate) const AT: &str = "at";
 
 pub(crate) const LEN: &str = "len";
 
+pub(crate) const VERBOSE: &str = "verbose";
+
 pub(crate) const LEAST_WORK: u64 = 1;
 
-pub(crate) const MOST_WORK: u64 = 30;
+/// The greatest work factor.
+pub const MOST_WORK: u64 = 30;
 
 /// The work factor that `encrypt` and `rewrap` write if the arguments name none, as `clap` takes
 /// it.
@@ -59,13 +62,14 @@ pub(crate) const DEFAULT_MAX_WORK: u8 = 22;
 
 pub(crate) const LEAST_HEADER: u64 = 1024;
 
-pub(crate) const MOST_HEADER: u64 = 16_777_216;
+/// The greatest limit of a header, in bytes.
+pub const MOST_HEADER: u64 = 16_777_216;
 
 /// The greatest offset of a range, and its greatest length, in bytes: 2^63 - 1.
 pub(crate) const MOST_OFFSET: u64 = 9_223_372_036_854_775_807;
 
 /// The seed file if the command line names none.
-pub(crate) const DEFAULT_SEED: &str = "/dev/urandom";
+pub const DEFAULT_SEED: &str = "/dev/urandom";
 
 const ABOUT: &str = "Encrypt and decrypt files in the age v1 format";
 
@@ -94,29 +98,52 @@ fn bare_command<'a>(alloc: Global) -> Command<'a>
         .about(ABOUT)
         .after_help(WHOLE_END)
         .version(VERSION)
+        .propagate_version(true)
+}
+
+/// A command, without its options. Its version is that of the program.
+fn bare_subcommand<'a>(
+    alloc: Global,
+    name: &'a str,
+    about: &'a str,
+    end: &'a str,
+) -> Result<Command<'a>, AllocError>
+    ensures { IfOk result (λ command. (app_of command).top.is_plain ≡ true) }
+{
+    Command::new(alloc, name)
+        .about(about)
+        .after_help(end)
+        .display_name("agep")
 }
 
 fn encrypt_command<'a>(alloc: Global) -> Result<Command<'a>, AllocError>
     ensures { IfOk result (λ command. (app_of command).top.is_plain ≡ true) }
 {
-    Command::new(alloc, "encrypt")
-        .about("Encrypt a file with a passphrase or a key")
-        .after_help(ENCRYPT_END)
-        .arg(pass_option(alloc))?
-        .arg(key_option(alloc))?
-        .arg(work_option(alloc))?
-        .arg(seed_option(alloc, SEED_HELP))?
-        .arg(max_header_option(alloc))?
-        .arg(output_option(alloc, ENCRYPTED_OUTPUT_HELP))?
-        .arg(input_word(alloc))
+    bare_subcommand(
+        alloc,
+        "encrypt",
+        "Encrypt a file with a passphrase or a key",
+        ENCRYPT_END,
+    )?
+    .arg(pass_option(alloc))?
+    .arg(key_option(alloc))?
+    .arg(work_option(alloc))?
+    .arg(seed_option(alloc, SEED_HELP))?
+    .arg(max_header_option(alloc))?
+    .arg(output_option(alloc, ENCRYPTED_OUTPUT_HELP))?
+    .arg(verbose_option(alloc))?
+    .arg(input_word(alloc))
 }
 
 fn decrypt_command<'a>(alloc: Global) -> Result<Command<'a>, AllocError>
     ensures { IfOk result (λ command. (app_of command).top.is_plain ≡ true) }
 {
-    let command = Command::new(alloc, "decrypt")
-        .about("Decrypt a file with a passphrase or a key")
-        .after_help(DECRYPT_END);
+    let command = bare_subcommand(
+        alloc,
+        "decrypt",
+        "Decrypt a file with a passphrase or a key",
+        DECRYPT_END,
+    )?;
     with_opening_options(alloc, command, PLAIN_OUTPUT_HELP)?.arg(input_word(alloc))
 }
 
@@ -134,33 +161,42 @@ fn with_opening_options<'a>(
         .arg(key_option(alloc))?
         .arg(max_work_option(alloc))?
         .arg(max_header_option(alloc))?
-        .arg(output_option(alloc, output_help))
+        .arg(output_option(alloc, output_help))?
+        .arg(verbose_option(alloc))
 }
 
 fn inspect_command<'a>(alloc: Global) -> Result<Command<'a>, AllocError>
     ensures { IfOk result (λ command. (app_of command).top.is_plain ≡ true) }
 {
-    let raw = Arg::new(alloc, RAW)
-        .short('r')
-        .long(RAW)
-        .help("Write the header's bytes instead of a table")
-        .action(ArgAction::SetTrue);
+    let raw = flag(
+        alloc,
+        RAW,
+        'r',
+        "Write the header's bytes instead of a table",
+    );
     let file_key = text_option(alloc, FILE_KEY, 'f', "FILE", FILE_KEY_HELP);
-    Command::new(alloc, "inspect")
-        .about("Show what the header of an age file holds")
-        .after_help(INSPECT_END)
-        .arg(raw)?
-        .arg(file_key)?
-        .arg(max_header_option(alloc))?
-        .arg(input_word(alloc))
+    bare_subcommand(
+        alloc,
+        "inspect",
+        "Show what the header of an age file holds",
+        INSPECT_END,
+    )?
+    .arg(raw)?
+    .arg(file_key)?
+    .arg(max_header_option(alloc))?
+    .arg(verbose_option(alloc))?
+    .arg(input_word(alloc))
 }
 
 fn range_command<'a>(alloc: Global) -> Result<Command<'a>, AllocError>
     ensures { IfOk result (λ command. (app_of command).top.is_plain ≡ true) }
 {
-    let command = Command::new(alloc, "range")
-        .about("Decrypt a part of a file with a passphrase or a key")
-        .after_help(RANGE_END);
+    let command = bare_subcommand(
+        alloc,
+        "range",
+        "Decrypt a part of a file with a passphrase or a key",
+        RANGE_END,
+    )?;
     with_opening_options(alloc, command, PLAIN_OUTPUT_HELP)?
         .arg(offset_word(
             alloc,
@@ -175,12 +211,15 @@ fn range_command<'a>(alloc: Global) -> Result<Command<'a>, AllocError>
 fn rewrap_command<'a>(alloc: Global) -> Result<Command<'a>, AllocError>
     ensures { IfOk result (λ command. (app_of command).top.is_plain ≡ true) }
 {
-    let command = Command::new(alloc, "rewrap")
-        .about("Give a file a new passphrase or key without encrypting it again")
-        .after_help(REWRAP_END);
+    let command = bare_subcommand(
+        alloc,
+        "rewrap",
+        "Give a file a new passphrase or key without encrypting it again",
+        REWRAP_END,
+    )?;
     with_opening_options(alloc, command, ENCRYPTED_OUTPUT_HELP)?
         .arg(text_option(alloc, NEW_PASS, 'P', "FILE", NEW_PASS_HELP))?
-        .arg(text_option(alloc, NEW_KEY, 'K', "FILE", NEW_KEY_HELP))?
+        .arg(text_option(alloc, NEW_KEY, 'K', "FILE", NEW_KEY_HELP).action(ArgAction::Append))?
         .arg(work_option(alloc))?
         .arg(seed_option(alloc, SALT_HELP))?
         .arg(input_word(alloc))
@@ -195,7 +234,7 @@ fn pass_option<'a>(alloc: Global) -> Arg<'a>
 fn key_option<'a>(alloc: Global) -> Arg<'a>
     ensures { result.global ≡ false }
 {
-    text_option(alloc, KEY, 'k', "FILE", KEY_HELP)
+    text_option(alloc, KEY, 'k', "FILE", KEY_HELP).action(ArgAction::Append)
 }
 
 fn work_option<'a>(alloc: Global) -> Arg<'a>
@@ -226,6 +265,12 @@ fn max_header_option<'a>(alloc: Global) -> Arg<'a>
     text_option(alloc, MAX_HEADER, 'H', "N", MAX_HEADER_HELP)
         .value_parser(value_parser!(u64).range(LEAST_HEADER as i64..=MOST_HEADER as i64))
         .default_value("65536")
+}
+
+fn verbose_option<'a>(alloc: Global) -> Arg<'a>
+    ensures { result.global ≡ false }
+{
+    flag(alloc, VERBOSE, 'v', VERBOSE_HELP)
 }
 
 fn output_option<'a>(alloc: Global, help: &'a str) -> Arg<'a>
@@ -259,6 +304,16 @@ fn required_word<'a>(alloc: Global, id: &'a str, value_name: &'a str, help: &'a 
         .help(help)
         .required(true)
         .action(ArgAction::Set)
+}
+
+fn flag<'a>(alloc: Global, id: &'a str, short: char, help: &'a str) -> Arg<'a>
+    ensures { result.global ≡ false }
+{
+    Arg::new(alloc, id)
+        .short(short)
+        .long(id)
+        .help(help)
+        .action(ArgAction::SetTrue)
 }
 
 fn text_option<'a>(

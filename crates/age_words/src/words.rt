@@ -1,12 +1,12 @@
 //! Parsing the arguments of the command line to a job.
-ghost use Rattle.std.specs.Prelude.{IfOk};
-ghost use Rattle.age_words.specs.Job.{IsBetween, IsInRange, least_header, most_header, most_work};
+ghost use Rattle.std.specs.Prelude.{◌≡◌, IfOk};
+ghost use Rattle.age_words.specs.Job.{IsBetween, IsInRange, NamesInput, least_header, most_header, most_work};
 
 use crate::job::{Command, Job, WordsFault};
 use crate::options::{
     AT, DEFAULT_MAX_WORK, DEFAULT_SEED, DEFAULT_WORK, FILE_KEY, INPUT, KEY, LEAST_HEADER,
     LEAST_WORK, LEN, MAX_HEADER, MAX_WORK, MOST_HEADER, MOST_OFFSET, MOST_WORK, NEW_KEY, NEW_PASS,
-    OUTPUT, PASS, RAW, SEED, WORK, whole_command,
+    OUTPUT, PASS, RAW, SEED, VERBOSE, WORK, whole_command,
 };
 use clap::ArgMatches;
 use std::alloc::{AllocError, Global};
@@ -22,6 +22,15 @@ use std::alloc::{AllocError, Global};
 pub fn read_words(alloc: Global, words: &[&str]) -> Result<Job, WordsFault>
     ensures ranges { IfOk result IsInRange }
 {
+    if asks_for_help(words) {
+        return parse(alloc, &["agep", "--help"]);
+    }
+    parse(alloc, words)
+}
+
+fn parse(alloc: Global, words: &[&str]) -> Result<Job, WordsFault>
+    ensures ranges { IfOk result IsInRange }
+{
     let matches = whole_command(alloc)?.try_get_matches_from(words)?;
     match matches.subcommand() {
         Some(("encrypt", matches)) => encrypt_job(alloc, matches),
@@ -35,135 +44,138 @@ pub fn read_words(alloc: Global, words: &[&str]) -> Result<Job, WordsFault>
     }
 }
 
+/// Whether help is asked how to use it. `clap` takes such an option for the name of a command.
+fn asks_for_help(words: &[&str]) -> bool {
+    words.len() == 3 && words[1] == "help" && (words[2] == "--help" || words[2] == "-h")
+}
+
 fn encrypt_job(alloc: Global, matches: &ArgMatches<'_>) -> Result<Job, WordsFault>
     ensures ranges { IfOk result IsInRange }
 {
-    let work = work_of(matches, WORK)?;
-    let max_header = max_header_of(matches)?;
-    let Some(seed) = matches.get_str(SEED) else {
-        return Err(WordsFault::Lost);
-    };
-    Ok(Job {
-        command: Command::Encrypt,
-        pass: text_of(alloc, matches, PASS)?,
-        key: text_of(alloc, matches, KEY)?,
-        new_pass: None,
-        new_key: None,
-        work,
-        seed: String::from_str(alloc, seed)?,
-        max_work: DEFAULT_MAX_WORK,
-        max_header,
-        output: text_of(alloc, matches, OUTPUT)?,
-        raw: false,
-        file_key: None,
-        input: text_of(alloc, matches, INPUT)?,
-        at: 0,
-        len: 0,
-    })
+    let mut job = common_job(
+        alloc,
+        Command::Encrypt,
+        text_of(alloc, matches, INPUT)?,
+        matches,
+    )?;
+    job.pass = text_of(alloc, matches, PASS)?;
+    (job.key, job.more_keys) = texts_of(alloc, matches, KEY)?;
+    job.work = work_of(matches, WORK)?;
+    job.seed = seed_of(alloc, matches)?;
+    job.output = text_of(alloc, matches, OUTPUT)?;
+    Ok(job)
 }
 
 fn decrypt_job(alloc: Global, matches: &ArgMatches<'_>) -> Result<Job, WordsFault>
     ensures ranges { IfOk result IsInRange }
 {
-    let max_work = work_of(matches, MAX_WORK)?;
-    let max_header = max_header_of(matches)?;
-    Ok(Job {
-        command: Command::Decrypt,
-        pass: text_of(alloc, matches, PASS)?,
-        key: text_of(alloc, matches, KEY)?,
-        new_pass: None,
-        new_key: None,
-        work: DEFAULT_WORK,
-        seed: String::from_str(alloc, DEFAULT_SEED)?,
-        max_work,
-        max_header,
-        output: text_of(alloc, matches, OUTPUT)?,
-        raw: false,
-        file_key: None,
-        input: text_of(alloc, matches, INPUT)?,
-        at: 0,
-        len: 0,
-    })
+    opening_job(
+        alloc,
+        Command::Decrypt,
+        text_of(alloc, matches, INPUT)?,
+        matches,
+    )
 }
 
 fn inspect_job(alloc: Global, matches: &ArgMatches<'_>) -> Result<Job, WordsFault>
     ensures ranges { IfOk result IsInRange }
 {
-    let max_header = max_header_of(matches)?;
-    Ok(Job {
-        command: Command::Inspect,
-        pass: None,
-        key: None,
-        new_pass: None,
-        new_key: None,
-        work: DEFAULT_WORK,
-        seed: String::from_str(alloc, DEFAULT_SEED)?,
-        max_work: DEFAULT_MAX_WORK,
-        max_header,
-        output: None,
-        raw: matches.get_flag(RAW),
-        file_key: text_of(alloc, matches, FILE_KEY)?,
-        input: text_of(alloc, matches, INPUT)?,
-        at: 0,
-        len: 0,
-    })
+    let mut job = common_job(
+        alloc,
+        Command::Inspect,
+        text_of(alloc, matches, INPUT)?,
+        matches,
+    )?;
+    job.raw = matches.get_flag(RAW);
+    job.file_key = text_of(alloc, matches, FILE_KEY)?;
+    Ok(job)
 }
 
 fn range_job(alloc: Global, matches: &ArgMatches<'_>) -> Result<Job, WordsFault>
     ensures ranges { IfOk result IsInRange }
 {
-    let max_work = work_of(matches, MAX_WORK)?;
-    let max_header = max_header_of(matches)?;
-    let at = number_in(matches, AT, 0, MOST_OFFSET)?;
-    let len = number_in(matches, LEN, 0, MOST_OFFSET)?;
     let Some(input) = matches.get_str(INPUT) else {
         return Err(WordsFault::Lost);
     };
-    Ok(Job {
-        command: Command::Range,
-        pass: text_of(alloc, matches, PASS)?,
-        key: text_of(alloc, matches, KEY)?,
-        new_pass: None,
-        new_key: None,
-        work: DEFAULT_WORK,
-        seed: String::from_str(alloc, DEFAULT_SEED)?,
-        max_work,
-        max_header,
-        output: text_of(alloc, matches, OUTPUT)?,
-        raw: false,
-        file_key: None,
-        input: Some(String::from_str(alloc, input)?),
-        at,
-        len,
-    })
+    let input = Some(String::from_str(alloc, input)?);
+    let mut job = opening_job(alloc, Command::Range, input, matches)?;
+    job.at = number_in(matches, AT, 0, MOST_OFFSET)?;
+    job.len = number_in(matches, LEN, 0, MOST_OFFSET)?;
+    Ok(job)
 }
 
 fn rewrap_job(alloc: Global, matches: &ArgMatches<'_>) -> Result<Job, WordsFault>
     ensures ranges { IfOk result IsInRange }
 {
-    let work = work_of(matches, WORK)?;
-    let max_work = work_of(matches, MAX_WORK)?;
-    let max_header = max_header_of(matches)?;
-    let Some(seed) = matches.get_str(SEED) else {
-        return Err(WordsFault::Lost);
-    };
+    let mut job = opening_job(
+        alloc,
+        Command::Rewrap,
+        text_of(alloc, matches, INPUT)?,
+        matches,
+    )?;
+    job.new_pass = text_of(alloc, matches, NEW_PASS)?;
+    (job.new_key, job.more_new_keys) = texts_of(alloc, matches, NEW_KEY)?;
+    job.work = work_of(matches, WORK)?;
+    job.seed = seed_of(alloc, matches)?;
+    Ok(job)
+}
+
+/// A job of this command and input, with the options of the commands that find a file's key.
+fn opening_job(
+    alloc: Global,
+    command: Command,
+    input: Option<String>,
+    matches: &ArgMatches<'_>,
+) -> Result<Job, WordsFault>
+    requires { NamesInput command input }
+    ensures { IfOk result (λ job. (job.command ≡ command) × IsInRange job) }
+{
+    let mut job = common_job(alloc, command, input, matches)?;
+    job.pass = text_of(alloc, matches, PASS)?;
+    (job.key, job.more_keys) = texts_of(alloc, matches, KEY)?;
+    job.max_work = work_of(matches, MAX_WORK)?;
+    job.output = text_of(alloc, matches, OUTPUT)?;
+    Ok(job)
+}
+
+/// A job of this command and input, with the options that every command has, and the defaults of
+/// all others.
+fn common_job(
+    alloc: Global,
+    command: Command,
+    input: Option<String>,
+    matches: &ArgMatches<'_>,
+) -> Result<Job, WordsFault>
+    requires { NamesInput command input }
+    ensures { IfOk result (λ job. (job.command ≡ command) × IsInRange job) }
+{
     Ok(Job {
-        command: Command::Rewrap,
-        pass: text_of(alloc, matches, PASS)?,
-        key: text_of(alloc, matches, KEY)?,
-        new_pass: text_of(alloc, matches, NEW_PASS)?,
-        new_key: text_of(alloc, matches, NEW_KEY)?,
-        work,
-        seed: String::from_str(alloc, seed)?,
-        max_work,
-        max_header,
-        output: text_of(alloc, matches, OUTPUT)?,
+        command,
+        pass: None,
+        key: None,
+        more_keys: Vec::new(alloc),
+        new_pass: None,
+        new_key: None,
+        more_new_keys: Vec::new(alloc),
+        work: DEFAULT_WORK,
+        seed: String::from_str(alloc, DEFAULT_SEED)?,
+        max_work: DEFAULT_MAX_WORK,
+        max_header: max_header_of(matches)?,
+        output: None,
         raw: false,
         file_key: None,
-        input: text_of(alloc, matches, INPUT)?,
+        input,
         at: 0,
         len: 0,
+        verbose: matches.get_flag(VERBOSE),
     })
+}
+
+fn seed_of(alloc: Global, matches: &ArgMatches<'_>) -> Result<String, WordsFault> {
+    match matches.get_str(SEED) {
+        Some(seed) => Ok(String::from_str(alloc, seed)?),
+        None => Err(WordsFault::Lost),
+    }
 }
 
 /// The maximum size of a header in bytes.
@@ -202,4 +214,20 @@ fn text_of(
         Some(text) => Ok(Some(String::from_str(alloc, text)?)),
         None => Ok(None),
     }
+}
+
+/// The first value of this option, and those after it.
+fn texts_of(
+    alloc: Global,
+    matches: &ArgMatches<'_>,
+    id: &str,
+) -> Result<(Option<String>, Vec<String>), AllocError> {
+    let mut more = Vec::new(alloc);
+    let Some((first, rest)) = matches.get_strs(id).and_then(|texts| texts.split_first()) else {
+        return Ok((None, more));
+    };
+    for text in rest {
+        more.push(String::from_str(alloc, text)?)?;
+    }
+    Ok((Some(String::from_str(alloc, first)?), more))
 }

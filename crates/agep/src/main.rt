@@ -48,6 +48,9 @@ fn refuse(rt: &HostRuntime, kind: io::ErrorKind) -> u8
         let _ = eprintln!(rt; "agep: out of memory");
         return 1;
     }
-    let _ = eprintln!(rt; "agep: bad command line");
+    let _ = eprintln!(
+        rt;
+        "agep: an argument is not UTF-8; < and > read and write files with such names"
+    );
     2
 }

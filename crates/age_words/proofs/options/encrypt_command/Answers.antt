@@ -1,6 +1,6 @@
-use Rattle.std.proofs.Common.{rules, ap, ◌≡◌, ◌∙◌, true, Bool}
+use Rattle.std.proofs.Common.{rules, ap, ◌∙◌, Bool}
 use Rattle.std.proofs.lemmas.Result.{IfOk-weaker}
-use Rattle.clap.specs.Words.{App, app_of}
+use Rattle.clap.specs.Words.{App}
 use Rattle.age_words.proofs.options.encrypt_command.Goals as goal
 
 abbrev plain : App → Bool
@@ -8,13 +8,13 @@ plain a = a.top.is_plain
 
 pub returns : goal.returns
 returns c =
-    let first : plain (app_of c.after_help.result) ≡ true = search rules in
-    IfOk-weaker c.arg-7.result _ _ (λ command h.
+    IfOk-weaker c.arg-8.result _ _ (λ command h.
     ap plain (h.shape (search rules))
+    ∙ ap plain (c.in_ok-arg-7.ensures.shape (search rules))
     ∙ ap plain (c.in_ok-arg-6.ensures.shape (search rules))
     ∙ ap plain (c.in_ok-arg-5.ensures.shape (search rules))
     ∙ ap plain (c.in_ok-arg-4.ensures.shape (search rules))
     ∙ ap plain (c.in_ok-arg-3.ensures.shape (search rules))
     ∙ ap plain (c.in_ok-arg-2.ensures.shape (search rules))
     ∙ ap plain (c.in_ok-arg.ensures.shape (search rules))
-    ∙ first) c.arg-7.ensures
+    ∙ c.in_ok-bare_subcommand.ensures) c.arg-8.ensures

@@ -8,10 +8,11 @@ plain a = a.top.is_plain
 
 pub returns : goal.returns
 returns c =
-    IfOk-weaker c.arg-5.result _ _ (λ command h.
+    IfOk-weaker c.arg-6.result _ _ (λ command h.
     ap plain (h.shape (search rules))
+    ∙ ap plain (c.in_ok-arg-5.ensures.shape (search rules))
     ∙ ap plain (c.in_ok-arg-4.ensures.shape (search rules))
     ∙ ap plain (c.in_ok-arg-3.ensures.shape (search rules))
     ∙ ap plain (c.in_ok-arg-2.ensures.shape (search rules))
     ∙ ap plain (c.in_ok-arg.ensures.shape (search rules))
-    ∙ c.requires) c.arg-5.ensures
+    ∙ c.requires) c.arg-6.ensures
