@@ -350,8 +350,7 @@ outputs() {
         has_ended 1 "agep: write failed"
         check "a full device as OUT: $line"
         # shellcheck disable=SC2086
-        "$agep" $line >/dev/full 2>err
-        echo $? >status
+        run_into_full_device $line
         has_said 1 "agep: write failed"
         check "a full device as standard output: $line"
         # shellcheck disable=SC2086
@@ -359,8 +358,7 @@ outputs() {
         has_said 1 "agep: write failed"
         check "a closed pipe: $line"
         # shellcheck disable=SC2086
-        "$agep" $line >&- 2>err
-        echo $? >status
+        run_without_output $line
         has_said 1 "agep: write failed"
         check "a closed standard output: $line"
     done
@@ -369,22 +367,23 @@ outputs() {
     check "decrypt from a pipe"
 }
 
-# Words that are refused, with the first line of what is said, and the texts of help.
+# Words that are refused, with what is said but for its usage and last line, and the texts of help.
 words() {
-    local row
-    for row in "encrypt -p pass -w 31|error: invalid value '31' for '--work <N>': 31 is not in 1..=30" \
-        "encrypt -p pass -w 0|error: invalid value '0' for '--work <N>': 0 is not in 1..=30" \
-        "decrypt -p pass -m 31|error: invalid value '31' for '--max-work <N>': 31 is not in 1..=30" \
-        "decrypt -p pass -m 0|error: invalid value '0' for '--max-work <N>': 0 is not in 1..=30" \
-        "encrypt -H 1023|error: invalid value '1023' for '--max-header <N>': 1023 is not in 1024..=16777216" \
-        "decrypt -w 10|error: unexpected argument '-w' found" \
-        "encrypt -m 10|error: unexpected argument '-m' found" \
-        "decrypt -p a -p b|error: the argument '--passphrase <FILE>' cannot be used multiple times" \
-        "encrypt a b|error: unexpected argument 'b' found"; do
+    local row words usage text
+    for row in "encrypt -p pass -w 31||invalid value '31' for '--work <N>': 31 is not in 1..=30" \
+        "encrypt -p pass -w 0||invalid value '0' for '--work <N>': 0 is not in 1..=30" \
+        "decrypt -p pass -m 31||invalid value '31' for '--max-work <N>': 31 is not in 1..=30" \
+        "decrypt -p pass -m 0||invalid value '0' for '--max-work <N>': 0 is not in 1..=30" \
+        "encrypt -H 1023||invalid value '1023' for '--max-header <N>': 1023 is not in 1024..=16777216" \
+        "decrypt -w 10|decrypt|unexpected argument '-w' found"$'\n\n'"  tip: to pass '-w' as a value, use '-- -w'" \
+        "encrypt -m 10|encrypt|unexpected argument '-m' found"$'\n\n'"  tip: to pass '-m' as a value, use '-- -m'" \
+        "decrypt -p a -p b|decrypt|the argument '--passphrase <FILE>' cannot be used multiple times" \
+        "encrypt a b|encrypt|unexpected argument 'b' found"; do
+        IFS='|' read -r -d '' words usage text <<<"$row"
         # shellcheck disable=SC2086,SC2090
-        run ${row%%|*}
-        [[ $(cat status) == 2 && $(head -n 1 err) == "${row#*|}" && ! -s out ]]
-        check "status 2: agep ${row%%|*}"
+        run $words
+        has_refused "${text%$'\n'}" "${usage:+$usage [OPTIONS] [IN]}"
+        check "status 2: agep $words"
     done
     run encrypt --help
     grep -q 'a seed used twice repeats keys' out && grep -q 'An existing OUT keeps its contents until' out &&

@@ -3,8 +3,8 @@
 # checks, which files it refuses, and its memory. The arguments name the groups to run; without
 # arguments all groups run. The last line is 'N passed, M failed'.
 groups=(
-    rows sizes by_reference header_limit payloads refused_files order same_files shared_input outputs
-    syncs streaming memory
+    rows sizes by_reference header_limit payloads refused_files order words same_files shared_input
+    outputs syncs streaming memory
 )
 source "$(dirname "$0")/checks.bash"
 
@@ -257,7 +257,7 @@ refused_files() {
 
 # The words' own faults, in the order in which they are looked for.
 order() {
-    local row words line role
+    local row words line
     head -c 31 seed >short.key
     head -c 33 seed >long.key
     head -c 47 seed >short.seed
@@ -291,21 +291,27 @@ order() {
     rewrap -k key -K new.key "$work"
     has_ended 1 "agep: read failed"
     check "a directory as IN"
-    for row in "-P new.pass|-w 31|error: invalid value '31' for '--work <N>': 31 is not in 1..=30" \
-        "-P new.pass|-w 0|error: invalid value '0' for '--work <N>': 0 is not in 1..=30" \
-        "-P new.pass|-m 31|error: invalid value '31' for '--max-work <N>': 31 is not in 1..=30" \
-        "-P new.pass|-H 1023|error: invalid value '1023' for '--max-header <N>': 1023 is not in 1024..=16777216" \
-        "-P new.pass|-P key|error: the argument '--new-pass <FILE>' cannot be used multiple times" \
-        "-K new.key|-K key|error: the argument '--new-key <FILE>' cannot be used multiple times" \
-        "-K new.key|-r|error: unexpected argument '-r' found" "-K new.key|a b|error: unexpected argument 'b' found"; do
-        IFS='|' read -r role words line <<<"$row"
+}
+
+# Words that are refused, with what is said but for its usage and last line.
+words() {
+    local row words usage text
+    for row in "-P new.pass -w 31||invalid value '31' for '--work <N>': 31 is not in 1..=30" \
+        "-P new.pass -w 0||invalid value '0' for '--work <N>': 0 is not in 1..=30" \
+        "-P new.pass -m 31||invalid value '31' for '--max-work <N>': 31 is not in 1..=30" \
+        "-P new.pass -H 1023||invalid value '1023' for '--max-header <N>': 1023 is not in 1024..=16777216" \
+        "-P new.pass -P key|rewrap|the argument '--new-pass <FILE>' cannot be used multiple times" \
+        "-K new.key -p pass|rewrap|the argument '--passphrase <FILE>' cannot be used multiple times" \
+        "-K new.key -r|rewrap|unexpected argument '-r' found"$'\n\n'"  tip: to pass '-r' as a value, use '-- -r'" \
+        "-K new.key a b|rewrap|unexpected argument 'b' found"; do
+        IFS='|' read -r -d '' words usage text <<<"$row"
         # shellcheck disable=SC2086
-        rewrap -p pass $role $words
-        [[ $(cat status) == 2 && $(head -n 1 err) == "$line" && ! -s out ]]
-        check "status 2: rewrap -p pass $role $words"
+        rewrap -p pass $words
+        has_refused "${text%$'\n'}" "${usage:+$usage [OPTIONS] [IN]}"
+        check "status 2: rewrap -p pass $words"
     done
     run encrypt -p pass -P new.pass hello
-    [[ $(cat status) == 2 && $(head -n 1 err) == "error: unexpected argument '-P' found" && ! -s out ]]
+    has_refused "unexpected argument '-P' found"$'\n\n'"  tip: to pass '-P' as a value, use '-- -P'" "encrypt [OPTIONS] [IN]"
     check "status 2: -P is an option of rewrap alone"
 }
 
@@ -402,7 +408,7 @@ outputs() {
     has_ended 0 "" && [[ $(stat -c %a out_file) == 640 && $(wc -c <out_file) == 188 ]]
     check "an OUT that was there keeps its mode, and holds the new file alone"
     set -o pipefail
-    cat two.age | "$agep" rewrap -p pass -K new.key -s seed 2>err | cat >made && [[ ! -s err ]] && has_tail 65741 150 two.age 156 &&
+    cat two.age | "$agep" rewrap -p pass -K new.key -s seed 2>err | cat >made && holds err "" && has_tail 65741 150 two.age 156 &&
         decrypts made -k new.key two_chunks
     check "from a pipe to a pipe"
     set +o pipefail
@@ -414,8 +420,7 @@ outputs() {
     rewrap -p pass -K new.key -o /dev/full two.age
     has_ended 1 "agep: write failed"
     check "a full device as OUT"
-    "$agep" rewrap -p pass -K new.key two.age >/dev/full 2>err
-    echo $? >status
+    run_into_full_device rewrap -p pass -K new.key two.age
     has_said 1 "agep: write failed"
     check "a full device as standard output"
     run_into_closed_pipe rewrap -p pass -K new.key two.age
@@ -439,8 +444,8 @@ syncs() {
     rm -f synced out_file
     LD_PRELOAD=./sync.so "$agep" rewrap -p pass -K new.key -o out_file old.age && [[ $(wc -c <synced) == 1 ]]
     check "OUT is synced before status 0"
-    UNSYNCED=1 LD_PRELOAD=./sync.so "$agep" rewrap -p pass -K new.key -o out_file old.age 2>err
-    [[ $? -eq 1 && $(cat err) == "agep: write failed" ]]
+    UNSYNCED=1 LD_PRELOAD=./sync.so rewrap -p pass -K new.key -o out_file old.age
+    has_ended 1 "agep: write failed"
     check "an OUT that can't be synced"
 }
 
@@ -477,7 +482,7 @@ streaming() {
     check "1 GiB through pipes, $kib KiB resident"
     set -o pipefail
     "$agep" rewrap -k key -P new.pass -w 10 <great.age 2>err | tail -c "+$((passphrase_header + 1))" |
-        cmp -s - <(tail -c "+$((key_header + 1))" great.age) && [[ ! -s err ]]
+        cmp -s - <(tail -c "+$((key_header + 1))" great.age) && holds err ""
     check "1 GiB through pipes: what follows the header is the same"
     set +o pipefail
     rm great.age

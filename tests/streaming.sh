@@ -45,12 +45,10 @@ lockstep() {
 
 # A reader that leaves after a chunk and a half.
 early_leave() {
-    feed leave 100000 many.age "$agep" decrypt -k key >out 2>err
-    echo $? >status
+    keep feed leave 100000 many.age "$agep" decrypt -k key
     has_ended 1 "agep: write failed"
     check "decrypt: its reader leaves early"
-    feed leave 100000 many "$agep" encrypt -k key -s seed >out 2>err
-    echo $? >status
+    keep feed leave 100000 many "$agep" encrypt -k key -s seed
     has_ended 1 "agep: write failed"
     check "encrypt: its reader leaves early"
 }
@@ -173,8 +171,7 @@ damaged_file() {
     ! cmp -s out damaged && [[ $(wc -c <damaged) == 131287 ]]
     check "a file whose byte at the place $passphrase_front is changed"
     {
-        "$agep" decrypt -p pass >out 2>err
-        echo $? >status
+        run decrypt -p pass
         wc -c >unread
     } <damaged
     has_ended 1 "agep: chunk 0 is damaged"

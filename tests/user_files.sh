@@ -219,8 +219,7 @@ shared_input() {
     check "encrypt: a key file that is the file at standard input, by a link"
     mkfifo shared
     cat key >shared &
-    timeout 10 "$agep" encrypt -k shared >out 2>err <shared
-    echo $? >status
+    keep timeout 10 "$agep" encrypt -k shared <shared
     has_ended 1 "agep: standard input cannot be both IN and the key file"
     check "encrypt: a key file that is the FIFO at standard input"
     wait
@@ -230,8 +229,7 @@ shared_input() {
     run decrypt -k /dev/fd/0 -o out_file.2 <key.age
     has_ended 1 "agep: standard input cannot be both IN and the key file" && [[ ! -e out_file.2 ]]
     check "decrypt -k /dev/fd/0 without IN: OUT is not made"
-    "$agep" encrypt -p /dev/stdin -w 1 /dev/fd/0 <seed >out 2>err
-    echo $? >status
+    run encrypt -p /dev/stdin -w 1 /dev/fd/0 <seed
     has_ended 1 "agep: standard input cannot be both IN and the passphrase file"
     check "encrypt: standard input as passphrase file, and named as IN"
     run inspect -f /dev/stdin <key.age
@@ -287,8 +285,7 @@ modes() {
 # Runs the program on these words, and counts its calls that sync.
 run_counted() {
     rm -f synced
-    LD_PRELOAD=./sync.so "$agep" "$@" >out 2>err
-    echo $? >status
+    LD_PRELOAD=./sync.so run "$@"
     : >>synced
 }
 
@@ -333,18 +330,18 @@ names() {
         printf -v line '%b' "${row#*|}"
         [[ -n $line ]] || line=$name
         run inspect "absent $name"
-        has_ended 1 "agep: cannot open absent $line" && [[ $(wc -l <err) == 1 ]]
+        has_ended 1 "agep: cannot open absent $line"
         check "cannot open, and one line: ${row%%|*}"
         run encrypt -k key -o "absent/$name" hello
-        has_ended 1 "agep: cannot create absent/$line" && [[ $(wc -l <err) == 1 ]]
+        has_ended 1 "agep: cannot create absent/$line"
         check "cannot create, and one line: ${row%%|*}"
     done
     run inspect a $'b\x1b[31m\rc'
-    [[ $(cat status) == 2 && $(head -n 1 err) == "error: unexpected argument 'b\\x1b[31m\\rc' found" && ! -s out ]]
+    has_refused "unexpected argument 'b\\x1b[31m\\rc' found" "inspect [OPTIONS] [IN]"
     check "a word of a refused command line, with control characters"
     cp hello $'two\nlines'
     run encrypt -k key -o $'two\nlines' $'two\nlines'
-    has_ended 1 'agep: OUT is also IN: two\nlines' && [[ $(wc -l <err) == 1 ]]
+    has_ended 1 'agep: OUT is also IN: two\nlines'
     check "OUT is also IN, and one line"
 }
 
