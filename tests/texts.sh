@@ -194,7 +194,7 @@ manual() {
     for command in "${all[@]}"; do
         awk -v command="agep $command" '/^\.B agep/ { shown = ($0 == ".B " command) } shown' synopsis |
             grep -oE -- '-[a-zA-Z]\b' | sort >got
-        options_of "$command" | grep -v -e '^--' -e '^-h$' >expected
+        options_of "$command" | grep -v -e '^--' -e '^-[hV]$' >expected
         [[ -s expected ]] && cmp -s got expected
         check "the manual page's synopsis has the options of $command"
     done
@@ -229,7 +229,7 @@ by_fish() {
 # The options that the file for zsh has in a command's part.
 by_zsh_file() {
     awk -v command="$1)" '$1 == command { shown = 1 } /;;/ { shown = 0 } shown' "$root/completions/_agep" |
-        grep -oE '\{-[a-zA-Z],--[a-z-]+\}' | tr -d '{}' | tr , '\n' | sort
+        grep -oE '\{-[a-zA-Z]\+?,--[a-z-]+=?\}' | tr -d '{}+=' | tr , '\n' | sort
 }
 
 # The options that the file for fish has for a command.
@@ -265,6 +265,11 @@ completions() {
     mkdir -p files && touch files/some.age
     [[ -z $(cd files && by_bash agep decrypt so) ]] && grep -qx 'complete -o default -F _agep agep' "$root/completions/agep.bash"
     check "bash offers files, which is its default, where it offers no option"
+    [[ -z $(by_bash agep decrypt -- -) && -z $(by_bash agep encrypt -k key -- -w -) ]]
+    check "bash offers no option after --"
+    ! grep -E '\{-[a-zA-Z],--[a-z-]+\}.*\]:' "$root/completions/_agep" &&
+        [[ $(grep -cE "\)\*'\{-[kK]\+,--(new-)?key=\}" "$root/completions/_agep") == 5 ]]
+    check "the file for zsh takes words joined to their options, and -k and -K more than once"
     if command -v fish >/dev/null; then
         (cd files && by_fish agep decrypt so | grep -qx some.age && by_fish agep decrypt -k so | grep -qx some.age &&
             by_fish agep decrypt -o so | grep -qx some.age)
