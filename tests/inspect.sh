@@ -239,7 +239,7 @@ devices() {
     has_ended 1 "agep: cannot open nowhere.age"
     check "a file that does not exist"
     inspect $'\xff.age'
-    has_ended 2 "agep: bad command line"
+    has_ended 2 "agep: an argument is not UTF-8; < and > read and write files with such names"
     check "a word that is no UTF-8"
 }
 
@@ -281,12 +281,7 @@ devices_in_midstream() {
     for line in "encrypt -k key" "decrypt -k key" inspect; do
         # shellcheck disable=SC2086
         head -c 50 header | BREAKS=1 LD_PRELOAD=./devices.so run $line
-        if [[ $line == encrypt* ]]; then
-            # The header and the nonce, which are written before the plaintext is read.
-            has_said 1 "agep: read failed" && [[ $(wc -c <out) == 172 ]]
-        else
-            has_ended 1 "agep: read failed"
-        fi
+        has_ended 1 "agep: read failed"
         check "an input that fails after 50 bytes: $line"
     done
     "$agep" --help >/dev/full 2>/dev/full

@@ -12,6 +12,7 @@ set_up() {
         printf '%b' "\\x$(printf %02x "$i")"
     done >seed
     head -c 32 seed >key
+    tail -c 32 seed >seed.key
     printf 'correct horse' >pass
     printf 'correct hors' >other.pass
     seq 40000 | head -c 140000 >plain
@@ -164,6 +165,12 @@ refusals() {
     run range -p other.pass -o part.2 0 1 made
     has_ended 1 "agep: wrong passphrase or key" && [[ -e part.2 && ! -s part.2 ]]
     check "another passphrase: OUT stays empty"
+    run range -k seed.key -k key 65530 12 key.age
+    has_written 65530 12
+    check "the second of two keys opens the file"
+    run range -k seed.key -k seed.key 0 1 key.age
+    has_ended 1 "agep: wrong passphrase or key"
+    check "two keys, and neither opens the file"
     run range -p pass -m 9 0 1 made
     has_ended 1 "agep: malformed stanza: work factor is too high"
     check "work factor 10, where 9 is accepted"

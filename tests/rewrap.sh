@@ -3,8 +3,8 @@
 # checks, which files it refuses, and its memory. The arguments name the groups to run; without
 # arguments all groups run. The last line is 'N passed, M failed'.
 groups=(
-    rows sizes by_reference header_limit payloads refused_files order words same_files shared_input
-    outputs syncs streaming memory
+    rows several_keys sizes by_reference header_limit payloads refused_files order words same_files
+    shared_input outputs syncs streaming memory
 )
 source "$(dirname "$0")/checks.bash"
 
@@ -82,6 +82,48 @@ rows() {
     rewrap -p pass -P new.pass -w 10 -o made "$data/passphrase.age"
     has_ended 0 "" && decrypts made -p new.pass hello
     check "passphrase.age, made by age"
+}
+
+# To several keys, and from them.
+several_keys() {
+    local row
+    head -c 32 long >third.key
+    rewrap -p pass -K key -K new.key -s seed -o made two.age
+    has_ended 0 "" && run inspect made && grep -qx 'stanzas 2' out
+    check "to two keys: two stanzas"
+    decrypts made -k key two_chunks && decrypts made -k new.key two_chunks
+    check "to two keys: each of them opens"
+    is_closed made -k third.key "wrong passphrase or key"
+    check "to two keys: another one does not open"
+    mv made both.age
+    rewrap -p pass -K key -K key -s seed -o made two.age
+    has_ended 0 "" && run inspect made && grep -qx 'stanzas 1' out
+    check "to the same key twice: one stanza"
+    rewrap -k third.key -k new.key -K third.key -o made both.age
+    has_ended 0 "" && decrypts made -k third.key two_chunks && is_closed made -k new.key "wrong passphrase or key"
+    check "from the second of two old keys"
+    rewrap -k third.key -P new.pass -o out_file both.age
+    has_ended 1 "agep: wrong passphrase or key"
+    check "from a key that is none of them"
+    if python3 -c 'import hashlib; hashlib.scrypt' 2>/dev/null; then
+        for row in "-k key -k new.key" "-k new.key -k third.key -k key"; do
+            # shellcheck disable=SC2086
+            "$root/tests/reference.py" $row -s seed <two_chunks >expected
+            # shellcheck disable=SC2086
+            rewrap -p pass ${row//-k/-K} -s seed two.age
+            has_said 0 "" && cmp -s out expected
+            check "to several keys, the file that Python makes: $row"
+        done
+    fi
+    for row in "-k key -k absent -K new.key" "-k key -K new.key -K absent"; do
+        # shellcheck disable=SC2086
+        rewrap $row -o nowhere/made nowhere
+        has_ended 1 "agep: cannot open absent"
+        check "a key file is missing: rewrap $row"
+    done
+    rewrap -k key -P new.pass -K new.key -K key nowhere
+    has_ended 1 "agep: give one of -P and -K"
+    check "several new keys, and a new passphrase"
 }
 
 # Sizes of plaintext, from each kind of secret to each.
@@ -262,6 +304,7 @@ order() {
     head -c 33 seed >long.key
     head -c 47 seed >short.seed
     head -c 65537 /dev/zero >long.pass
+    echo >lf
     rm -f made
     for row in "|give one of -p and -k" "-p no1 -k no2|give one of -p and -k" "-P no3 -K no4|give one of -p and -k" \
         "-p no1 -k no2 -P no3 -K no4|give one of -p and -k" \
@@ -271,6 +314,7 @@ order() {
         "-k key -K no2 -s no3|cannot open no2" "-p pass -K new.key -s no3|cannot open no3" "-k key -P new.pass|cannot open nowhere" \
         "-k short.key -K no2|key file must hold 32 bytes" "-k long.key -P no2|key file must hold 32 bytes" \
         "-p long.pass -P no2|passphrase file is too long" \
+        "-p pass -P empty -s no3|passphrase file is empty" "-p pass -P lf|passphrase file is empty" "-k key -P /dev/null|passphrase file is empty" \
         "-p pass -K short.key -s no3|key file must hold 32 bytes" "-p pass -K long.key -s no3|key file must hold 32 bytes" \
         "-p pass -K empty -s no3|key file must hold 32 bytes" "-p pass -P long.pass -s no3|passphrase file is too long" \
         "-p pass -P . -s no3|read failed" "-p pass -K . -s no3|read failed" \
@@ -346,6 +390,8 @@ same_files() {
     check "OUT is also the new passphrase file"
     is_refused new.key "OUT is also the new key file: new.key" -p pass -K new.key -o new.key f
     check "OUT is also the new key file"
+    is_refused new.key "OUT is also the new key file: new.key" -p pass -K key -K new.key -o new.key f
+    check "OUT is also the second new key file"
     ln -s new.key linked.key
     is_refused new.key "OUT is also the new key file: linked.key" -p pass -K new.key -o linked.key f
     check "OUT is also the new key file, by a link"
@@ -382,6 +428,15 @@ shared_input() {
         rewrap "$option" /dev/fd/0 "$name" /dev/stdin old.age <seed
         has_ended 1 "agep: standard input cannot be both the $role and the $row"
         check "$option /dev/fd/0 $name /dev/stdin, from a file and with IN"
+    done
+    for row in "-k key -K /dev/stdin -K /dev/stdin|the new key file twice" "-k /dev/stdin -k /dev/fd/0 -K new.key|the key file twice" \
+        "-k key -K new.key -K /dev/stdin -s /dev/stdin|both the new key file and the seed file" \
+        "-k key -k /dev/stdin -K new.key -K /dev/stdin|both the key file and the new key file" \
+        "-k key -P /dev/stdin -s /dev/stdin|both the new passphrase file and the seed file"; do
+        # shellcheck disable=SC2086
+        cat seed | rewrap ${row%%|*} -o out_file.2 old.age
+        has_ended 1 "agep: standard input cannot be ${row#*|}" && [[ ! -e out_file.2 ]]
+        check "rewrap ${row%%|*}, from a pipe and with IN"
     done
     cat new.pass | rewrap -p pass -P /dev/stdin -w 1 -o made old.age
     has_ended 0 "" && decrypts made -p new.pass empty

@@ -3,7 +3,7 @@
 # page, the completions, the change log and ./install; and the planted bugs that docs/PROMISES.md
 # names with those that are there. The arguments name the groups to run; without arguments all
 # groups run. The last line is 'N passed, M failed'.
-groups=(helps refusals examples manual completions versions installs planted_bugs)
+groups=(helps helps_on_help refusals examples manual completions versions installs planted_bugs)
 source "$(dirname "$0")/checks.bash"
 
 # The commands that help shows, but for help itself.
@@ -29,6 +29,18 @@ helps() {
         [[ -n $command ]] || continue
         [[ $(sed -n '/^Status:/,/^$/p' out | awk 'NF { printf "%s ", $1 }') == "Status: 0 1 2 " ]]
         check "help says the statuses: agep $command"
+    done
+}
+
+# Help on help is the program's help.
+helps_on_help() {
+    local option
+    run --help
+    mv out expected
+    for option in --help -h; do
+        run help "$option"
+        has_said 0 "" && cmp -s out expected
+        check "agep help $option prints the program's help"
     done
 }
 
@@ -283,13 +295,16 @@ completions() {
 }
 
 versions() {
-    local option
+    local option command
     [[ $version =~ ^[0-9]+\.[0-9]+\.[0-9]+$ ]]
     check "the change log has a newest version"
     for option in -V --version; do
-        run "$option"
-        has_said 0 "" && [[ $(cat out) == "agep $version" ]]
-        check "agep $option names the newest version of the change log"
+        for command in '' "${all[@]}"; do
+            # shellcheck disable=SC2086
+            run $command "$option"
+            has_said 0 "" && holds out "agep $version"
+            check "agep ${command:+$command }$option names the newest version of the change log"
+        done
     done
 }
 
