@@ -457,8 +457,8 @@ outputs() {
     check "decrypt from a pipe"
 }
 
-# The seed is read from /dev/urandom only where that is a character device. The group replaces it for
-# processes of its own.
+# The seed is read from /dev/urandom only where that is a character device. It is replaced for
+# processes of this group alone.
 default_seed() {
     local row
     if ! unshare -m mount --bind /dev/null /dev/urandom 2>/dev/null; then

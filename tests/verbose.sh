@@ -35,7 +35,9 @@ explains() {
     shift 2
     run "$1" -v "${@:2}"
     has_explained "$line" "$more"
-    check "$*: $line: $more"
+    line="$*: $line: $more"
+    line=${line//$'\n'/\\n}
+    check "${line//$data\//}"
 }
 
 opening() {
