@@ -31,13 +31,13 @@ has_explained() {
 
 # Runs the program with -v on these words, and checks its two lines.
 explains() {
-    local line=$1 more=$2
+    local line=$1 more=$2 title
     shift 2
+    title="$*: $line: $more"
+    title=${title//$'\n'/\\n}
     run "$1" -v "${@:2}"
     has_explained "$line" "$more"
-    line="$*: $line: $more"
-    line=${line//$'\n'/\\n}
-    check "${line//$data\//}"
+    check "${title//$data\//}"
 }
 
 opening() {
