@@ -214,7 +214,7 @@ passphrase_header() {
 
 work_factors() {
     local row factor memory line="malformed stanza: work factor is too high"
-    for row in "23 8 GiB" "24 16 GiB" "30 1 TiB"; do
+    for row in "23 8 GiB" "24 16 GiB" "30 1024 GiB"; do
         read -r factor memory <<<"$row"
         passphrase_header "$factor" >made
         explains "$line" "made: its work factor is $factor; -m $factor accepts it and takes $memory of memory" decrypt -p pass made
@@ -222,6 +222,8 @@ work_factors() {
     explains "$line" "pass.age: its work factor is 10; -m 10 accepts it and takes 1 MiB of memory" range -p pass -m 9 0 1 pass.age
     passphrase_header 2 >made
     explains "$line" "made: its work factor is 2; -m 2 accepts it and takes 4 KiB of memory" rewrap -p pass -m 1 -K key made
+    passphrase_header "$(printf '9%.0s' {1..40})" >made
+    explains "$line" "made: its work factor has 40 digits; agep accepts at most 30" decrypt -p pass made
     for factor in 31 99; do
         passphrase_header "$factor" >made
         explains "$line" "made: its work factor is $factor; agep accepts at most 30" decrypt -p pass -m 30 made
@@ -260,6 +262,9 @@ chunks() {
     head -c $((172 + 3 * 65552 + 5)) key.age >made
     explains "chunk 3 is cut short" "made: the file ends 5 bytes into chunk 3, which starts at byte 196608 of the plaintext" decrypt -k key made
     explains "chunk 3 is cut short" "made: the file ends 5 bytes into chunk 3, which starts at byte 196608 of the plaintext" range -k key 0 1 made
+    "$agep" encrypt -k key -s seed -o nothing.age empty
+    damaged nothing.age 187
+    explains "chunk 0 is damaged" "made: chunk 0 holds no byte of the plaintext; $end" decrypt -k key made
     head -c 172 key.age >made
     explains "chunk 0 is cut short" "made: the file ends 0 bytes into chunk 0, which starts at byte 0 of the plaintext" decrypt -k key made
 }
