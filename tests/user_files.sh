@@ -285,7 +285,7 @@ shared_input() {
         has_ended 1 "agep: standard input cannot be ${row#*|}" && [[ ! -e out_file.2 ]]
         check "from a pipe: ${row%%|*}"
         # shellcheck disable=SC2086
-        run ${row%%|*} -o out_file.2 <key
+        run ${row%%|*} -o out_file.2 <seed
         has_ended 1 "agep: standard input cannot be ${row#*|}" && [[ ! -e out_file.2 ]]
         check "from a file: ${row%%|*}"
     done
