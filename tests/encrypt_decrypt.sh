@@ -630,6 +630,7 @@ memory() {
     encrypt -p pass -w 1 -s seed -o made hello
     each_allocation decrypt -p pass made
     each_allocation encrypt -k key -s seed hello
+    each_allocation encrypt -k key -k other.key -s seed hello
     encrypt -k key -s seed -o made hello
     each_allocation decrypt -k key made
 }

@@ -558,6 +558,7 @@ memory() {
     "$agep" encrypt -p pass -w 1 -s seed -o made hello
     each_allocation rewrap -p pass -P new.pass -w 1 -s seed made
     each_allocation rewrap -k key -K new.key -s seed key.age
+    each_allocation rewrap -k new.key -k key -K new.key -K key -s seed key.age
 }
 
 run_groups

@@ -2,7 +2,10 @@
 # Runs the built program with -v: after the line of a fault a second one says in which file, and why
 # or what to do. Each check compares both lines. The arguments name the groups to run; without
 # arguments all groups run. The last line is 'N passed, M failed'.
-groups=(opening devices secrets headers stanzas work_factors chunks other_faults no_second_line)
+groups=(
+    opening devices secrets headers stanzas work_factors chunks other_faults no_second_line
+    allocations
+)
 source "$(dirname "$0")/checks.bash"
 
 # The files that all groups work with. The seed is the bytes 0 to 47, the key the first 32 of them.
@@ -318,6 +321,23 @@ no_second_line() {
     run decrypt -v -k key key.age
     has_said 0 "" && cmp -s out plain
     check "nothing where all is well"
+}
+
+# With an allocation refused memory is out, or the second line says less, or all is as ever.
+allocations() {
+    local refused=0 line="no key fits this file" more="pass.age: its stanzas are of type scrypt; -p opens it"
+    if ! has_refuser; then
+        echo "skipped: allocations refused in turn, since there is no C compiler"
+        return
+    fi
+    while rm -f refused && [[ $refused -lt 10000 ]]; do
+        REFUSE=$((refused + 1)) LD_PRELOAD=./refuse.so run decrypt -v -k key pass.age
+        [[ -e refused ]] || break
+        refused=$((refused + 1))
+        has_ended 1 "agep: out of memory" || has_explained "$line" "reading pass.age" || has_explained "$line" "$more" || break
+    done
+    [[ $refused -gt 0 && ! -e refused ]] && has_explained "$line" "$more"
+    check "$refused allocations refused in turn"
 }
 
 run_groups
