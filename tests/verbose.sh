@@ -117,6 +117,10 @@ devices() {
     UNTRUNCATED=1 preloaded sync.so decrypt -k key -o plain.2 key.age
     has_explained "write failed" "truncating plain.2: Input/output error"
     check "an OUT that can't be truncated"
+    "$agep" encrypt -k key -o empty.age empty
+    UNTRUNCATED=1 preloaded sync.so decrypt -k key -o plain.2 empty.age
+    has_explained "write failed" "truncating plain.2: Input/output error"
+    check "an OUT that can't be truncated, where nothing is written to it"
     for words in "encrypt -k key" "decrypt -k key" inspect; do
         # shellcheck disable=SC2086
         head -c 50 key.age | BREAKS=1 preloaded devices.so $words
