@@ -24,10 +24,24 @@ processor() {
     fi
 }
 
-# Whether a file is there, its mark holds this text, and no source is newer than the mark:
-# is_current FILE MARK TEXT. A folder is newer where a file came or went.
+# The version of the toolchain, empty where there is none. `rt version` prints the same, but takes
+# half a second.
+toolchain() {
+    rt=$(command -v rt) || return 0
+    rt=$(readlink -f "$rt")
+    cat "${rt%/*}/../KIT-ID" 2>/dev/null || rt version
+}
+
+# Whether a file is there, its mark holds this text and the version of the toolchain at hand, and no
+# source is newer than the mark: is_current FILE MARK TEXT. Without a toolchain its version does not
+# count. A folder is newer where a file came or went.
 is_current() {
-    [ -f "$1" ] && [ "$(cat "$2" 2>/dev/null)" = "$3" ] || return 1
+    [ -f "$1" ] && [ -f "$2" ] || return 1
+    made_by=
+    { read -r made_for && read -r made_by; } <"$2" || :
+    [ "$made_for" = "$3" ] || return 1
+    at_hand=$(toolchain)
+    [ -z "$at_hand" ] || [ "$made_by" = "$at_hand" ] || return 1
     newer=$(find "$root/crates.txt" "$root"/crates/*/src "$root"/crates/*/specs \
         "$root"/crates/*/proofs -newer "$2" -print)
     [ -z "$newer" ]
@@ -41,9 +55,10 @@ need_rt() {
     fi
 }
 
-# Marks what was built with a text, as old as this file: mark MARK TEXT BEGAN.
+# Marks what was built with a text, and the version of the toolchain, as old as this file:
+# mark MARK TEXT BEGAN.
 mark() {
-    echo "$2" >"$1"
+    { echo "$2" && toolchain; } >"$1"
     touch -r "$3" "$1"
 }
 

@@ -6,8 +6,8 @@ complete -c agep -n __fish_use_subcommand -f -a inspect -d 'Show what the header
 complete -c agep -n __fish_use_subcommand -f -a range -d 'Decrypt a part of a file'
 complete -c agep -n __fish_use_subcommand -f -a rewrap -d 'Give a file a new passphrase or key'
 complete -c agep -n __fish_use_subcommand -f -a help -d 'Print help'
-complete -c agep -n __fish_use_subcommand -s V -l version -d 'Print the version'
 complete -c agep -s h -l help -d 'Print help'
+complete -c agep -s V -l version -d 'Print the version'
 complete -c agep -n '__fish_seen_subcommand_from help' -f -a 'encrypt decrypt inspect range rewrap'
 
 complete -c agep -n '__fish_seen_subcommand_from encrypt decrypt range rewrap' -s p -l passphrase -r -F -d 'File that holds the passphrase'
@@ -22,3 +22,4 @@ complete -c agep -n '__fish_seen_subcommand_from inspect' -s r -l raw -d 'Write 
 complete -c agep -n '__fish_seen_subcommand_from inspect' -s f -l file-key -r -F -d 'File that holds the file key'
 complete -c agep -n '__fish_seen_subcommand_from encrypt decrypt inspect range rewrap' -s H -l max-header -x -d 'Most bytes of the header'
 complete -c agep -n '__fish_seen_subcommand_from encrypt decrypt range rewrap' -s o -l output -r -F -d 'File to write'
+complete -c agep -n '__fish_seen_subcommand_from encrypt decrypt inspect range rewrap' -s v -l verbose -d 'Print a second line that says why'

@@ -25,7 +25,7 @@ root=$(cd "$(dirname "${BASH_SOURCE[0]}")/.." && pwd -P)
 data=$root/tests/data
 agep=$root/crates/agep/out/agep
 # The newest version in the change log.
-version=$(sed -n 's/^## \([0-9.]*\).*/\1/p' "$root/CHANGELOG.md" | head -n 1)
+version=$(sed -n 's/^## \([0-9][0-9.]*\).*/\1/p' "$root/CHANGELOG.md" | head -n 1)
 work=$(mktemp -d)
 trap 'rm -rf "$work"' EXIT
 cd "$work" || exit 1
@@ -70,20 +70,37 @@ skip() {
     exit
 }
 
-# Runs the program on these words, and keeps its status and what it says.
-run() {
-    "$agep" "$@" >out 2>err
+# Runs a command, and keeps what it writes and its status.
+keep() {
+    "$@" >out 2>err
     echo $? >status
 }
 
-# Whether the run before left this status and this line on standard error (none where it is empty).
+# Runs the program on these words, and keeps the same.
+run() {
+    keep "$agep" "$@"
+}
+
+# Whether a file holds this text and a line end, byte for byte; no byte where the text is empty.
+holds() {
+    printf '%s' "${2:+$2$'\n'}" | cmp -s - "$1"
+}
+
+# Whether the run before left this status and said just this on standard error: a line, lines, or
+# nothing.
 has_said() {
-    [[ $(cat status) == "$1" && $(cat err) == "$2" ]]
+    [[ $(cat status) == "$1" ]] && holds err "$2"
 }
 
 # The same, and nothing on standard output, where that was kept.
 has_ended() {
     has_said "$1" "$2" && [[ ! -s out ]]
+}
+
+# Whether the run before was refused for its command line, with this text and usage.
+has_refused() {
+    local usage=${2:+Usage: agep $2$'\n\n'}
+    has_ended 2 "error: $1"$'\n\n'"${usage}For more information, try '--help'."
 }
 
 # Runs the program on these words with standard output closed before it begins, as a pipe whose
@@ -102,6 +119,20 @@ run_into_closed_pipe() {
     : >out
 }
 
+# Runs the program on these words with standard output at a device that is full.
+run_into_full_device() {
+    : >out
+    "$agep" "$@" >/dev/full 2>err
+    echo $? >status
+}
+
+# Runs the program on these words with no standard output.
+run_without_output() {
+    : >out
+    "$agep" "$@" >&- 2>err
+    echo $? >status
+}
+
 # Makes refuse.so, with which an allocation is refused; not where there is no C compiler.
 has_refuser() {
     [[ -e refuse.so ]] || cc -shared -fPIC -o refuse.so "$root/tests/refuse.c" -ldl 2>/dev/null
@@ -115,8 +146,7 @@ each_allocation() {
     "$agep" "$@" >out 2>err
     usual="$? $(cat out err | cksum)"
     while rm -f refused && [[ $refused -lt 10000 ]]; do
-        REFUSE=$((refused + 1)) LD_PRELOAD=./refuse.so "$agep" "$@" >out 2>err
-        echo $? >status
+        REFUSE=$((refused + 1)) LD_PRELOAD=./refuse.so run "$@"
         answer="$(cat status) $(cat out err | cksum)"
         [[ -e refused ]] || break
         refused=$((refused + 1))

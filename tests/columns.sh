@@ -23,7 +23,7 @@ are_narrow() {
     for file in "$@"; do
         found=$(narrow "$file" | LC_ALL=C.UTF-8 grep -nE '^.{101}') || continue
         wide=1
-        sed "s|^|${file#"$root/"}:|" <<<"$found"
+        echo "${file#"$root/"}:${found//$'\n'/$'\n'${file#"$root/"}:}"
     done
     [[ $# -gt 0 && $wide -eq 0 ]]
 }
@@ -43,7 +43,7 @@ documents() {
 
 # Of scripts the comments.
 scripts() {
-    are_narrow "$root"/{agep,install,install-library,build.sh} "$root"/{tests,bench}/*.{sh,bash,py}
+    are_narrow "$root"/{agep,install,install-library,build.sh,installing.sh} "$root"/{tests,bench}/*.{sh,bash,py}
     check "at most 100 columns: the comments of scripts"
 }
 

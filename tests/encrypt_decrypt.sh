@@ -3,8 +3,9 @@
 # statuses, the order of their checks, and what their output holds after a fault. The arguments name
 # the groups to run; without arguments all groups run. The last line is 'N passed, M failed'.
 groups=(
-    sizes by_reference first_bytes defaults passphrases keys bad_headers cut_files damaged_files
-    order outputs words bounds spellings memory
+    sizes by_reference first_bytes defaults passphrases empty_passphrases keys several_keys
+    bad_headers cut_files damaged_files order outputs default_seed terminals words bounds spellings
+    memory
 )
 source "$(dirname "$0")/checks.bash"
 
@@ -135,11 +136,6 @@ passphrases() {
         if [[ ${row%% *} == 0 ]]; then has_written hello; else has_ended 1 "agep: wrong passphrase or key"; fi
         check "status ${row%% *} with the passphrase file ${row#* }"
     done
-    printf '\n' >lf
-    encrypt -p empty -w 1 -o made hello
-    decrypt -p lf made
-    has_written hello
-    check "the empty passphrase"
     { head -c 65535 /dev/zero && echo; } >longest
     head -c 65535 /dev/zero >same
     encrypt -p longest -w 1 -o made hello
@@ -154,6 +150,37 @@ passphrases() {
     decrypt -p longest made
     has_ended 1 "agep: passphrase file is too long"
     check "a passphrase file of 65,537 bytes, the last of them LF"
+}
+
+# An empty passphrase is refused, before IN is opened and OUT is made, and opens a file that has it.
+empty_passphrases() {
+    local row
+    printf '\n' >lf
+    rm -f made
+    for row in empty lf /dev/null; do
+        encrypt -p "$row" -w 1 -o made nowhere
+        has_ended 1 "agep: passphrase file is empty" && [[ ! -e made ]]
+        check "encrypt: an empty passphrase: $row"
+    done
+    encrypt -p <(cat nowhere 2>/dev/null) -w 1 hello
+    has_ended 1 "agep: passphrase file is empty"
+    check "encrypt: a passphrase from a command that fails"
+    printf '\n\n' >lines
+    encrypt -p lines -w 1 -o made hello && decrypt -p lines made
+    has_written hello
+    check "the passphrase LF, in a file of two of them"
+    if ! "$root/tests/reference.py" -p empty -w 1 -s seed <hello >made 2>/dev/null; then
+        echo "skipped: a file of the empty passphrase, since python3 is missing"
+        return
+    fi
+    for row in empty lf; do
+        decrypt -p "$row" made
+        has_written hello
+        check "decrypt goes on with an empty passphrase: $row"
+    done
+    decrypt -p pass made
+    has_ended 1 "agep: wrong passphrase or key"
+    check "another passphrase on a file of the empty one"
 }
 
 # Which secret fits which file.
@@ -178,6 +205,70 @@ keys() {
     decrypt -k key "$data/three_recipients.age"
     has_ended 1 "agep: no key fits this file"
     check "a key on a file for other recipients"
+}
+
+# How many stanzas the header of a file has, and the types of its stanzas.
+has_stanzas() {
+    run inspect "$1"
+    has_said 0 "" && grep -qx "stanzas $2" out && [[ $(grep -c '^ .* example.org/key ' out) == "$2" ]]
+}
+
+# A file for several keys: each of them opens it, wherever it stands.
+several_keys() {
+    local row word
+    head -c 32 long >third.key
+    cp key same.key
+    encrypt -k key -k other.key -s seed -o made two_chunks
+    has_ended 0 "" && has_stanzas made 2
+    check "a file for two keys has two stanzas"
+    for row in "-k key" "-k other.key" "-k third.key -k key" "-k third.key -k other.key" "-k other.key -k key" \
+        "--key=third.key -kother.key"; do
+        # shellcheck disable=SC2086
+        decrypt $row made
+        has_written two_chunks
+        check "a file for two keys opens with $row"
+    done
+    decrypt -k third.key made
+    has_ended 1 "agep: wrong passphrase or key"
+    check "another key does not open a file for two keys"
+    decrypt -k third.key -k third.key -k same.key made
+    has_written two_chunks
+    check "the third of three keys opens a file"
+    encrypt -p pass -w 1 -o passphrase.age hello
+    decrypt -k key -k other.key passphrase.age
+    has_ended 1 "agep: no key fits this file"
+    check "two keys on a passphrase's file"
+    encrypt -k key -s seed -o one hello
+    for row in "-k key -k key" "-k key -k same.key" "-k same.key -k key -k same.key"; do
+        # shellcheck disable=SC2086
+        encrypt $row -s seed hello
+        has_written one
+        check "a key that is given twice gets one stanza: $row"
+    done
+    encrypt -k key -k other.key -k key -s seed -o made hello
+    has_ended 0 "" && has_stanzas made 2
+    check "a key that is given again after another gets one stanza"
+    if python3 -c 'import hashlib; hashlib.scrypt' 2>/dev/null; then
+        for row in "-k key -k other.key" "-k other.key -k key" "-k key -k other.key -k third.key -k same.key"; do
+            # shellcheck disable=SC2086
+            "$root/tests/reference.py" $row -s seed <two_chunks >expected
+            # shellcheck disable=SC2086
+            encrypt $row -s seed two_chunks
+            has_written expected
+            check "the file that Python makes: $row"
+        done
+    fi
+    for word in encrypt decrypt; do
+        run "$word" -k key -p pass -k other.key nowhere
+        has_ended 1 "agep: give one of -p and -k"
+        check "$word: several keys, and a passphrase"
+        run "$word" -k key -k absent -o nowhere/made nowhere
+        has_ended 1 "agep: cannot open absent"
+        check "$word: the second key file is missing"
+        run "$word" -k key -k pass -o nowhere/made nowhere
+        has_ended 1 "agep: key file must hold 32 bytes"
+        check "$word: the second key file holds another number of bytes"
+    done
 }
 
 # Headers that are read, and refused for their stanzas; bytes that are no header.
@@ -308,8 +399,7 @@ order() {
         has_ended 1 "agep: cannot open nowhere"
         check "$command: IN is opened before OUT is made"
         run "$command" -k key "$work"
-        # encrypt has written the header and the nonce by then.
-        has_said 1 "agep: read failed" && [[ $(wc -c <out) == $([[ $command == encrypt ]] && echo 172 || echo 0) ]]
+        has_ended 1 "agep: read failed"
         check "$command: a directory as IN"
     done
     run encrypt -k absent -s absent.seed hello
@@ -350,8 +440,7 @@ outputs() {
         has_ended 1 "agep: write failed"
         check "a full device as OUT: $line"
         # shellcheck disable=SC2086
-        "$agep" $line >/dev/full 2>err
-        echo $? >status
+        run_into_full_device $line
         has_said 1 "agep: write failed"
         check "a full device as standard output: $line"
         # shellcheck disable=SC2086
@@ -359,8 +448,7 @@ outputs() {
         has_said 1 "agep: write failed"
         check "a closed pipe: $line"
         # shellcheck disable=SC2086
-        "$agep" $line >&- 2>err
-        echo $? >status
+        run_without_output $line
         has_said 1 "agep: write failed"
         check "a closed standard output: $line"
     done
@@ -369,22 +457,78 @@ outputs() {
     check "decrypt from a pipe"
 }
 
-# Words that are refused, with the first line of what is said, and the texts of help.
-words() {
+# The seed is read from /dev/urandom only where that is a character device. It is replaced for
+# processes of this group alone.
+default_seed() {
     local row
-    for row in "encrypt -p pass -w 31|error: invalid value '31' for '--work <N>': 31 is not in 1..=30" \
-        "encrypt -p pass -w 0|error: invalid value '0' for '--work <N>': 0 is not in 1..=30" \
-        "decrypt -p pass -m 31|error: invalid value '31' for '--max-work <N>': 31 is not in 1..=30" \
-        "decrypt -p pass -m 0|error: invalid value '0' for '--max-work <N>': 0 is not in 1..=30" \
-        "encrypt -H 1023|error: invalid value '1023' for '--max-header <N>': 1023 is not in 1024..=16777216" \
-        "decrypt -w 10|error: unexpected argument '-w' found" \
-        "encrypt -m 10|error: unexpected argument '-m' found" \
-        "decrypt -p a -p b|error: the argument '--passphrase <FILE>' cannot be used multiple times" \
-        "encrypt a b|error: unexpected argument 'b' found"; do
+    if ! unshare -m mount --bind /dev/null /dev/urandom 2>/dev/null; then
+        echo "skipped: another /dev/urandom, since it takes rights to mount"
+        return
+    fi
+    for row in "encrypt -k key hello" "rewrap -k key -K other.key made"; do
+        encrypt -k key -o made hello
+        # shellcheck disable=SC2086
+        keep unshare -m bash -c 'mount --bind seed /dev/urandom && exec "$@"' bash "$agep" $row
+        has_ended 1 "agep: cannot open /dev/urandom"
+        check "a file at /dev/urandom is not used: $row"
+        # shellcheck disable=SC2086
+        keep unshare -m bash -c 'mount --bind /dev/zero /dev/urandom && exec "$@"' bash "$agep" $row
+        has_said 0 "" && [[ -s out ]]
+        check "a character device at /dev/urandom is used: $row"
+        # shellcheck disable=SC2086
+        keep unshare -m bash -c 'mount --bind seed /dev/urandom && exec "$@"' bash "$agep" $row -s seed
+        has_said 0 "" && [[ -s out ]]
+        check "a seed file that is named may be any file: $row"
+    done
+}
+
+# Runs the program on these words with standard output at a terminal, and keeps what comes there.
+run_on_terminal() {
+    local line
+    printf -v line '%q ' "$agep" "$@"
+    script -qec "$line 2>err; echo \$? >status" /dev/null >out </dev/null
+}
+
+# Nobody wants an encrypted file on the screen.
+terminals() {
+    local row
+    if ! script -qec true /dev/null >out 2>/dev/null </dev/null; then
+        echo "skipped: terminals, since the command script is missing"
+        return
+    fi
+    encrypt -k key -s seed -o made hello
+    for row in "encrypt -k key hello" "rewrap -k key -K other.key made" "encrypt -k absent -s absent nowhere" "rewrap -p absent -P absent nowhere"; do
+        # shellcheck disable=SC2086
+        run_on_terminal $row
+        has_ended 1 "agep: standard output is a terminal"
+        check "$row: standard output is a terminal"
+    done
+    rm -f back
+    run_on_terminal encrypt -k key -s seed -o back hello
+    has_ended 0 "" && cmp -s back made
+    check "encrypt on a terminal, to a file"
+    run_on_terminal decrypt -k key made
+    has_said 0 "" && [[ $(tr -d '\r' <out) == hello ]]
+    check "decrypt to a terminal"
+}
+
+# Words that are refused, with what is said but for its usage and last line, and the texts of help.
+words() {
+    local row words usage text
+    for row in "encrypt -p pass -w 31||invalid value '31' for '--work <N>': 31 is not in 1..=30" \
+        "encrypt -p pass -w 0||invalid value '0' for '--work <N>': 0 is not in 1..=30" \
+        "decrypt -p pass -m 31||invalid value '31' for '--max-work <N>': 31 is not in 1..=30" \
+        "decrypt -p pass -m 0||invalid value '0' for '--max-work <N>': 0 is not in 1..=30" \
+        "encrypt -H 1023||invalid value '1023' for '--max-header <N>': 1023 is not in 1024..=16777216" \
+        "decrypt -w 10|decrypt|unexpected argument '-w' found"$'\n\n'"  tip: to pass '-w' as a value, use '-- -w'" \
+        "encrypt -m 10|encrypt|unexpected argument '-m' found"$'\n\n'"  tip: to pass '-m' as a value, use '-- -m'" \
+        "decrypt -p a -p b|decrypt|the argument '--passphrase <FILE>' cannot be used multiple times" \
+        "encrypt a b|encrypt|unexpected argument 'b' found"; do
+        IFS='|' read -r -d '' words usage text <<<"$row"
         # shellcheck disable=SC2086,SC2090
-        run ${row%%|*}
-        [[ $(cat status) == 2 && $(head -n 1 err) == "${row#*|}" && ! -s out ]]
-        check "status 2: agep ${row%%|*}"
+        run $words
+        has_refused "${text%$'\n'}" "${usage:+$usage [OPTIONS] [IN]}"
+        check "status 2: agep $words"
     done
     run encrypt --help
     grep -q 'a seed used twice repeats keys' out && grep -q 'An existing OUT keeps its contents until' out &&
@@ -486,6 +630,7 @@ memory() {
     encrypt -p pass -w 1 -s seed -o made hello
     each_allocation decrypt -p pass made
     each_allocation encrypt -k key -s seed hello
+    each_allocation encrypt -k key -k other.key -s seed hello
     encrypt -k key -s seed -o made hello
     each_allocation decrypt -k key made
 }

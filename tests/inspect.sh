@@ -1,10 +1,10 @@
 #!/bin/bash
 # Runs the built program for what no proof says: what `inspect` prints, its lines and statuses, real
-# files, pipes, devices, its system calls, and the scripts ./agep and ./install. The arguments name
-# the groups to run; without arguments all groups run. The last line is 'N passed, M failed'.
+# files, pipes, devices, its system calls, and the script ./agep. The arguments name the groups to
+# run; without arguments all groups run. The last line is 'N passed, M failed'.
 groups=(
     tables bad_lines no_headers limits words real_files header_check devices devices_in_midstream
-    memory allocations system_calls scripts
+    memory allocations system_calls scripts toolchains
 )
 source "$(dirname "$0")/checks.bash"
 
@@ -125,19 +125,18 @@ limits() {
     check "a stanza of 30,000 arguments"
 }
 
-# Words that are refused, with a line of what is said, and help.
+# Words that are refused, with what is said but for its usage and last line, and help.
 words() {
-    local row text
-    for row in "|error: 'agep' requires a subcommand but one was not provided" \
-        "inspect -H 1023|error: invalid value '1023' for '--max-header <N>': 1023 is not in 1024..=16777216" \
-        "inspect -H16777217|error: invalid value '16777217' for '--max-header <N>': 16777217 is not in 1024..=16777216" \
-        "inspect a b|error: unexpected argument 'b' found" \
-        "inspect -p a|error: unexpected argument '-p' found"; do
+    local row words usage text
+    for row in "inspect -H 1023||invalid value '1023' for '--max-header <N>': 1023 is not in 1024..=16777216" \
+        "inspect -H16777217||invalid value '16777217' for '--max-header <N>': 16777217 is not in 1024..=16777216" \
+        "inspect a b|inspect|unexpected argument 'b' found" \
+        "inspect -p a|inspect|unexpected argument '-p' found"$'\n\n'"  tip: to pass '-p' as a value, use '-- -p'"; do
+        IFS='|' read -r -d '' words usage text <<<"$row"
         # shellcheck disable=SC2086,SC2090
-        run ${row%%|*}
-        text=$(head -n 1 err)
-        [[ $(cat status) == 2 && "$text" == "${row#*|}" && ! -s out ]]
-        check "status 2: agep ${row%%|*}"
+        run $words
+        has_refused "${text%$'\n'}" "${usage:+$usage [OPTIONS] [IN]}"
+        check "status 2: agep $words"
     done
     run -V
     [[ $(cat out) == "agep $version" ]] && has_said 0 ""
@@ -163,10 +162,10 @@ real_files() {
         LC_ALL=C sed '/^--- /q' "$data/$name.age" >header
         table header >expected
         inspect -r "$data/$name.age"
-        cmp -s out header && [[ $(cat status) == 0 && ! -s err ]]
+        cmp -s out header && has_said 0 ""
         check "$name.age: -r gives the header back byte for byte"
         inspect <"$data/$name.age"
-        cmp -s out expected && [[ $(cat status) == 0 && ! -s err ]]
+        cmp -s out expected && has_said 0 ""
         check "$name.age: the table"
     done
     inspect -H 65534 "$data/recipients_668.age"
@@ -183,19 +182,19 @@ header_check() {
     LC_ALL=C sed '/^--- /q' "$file" >header
     table header | sed 's/^check none$/check good/' >expected
     inspect -f "$data/passphrase.key" "$file"
-    cmp -s out expected && [[ $(cat status) == 0 && ! -s err ]]
+    cmp -s out expected && has_said 0 ""
     check "passphrase.age under its file key"
     head -c 16 "$file" >other.key
     table header | sed 's/^check none$/check bad/' >expected
     inspect -f other.key "$file"
-    cmp -s out expected && [[ $(cat status) == 1 && $(cat err) == "agep: header check failed" ]]
+    cmp -s out expected && has_said 1 "agep: header check failed"
     check "passphrase.age under another file key"
     # the last character of a MAC's base64 encodes four of its bits
     LC_ALL=C sed -E '/^--- /{s/A$/E/;t;s/.$/A/}' "$file" >changed.age
     LC_ALL=C sed '/^--- /q' changed.age >header
     table header | sed 's/^check none$/check bad/' >expected
     inspect -f "$data/passphrase.key" changed.age
-    ! cmp -s "$file" changed.age && cmp -s out expected && [[ $(cat status) == 1 && $(cat err) == "agep: header check failed" ]]
+    ! cmp -s "$file" changed.age && cmp -s out expected && has_said 1 "agep: header check failed"
     check "passphrase.age under its file key, with the last character of its MAC changed"
     inspect -r -f absent "$file"
     cmp -s out <(LC_ALL=C sed '/^--- /q' "$file") && has_said 0 ""
@@ -214,9 +213,7 @@ header_check() {
 devices() {
     local option file=$data/three_recipients.age
     for option in -H65536 -r; do
-        "$agep" inspect "$option" "$file" >/dev/full 2>err
-        echo $? >status
-        : >out
+        run_into_full_device inspect "$option" "$file"
         has_ended 1 "agep: write failed"
         check "a full device, with $option"
 
@@ -224,13 +221,11 @@ devices() {
         has_ended 1 "agep: write failed"
         check "a closed pipe, with $option"
 
-        "$agep" inspect "$option" "$file" >&- 2>err
-        echo $? >status
+        run_without_output inspect "$option" "$file"
         has_ended 1 "agep: write failed"
         check "a closed standard output, with $option"
     done
-    "$agep" --help >/dev/full 2>err
-    echo $? >status
+    run_into_full_device --help
     has_ended 1 "agep: write failed"
     check "a full device, with help"
 
@@ -244,7 +239,7 @@ devices() {
     has_ended 1 "agep: cannot open nowhere.age"
     check "a file that does not exist"
     inspect $'\xff.age'
-    has_ended 2 "agep: bad command line"
+    has_ended 2 "agep: an argument is not UTF-8; < and > read and write files with such names"
     check "a word that is no UTF-8"
 }
 
@@ -255,8 +250,7 @@ writes_to_its_end() {
     local room size=$1
     shift
     for room in 0 1 $((size / 2)) $((size - 1)) "$size"; do
-        ROOM=$room LD_PRELOAD=./devices.so "$agep" "$@" <header >out 2>err
-        echo $? >status
+        ROOM=$room LD_PRELOAD=./devices.so run "$@" <header
         [[ $(wc -c <out) == "$room" ]] || return 1
         if [[ $room == "$size" ]]; then
             has_said 0 "" || return 1
@@ -286,14 +280,8 @@ devices_in_midstream() {
     check "a device without room for 76 bytes: decrypt -k key"
     for line in "encrypt -k key" "decrypt -k key" inspect; do
         # shellcheck disable=SC2086
-        head -c 50 header | BREAKS=1 LD_PRELOAD=./devices.so "$agep" $line >out 2>err
-        echo $? >status
-        if [[ $line == encrypt* ]]; then
-            # The header and the nonce, which are written before the plaintext is read.
-            has_said 1 "agep: read failed" && [[ $(wc -c <out) == 172 ]]
-        else
-            has_ended 1 "agep: read failed"
-        fi
+        head -c 50 header | BREAKS=1 LD_PRELOAD=./devices.so run $line
+        has_ended 1 "agep: read failed"
         check "an input that fails after 50 bytes: $line"
     done
     "$agep" --help >/dev/full 2>/dev/full
@@ -353,16 +341,52 @@ system_calls() {
 }
 
 scripts() {
-    "$root/agep" inspect -r <"$data/one_recipient.age" >out 2>err &&
-        cmp -s out <(LC_ALL=C sed '/^--- /q' "$data/one_recipient.age") && [[ ! -s err ]]
+    keep "$root/agep" inspect -r <"$data/one_recipient.age"
+    has_said 0 "" && cmp -s out <(LC_ALL=C sed '/^--- /q' "$data/one_recipient.age")
     check "./agep from another folder, with its own input and output"
     "$root/agep" inspect -H 1 2>/dev/null
     [[ $? -eq 2 ]]
     check "./agep gives the program's status"
     ln -s "$root/agep" linked && [[ $(./linked --version) == "agep $version" ]]
     check "./agep by a link"
-    "$root/install" "$work/prefix" >/dev/null && [[ $("$work/prefix/bin/agep" --version) == "agep $version" ]]
-    check "./install puts the program into PREFIX/bin"
+}
+
+# A tree with this program, and a toolchain whose rt makes nothing.
+make_tree() {
+    local tool
+    mkdir -p tree/crates/agep/{src,specs,proofs,out} kit/bin tools
+    cp "$root/agep" "$root/build.sh" "$root/crates.txt" tree/
+    cp "$agep" tree/crates/agep/out/agep
+    printf '#!/bin/sh\necho "$@" >>%q\n' "$work/built" >kit/bin/rt
+    chmod +x kit/bin/rt
+    echo 'kit one' >kit/KIT-ID
+    for tool in cat date dirname find head mktemp readlink rm sed sh touch; do
+        ln -s "$(command -v "$tool")" tools/
+    done
+}
+
+# Runs ./agep of that tree with these folders of tools. `built` gets what it has rt do.
+run_tree() {
+    : >built
+    PATH=$1 keep ./tree/agep --version
+}
+
+# The program is built anew for another toolchain, and runs without one.
+toolchains() {
+    make_tree
+    run_tree "$work/kit/bin:$work/tools"
+    [[ $(cat status) == 0 && $(cat out) == "agep $version" ]] && grep -q '^run ' built
+    check "./agep builds a program that no toolchain is known to have built"
+    run_tree "$work/kit/bin:$work/tools"
+    has_said 0 "" && [[ ! -s built && $(cat out) == "agep $version" ]]
+    check "./agep builds nothing where the program is current"
+    echo 'kit two' >kit/KIT-ID
+    run_tree "$work/tools"
+    has_said 0 "" && [[ ! -s built && $(cat out) == "agep $version" ]]
+    check "./agep runs a program that is built where there is no toolchain"
+    run_tree "$work/kit/bin:$work/tools"
+    [[ $(cat status) == 0 ]] && grep -q '^run ' built
+    check "./agep builds the program anew after an update of the toolchain"
 }
 
 run_groups

@@ -25,7 +25,7 @@ check_shown() {
     local status=$?
     (exit "$status")
     check "$1"
-    [[ $status -eq 0 ]] || head -n 30 out err
+    [[ $status -eq 0 ]] || cat out err
 }
 
 # The files under a folder, with their modes.
@@ -34,28 +34,38 @@ files_of() {
 }
 
 installs() {
+    local usage="usage: ./install-library [--uninstall] [PREFIX]"
     mkdir -p prefix/include
     touch prefix/include/other.h
     chmod 644 prefix/include/other.h
-    "$root/install-library" prefix >out 2>err
-    echo $? >status
-    [[ $(cat status) == 0 && $(grep -vc '^install-library: building ' err) == 0 ]] && files_of prefix | cmp -s - <(
+    (
+        umask 077
+        keep "$root/install-library" prefix
+    )
+    { has_said 0 "" || has_said 0 "install-library: building the library; its proofs are checked first"; } && files_of prefix | cmp -s - <(
         printf '%s\n' '644 include/agefile.h' '644 include/other.h' '644 lib/libagefile.a' '644 lib/pkgconfig/agefile.pc' \
             '755 lib/libagefile.so.0' 'lib/libagefile.so -> libagefile.so.0'
     )
     check "./install-library puts the library, its header and its pkg-config file under PREFIX"
+    [[ $(stat -c %a prefix/lib prefix/lib/pkgconfig | xargs) == "755 755" ]]
+    check "the folders that ./install-library makes have the mode 755, with the umask 077"
     cmp -s prefix/include/agefile.h "$header"
     check "the header that is installed is include/agefile.h"
     grep -qx "Version: $version" prefix/lib/pkgconfig/agefile.pc && grep -qx "version = \"$version\"" "$root/rust/Cargo.toml"
     check "agefile.pc and the crate for Rust name the newest version of the change log"
     cp -a prefix other
-    "$root/install-library" --uninstall other >out 2>err
-    echo $? >status
-    has_said 0 "" && [[ $(files_of other) == "644 include/other.h" ]]
-    check "./install-library --uninstall removes just these files"
-    "$root/install-library" --other >out 2>err
-    [[ $? -eq 2 && $(cat err) == "usage: ./install-library [--uninstall] [PREFIX]" && ! -s out ]]
+    keep "$root/install-library" --uninstall other
+    has_said 0 "" && [[ $(files_of other) == "644 include/other.h" && ! -e other/lib ]]
+    check "./install-library --uninstall removes just these files, and the folders that it leaves empty"
+    keep "$root/install-library" --other
+    has_ended 2 "$usage"
     check "./install-library refuses another option"
+    keep "$root/install-library" ''
+    has_ended 2 "$usage"
+    check "./install-library refuses an empty PREFIX"
+    keep "$root/install-library" --help
+    has_said 0 "" && holds out "$usage"
+    check "./install-library --help prints the usage"
 }
 
 # The names that an object file defines for others, or leaves undefined.
@@ -250,11 +260,12 @@ programs() {
 # Whether whole buffers and steps end on this file as the program does, after the same text.
 agrees() {
     local kind
-    "$agep" decrypt -k key "$1" >expected 2>err
-    [[ $(cat err) == "agep: $2" ]] || return 1
+    run decrypt -k key "$1"
+    has_said 1 "agep: $2" && mv out expected || return 1
     for kind in whole steps; do
-        ./convert $kind decrypt -k key <"$1" >out 2>err && return 1
-        [[ $(sed -E 's/^chunk (.*) ([0-9]+)$/chunk \2 \1/; s/ 0$//' err) == "$2" ]] && cmp -s out expected || return 1
+        ./convert $kind decrypt -k key <"$1" >out 2>said && return 1
+        sed -E 's/^chunk (.*) ([0-9]+)$/chunk \2 \1/; s/ 0$//' said >err
+        holds err "$2" && cmp -s out expected || return 1
     done
 }
 
@@ -278,8 +289,8 @@ faults() {
     "$agep" encrypt -k key.other -o part plain
     agrees part "wrong passphrase or key"
     check "a file for another key ends as with agep"
-    ./safe_stream key <part >out 2>err
-    [[ $? -eq 1 && $(cat err) == "stream: wrong passphrase or key (0)" && ! -s out ]]
+    keep ./safe_stream key <part
+    has_ended 1 "stream: wrong passphrase or key (0)"
     check "the example says why it ends"
 }
 
@@ -344,8 +355,8 @@ document() {
     echo 'some text' >plain
     ./convert whole encrypt -p pass 3 <plain >made && ./document 'correct horse' <made | cmp -s - plain
     check "docs/C.md: the program in C decrypts"
-    head -c 150 made | ./document 'correct horse' >out 2>err
-    [[ $? -eq 1 && $(cat err) == "payload nonce is cut short" && ! -s out ]]
+    head -c 150 made | keep ./document 'correct horse'
+    has_ended 1 "payload nonce is cut short"
     check "docs/C.md: the program in C says what is wrong"
     command -v python3 >/dev/null || return
     AGEFILE_LIBRARY=$shared PYTHONPATH=$root/python PYTHONDONTWRITEBYTECODE=1 python3 document.py >out 2>err

@@ -12,6 +12,7 @@ set_up() {
         printf '%b' "\\x$(printf %02x "$i")"
     done >seed
     head -c 32 seed >key
+    tail -c 32 seed >seed.key
     printf 'correct horse' >pass
     printf 'correct hors' >other.pass
     seq 40000 | head -c 140000 >plain
@@ -127,17 +128,22 @@ damaged_chunks() {
 
 # The order of the checks, and what OUT holds.
 refusals() {
-    local words
-    for words in "0" "0 1" "x 1 made" "0 x made" "-1 1 made" "9223372036854775808 1 made" "0 9223372036854775808 made" \
-        "0 1 made more"; do
+    local row words usage text most=9223372036854775807
+    for row in "0|--passphrase <FILE> <AT> <LEN> <IN>|the following required arguments were not provided:"$'\n'"  <LEN>"$'\n'"  <IN>" \
+        "0 1|--passphrase <FILE> <AT> <LEN> <IN>|the following required arguments were not provided:"$'\n'"  <IN>" \
+        "x 1 made||invalid value 'x' for '<AT>': invalid digit found in string" \
+        "0 x made||invalid value 'x' for '<LEN>': invalid digit found in string" \
+        "-1 1 made|[OPTIONS] <AT> <LEN> <IN>|unexpected argument '-1' found"$'\n\n'"  tip: to pass '-1' as a value, use '-- -1'" \
+        "${most%7}8 1 made||invalid value '${most%7}8' for '<AT>': ${most%7}8 is not in 0..=$most" \
+        "0 ${most%7}8 made||invalid value '${most%7}8' for '<LEN>': ${most%7}8 is not in 0..=$most" \
+        "0 1 made more|[OPTIONS] <AT> <LEN> <IN>|unexpected argument 'more' found" \
+        "-m 31 0 1 made||invalid value '31' for '--max-work <N>': 31 is not in 1..=30"; do
+        IFS='|' read -r -d '' words usage text <<<"$row"
         # shellcheck disable=SC2086
         run range -p pass $words
-        [[ $(cat status) == 2 && -s err && ! -s out ]]
+        has_refused "${text%$'\n'}" "${usage:+range $usage}"
         check "status 2: range -p pass $words"
     done
-    run range -m 31 -p pass 0 1 made
-    [[ $(cat status) == 2 && -s err && ! -s out ]]
-    check "status 2: range -m 31"
     run range 0 1 absent
     has_ended 1 "agep: give one of -p and -k"
     check "neither -p nor -k, before IN is opened"
@@ -159,14 +165,19 @@ refusals() {
     run range -p other.pass -o part.2 0 1 made
     has_ended 1 "agep: wrong passphrase or key" && [[ -e part.2 && ! -s part.2 ]]
     check "another passphrase: OUT stays empty"
+    run range -k seed.key -k key 65530 12 key.age
+    has_written 65530 12
+    check "the second of two keys opens the file"
+    run range -k seed.key -k seed.key 0 1 key.age
+    has_ended 1 "agep: wrong passphrase or key"
+    check "two keys, and neither opens the file"
     run range -p pass -m 9 0 1 made
     has_ended 1 "agep: malformed stanza: work factor is too high"
     check "work factor 10, where 9 is accepted"
     run range -k key -o part.2 65530 12 key.age
     has_ended 0 "" && cmp -s part.2 <(tail -c +65531 plain | head -c 12)
     check "OUT holds the range"
-    "$agep" range -k key 0 140000 key.age >/dev/full 2>err
-    echo $? >status
+    run_into_full_device range -k key 0 140000 key.age
     has_said 1 "agep: write failed"
     check "a full device"
     run_into_closed_pipe range -k key 0 140000 key.age

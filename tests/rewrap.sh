@@ -3,8 +3,8 @@
 # checks, which files it refuses, and its memory. The arguments name the groups to run; without
 # arguments all groups run. The last line is 'N passed, M failed'.
 groups=(
-    rows sizes by_reference header_limit payloads refused_files order same_files shared_input outputs
-    syncs streaming memory
+    rows several_keys sizes by_reference header_limit payloads refused_files order words same_files
+    shared_input outputs syncs streaming memory
 )
 source "$(dirname "$0")/checks.bash"
 
@@ -82,6 +82,48 @@ rows() {
     rewrap -p pass -P new.pass -w 10 -o made "$data/passphrase.age"
     has_ended 0 "" && decrypts made -p new.pass hello
     check "passphrase.age, made by age"
+}
+
+# To several keys, and from them.
+several_keys() {
+    local row
+    head -c 32 long >third.key
+    rewrap -p pass -K key -K new.key -s seed -o made two.age
+    has_ended 0 "" && run inspect made && grep -qx 'stanzas 2' out
+    check "to two keys: two stanzas"
+    decrypts made -k key two_chunks && decrypts made -k new.key two_chunks
+    check "to two keys: each of them opens"
+    is_closed made -k third.key "wrong passphrase or key"
+    check "to two keys: another one does not open"
+    mv made both.age
+    rewrap -p pass -K key -K key -s seed -o made two.age
+    has_ended 0 "" && run inspect made && grep -qx 'stanzas 1' out
+    check "to the same key twice: one stanza"
+    rewrap -k third.key -k new.key -K third.key -o made both.age
+    has_ended 0 "" && decrypts made -k third.key two_chunks && is_closed made -k new.key "wrong passphrase or key"
+    check "from the second of two old keys"
+    rewrap -k third.key -P new.pass -o out_file both.age
+    has_ended 1 "agep: wrong passphrase or key"
+    check "from a key that is none of them"
+    if python3 -c 'import hashlib; hashlib.scrypt' 2>/dev/null; then
+        for row in "-k key -k new.key" "-k new.key -k third.key -k key"; do
+            # shellcheck disable=SC2086
+            "$root/tests/reference.py" $row -s seed <two_chunks >expected
+            # shellcheck disable=SC2086
+            rewrap -p pass ${row//-k/-K} -s seed two.age
+            has_said 0 "" && cmp -s out expected
+            check "to several keys, the file that Python makes: $row"
+        done
+    fi
+    for row in "-k key -k absent -K new.key" "-k key -K new.key -K absent"; do
+        # shellcheck disable=SC2086
+        rewrap $row -o nowhere/made nowhere
+        has_ended 1 "agep: cannot open absent"
+        check "a key file is missing: rewrap $row"
+    done
+    rewrap -k key -P new.pass -K new.key -K key nowhere
+    has_ended 1 "agep: give one of -P and -K"
+    check "several new keys, and a new passphrase"
 }
 
 # Sizes of plaintext, from each kind of secret to each.
@@ -257,11 +299,12 @@ refused_files() {
 
 # The words' own faults, in the order in which they are looked for.
 order() {
-    local row words line role
+    local row words line
     head -c 31 seed >short.key
     head -c 33 seed >long.key
     head -c 47 seed >short.seed
     head -c 65537 /dev/zero >long.pass
+    echo >lf
     rm -f made
     for row in "|give one of -p and -k" "-p no1 -k no2|give one of -p and -k" "-P no3 -K no4|give one of -p and -k" \
         "-p no1 -k no2 -P no3 -K no4|give one of -p and -k" \
@@ -271,6 +314,7 @@ order() {
         "-k key -K no2 -s no3|cannot open no2" "-p pass -K new.key -s no3|cannot open no3" "-k key -P new.pass|cannot open nowhere" \
         "-k short.key -K no2|key file must hold 32 bytes" "-k long.key -P no2|key file must hold 32 bytes" \
         "-p long.pass -P no2|passphrase file is too long" \
+        "-p pass -P empty -s no3|passphrase file is empty" "-p pass -P lf|passphrase file is empty" "-k key -P /dev/null|passphrase file is empty" \
         "-p pass -K short.key -s no3|key file must hold 32 bytes" "-p pass -K long.key -s no3|key file must hold 32 bytes" \
         "-p pass -K empty -s no3|key file must hold 32 bytes" "-p pass -P long.pass -s no3|passphrase file is too long" \
         "-p pass -P . -s no3|read failed" "-p pass -K . -s no3|read failed" \
@@ -291,21 +335,27 @@ order() {
     rewrap -k key -K new.key "$work"
     has_ended 1 "agep: read failed"
     check "a directory as IN"
-    for row in "-P new.pass|-w 31|error: invalid value '31' for '--work <N>': 31 is not in 1..=30" \
-        "-P new.pass|-w 0|error: invalid value '0' for '--work <N>': 0 is not in 1..=30" \
-        "-P new.pass|-m 31|error: invalid value '31' for '--max-work <N>': 31 is not in 1..=30" \
-        "-P new.pass|-H 1023|error: invalid value '1023' for '--max-header <N>': 1023 is not in 1024..=16777216" \
-        "-P new.pass|-P key|error: the argument '--new-pass <FILE>' cannot be used multiple times" \
-        "-K new.key|-K key|error: the argument '--new-key <FILE>' cannot be used multiple times" \
-        "-K new.key|-r|error: unexpected argument '-r' found" "-K new.key|a b|error: unexpected argument 'b' found"; do
-        IFS='|' read -r role words line <<<"$row"
+}
+
+# Words that are refused, with what is said but for its usage and last line.
+words() {
+    local row words usage text
+    for row in "-P new.pass -w 31||invalid value '31' for '--work <N>': 31 is not in 1..=30" \
+        "-P new.pass -w 0||invalid value '0' for '--work <N>': 0 is not in 1..=30" \
+        "-P new.pass -m 31||invalid value '31' for '--max-work <N>': 31 is not in 1..=30" \
+        "-P new.pass -H 1023||invalid value '1023' for '--max-header <N>': 1023 is not in 1024..=16777216" \
+        "-P new.pass -P key|rewrap|the argument '--new-pass <FILE>' cannot be used multiple times" \
+        "-K new.key -p pass|rewrap|the argument '--passphrase <FILE>' cannot be used multiple times" \
+        "-K new.key -r|rewrap|unexpected argument '-r' found"$'\n\n'"  tip: to pass '-r' as a value, use '-- -r'" \
+        "-K new.key a b|rewrap|unexpected argument 'b' found"; do
+        IFS='|' read -r -d '' words usage text <<<"$row"
         # shellcheck disable=SC2086
-        rewrap -p pass $role $words
-        [[ $(cat status) == 2 && $(head -n 1 err) == "$line" && ! -s out ]]
-        check "status 2: rewrap -p pass $role $words"
+        rewrap -p pass $words
+        has_refused "${text%$'\n'}" "${usage:+$usage [OPTIONS] [IN]}"
+        check "status 2: rewrap -p pass $words"
     done
     run encrypt -p pass -P new.pass hello
-    [[ $(cat status) == 2 && $(head -n 1 err) == "error: unexpected argument '-P' found" && ! -s out ]]
+    has_refused "unexpected argument '-P' found"$'\n\n'"  tip: to pass '-P' as a value, use '-- -P'" "encrypt [OPTIONS] [IN]"
     check "status 2: -P is an option of rewrap alone"
 }
 
@@ -340,6 +390,8 @@ same_files() {
     check "OUT is also the new passphrase file"
     is_refused new.key "OUT is also the new key file: new.key" -p pass -K new.key -o new.key f
     check "OUT is also the new key file"
+    is_refused new.key "OUT is also the new key file: new.key" -p pass -K key -K new.key -o new.key f
+    check "OUT is also the second new key file"
     ln -s new.key linked.key
     is_refused new.key "OUT is also the new key file: linked.key" -p pass -K new.key -o linked.key f
     check "OUT is also the new key file, by a link"
@@ -377,6 +429,15 @@ shared_input() {
         has_ended 1 "agep: standard input cannot be both the $role and the $row"
         check "$option /dev/fd/0 $name /dev/stdin, from a file and with IN"
     done
+    for row in "-k key -K /dev/stdin -K /dev/stdin|the new key file twice" "-k /dev/stdin -k /dev/fd/0 -K new.key|the key file twice" \
+        "-k key -K new.key -K /dev/stdin -s /dev/stdin|both the new key file and the seed file" \
+        "-k key -k /dev/stdin -K new.key -K /dev/stdin|both the key file and the new key file" \
+        "-k key -P /dev/stdin -s /dev/stdin|both the new passphrase file and the seed file"; do
+        # shellcheck disable=SC2086
+        cat seed | rewrap ${row%%|*} -o out_file.2 old.age
+        has_ended 1 "agep: standard input cannot be ${row#*|}" && [[ ! -e out_file.2 ]]
+        check "rewrap ${row%%|*}, from a pipe and with IN"
+    done
     cat new.pass | rewrap -p pass -P /dev/stdin -w 1 -o made old.age
     has_ended 0 "" && decrypts made -p new.pass empty
     check "the new passphrase from standard input, where IN is named"
@@ -402,7 +463,7 @@ outputs() {
     has_ended 0 "" && [[ $(stat -c %a out_file) == 640 && $(wc -c <out_file) == 188 ]]
     check "an OUT that was there keeps its mode, and holds the new file alone"
     set -o pipefail
-    cat two.age | "$agep" rewrap -p pass -K new.key -s seed 2>err | cat >made && [[ ! -s err ]] && has_tail 65741 150 two.age 156 &&
+    cat two.age | "$agep" rewrap -p pass -K new.key -s seed 2>err | cat >made && holds err "" && has_tail 65741 150 two.age 156 &&
         decrypts made -k new.key two_chunks
     check "from a pipe to a pipe"
     set +o pipefail
@@ -414,8 +475,7 @@ outputs() {
     rewrap -p pass -K new.key -o /dev/full two.age
     has_ended 1 "agep: write failed"
     check "a full device as OUT"
-    "$agep" rewrap -p pass -K new.key two.age >/dev/full 2>err
-    echo $? >status
+    run_into_full_device rewrap -p pass -K new.key two.age
     has_said 1 "agep: write failed"
     check "a full device as standard output"
     run_into_closed_pipe rewrap -p pass -K new.key two.age
@@ -439,8 +499,8 @@ syncs() {
     rm -f synced out_file
     LD_PRELOAD=./sync.so "$agep" rewrap -p pass -K new.key -o out_file old.age && [[ $(wc -c <synced) == 1 ]]
     check "OUT is synced before status 0"
-    UNSYNCED=1 LD_PRELOAD=./sync.so "$agep" rewrap -p pass -K new.key -o out_file old.age 2>err
-    [[ $? -eq 1 && $(cat err) == "agep: write failed" ]]
+    UNSYNCED=1 LD_PRELOAD=./sync.so rewrap -p pass -K new.key -o out_file old.age
+    has_ended 1 "agep: write failed"
     check "an OUT that can't be synced"
 }
 
@@ -477,7 +537,7 @@ streaming() {
     check "1 GiB through pipes, $kib KiB resident"
     set -o pipefail
     "$agep" rewrap -k key -P new.pass -w 10 <great.age 2>err | tail -c "+$((passphrase_header + 1))" |
-        cmp -s - <(tail -c "+$((key_header + 1))" great.age) && [[ ! -s err ]]
+        cmp -s - <(tail -c "+$((key_header + 1))" great.age) && holds err ""
     check "1 GiB through pipes: what follows the header is the same"
     set +o pipefail
     rm great.age
@@ -498,6 +558,7 @@ memory() {
     "$agep" encrypt -p pass -w 1 -s seed -o made hello
     each_allocation rewrap -p pass -P new.pass -w 1 -s seed made
     each_allocation rewrap -k key -K new.key -s seed key.age
+    each_allocation rewrap -k new.key -k key -K new.key -K key -s seed key.age
 }
 
 run_groups

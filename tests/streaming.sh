@@ -45,12 +45,10 @@ lockstep() {
 
 # A reader that leaves after a chunk and a half.
 early_leave() {
-    feed leave 100000 many.age "$agep" decrypt -k key >out 2>err
-    echo $? >status
+    keep feed leave 100000 many.age "$agep" decrypt -k key
     has_ended 1 "agep: write failed"
     check "decrypt: its reader leaves early"
-    feed leave 100000 many "$agep" encrypt -k key -s seed >out 2>err
-    echo $? >status
+    keep feed leave 100000 many "$agep" encrypt -k key -s seed
     has_ended 1 "agep: write failed"
     check "encrypt: its reader leaves early"
 }
@@ -115,19 +113,20 @@ small_calls() {
         awk -v chunk="$chunk" '$1 < chunk { n++ } END { print n + 0 }'
 }
 
-# The reads are whole chunks but for the last, the one that finds the end, and two of `decrypt`, for
-# the header and for what is left of the first chunk; the writes but for the header and the last.
+# The reads are whole chunks but for the last, the one that finds the end, and the first two: in
+# `decrypt` they are for the header and for what is left of the first chunk, in `encrypt` for the
+# first chunk and the byte after it. The writes are whole but for the header and the last.
 system_calls() {
-    local line first
+    local line
     for line in "encrypt -k key -s seed" "decrypt -k key"; do
-        if [[ $line == encrypt* ]]; then cp many in && first=0; else cp many.age in && first=2; fi
+        if [[ $line == encrypt* ]]; then cp many in; else cp many.age in; fi
         # shellcheck disable=SC2086
         if ! strace -o trace -e trace=read,write "$agep" $line <in >out 2>err; then
             echo "skipped: the sizes of system calls, since strace is missing or may not trace"
             return
         fi
-        [[ $(grep -c '^read(0, ' trace) -gt 6 && $(small_calls read 0 "$first" 2) == 0 ]]
-        check "${line%% *}: no read of less than 64 KiB but the first $first and the end"
+        [[ $(grep -c '^read(0, ' trace) -gt 6 && $(small_calls read 0 2 2) == 0 ]]
+        check "${line%% *}: no read of less than 64 KiB but the first two and the end"
         [[ $(grep -c '^write(1, ' trace) -gt 6 && $(small_calls write 1 1 1) == 0 ]]
         check "${line%% *}: no write of less than 64 KiB but the header and the end"
     done
@@ -173,8 +172,7 @@ damaged_file() {
     ! cmp -s out damaged && [[ $(wc -c <damaged) == 131287 ]]
     check "a file whose byte at the place $passphrase_front is changed"
     {
-        "$agep" decrypt -p pass >out 2>err
-        echo $? >status
+        run decrypt -p pass
         wc -c >unread
     } <damaged
     has_ended 1 "agep: chunk 0 is damaged"

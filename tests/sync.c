@@ -1,5 +1,5 @@
 // Loaded before the C library: counts the calls that sync a file to its device, in the file "synced", one byte for each. Where UNSYNCED is
-// set, such a call fails.
+// set, such a call fails. Where UNTRUNCATED is set, a call that changes a file's size fails.
 #define _GNU_SOURCE
 #include <dlfcn.h>
 #include <errno.h>
@@ -19,4 +19,14 @@ int fsync(int file)
         return -1;
     }
     return real(file);
+}
+
+int ftruncate(int file, off_t size)
+{
+    int (*real)(int, off_t) = (int (*)(int, off_t))dlsym(RTLD_NEXT, "ftruncate");
+    if (getenv("UNTRUNCATED") != NULL) {
+        errno = EIO;
+        return -1;
+    }
+    return real(file, size);
 }

@@ -3,7 +3,7 @@
 # page, the completions, the change log and ./install; and the planted bugs that docs/PROMISES.md
 # names with those that are there. The arguments name the groups to run; without arguments all
 # groups run. The last line is 'N passed, M failed'.
-groups=(helps examples manual completions versions installs planted_bugs)
+groups=(helps helps_on_help refusals examples manual completions versions installs planted_bugs)
 source "$(dirname "$0")/checks.bash"
 
 # The commands that help shows, but for help itself.
@@ -30,6 +30,128 @@ helps() {
         [[ $(sed -n '/^Status:/,/^$/p' out | awk 'NF { printf "%s ", $1 }') == "Status: 0 1 2 " ]]
         check "help says the statuses: agep $command"
     done
+}
+
+# Help on help is the program's help.
+helps_on_help() {
+    local option
+    run --help
+    mv out expected
+    for option in --help -h; do
+        run help "$option"
+        has_said 0 "" && cmp -s out expected
+        check "agep help $option prints the program's help"
+    done
+}
+
+# Whether the program refuses these words with the text that follows, and writes nothing else.
+is_refused() {
+    run "$@"
+    has_ended 2 "$(cat)"
+}
+
+# One command line of each kind that is refused, with the whole text.
+refusals() {
+    is_refused <<'END'
+error: 'agep' requires a subcommand but one was not provided
+  [subcommands: encrypt, decrypt, inspect, range, rewrap, help]
+
+Usage: agep <COMMAND>
+
+For more information, try '--help'.
+END
+    check "no command"
+    is_refused decrpyt file <<'END'
+error: unrecognized subcommand 'decrpyt'
+
+  tip: some similar subcommands exist: 'encrypt', 'decrypt'
+
+Usage: agep <COMMAND>
+
+For more information, try '--help'.
+END
+    check "an unknown command"
+    is_refused help frob <<'END'
+error: unrecognized subcommand 'frob'
+
+Usage: agep <COMMAND>
+
+For more information, try '--help'.
+END
+    check "help for an unknown command"
+    is_refused encrypt -r key <<'END'
+error: unexpected argument '-r' found
+
+  tip: to pass '-r' as a value, use '-- -r'
+
+Usage: agep encrypt [OPTIONS] [IN]
+
+For more information, try '--help'.
+END
+    check "an unknown option"
+    is_refused encrypt --keys key <<'END'
+error: unexpected argument '--keys' found
+
+  tip: a similar argument exists: '--key'
+
+Usage: agep encrypt --key <FILE> [IN]
+
+For more information, try '--help'.
+END
+    check "an option that is misspelt"
+    is_refused encrypt -p <<'END'
+error: a value is required for '--passphrase <FILE>' but none was supplied
+
+For more information, try '--help'.
+END
+    check "an option without its word"
+    is_refused encrypt -w x <<'END'
+error: invalid value 'x' for '--work <N>': invalid digit found in string
+
+For more information, try '--help'.
+END
+    check "a number that is none"
+    is_refused encrypt -w 31 <<'END'
+error: invalid value '31' for '--work <N>': 31 is not in 1..=30
+
+For more information, try '--help'.
+END
+    check "a number out of range"
+    is_refused range 0 <<'END'
+error: the following required arguments were not provided:
+  <LEN>
+  <IN>
+
+Usage: agep range <AT> <LEN> <IN>
+
+For more information, try '--help'.
+END
+    check "too few words"
+    is_refused inspect a b <<'END'
+error: unexpected argument 'b' found
+
+Usage: agep inspect [OPTIONS] [IN]
+
+For more information, try '--help'.
+END
+    check "too many words"
+    is_refused inspect -r --raw <<'END'
+error: the argument '--raw' cannot be used multiple times
+
+Usage: agep inspect [OPTIONS] [IN]
+
+For more information, try '--help'.
+END
+    check "an option twice"
+    is_refused inspect a $'\x1b[31m\r\x7f\xc2\x9bb\t\nc' <<'END'
+error: unexpected argument '\x1b[31m\r\x7f\x9bb\t
+c' found
+
+Usage: agep inspect [OPTIONS] [IN]
+
+For more information, try '--help'.
+END
+    check "control characters in a word, of which LF alone is written as it is"
 }
 
 # Runs each example of help in a folder that has the files it names.
@@ -84,7 +206,7 @@ manual() {
     for command in "${all[@]}"; do
         awk -v command="agep $command" '/^\.B agep/ { shown = ($0 == ".B " command) } shown' synopsis |
             grep -oE -- '-[a-zA-Z]\b' | sort >got
-        options_of "$command" | grep -v -e '^--' -e '^-h$' >expected
+        options_of "$command" | grep -v -e '^--' -e '^-[hV]$' >expected
         [[ -s expected ]] && cmp -s got expected
         check "the manual page's synopsis has the options of $command"
     done
@@ -100,7 +222,7 @@ manual() {
     fi
     if man --version 2>/dev/null | grep -q '^man [0-9]'; then
         LC_ALL=C.UTF-8 man --warnings -l "$root/agep.1" 2>err >out </dev/null
-        [[ -s out && ! -s err ]]
+        [[ -s out ]] && holds err ""
         check "man-db renders the manual page without a warning"
     fi
 }
@@ -119,7 +241,7 @@ by_fish() {
 # The options that the file for zsh has in a command's part.
 by_zsh_file() {
     awk -v command="$1)" '$1 == command { shown = 1 } /;;/ { shown = 0 } shown' "$root/completions/_agep" |
-        grep -oE '\{-[a-zA-Z],--[a-z-]+\}' | tr -d '{}' | tr , '\n' | sort
+        grep -oE '\{-[a-zA-Z]\+?,--[a-z-]+=?\}' | tr -d '{}+=' | tr , '\n' | sort
 }
 
 # The options that the file for fish has for a command.
@@ -155,26 +277,34 @@ completions() {
     mkdir -p files && touch files/some.age
     [[ -z $(cd files && by_bash agep decrypt so) ]] && grep -qx 'complete -o default -F _agep agep' "$root/completions/agep.bash"
     check "bash offers files, which is its default, where it offers no option"
+    [[ -z $(by_bash agep decrypt -- -) && -z $(by_bash agep encrypt -k key -- -w -) ]]
+    check "bash offers no option after --"
+    ! grep -E '\{-[a-zA-Z],--[a-z-]+\}.*\]:' "$root/completions/_agep" &&
+        [[ $(grep -cE "\)\*'\{-[kK]\+,--(new-)?key=\}" "$root/completions/_agep") == 5 ]]
+    check "the file for zsh takes words joined to their options, and -k and -K more than once"
     if command -v fish >/dev/null; then
         (cd files && by_fish agep decrypt so | grep -qx some.age && by_fish agep decrypt -k so | grep -qx some.age &&
             by_fish agep decrypt -o so | grep -qx some.age)
         check "fish offers files"
     fi
     if command -v zsh >/dev/null; then
-        zsh -n "$root/completions/_agep" 2>err
-        [[ $? -eq 0 && ! -s err ]]
+        keep zsh -n "$root/completions/_agep"
+        has_ended 0 ""
         check "zsh reads its file"
     fi
 }
 
 versions() {
-    local option
+    local option command
     [[ $version =~ ^[0-9]+\.[0-9]+\.[0-9]+$ ]]
     check "the change log has a newest version"
     for option in -V --version; do
-        run "$option"
-        has_said 0 "" && [[ $(cat out) == "agep $version" ]]
-        check "agep $option names the newest version of the change log"
+        for command in '' "${all[@]}"; do
+            # shellcheck disable=SC2086
+            run $command "$option"
+            has_said 0 "" && holds out "agep $version"
+            check "agep ${command:+$command }$option names the newest version of the change log"
+        done
     done
 }
 
@@ -184,10 +314,13 @@ files_of() {
 }
 
 installs() {
+    local words usage="usage: ./install [--uninstall] [PREFIX]"
     mkdir -p prefix/share/man/man1
     echo other >prefix/share/man/man1/other.1
-    "$root/install" "$work/prefix" >out 2>err
-    echo $? >status
+    (
+        umask 077
+        keep "$root/install" "$work/prefix"
+    )
     has_said 0 "" && files_of prefix | cmp -s - <(
         printf './%s\n' bin/agep share/bash-completion/completions/agep share/fish/vendor_completions.d/agep.fish share/man/man1/agep.1 \
             share/man/man1/other.1 share/zsh/site-functions/_agep
@@ -195,17 +328,33 @@ installs() {
     check "./install puts the program, its manual page and its completions under PREFIX"
     [[ $(prefix/bin/agep --version) == "agep $version" && $(stat -c %a prefix/bin/agep prefix/share/man/man1/agep.1 | xargs) == "755 644" ]]
     check "what ./install puts there runs, and has the usual modes"
-    "$root/install" --uninstall "$work/prefix" >out 2>err
-    echo $? >status
+    [[ $(stat -c %a prefix/bin prefix/share/{zsh,zsh/site-functions,fish,bash-completion/completions} | sort -u) == 755 ]]
+    check "the folders that ./install makes have the mode 755, with the umask 077"
+    keep "$root/install" --uninstall "$work/prefix"
     has_said 0 "" && [[ $(files_of prefix) == ./share/man/man1/other.1 ]]
     check "./install --uninstall removes just these files"
-    "$root/install" --uninstall "$work/prefix" >out 2>err
-    echo $? >status
+    [[ $(cd prefix && find . -type d | sort | xargs) == ". ./share ./share/man ./share/man/man1" ]]
+    check "./install --uninstall removes the folders that it leaves empty"
+    keep "$root/install" --uninstall "$work/prefix"
     has_ended 0 ""
     check "./install --uninstall where nothing is installed"
-    "$root/install" --other >out 2>err
-    [[ $? -eq 2 && $(cat err) == "usage: ./install [--uninstall] [PREFIX]" && ! -s out ]]
-    check "./install refuses another option"
+    keep "$root/install" "$work/other" && keep "$root/install" --uninstall other/
+    has_said 0 "" && [[ -d other && -z $(ls -A other) ]]
+    check "./install --uninstall leaves PREFIX itself, here an empty folder"
+    for words in --other "--uninstall --other" "a b" "--uninstall a b"; do
+        # shellcheck disable=SC2086
+        keep "$root/install" $words
+        has_ended 2 "$usage"
+        check "./install $words is refused"
+    done
+    keep "$root/install" ''
+    has_ended 2 "$usage" && keep "$root/install" --uninstall '' && has_ended 2 "$usage"
+    check "./install refuses an empty PREFIX"
+    for words in --help -h; do
+        keep "$root/install" $words
+        has_said 0 "" && holds out "$usage"
+        check "./install $words prints the usage"
+    done
 }
 
 # The planted bugs that docs/PROMISES.md names, in its tables and below them.

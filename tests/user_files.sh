@@ -15,6 +15,7 @@ set_up() {
         printf '%b' "\\x$(printf %02x "$i")"
     done >seed
     head -c 32 seed >key
+    tail -c 32 seed >other.key
     printf 'correct horse' >pass
     printf 'correct hors' >other.pass
     echo hello >hello
@@ -45,8 +46,9 @@ make_out_file() {
 
 # What an OUT held stays where nothing was written, and a new OUT is left empty.
 refused_work() {
-    local row words line
-    for row in "decrypt -p other.pass pass.age|wrong passphrase or key" "decrypt -k key pass.age|no key fits this file" \
+    local row words line size
+    for row in "encrypt -k key .|read failed" "encrypt -p empty hello|passphrase file is empty" \
+        "decrypt -p other.pass pass.age|wrong passphrase or key" "decrypt -k key pass.age|no key fits this file" \
         "decrypt -p pass -m 9 pass.age|malformed stanza: work factor is too high" "decrypt -k key hello|not an age file" \
         "decrypt -k key cut.age|header is cut short" "decrypt -k key damaged.age|chunk 0 is damaged" \
         "range -p other.pass 0 5 pass.age|wrong passphrase or key" "range -k key 0 5 damaged.age|chunk 0 is damaged" \
@@ -61,7 +63,7 @@ refused_work() {
         rm -f out_file
         # shellcheck disable=SC2086
         run $words -o out_file
-        if [[ $words == *absent ]]; then
+        if [[ $words == *absent || $words == *empty\ * ]]; then
             has_ended 1 "$line" && [[ ! -e out_file ]]
         else
             has_ended 1 "$line" && [[ -e out_file && ! -s out_file ]]
@@ -75,6 +77,24 @@ refused_work() {
     )
     has_ended 1 "agep: out of memory" && is_as_it_was
     check "an OUT that was there stays as it was: no memory for scrypt"
+    make_out_file
+    run encrypt -k key -o out_file <&-
+    has_ended 1 "agep: read failed" && is_as_it_was
+    check "an OUT that was there stays as it was: encrypt with a closed standard input"
+    if ! cc -shared -fPIC -o devices.so "$root/tests/devices.c" -ldl 2>/dev/null; then
+        echo "skipped: an IN that breaks off, since there is no C compiler"
+        return
+    fi
+    for size in 0 65535; do
+        make_out_file
+        head -c "$size" two_chunks | BREAKS=1 LD_PRELOAD=./devices.so run encrypt -k key -o out_file
+        has_ended 1 "agep: read failed" && is_as_it_was
+        check "an OUT that was there stays as it was: encrypt, whose IN fails after $size bytes"
+    done
+    make_out_file
+    head -c 65537 two_chunks | BREAKS=1 LD_PRELOAD=./devices.so run encrypt -k key -s seed -o out_file
+    has_ended 1 "agep: read failed" && [[ -s out_file ]] && cmp -s -n "$(wc -c <out_file)" out_file two.age
+    check "encrypt, whose IN fails after a chunk: OUT holds the front of the new file"
 }
 
 # Whether a process has the file out_file open.
@@ -182,6 +202,11 @@ same_files() {
     check "decrypt: OUT is also the passphrase file"
     is_refused key "OUT is also the key file: key" range -k key -o key 0 1 key.age
     check "range: OUT is also the key file"
+    is_refused other.key "OUT is also the key file: other.key" encrypt -k key -k other.key -o other.key hello
+    check "encrypt: OUT is also the second key file"
+    ln -s other.key linked.other
+    is_refused other.key "OUT is also the key file: linked.other" decrypt -k key -k other.key -o linked.other key.age
+    check "decrypt: OUT is also the second key file, by a link"
     is_refused seed "OUT is also the seed file: seed" encrypt -k key -s seed -o seed hello
     check "encrypt: OUT is also the seed file"
     is_refused in "OUT is also IN: in" encrypt -p in -o in in
@@ -219,8 +244,7 @@ shared_input() {
     check "encrypt: a key file that is the file at standard input, by a link"
     mkfifo shared
     cat key >shared &
-    timeout 10 "$agep" encrypt -k shared >out 2>err <shared
-    echo $? >status
+    keep timeout 10 "$agep" encrypt -k shared <shared
     has_ended 1 "agep: standard input cannot be both IN and the key file"
     check "encrypt: a key file that is the FIFO at standard input"
     wait
@@ -230,8 +254,7 @@ shared_input() {
     run decrypt -k /dev/fd/0 -o out_file.2 <key.age
     has_ended 1 "agep: standard input cannot be both IN and the key file" && [[ ! -e out_file.2 ]]
     check "decrypt -k /dev/fd/0 without IN: OUT is not made"
-    "$agep" encrypt -p /dev/stdin -w 1 /dev/fd/0 <seed >out 2>err
-    echo $? >status
+    run encrypt -p /dev/stdin -w 1 /dev/fd/0 <seed
     has_ended 1 "agep: standard input cannot be both IN and the passphrase file"
     check "encrypt: standard input as passphrase file, and named as IN"
     run inspect -f /dev/stdin <key.age
@@ -249,9 +272,29 @@ shared_input() {
     run decrypt -p <(cat pass) <pass.age
     has_said 0 "" && cmp -s out hello
     check "a passphrase from a pipe that is not standard input"
-    run encrypt -p /dev/null -w 1 </dev/null
-    has_said 0 ""
+    run decrypt -p /dev/null </dev/null
+    has_ended 1 "agep: header is cut short"
     check "/dev/null as passphrase file and as IN"
+    for row in "encrypt -k /dev/stdin -k /dev/stdin hello|the key file twice" "decrypt -k key -k /dev/stdin -k /dev/fd/0 key.age|the key file twice" \
+        "range -k /dev/stdin -k /dev/fd/0 0 5 key.age|the key file twice" \
+        "encrypt -k key -k /dev/stdin -s /dev/stdin hello|both the key file and the seed file" \
+        "encrypt -p /dev/stdin -s /dev/fd/0 hello|both the passphrase file and the seed file" \
+        "encrypt -k key -k /dev/stdin|both IN and the key file"; do
+        # shellcheck disable=SC2086
+        cat seed | run ${row%%|*} -o out_file.2
+        has_ended 1 "agep: standard input cannot be ${row#*|}" && [[ ! -e out_file.2 ]]
+        check "from a pipe: ${row%%|*}"
+        # shellcheck disable=SC2086
+        run ${row%%|*} -o out_file.2 <seed
+        has_ended 1 "agep: standard input cannot be ${row#*|}" && [[ ! -e out_file.2 ]]
+        check "from a file: ${row%%|*}"
+    done
+    cat key | run decrypt -k other.key -k /dev/stdin key.age
+    has_said 0 "" && cmp -s out hello
+    check "one of two keys from standard input"
+    run encrypt -k linked.key -k other.key -k linked.key hello
+    has_said 0 ""
+    check "a key file twice that is not standard input"
 }
 
 # Whether the file `out_file` has this mode.
@@ -287,8 +330,7 @@ modes() {
 # Runs the program on these words, and counts its calls that sync.
 run_counted() {
     rm -f synced
-    LD_PRELOAD=./sync.so "$agep" "$@" >out 2>err
-    echo $? >status
+    LD_PRELOAD=./sync.so run "$@"
     : >>synced
 }
 
@@ -333,18 +375,18 @@ names() {
         printf -v line '%b' "${row#*|}"
         [[ -n $line ]] || line=$name
         run inspect "absent $name"
-        has_ended 1 "agep: cannot open absent $line" && [[ $(wc -l <err) == 1 ]]
+        has_ended 1 "agep: cannot open absent $line"
         check "cannot open, and one line: ${row%%|*}"
         run encrypt -k key -o "absent/$name" hello
-        has_ended 1 "agep: cannot create absent/$line" && [[ $(wc -l <err) == 1 ]]
+        has_ended 1 "agep: cannot create absent/$line"
         check "cannot create, and one line: ${row%%|*}"
     done
     run inspect a $'b\x1b[31m\rc'
-    [[ $(cat status) == 2 && $(head -n 1 err) == "error: unexpected argument 'b\\x1b[31m\\rc' found" && ! -s out ]]
+    has_refused "unexpected argument 'b\\x1b[31m\\rc' found" "inspect [OPTIONS] [IN]"
     check "a word of a refused command line, with control characters"
     cp hello $'two\nlines'
     run encrypt -k key -o $'two\nlines' $'two\nlines'
-    has_ended 1 'agep: OUT is also IN: two\nlines' && [[ $(wc -l <err) == 1 ]]
+    has_ended 1 'agep: OUT is also IN: two\nlines'
     check "OUT is also IN, and one line"
 }
 
