@@ -102,6 +102,7 @@ set_swap (v ∷ w) (suc i) (suc m) x y apart = ap (λ l. v ∷ l) (set_swap w i 
 abbrev step : (f : ℕ → ℕ → ℕ) (i k : ℕ) (w : List ℕ) → List ℕ
 step f i k w = set w i (f (slice_index w i) (slice_index w k))
 
+-- two such writes, in either order
 step_swap : (f g : ℕ → ℕ → ℕ) (i k m n : ℕ) (w : List ℕ) → i ≢ m → i ≢ n → k ≢ m
     → step g m n (step f i k w) ≡ step f i k (step g m n w)
 step_swap f g i k m n w im kn km =
@@ -133,7 +134,7 @@ line_swap p q apart m n i k l r s t w hi hk hl hr hs ht =
     ∙ ap (λ v. q_turn (p_turn v)) (sym (step_swap add_words add_words (at i) (at k) (on r) (on s) w (apart i r hi hr) (apart i s hi hs) (apart k r hk hr)))
     ∙ ap q_turn (sym (step_swap (turned m) add_words (at l) (at i) (on r) (on s) (p_add w) (apart l r hl hr) (apart l s hl hs) (apart i r hi hr)))
 
--- two quarter rounds on places that are apart, line by line
+-- two quarter rounds on places that are apart, line by line: the lines on p come first, one by one
 pub two_by_lines : (p q w : List ℕ) → AreApart p q
     → line 7 2 3 1 q (line 7 2 3 1 p (line 8 0 1 3 q (line 8 0 1 3 p (line 12 2 3 1 q (line 12 2 3 1 p (line 16 0 1 3 q (line 16 0 1 3 p w)))))))
     ≡ quarter_round_at q (quarter_round_at p w)
