@@ -19,13 +19,19 @@ if ! (cd "$bench" && rt run ${cpu:+--cpu "$cpu"} -- seal 1 7) > "$scratch/build"
 fi
 cp "$bench/out/cipher_bench" "$scratch/program"
 
-# Poly1305's loop multiplies four blocks in 25 vectors: 25 pmuludq where a register holds four words
-# of 64 bits, 50 where it holds two. Where the compiler no longer sees that the factors have 32
-# bits, there are three times as many.
-multiplications=$(objdump -d --no-show-raw-insn "$scratch/program" |
-    awk '/^[0-9a-f]+ <.*>:$/ { inside = /fours::whole_fours/ } inside && /pmuludq/ { n++ } END { print n + 0 }')
-if [[ $multiplications != 25 && $multiplications != 50 ]]; then
-    echo "Poly1305's loop has $multiplications pmuludq, not 25 or 50: it is slower than it was written to be" >&2
+# Poly1305's loop multiplies eight blocks in 50 vectors: 50 pmuludq where a register holds four
+# words of 64 bits, 100 where it holds two. Where the compiler no longer sees that the factors have
+# 32 bits, there are three times as many. From the first of the 50 to the last the loop stores 4
+# vectors on the stack, and many more if it multiplies in another order.
+read -r multiplications stores < <(objdump -d --no-show-raw-insn "$scratch/program" | awk '
+    /^[0-9a-f]+ <.*>:$/ { inside = /fours::whole_fours/ }
+    inside && /mov[a-z]* +%[xy]mm[0-9]+,[^ ]*\(%r[sb]p\)/ { latest++ }
+    inside && /pmuludq/ { if (multiplications++) stores += latest; latest = 0 }
+    END { print multiplications + 0, stores + 0 }')
+if [[ $multiplications != 50 && $multiplications != 100 ]]; then
+    echo "Poly1305's loop has $multiplications pmuludq, not 50 or 100: it is slower than it was written to be" >&2
+elif [[ $multiplications == 50 && $stores -gt 8 ]]; then
+    echo "Poly1305's loop stores $stores vectors on the stack, not 4: it is slower than it was written to be" >&2
 fi
 head -c $((mib * 1048576)) /dev/zero > "$scratch/zeros"
 
@@ -69,8 +75,8 @@ done
 best() { sort -n "$1" | tail -n 1; }
 median() { sort -n "$1" | awk '{ v[NR] = $1 } END { print v[int((NR + 1) / 2)] }'; }
 
-printf 'MB/s of user time, %s, %s, %s MiB, %s rounds, load %s, %s pmuludq\n\n' "${cpu:-default processor}" \
-    "$(openssl version | cut -d' ' -f1,2)" "$mib" "$rounds" "$(cut -d' ' -f1 /proc/loadavg)" "$multiplications"
+printf 'MB/s of user time, %s, %s, %s MiB, %s rounds, load %s, %s pmuludq, %s stores\n\n' "${cpu:-default processor}" \
+    "$(openssl version | cut -d' ' -f1,2)" "$mib" "$rounds" "$(cut -d' ' -f1 /proc/loadavg)" "$multiplications" "$stores"
 printf '| %-8s | %6s | %6s | %12s | %14s | %10s | %12s | %15s | %11s |\n' part best median 'openssl best' 'openssl median' 'best ratio' \
     'median ratio' 'same level best' 'level ratio'
 printf '|---|---|---|---|---|---|---|---|---|\n'

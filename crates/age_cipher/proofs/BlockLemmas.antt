@@ -12,22 +12,11 @@ use Rattle.age_cipher.specs.ChaCha20.{start, mixed, block, stream_byte}
 use Rattle.age_cipher.specs.Lanes.{lane, bytes, IsXoredAt}
 use Rattle.age_cipher.proofs.LaneLemmas.{lane-word}
 
--- a list of four, written out
-pub four_long : (x : List ℕ) → length x ≡ 4 → x ≡ slice_index x 0 ∷ slice_index x 1 ∷ slice_index x 2 ∷ slice_index x 3 ∷ []
-four_long x long = fill_by_all (λ k. slice_index x k) x 4 0 long (λ k h. refl)
-
 -- lane j of sixteen vectors, written out
 pub lane_written : (state : List (List ℕ)) (j : ℕ) → length state ≡ 16
     → map (λ k. slice_index (slice_index_or state k []) j) (range_with_len 0 16) ≡ lane j state
 lane_written state j long =
     sym (fill_by_all (λ k. slice_index (slice_index_or state k []) j) (lane j state) 16 0 (length-map state (λ v. slice_index v j) ∙ long) (λ k h. lane-word state j k (omega arith)))
-
--- lane i of sixteen vectors, and lane j of sixteen others
-pub same_lanes : (x y : List (List ℕ)) (i j : ℕ) → length x ≡ 16 → length y ≡ 16
-    → ((k : ℕ) → k < 16 → slice_index (slice_index_or x k []) i ≡ slice_index (slice_index_or y k []) j) → lane i x ≡ lane j y
-same_lanes x y i j x_long y_long each =
-    fill_by_all (λ k. slice_index (slice_index_or y k []) j) (lane i x) 16 0 (length-map x (λ v. slice_index v i) ∙ x_long)
-    (λ k below. lane-word x i k (omega arith) ∙ each k below) ∙ lane_written y j y_long
 
 -- the bytes of a vector of words
 pub digits-bytes : (words : List ℕ) → Each1 (λ w. w < 2 ^ 32) words
@@ -47,6 +36,12 @@ digits-bytes (w ∷ words) below =
 pub length-bytes : (words : List ℕ) → length (bytes words) ≡ 4 * length words
 length-bytes [] = refl
 length-bytes (w ∷ words) = omega (arith, length-bytes words)
+
+-- the length of four blocks
+pub length-four_blocks : (a b c d : List ℕ) → length a ≡ 64 → length b ≡ 64 → length c ≡ 64 → length d ≡ 64
+    → length (a ++ (b ++ (c ++ d))) ≡ 256
+length-four_blocks a b c d la lb lc ld =
+    omega (arith, length-append a (b ++ (c ++ d)), length-append b (c ++ d), length-append c d)
 
 -- the bytes of four vectors of words
 pub bytes_of_four : (a b c d : List ℕ) → bytes (a ++ (b ++ (c ++ d))) ≡ bytes a ++ (bytes b ++ (bytes c ++ bytes d))
@@ -70,18 +65,18 @@ xored_on at next s t old mid new e first then =
       λ j above. then.2 j (omega (arith, length-append s t)) ∙ first.2 j (omega (arith, length-append s t)),
     )
 
--- a vector of a buffer xored with another
-pub chunk_xored : (at : ℕ) (buf digits stream : List ℕ) → digits ≡ stream → length stream ≡ 16 → at + 16 ≤ length buf
-    → IsXoredAt at stream buf (put_chunk at buf (zip2 bit_xor (take 16 (drop at buf)) digits))
-chunk_xored at buf digits stream e long room =
-    let chunk_long : length (take 16 (drop at buf)) ≡ 16 = length-chunk at 16 buf room in
-    let mixed = zip2 bit_xor (take 16 (drop at buf)) stream in
-    let mixed_long : length mixed ≡ 16 = length-zip2 bit_xor (take 16 (drop at buf)) stream (chunk_long ∙ sym long) ∙ chunk_long in
+-- n bytes of a buffer xored with a stream
+pub chunk_xored : (n at : ℕ) (buf digits stream : List ℕ) → digits ≡ stream → length stream ≡ n → at + n ≤ length buf
+    → IsXoredAt at stream buf (put_chunk at buf (zip2 bit_xor (take n (drop at buf)) digits))
+chunk_xored n at buf digits stream e long room =
+    let chunk_long : length (take n (drop at buf)) ≡ n = length-chunk at n buf room in
+    let mixed = zip2 bit_xor (take n (drop at buf)) stream in
+    let mixed_long : length mixed ≡ n = length-zip2 bit_xor (take n (drop at buf)) stream (chunk_long ∙ sym long) ∙ chunk_long in
     rw e (
       λ j below. get_or-put_chunk_below at buf mixed j 0 below,
       λ j below. get_or-put_chunk_at at buf mixed j 0 (omega arith) (omega arith)
-          ∙ get_or-zip2 bit_xor (take 16 (drop at buf)) stream j 0 0 0 (omega arith) below
-          ∙ ap (λ b. bit_xor b (slice_index stream j)) (get_or-chunk at 16 buf j 0 (omega arith)),
+          ∙ get_or-zip2 bit_xor (take n (drop at buf)) stream j 0 0 0 (omega arith) below
+          ∙ ap (λ b. bit_xor b (slice_index stream j)) (get_or-chunk at n buf j 0 (omega arith)),
       λ j above. get_or-put_chunk_above at buf mixed j 0 (omega arith),
     )
 

@@ -1,12 +1,12 @@
 -- Vectors, seen lane by lane.
-use Rattle.std.proofs.Common.{◌≡◌, ℕ, zero, suc, ◌-◌, ◌*◌, ◌/◌, ◌%◌, ◌^◌, ◌<◌, List, [], length, set, replicate, slice_index, slice_index_or, bit_or, bit_xor, arith, refl, sym, ap, ap₂, ◌∙◌}
+use Rattle.std.proofs.Common.{◌≡◌, ◌≢◌, ℕ, zero, suc, ◌-◌, ◌*◌, ◌/◌, ◌%◌, ◌^◌, ◌<◌, List, [], ◌∷◌, length, set, replicate, slice_index, slice_index_or, bit_or, bit_xor, arith, refl, sym, ap, ap₂, ◌∙◌}
 use Rattle.std.specs.Int.{w32, rotate_left}
 use Rattle.std.specs.Simd.Lanes.{zip2}
-use Rattle.std.proofs.lemmas.List.{get_or-map, map-set, length-map, length-set}
+use Rattle.std.proofs.lemmas.List.{get_or-map, get_or-set_other, map-set, length-map, length-set}
 use Rattle.std.proofs.lemmas.List.FromFn.{fill_by_all}
 use Rattle.std.proofs.lemmas.Simd.{get_or-zip2, get_or-replicate, length-zip2, length-replicate}
-use Rattle.age_cipher.specs.ChaCha20.{add_words, add_xor_rotate, start}
-use Rattle.age_cipher.specs.Lanes.{lane}
+use Rattle.age_cipher.specs.ChaCha20.{add_words, add_xor_rotate, quarter_round, start}
+use Rattle.age_cipher.specs.Lanes.{lane, quarter_round_at, AreApart}
 
 -- a word of a lane is a lane of a word
 pub lane-word : (state : List (List ℕ)) (j k : ℕ) → k < length state
@@ -76,3 +76,88 @@ lane-is state words j state_long words_long each =
 pub start-set : (key nonce : List ℕ) (a b : ℕ) → set (start key nonce a) 12 b ≡ start key nonce b
 unfolding start
 start-set key nonce a b = refl
+
+-- lists of two, four and eight, written out
+pub two_long : (x : List ℕ) → length x ≡ 2 → x ≡ slice_index x 0 ∷ slice_index x 1 ∷ []
+two_long x long = fill_by_all (λ k. slice_index x k) x 2 0 long (λ k h. refl)
+
+pub four_long : (x : List ℕ) → length x ≡ 4
+    → x ≡ slice_index x 0 ∷ slice_index x 1 ∷ slice_index x 2 ∷ slice_index x 3 ∷ []
+four_long x long = fill_by_all (λ k. slice_index x k) x 4 0 long (λ k h. refl)
+
+pub eight_long : (x : List ℕ) → length x ≡ 8
+    → x ≡ slice_index x 0 ∷ slice_index x 1 ∷ slice_index x 2 ∷ slice_index x 3
+    ∷ slice_index x 4 ∷ slice_index x 5 ∷ slice_index x 6 ∷ slice_index x 7 ∷ []
+eight_long x long = fill_by_all (λ k. slice_index x k) x 8 0 long (λ k h. refl)
+
+-- words written at two places, in either order
+set_swap : (w : List ℕ) (i m x y : ℕ) → i ≢ m → set (set w i x) m y ≡ set (set w m y) i x
+set_swap [] i m x y apart = refl
+set_swap (v ∷ w) zero zero x y apart = absurd (apart refl)
+set_swap (v ∷ w) zero (suc m) x y apart = refl
+set_swap (v ∷ w) (suc i) zero x y apart = refl
+set_swap (v ∷ w) (suc i) (suc m) x y apart = ap (λ l. v ∷ l) (set_swap w i m x y (λ e. apart (ap suc e)))
+
+-- half a line of the quarter round: a word is written that depends on what it was and on another
+abbrev step : (f : ℕ → ℕ → ℕ) (i k : ℕ) (w : List ℕ) → List ℕ
+step f i k w = set w i (f (slice_index w i) (slice_index w k))
+
+-- two such writes, in either order
+step_swap : (f g : ℕ → ℕ → ℕ) (i k m n : ℕ) (w : List ℕ) → i ≢ m → i ≢ n → k ≢ m
+    → step g m n (step f i k w) ≡ step f i k (step g m n w)
+step_swap f g i k m n w im kn km =
+    let x = f (slice_index w i) (slice_index w k) in
+    let y = g (slice_index w m) (slice_index w n) in
+    ap (set (set w i x) m) (ap₂ g (get_or-set_other w i m x 0 (λ e. im (sym e))) (get_or-set_other w i n x 0 (λ e. kn (sym e))))
+    ∙ set_swap w i m x y im
+    ∙ ap (set (set w m y) i) (sym (ap₂ f (get_or-set_other w m i y 0 im) (get_or-set_other w m k y 0 km)))
+
+-- a line on three of four places
+abbrev line : (by i k l : ℕ) (places w : List ℕ) → List ℕ
+line by i k l places w = add_xor_rotate (slice_index places i) (slice_index places k) (slice_index places l) by w
+
+-- lines on places that are apart, in either order
+line_swap : (p q : List ℕ) → AreApart p q → (m n : ℕ) (i k l r s t : ℕ) (w : List ℕ)
+    → i < 4 → k < 4 → l < 4 → r < 4 → s < 4 → t < 4
+    → line m i k l p (line n r s t q w) ≡ line n r s t q (line m i k l p w)
+unfolding add_xor_rotate
+line_swap p q apart m n i k l r s t w hi hk hl hr hs ht =
+    let turned : ℕ → ℕ → ℕ → ℕ = λ by u v. rotate_left w32 (bit_xor u v) by in
+    let at : ℕ → ℕ = λ j. slice_index p j in
+    let on : ℕ → ℕ = λ j. slice_index q j in
+    let p_add : List ℕ → List ℕ = λ v. step add_words (at i) (at k) v in
+    let p_turn : List ℕ → List ℕ = λ v. step (turned m) (at l) (at i) v in
+    let q_add : List ℕ → List ℕ = λ v. step add_words (on r) (on s) v in
+    let q_turn : List ℕ → List ℕ = λ v. step (turned n) (on t) (on r) v in
+    ap p_turn (sym (step_swap add_words (turned n) (at i) (at k) (on t) (on r) (q_add w) (apart i t hi ht) (apart i r hi hr) (apart k t hk ht)))
+    ∙ sym (step_swap (turned m) (turned n) (at l) (at i) (on t) (on r) (p_add (q_add w)) (apart l t hl ht) (apart l r hl hr) (apart i t hi ht))
+    ∙ ap (λ v. q_turn (p_turn v)) (sym (step_swap add_words add_words (at i) (at k) (on r) (on s) w (apart i r hi hr) (apart i s hi hs) (apart k r hk hr)))
+    ∙ ap q_turn (sym (step_swap (turned m) add_words (at l) (at i) (on r) (on s) (p_add w) (apart l r hl hr) (apart l s hl hs) (apart i r hi hr)))
+
+-- two quarter rounds on places that are apart, line by line: the lines on p come first, one by one
+pub two_by_lines : (p q w : List ℕ) → AreApart p q
+    → line 7 2 3 1 q (line 7 2 3 1 p (line 8 0 1 3 q (line 8 0 1 3 p (line 12 2 3 1 q (line 12 2 3 1 p (line 16 0 1 3 q (line 16 0 1 3 p w)))))))
+    ≡ quarter_round_at q (quarter_round_at p w)
+unfolding quarter_round
+two_by_lines p q w apart =
+    let first : 0 < 4 = omega arith in
+    let second : 1 < 4 = omega arith in
+    let third : 2 < 4 = omega arith in
+    let fourth : 3 < 4 = omega arith in
+    let p16 = line 16 0 1 3 p w in
+    let p12 = line 12 2 3 1 p p16 in
+    let p8 = line 8 0 1 3 p p12 in
+    let p7 : List ℕ → List ℕ = λ v. line 7 2 3 1 p v in
+    let q16 : List ℕ → List ℕ = λ v. line 16 0 1 3 q v in
+    let q12 : List ℕ → List ℕ = λ v. line 12 2 3 1 q v in
+    let q8 : List ℕ → List ℕ = λ v. line 8 0 1 3 q v in
+    let q7 : List ℕ → List ℕ = λ v. line 7 2 3 1 q v in
+    let to_p12 = line_swap p q apart 12 16 2 3 1 0 1 3 p16 third fourth second first second fourth in
+    let to_p8 =
+    line_swap p q apart 8 12 0 1 3 2 3 1 (q16 p12) first second fourth third fourth second
+    ∙ ap q12 (line_swap p q apart 8 16 0 1 3 0 1 3 p12 first second fourth first second fourth) in
+    let to_p7 =
+    line_swap p q apart 7 8 2 3 1 0 1 3 (q12 (q16 p8)) third fourth second first second fourth
+    ∙ ap q8 (line_swap p q apart 7 12 2 3 1 2 3 1 (q16 p8) third fourth second third fourth second
+    ∙ ap q12 (line_swap p q apart 7 16 2 3 1 0 1 3 p8 third fourth second first second fourth)) in
+    ap (λ v. q7 (p7 (q8 (line 8 0 1 3 p (q12 v))))) to_p12 ∙ ap (λ v. q7 (p7 (q8 v))) to_p8 ∙ ap q7 to_p7

@@ -6,12 +6,8 @@ pub returns : goal.returns
 unfolding double_round
 returns g c = λ j inside.
     rw (
-      c.quarter_round-8.ensures j inside,
-      c.quarter_round-7.ensures j inside,
-      c.quarter_round-6.ensures j inside,
-      c.quarter_round-5.ensures j inside,
-      c.quarter_round-4.ensures j inside,
-      c.quarter_round-3.ensures j inside,
-      c.quarter_round-2.ensures j inside,
-      c.quarter_round.ensures j inside,
+      c.two_quarter_rounds-4.ensures j inside,
+      c.two_quarter_rounds-3.ensures j inside,
+      c.two_quarter_rounds-2.ensures j inside,
+      c.two_quarter_rounds.ensures j inside,
     ) refl
