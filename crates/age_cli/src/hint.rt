@@ -1,10 +1,13 @@
 //! What helps with a file that could not be read as an age file: what its first bytes, its header
 //! and its size tell.
 
+ghost use Rattle.age_words.specs.Job.{IsInRange};
+
+use crate::buffering::limits_of;
 use crate::watched::Watched;
 use age_file::{
-    CHUNK_SIZE, Fault, Header, Limits, MemSource, NONCE_SIZE, SEALED_CHUNK_SIZE, Stanza,
-    StanzaFault, TAG_SIZE, inspect,
+    CHUNK_SIZE, Fault, Header, MemSource, NONCE_SIZE, SEALED_CHUNK_SIZE, Stanza, StanzaFault,
+    TAG_SIZE, inspect,
 };
 use age_words::{Job, MOST_HEADER, MOST_WORK};
 use std::alloc::Global;
@@ -38,21 +41,23 @@ pub(crate) enum Hint {
 }
 
 /// What is known of the file that was read, after this fault.
-pub(crate) fn hint_at<R>(alloc: Global, job: &Job, fault: Fault, input: &Watched<R>) -> Hint {
+pub(crate) fn hint_at<R>(alloc: Global, job: &Job, fault: Fault, input: &Watched<R>) -> Hint
+    requires { IsInRange job.now }
+{
     match fault {
         Fault::HeaderTruncated if input.at() == 0 => Hint::Empty,
         Fault::HeaderTruncated => Hint::EndsInHeader(input.at()),
         Fault::NotAge => first_bytes(input.front()),
         Fault::HeaderTooLarge => Hint::HeaderLimit(job.max_header),
-        Fault::NoMatch => match header_of(alloc, input) {
+        Fault::NoMatch => match header_of(alloc, job, input) {
             Some(header) => Hint::Stanzas(header),
             None => Hint::None,
         },
-        Fault::Malformed(StanzaFault::WorkFactorTooHigh) => match header_of(alloc, input) {
+        Fault::Malformed(StanzaFault::WorkFactorTooHigh) => match header_of(alloc, job, input) {
             Some(header) => Hint::WorkFactor(header),
             None => Hint::None,
         },
-        Fault::BadChunk(index) | Fault::ChunkShort(index) => chunk(alloc, index, input),
+        Fault::BadChunk(index) | Fault::ChunkShort(index) => chunk(alloc, job, index, input),
         _ => Hint::None,
     }
 }
@@ -69,18 +74,17 @@ fn first_bytes<'a>(front: &[u8]) -> Hint {
 }
 
 /// The header of the file that was read.
-fn header_of<R>(alloc: Global, input: &Watched<R>) -> Option<Header> {
-    inspect(
-        alloc,
-        &mut MemSource::new(input.front()),
-        &Limits::default(),
-    )
-    .ok()
+pub(crate) fn header_of<R>(alloc: Global, job: &Job, input: &Watched<R>) -> Option<Header>
+    requires { IsInRange job.now }
+{
+    inspect(alloc, &mut MemSource::new(input.front()), &limits_of(job)).ok()
 }
 
 /// What is known of this chunk, from the size of the file and of its header.
-fn chunk<R>(alloc: Global, index: u128, input: &Watched<R>) -> Hint {
-    let Some(header) = header_of(alloc, input) else {
+fn chunk<R>(alloc: Global, job: &Job, index: u128, input: &Watched<R>) -> Hint
+    requires { IsInRange job.now }
+{
+    let Some(header) = header_of(alloc, job, input) else {
         return Hint::None;
     };
     match bytes_from(index, header.text_len(), input.end()) {

@@ -8,7 +8,7 @@ use crate::failure::{Detail, Doing, Failure};
 use crate::fault::Fault;
 use crate::file_names::{Lines, Name, Role};
 use crate::files::{NamedFile, open, open_seekable, read_just, refuse_shared_input};
-use crate::hint::hint_at;
+use crate::hint::{header_of, hint_at};
 use crate::inspect::inspect;
 use crate::output::create;
 use crate::range::range;
@@ -224,7 +224,9 @@ fn explained<'a, R>(
     fault: Fault<'a>,
     input: &Watched<R>,
     written: Option<io::Error>,
-) -> Failure<'a> {
+) -> Failure<'a>
+    requires { IsInRange job.now }
+{
     let Fault::AgeFile(file_fault) = fault else {
         return Failure::from(fault);
     };
@@ -234,11 +236,30 @@ fn explained<'a, R>(
         age_file::Fault::Write => system_detail(Doing::Writing, output_name(job), written),
         _ if job.verbose => {
             let hint = hint_at(alloc, job, file_fault, input);
-            Some(Detail::Input(input_name(job), hint))
+            Some(Detail::File(faulty_name(alloc, job, file_fault, input), hint))
         }
         _ => None,
     };
     Failure { fault, detail }
+}
+
+/// The file that a fault is about. A header that is too large is that of OUT where IN has none, or
+/// a smaller one.
+fn faulty_name<'a, R>(
+    alloc: Global,
+    job: &'a Job,
+    fault: age_file::Fault,
+    input: &Watched<R>,
+) -> Name<'a>
+    requires { IsInRange job.now }
+{
+    let is_new = fault == age_file::Fault::HeaderTooLarge
+        && (job.command == Command::Encrypt || header_of(alloc, job, input).is_some());
+    if is_new {
+        output_name(job)
+    } else {
+        input_name(job)
+    }
 }
 
 fn system_detail<'a>(
