@@ -53,8 +53,8 @@ impl<R> Watched<R> {
         self.end
     }
 
-    /// Takes note of these bytes, which a read gave, and whether there are no more. It keeps them if
-    /// they follow those that are kept, and keeps no more once memory is refused.
+    /// Takes note of these bytes, which a read gave, and whether there are no more. It keeps them
+    /// if they follow those that are kept, and keeps no more once memory is refused.
     fn note(&mut self, bytes: &[u8], is_end: bool)
         ensures { self.new.reader ≡ self.old.reader }
     {

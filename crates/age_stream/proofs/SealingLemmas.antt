@@ -357,13 +357,16 @@ filled-seals key max t more from mid to a c r (x, took, is, fits, full, ended) s
           omega (arith, bytes, length-append x text),
           subst (λ (cs : List (List ℕ)). done.chunks ≡ 0 + length cs) (sym same) count,
         )
-    go (Err fault) (j, s) = (j, record {
-      text = x ++ s.text;
-      may = may-more from mid x s.text took s.may;
-      stops = stops fault s.stops;
-      wrote = s.wrote;
-      gave = gave s.gave;
-    })
+    go (Err fault) (j, s) = (
+      j,
+      record {
+        text = x ++ s.text;
+        may = may-more from mid x s.text took s.may;
+        stops = stops fault s.stops;
+        wrote = s.wrote;
+        gave = gave s.gave;
+      },
+    )
       where
         same : cut_into 65536 [] (x ++ s.text) ≡ cut_into 65536 x s.text
         same = cut-held x s.text le
@@ -400,10 +403,13 @@ filled-finishes key max t from to a c r some (x, took, is, fits, full, ended) fi
       omega (arith, bytes),
       subst (λ (cs : List (List ℕ)). done.chunks ≡ 0 + length cs) (sym same) (omega (arith, count)),
     )
-    go (Err fault) (write, part) = (0, record {
-      text = x;
-      may = may-end from to x took (ended refl);
-      stops = subst (λ f. StopsIn key max 0 [] x a c f) (sym write) (subst (λ cs. WritesPart a c (concat (sealed_from key 0 cs))) (sym same) part);
-      wrote = (_, part.1, omega arith);
-      gave = inr (x, took, omega (arith, le));
-    })
+    go (Err fault) (write, part) = (
+      0,
+      record {
+        text = x;
+        may = may-end from to x took (ended refl);
+        stops = subst (λ f. StopsIn key max 0 [] x a c f) (sym write) (subst (λ cs. WritesPart a c (concat (sealed_from key 0 cs))) (sym same) part);
+        wrote = (_, part.1, omega arith);
+        gave = inr (x, took, omega (arith, le));
+      },
+    )

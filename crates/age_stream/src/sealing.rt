@@ -70,8 +70,8 @@ impl ChunkSealer {
         }
     }
 
-    /// Reads until a full chunk is held, or the source is at its end. Returns whether the source may
-    /// give more. It writes nothing.
+    /// Reads until a full chunk is held, or the source is at its end. Returns whether the source
+    /// may give more. It writes nothing.
     ///
     /// # Errors
     /// `Read` if the source failed.

@@ -48,8 +48,7 @@ fn refuse(rt: &HostRuntime, kind: io::ErrorKind) -> u8
         let _ = eprintln!(rt; "agep: out of memory");
         return 1;
     }
-    let _ = eprintln!(
-        rt;
+    let _ = eprintln!(rt;
         "agep: an argument is not UTF-8; < and > read and write files with such names"
     );
     2

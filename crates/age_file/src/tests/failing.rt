@@ -112,7 +112,10 @@ fn failing_plaintext_leaves_a_beginning_of_the_file(rt: HostRuntime) -> Result<(
         );
         assert!(rt; answer == Err(Fault::Read), "read {failing}");
         assert_eq!(rt; sink.bytes.len(), len, "read {failing}");
-        assert!(rt; whole.as_slice().starts_with(sink.bytes.as_slice()), "read {failing}");
+        assert!(rt;
+            whole.as_slice().starts_with(sink.bytes.as_slice()),
+            "read {failing}"
+        );
         assert_eq!(rt; source.reads, failing);
     }
     Ok(())
