@@ -115,7 +115,7 @@ devices() {
     has_explained "write failed" "syncing plain.2: Input/output error"
     check "an OUT that can't be synced"
     UNTRUNCATED=1 preloaded sync.so decrypt -k key -o plain.2 key.age
-    has_explained "write failed" "truncating plain.2: Input/output error"
+    has_explained "write failed" "writing plain.2: Input/output error"
     check "an OUT that can't be truncated"
     "$agep" encrypt -k key -o empty.age empty
     UNTRUNCATED=1 preloaded sync.so decrypt -k key -o plain.2 empty.age

@@ -1,4 +1,5 @@
 //! The command `decrypt`: the plaintext of a file of the format.
+ghost use Rattle.std.specs.Prelude.{◌≡◌, IfOk};
 ghost use Rattle.age_words.specs.Job.{IsInRange};
 
 use crate::buffering::{buffer_of, end, file_source, limits_of};
@@ -21,16 +22,12 @@ pub(crate) fn decrypt<'a, R: Read, W: Write>(
     requires { IsInRange job.now }
 {
     let mut identities: Vec<Box<dyn Identity>> = Vec::new(alloc);
-    match secret {
-        Secret::Passphrase(passphrase) => {
-            let identity = pass_identity(alloc, job, passphrase.as_slice())?;
-            identities.push(Box::new(alloc, identity)?)?;
-        }
-        Secret::Keys(keys) => {
-            for key in keys.as_slice() {
-                identities.push(Box::new(alloc, KeyIdentity::new(*key))?)?;
-            }
-        }
+    if let Some(passphrase) = secret.passphrase() {
+        let identity = pass_identity(alloc, job, passphrase)?;
+        identities.push(Box::new(alloc, identity)?)?;
+    }
+    for key in secret.keys() {
+        identities.push(Box::new(alloc, KeyIdentity::new(*key))?)?;
     }
     let limits = limits_of(job);
     let mut source = file_source(alloc, input)?;
@@ -52,6 +49,8 @@ pub(crate) fn pass_identity<'a>(
     passphrase: &[u8],
 ) -> Result<PassIdentity, Fault<'a>>
     requires { IsInRange job.now }
+    ensures { IfOk result
+        (λ identity. identity ≡ record { pass = passphrase.now; max = job.now.max_work }) }
 {
     match PassIdentity::new(alloc, passphrase, job.max_work) {
         Ok(identity) => Ok(identity),

@@ -1,4 +1,5 @@
 //! The command `encrypt`: a file of the format, made of any bytes.
+ghost use Rattle.std.specs.Prelude.{◌≡◌, IfOk};
 ghost use Rattle.age_words.specs.Job.{IsInRange};
 
 use crate::buffering::{buffer_of, end, limits_of};
@@ -21,16 +22,12 @@ pub(crate) fn encrypt<'a, R: Read, W: Write>(
     requires { IsInRange job.now }
 {
     let mut recipients: Vec<Box<dyn Recipient>> = Vec::new(alloc);
-    match secret {
-        Secret::Passphrase(passphrase) => {
-            let recipient = pass_recipient(alloc, job, passphrase.as_slice(), seed.salt)?;
-            recipients.push(Box::new(alloc, recipient)?)?;
-        }
-        Secret::Keys(keys) => {
-            for key in keys.as_slice() {
-                recipients.push(Box::new(alloc, KeyRecipient::new(*key, seed.salt))?)?;
-            }
-        }
+    if let Some(passphrase) = secret.passphrase() {
+        let recipient = pass_recipient(alloc, job, passphrase, seed.salt)?;
+        recipients.push(Box::new(alloc, recipient)?)?;
+    }
+    for key in secret.keys() {
+        recipients.push(Box::new(alloc, KeyRecipient::new(*key, seed.salt))?)?;
     }
     let limits = limits_of(job);
     let mut source = ReadSource::new(input);
@@ -54,6 +51,8 @@ pub(crate) fn pass_recipient<'a>(
     salt: [u8; 16],
 ) -> Result<PassRecipient, Fault<'a>>
     requires { IsInRange job.now }
+    ensures { IfOk result (λ recipient. recipient
+        ≡ record { pass = passphrase.now; salt = salt; work = job.now.work }) }
 {
     match PassRecipient::new(alloc, passphrase, salt, job.work) {
         Ok(recipient) => Ok(recipient),

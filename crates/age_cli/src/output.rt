@@ -67,7 +67,8 @@ fn new_mode(command: Command) -> u32
 impl<F: OpenFile> Output<F> {
     /// Truncates a file that may still have its old contents.
     fn empty(&mut self) -> io::Result<()>
-        ensures { IsOk result → self.new.is_stale ≡ false }
+        ensures emptied { IsOk result → self.new.is_stale ≡ false }
+        ensures same_file { self.new.file ≡ self.old.file }
     {
         if self.is_stale {
             self.file.set_len(0)?;
@@ -80,6 +81,7 @@ impl<F: OpenFile> Output<F> {
     fn make_room(&mut self, bytes: &[u8]) -> io::Result<()>
         ensures waits { length bytes.now ≡ 0 → self.new.is_stale ≡ self.old.is_stale }
         ensures emptied { IsOk result → 0 < length bytes.now → self.new.is_stale ≡ false }
+        ensures same_file { self.new.file ≡ self.old.file }
     {
         if !bytes.is_empty() {
             self.empty()?;
@@ -114,6 +116,8 @@ fn failed_write<'a>(doing: Doing, name: &'a str, reason: io::Error) -> Failure<'
 }
 
 impl<F: Write + OpenFile> Write for Output<F> {
+    ghost contents = { λ output. F.contents output.file };
+
     fn write(&mut self, buf: &[u8]) -> io::Result<usize> {
         self.make_room(buf)?;
         self.file.write(buf)

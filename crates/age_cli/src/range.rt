@@ -25,16 +25,12 @@ pub(crate) fn range<'a, R: Read + Seek, W: Write>(
     requires { IsInRange job.now }
 {
     let mut identities: Vec<Box<dyn Identity>> = Vec::new(alloc);
-    match secret {
-        Secret::Passphrase(passphrase) => {
-            let identity = pass_identity(alloc, job, passphrase.as_slice())?;
-            identities.push(Box::new(alloc, identity)?)?;
-        }
-        Secret::Keys(keys) => {
-            for key in keys.as_slice() {
-                identities.push(Box::new(alloc, KeyIdentity::new(*key))?)?;
-            }
-        }
+    if let Some(passphrase) = secret.passphrase() {
+        let identity = pass_identity(alloc, job, passphrase)?;
+        identities.push(Box::new(alloc, identity)?)?;
+    }
+    for key in secret.keys() {
+        identities.push(Box::new(alloc, KeyIdentity::new(*key))?)?;
     }
     let limits = limits_of(job);
     let mut piece = vec![in alloc; 0u8; CHUNK_SIZE]?;

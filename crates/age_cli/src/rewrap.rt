@@ -25,28 +25,20 @@ pub(crate) fn rewrap<'a, R: Read, W: Write>(
     requires { IsInRange job.now }
 {
     let mut identities: Vec<Box<dyn Identity>> = Vec::new(alloc);
-    match old {
-        Secret::Passphrase(passphrase) => {
-            let identity = pass_identity(alloc, job, passphrase.as_slice())?;
-            identities.push(Box::new(alloc, identity)?)?;
-        }
-        Secret::Keys(keys) => {
-            for key in keys.as_slice() {
-                identities.push(Box::new(alloc, KeyIdentity::new(*key))?)?;
-            }
-        }
+    if let Some(passphrase) = old.passphrase() {
+        let identity = pass_identity(alloc, job, passphrase)?;
+        identities.push(Box::new(alloc, identity)?)?;
+    }
+    for key in old.keys() {
+        identities.push(Box::new(alloc, KeyIdentity::new(*key))?)?;
     }
     let mut recipients: Vec<Box<dyn Recipient>> = Vec::new(alloc);
-    match new {
-        Secret::Passphrase(passphrase) => {
-            let recipient = pass_recipient(alloc, job, passphrase.as_slice(), salt)?;
-            recipients.push(Box::new(alloc, recipient)?)?;
-        }
-        Secret::Keys(keys) => {
-            for key in keys.as_slice() {
-                recipients.push(Box::new(alloc, KeyRecipient::new(*key, salt))?)?;
-            }
-        }
+    if let Some(passphrase) = new.passphrase() {
+        let recipient = pass_recipient(alloc, job, passphrase, salt)?;
+        recipients.push(Box::new(alloc, recipient)?)?;
+    }
+    for key in new.keys() {
+        recipients.push(Box::new(alloc, KeyRecipient::new(*key, salt))?)?;
     }
     let limits = limits_of(job);
     let mut source = file_source(alloc, input)?;
