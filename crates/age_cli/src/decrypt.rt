@@ -1,60 +1,54 @@
 //! The command `decrypt`: the plaintext of a file of the format.
-ghost use Rattle.std.specs.Prelude.{◌≡◌, IfOk};
+ghost use Rattle.std.specs.Prelude.{◌∷◌, []};
 ghost use Rattle.age_words.specs.Job.{IsInRange};
+ghost use Rattle.age_cli.specs.Secret.{answers_of, limits_of};
+ghost use Rattle.age_cli.specs.Task.{Decrypting};
 
-use crate::buffering::{buffer_of, end, file_source, limits_of};
-use crate::fault::Fault;
+use crate::buffering::limits_of;
+use crate::identity::SecretIdentity;
 use crate::secret::Secret;
-use age_file::{Identity, KeyIdentity, PassError, PassIdentity, WriteSink};
+use age_file::{Done, Fault, Identity, Sink, Source};
 use age_words::Job;
 use std::alloc::Global;
-use std::io::{Read, Write};
 
-/// Decrypts the input to the output, with the identities of this secret. On a fault of the
-/// payload the plaintext of the chunks before it was written.
-pub(crate) fn decrypt<'a, R: Read, W: Write>(
+/// Decrypts the source to the sink, with the identity of this secret, as `age_file::decrypt` does.
+/// On a fault of the payload the plaintext of the chunks before it was written.
+pub(crate) fn decrypt<S: Source, W: Sink>(
     alloc: Global,
     job: &Job,
-    secret: &Secret,
-    input: &mut R,
+    secret: Secret,
+    input: &mut S,
     out: &mut W,
-) -> Result<(), Fault<'a>>
+) -> Result<Done, Fault>
     requires { IsInRange job.now }
+    ensures { Decrypting (limits_of job.now) (answers_of secret job.now.max_work)
+        (S.to_come input.old) (W.taken out.old) (W.taken out.new) result }
 {
-    let mut identities: Vec<Box<dyn Identity>> = Vec::new(alloc);
-    if let Some(passphrase) = secret.passphrase() {
-        let identity = pass_identity(alloc, job, passphrase)?;
-        identities.push(Box::new(alloc, identity)?)?;
+    let Ok(identity) = SecretIdentity::new(alloc, job, secret) else {
+        return Err(Fault::OutOfMemory);
+    };
+    match Box::new(alloc, identity) {
+        Ok(identity) => decrypt_by(alloc, job, identity, input, out),
+        Err(_) => Err(Fault::OutOfMemory),
     }
-    for key in secret.keys() {
-        identities.push(Box::new(alloc, KeyIdentity::new(*key))?)?;
-    }
-    let limits = limits_of(job);
-    let mut source = file_source(alloc, input)?;
-    let mut buffered = buffer_of(alloc, out)?;
-    let result = age_file::decrypt(
-        alloc,
-        &mut source,
-        &mut WriteSink::new(&mut buffered),
-        identities.as_slice(),
-        &limits,
-    );
-    end(buffered, result.err())
 }
 
-/// The identity of this passphrase, with the job's greatest work factor.
-pub(crate) fn pass_identity<'a>(
+/// The same with any identity.
+fn decrypt_by<S: Source, W: Sink>(
     alloc: Global,
     job: &Job,
-    passphrase: &[u8],
-) -> Result<PassIdentity, Fault<'a>>
+    identity: Box<dyn Identity>,
+    input: &mut S,
+    out: &mut W,
+) -> Result<Done, Fault>
     requires { IsInRange job.now }
-    ensures { IfOk result
-        (λ identity. identity ≡ record { pass = passphrase.now; max = job.now.max_work }) }
+    ensures { Decrypting (limits_of job.now) (λ stanzas. meaning identity stanzas ∷ [])
+        (S.to_come input.old) (W.taken out.old) (W.taken out.new) result }
 {
-    match PassIdentity::new(alloc, passphrase, job.max_work) {
-        Ok(identity) => Ok(identity),
-        Err(PassError::WorkFactor) => unreachable!(),
-        Err(PassError::Memory) => Err(Fault::AgeFile(age_file::Fault::OutOfMemory)),
+    match vec![in alloc; identity] {
+        Ok(identities) => {
+            age_file::decrypt(alloc, input, out, identities.as_slice(), &limits_of(job))
+        }
+        Err(_) => Err(Fault::OutOfMemory),
     }
 }

@@ -1,62 +1,65 @@
 //! The command `encrypt`: a file of the format, made of any bytes.
-ghost use Rattle.std.specs.Prelude.{◌≡◌, IfOk};
+ghost use Rattle.std.specs.Prelude.{◌∷◌, []};
+ghost use Rattle.age_file.specs.NewFile.{Gathered};
 ghost use Rattle.age_words.specs.Job.{IsInRange};
+ghost use Rattle.age_cli.specs.Secret.{gathering_of, limits_of};
+ghost use Rattle.age_cli.specs.Task.{Encrypting};
 
-use crate::buffering::{buffer_of, end, limits_of};
-use crate::fault::Fault;
+use crate::buffering::limits_of;
+use crate::recipient::SecretRecipient;
 use crate::secret::{Secret, Seed};
-use age_file::{KeyRecipient, PassError, PassRecipient, ReadSource, Recipient, WriteSink};
+use age_file::{Done, Fault, Fresh, Recipient, Sink, Source};
 use age_words::Job;
 use std::alloc::Global;
-use std::io::{Read, Write};
 
-/// Encrypts the input to the output, for the recipients of this secret.
-pub(crate) fn encrypt<'a, R: Read, W: Write>(
+/// Encrypts the source to the sink, for the recipient of this secret, as `age_file::encrypt` does.
+pub(crate) fn encrypt<S: Source, W: Sink>(
     alloc: Global,
     job: &Job,
-    secret: &Secret,
+    secret: Secret,
     seed: &Seed,
-    input: &mut R,
+    input: &mut S,
     out: &mut W,
-) -> Result<(), Fault<'a>>
+) -> Result<Done, Fault>
     requires { IsInRange job.now }
+    ensures { Encrypting (limits_of job.now) seed.now.fresh
+        (gathering_of secret job.now.work seed.now.salt seed.now.fresh.file_key)
+        (S.to_come input.old) (W.taken out.old) (W.taken out.new) result }
 {
-    let mut recipients: Vec<Box<dyn Recipient>> = Vec::new(alloc);
-    if let Some(passphrase) = secret.passphrase() {
-        let recipient = pass_recipient(alloc, job, passphrase, seed.salt)?;
-        recipients.push(Box::new(alloc, recipient)?)?;
+    let Ok(recipient) = SecretRecipient::new(alloc, job, secret, seed.salt) else {
+        return Err(Fault::OutOfMemory);
+    };
+    match Box::new(alloc, recipient) {
+        Ok(recipient) => encrypt_for(alloc, job, recipient, &seed.fresh, input, out),
+        Err(_) => Err(Fault::OutOfMemory),
     }
-    for key in secret.keys() {
-        recipients.push(Box::new(alloc, KeyRecipient::new(*key, seed.salt))?)?;
-    }
-    let limits = limits_of(job);
-    let mut source = ReadSource::new(input);
-    let mut buffered = buffer_of(alloc, out)?;
-    let result = age_file::encrypt(
-        alloc,
-        &mut source,
-        &mut WriteSink::new(&mut buffered),
-        recipients.as_slice(),
-        &seed.fresh,
-        &limits,
-    );
-    end(buffered, result.err())
 }
 
-/// The recipient of this passphrase, with the job's work factor.
-pub(crate) fn pass_recipient<'a>(
+/// The same for any recipient.
+fn encrypt_for<S: Source, W: Sink>(
     alloc: Global,
     job: &Job,
-    passphrase: &[u8],
-    salt: [u8; 16],
-) -> Result<PassRecipient, Fault<'a>>
+    recipient: Box<dyn Recipient>,
+    fresh: &Fresh,
+    input: &mut S,
+    out: &mut W,
+) -> Result<Done, Fault>
     requires { IsInRange job.now }
-    ensures { IfOk result (λ recipient. recipient
-        ≡ record { pass = passphrase.now; salt = salt; work = job.now.work }) }
+    ensures { Encrypting (limits_of job.now) fresh.now
+        (Gathered (wraps recipient fresh.now.file_key ∷ []) (the_labels recipient ∷ []))
+        (S.to_come input.old) (W.taken out.old) (W.taken out.new) result }
 {
-    match PassRecipient::new(alloc, passphrase, salt, job.work) {
-        Ok(recipient) => Ok(recipient),
-        Err(PassError::WorkFactor) => unreachable!(),
-        Err(PassError::Memory) => Err(Fault::AgeFile(age_file::Fault::OutOfMemory)),
+    match vec![in alloc; recipient] {
+        Ok(recipients) => {
+            age_file::encrypt(
+                alloc,
+                input,
+                out,
+                recipients.as_slice(),
+                fresh,
+                &limits_of(job),
+            )
+        }
+        Err(_) => Err(Fault::OutOfMemory),
     }
 }

@@ -1,14 +1,14 @@
 //! The command `inspect`: what a header holds, as a table or as its own bytes.
 ghost use Rattle.std.specs.Prelude.{◌≡◌, IfOk};
-ghost use Rattle.age_cli.specs.Check.{check_of};
 ghost use Rattle.age_words.specs.Job.{IsInRange};
+ghost use Rattle.age_cli.specs.Inspect.{Inspecting, Shows, check_of};
+ghost use Rattle.age_cli.specs.Secret.{limits_of};
 
-use crate::buffering::{buffer_of, end, header_source, limits_of};
-use crate::fault::Fault;
-use age_file::{Header, Stanza, WriteSink, mac_of, write_header};
+use crate::buffering::limits_of;
+use age_file::{Fault, Header, Sink, Source, Stanza, mac_of, write_all, write_header};
 use age_words::Job;
 use std::alloc::{AllocError, Global};
-use std::io::{Read, Write};
+use std::io::Write;
 use std::{fmt, io};
 
 /// The result of checking a header's MAC.
@@ -30,31 +30,60 @@ impl fmt::Display for Check {
     }
 }
 
-/// Shows the header at the start of the input. If there is none, nothing is written. A header that
+/// Shows the header at the start of the source. If there is none, nothing is written. A header that
 /// fails its check is shown before the fault is returned.
-pub(crate) fn inspect<'a, R: Read, W: Write>(
+pub(crate) fn inspect<S: Source, W: Sink>(
     alloc: Global,
     job: &Job,
     file_key: &Option<[u8; 16]>,
-    input: &mut R,
+    input: &mut S,
     out: &mut W,
-) -> Result<(), Fault<'a>>
+) -> Result<(), Fault>
     requires { IsInRange job.now }
+    ensures { Inspecting (limits_of job.now) job.now.raw file_key.now
+        (S.to_come input.old) (W.taken out.old) (W.taken out.new) result }
 {
-    let header = age_file::inspect(alloc, &mut header_source(alloc, input)?, &limits_of(job))?;
-    let check = check_of(alloc, &header, file_key)?;
-    let mut buffered = buffer_of(alloc, out)?;
-    let is_shown = if job.raw {
-        write_header(&header, &mut WriteSink::new(&mut buffered)).is_ok()
-    } else {
-        write_table(&header, check, &mut buffered).is_ok()
+    let header = match age_file::inspect(alloc, input, &limits_of(job)) {
+        Ok(header) => header,
+        Err(fault) => return Err(fault),
     };
-    let fault = match check {
-        _ if !is_shown => Some(age_file::Fault::Write),
-        Check::Bad => Some(age_file::Fault::BadMac),
-        Check::None | Check::Good => None,
+    let Ok(check) = check_of(alloc, &header, file_key) else {
+        return Err(Fault::OutOfMemory);
     };
-    end(buffered, fault)
+    match show(alloc, job.raw, &header, check, out) {
+        Ok(()) => {}
+        Err(fault) => return Err(fault),
+    }
+    match check {
+        Check::Bad => Err(Fault::BadMac),
+        Check::None | Check::Good => Ok(()),
+    }
+}
+
+/// Writes the header's own text, or the table of it.
+fn show<W: Sink>(
+    alloc: Global,
+    raw: bool,
+    header: &Header,
+    check: Check,
+    out: &mut W,
+) -> Result<(), Fault>
+    ensures { Shows raw header.now check (W.taken out.old) (W.taken out.new) result }
+{
+    if raw {
+        return match write_header(header, out) {
+            Ok(()) => Ok(()),
+            Err(_) => Err(Fault::Write),
+        };
+    }
+    let mut table = Vec::new(alloc);
+    if write_table(header, check, &mut table).is_err() {
+        return Err(Fault::OutOfMemory);
+    }
+    match write_all(out, table.as_slice()) {
+        Ok(()) => Ok(()),
+        Err(_) => Err(Fault::Write),
+    }
 }
 
 /// Whether the header's MAC is the one of its stanzas under the file key.

@@ -1,26 +1,21 @@
 //! The program, over a reader and two writers.
-ghost use Rattle.std.specs.Prelude.{◌≡◌, ◌≤◌};
+ghost use Rattle.std.specs.Prelude.{◌≡◌, ◌≢◌, ◌≤◌, None, IfOk};
 ghost use Rattle.age_words.specs.Job.{IsInRange};
+ghost use Rattle.age_cli.specs.Program.{Begins, Completes, Finishes, IsTaskOf, PerformsTo};
 
-use crate::decrypt::decrypt;
-use crate::encrypt::encrypt;
-use crate::failure::{Detail, Doing, Failure};
+use crate::failure::Failure;
 use crate::fault::Fault;
-use crate::file_names::{Lines, Name, Role};
+use crate::file_names::{Lines, Role};
 use crate::files::{NamedFile, open, open_seekable, read_just, refuse_shared_input};
-use crate::hint::{header_of, hint_at};
-use crate::inspect::inspect;
 use crate::output::create;
-use crate::range::range;
-use crate::rewrap::rewrap;
 use crate::secret::{
     Secret, Seed, new_secret_files, read_new_secret, read_secret, read_seed, secret_files,
 };
-use crate::watched::{Watched, WatchedWriter};
+use crate::task::Task;
+use crate::watched::Watched;
+use crate::work::{kept_front, perform_to, range_to};
 use age_words::{Command, Job, WordsFault, read_words};
-use std::alloc::Global;
 use std::fmt::Display;
-use std::io;
 use std::io::{IsTerminal, Read, Write};
 use std::rt::Files;
 
@@ -50,26 +45,35 @@ pub fn run<F: Files + AllocGlobal, R: Read, W: Write + IsTerminal, E: Write>(
     ensures quiet { result ≡ 0 → err.new ≡ err.old }
 {
     match read_words(rt.alloc(), words) {
-        Ok(job) => match perform(rt, &job, input, out) {
-            Ok(()) => DONE,
-            Err(failure) => report(&failure, job.verbose, err),
-        },
+        Ok(job) => run_job(rt, &job, input, out, err),
         Err(fault) => answer_refusal(&fault, out, err),
     }
 }
 
-/// A command with all that it needs besides its input, which it reads from the start to the end.
-#[derive(Drop)]
-enum Task {
-    Encrypt(Secret, Seed),
-    Decrypt(Secret),
-    /// With the old secret, the new one, and the salt.
-    Rewrap(Secret, Secret, [u8; 16]),
-    /// With the file key, if the header is to be checked.
-    Inspect(Option<[u8; 16]>),
+/// Does this job, and returns the exit status as `run` does: 0 for success, 1 after a fault.
+pub fn run_job<F: Files + AllocGlobal, R: Read, W: Write + IsTerminal, E: Write>(
+    rt: &F,
+    job: &Job,
+    input: &mut R,
+    out: &mut W,
+    err: &mut E,
+) -> u8
+    requires { IsInRange job.now }
+    ensures status { result ≤ 1 }
+    ensures quiet { result ≡ 0 → err.new ≡ err.old }
+    ensures finishes { result ≡ 0 → job.now.input ≡ None → job.now.output ≡ None
+        → Finishes job.now (R.remaining input.old) (W.contents out.old) (W.contents out.new) }
+    ensures begins { result ≡ 1 → job.now.input ≡ None → job.now.output ≡ None
+        → Begins job.now (R.remaining input.old) (W.contents out.old) (W.contents out.new) }
+{
+    match perform(rt, job, input, out) {
+        Ok(()) => DONE,
+        Err(failure) => report(&failure, job.verbose, err),
+    }
 }
 
 /// Reads the small files, opens the input, creates the output, and does the work, in this order.
+#[tactic(auto, using(crate::proofs::ProgramLemmas::completes))]
 fn perform<'a, F: Files + AllocGlobal, R: Read, W: Write + IsTerminal>(
     rt: &F,
     job: &'a Job,
@@ -77,21 +81,35 @@ fn perform<'a, F: Files + AllocGlobal, R: Read, W: Write + IsTerminal>(
     out: &mut W,
 ) -> Result<(), Failure<'a>>
     requires { IsInRange job.now }
+    ensures { job.now.input ≡ None → job.now.output ≡ None
+        → Completes job.now (R.remaining input.old) (W.contents out.old) (W.contents out.new)
+        result }
 {
     refuse_terminal(job, out)?;
-    let task = match job.command {
-        Command::Encrypt => encrypt_task(rt, job)?,
-        Command::Decrypt => Task::Decrypt(read_only_secret(rt, job)?),
-        Command::Rewrap => rewrap_task(rt, job)?,
-        Command::Inspect => Task::Inspect(read_file_key(rt, job)?),
-        Command::Range => return perform_range(rt, job, out),
-    };
+    if job.command == Command::Range {
+        return perform_range(rt, job, out);
+    }
+    let task = task_of(rt, job)?;
     match &job.input {
         Some(name) => {
             let mut file = open(rt, name.as_str())?;
-            perform_on(rt, job, &task, &mut file, out)
+            perform_on(rt, job, task, &mut file, out)
         }
-        None => perform_on(rt, job, &task, input, out),
+        None => perform_on(rt, job, task, input, out),
+    }
+}
+
+/// The task of a job that reads its input from the start to the end.
+fn task_of<'a, F: Files + AllocGlobal>(rt: &F, job: &'a Job) -> Result<Task, Failure<'a>>
+    requires { job.now.command ≢ Command.Range }
+    ensures { IfOk result (IsTaskOf job.now.command) }
+{
+    match job.command {
+        Command::Encrypt => encrypt_task(rt, job),
+        Command::Decrypt => Ok(Task::Decrypt(read_only_secret(rt, job)?)),
+        Command::Rewrap => rewrap_task(rt, job),
+        Command::Inspect => Ok(Task::Inspect(read_file_key(rt, job)?)),
+        Command::Range => unreachable!(),
     }
 }
 
@@ -106,7 +124,9 @@ fn refuse_terminal<'a, W: IsTerminal>(job: &Job, out: &W) -> Result<(), Fault<'a
 }
 
 /// The secret and the seed of a new file.
-fn encrypt_task<'a, F: Files + AllocGlobal>(rt: &F, job: &'a Job) -> Result<Task, Failure<'a>> {
+fn encrypt_task<'a, F: Files + AllocGlobal>(rt: &F, job: &'a Job) -> Result<Task, Failure<'a>>
+    ensures { IfOk result (IsTaskOf Command.Encrypt) }
+{
     let files = secret_files(job)?;
     refuse_shared_input(rt, job)?;
     let secret = read_new_secret(rt, job, files)?;
@@ -124,7 +144,9 @@ fn read_only_secret<'a, F: Files + AllocGlobal>(
 }
 
 /// The old secret and the new one, whose files the arguments must name, and the salt.
-fn rewrap_task<'a, F: Files + AllocGlobal>(rt: &F, job: &'a Job) -> Result<Task, Failure<'a>> {
+fn rewrap_task<'a, F: Files + AllocGlobal>(rt: &F, job: &'a Job) -> Result<Task, Failure<'a>>
+    ensures { IfOk result (IsTaskOf Command.Rewrap) }
+{
     let old = secret_files(job)?;
     let new = new_secret_files(job)?;
     refuse_shared_input(rt, job)?;
@@ -167,143 +189,34 @@ fn perform_range<'a, F: Files + AllocGlobal, W: Write>(
     let mut input = Watched::new(rt.alloc(), file, kept_front(job));
     match &job.output {
         Some(name) => {
-            let mut output = WatchedWriter::new(create(rt, job, name.as_str())?);
-            match range(rt.alloc(), job, &secret, &mut input, &mut output) {
-                Ok(()) => output.into_inner().finish(name.as_str()),
-                Err(fault) => Err(explained(rt.alloc(), job, fault, &input, output.reason())),
-            }
+            let mut output = create(rt, job, name.as_str())?;
+            range_to(rt.alloc(), job, secret, &mut input, &mut output)?;
+            output.finish(name.as_str())
         }
-        None => {
-            let mut output = WatchedWriter::new(out);
-            match range(rt.alloc(), job, &secret, &mut input, &mut output) {
-                Ok(()) => Ok(()),
-                Err(fault) => Err(explained(rt.alloc(), job, fault, &input, output.reason())),
-            }
-        }
+        None => range_to(rt.alloc(), job, secret, &mut input, out),
     }
-}
-
-/// How many bytes of the input are kept for a message about its header.
-fn kept_front(job: &Job) -> usize {
-    if job.verbose { job.max_header } else { 0 }
 }
 
 /// Creates the output, and does the work on this input.
 fn perform_on<'a, F: Files + AllocGlobal, R: Read, W: Write>(
     rt: &F,
     job: &'a Job,
-    task: &Task,
+    task: Task,
     input: &mut R,
     out: &mut W,
 ) -> Result<(), Failure<'a>>
     requires { IsInRange job.now }
+    ensures { job.now.output ≡ None → PerformsTo job.now task (R.remaining input.old)
+        (W.contents out.old) (W.contents out.new) result }
 {
     let mut input = Watched::new(rt.alloc(), input, kept_front(job));
     match &job.output {
         Some(name) => {
-            let mut output = WatchedWriter::new(create(rt, job, name.as_str())?);
-            match perform_between(rt.alloc(), job, task, &mut input, &mut output) {
-                Ok(()) => output.into_inner().finish(name.as_str()),
-                Err(fault) => Err(explained(rt.alloc(), job, fault, &input, output.reason())),
-            }
+            let mut output = create(rt, job, name.as_str())?;
+            perform_to(rt.alloc(), job, task, &mut input, &mut output)?;
+            output.finish(name.as_str())
         }
-        None => {
-            let mut output = WatchedWriter::new(out);
-            match perform_between(rt.alloc(), job, task, &mut input, &mut output) {
-                Ok(()) => Ok(()),
-                Err(fault) => Err(explained(rt.alloc(), job, fault, &input, output.reason())),
-            }
-        }
-    }
-}
-
-/// This fault of the work, with what is known of the input and of a failed write.
-fn explained<'a, R>(
-    alloc: Global,
-    job: &'a Job,
-    fault: Fault<'a>,
-    input: &Watched<R>,
-    written: Option<io::Error>,
-) -> Failure<'a>
-    requires { IsInRange job.now }
-{
-    let Fault::AgeFile(file_fault) = fault else {
-        return Failure::from(fault);
-    };
-    let detail = match file_fault {
-        age_file::Fault::OutOfMemory => None,
-        age_file::Fault::Read => system_detail(Doing::Reading, input_name(job), input.reason()),
-        age_file::Fault::Write => system_detail(Doing::Writing, output_name(job), written),
-        _ if job.verbose => {
-            let hint = hint_at(alloc, job, file_fault, input);
-            Some(Detail::File(faulty_name(alloc, job, file_fault, input), hint))
-        }
-        _ => None,
-    };
-    Failure { fault, detail }
-}
-
-/// The file that a fault is about. A header that is too large is that of OUT where IN has none, or
-/// a smaller one.
-fn faulty_name<'a, R>(
-    alloc: Global,
-    job: &'a Job,
-    fault: age_file::Fault,
-    input: &Watched<R>,
-) -> Name<'a>
-    requires { IsInRange job.now }
-{
-    let is_new = fault == age_file::Fault::HeaderTooLarge
-        && (job.command == Command::Encrypt || header_of(alloc, job, input).is_some());
-    if is_new {
-        output_name(job)
-    } else {
-        input_name(job)
-    }
-}
-
-fn system_detail<'a>(
-    doing: Doing,
-    name: Name<'a>,
-    reason: Option<io::Error>,
-) -> Option<Detail<'a>> {
-    match reason {
-        Some(reason) => Some(Detail::System(doing, name, reason)),
-        None => None,
-    }
-}
-
-/// How messages name IN.
-fn input_name<'a>(job: &'a Job) -> Name<'a> {
-    match &job.input {
-        Some(name) => Name(name.as_str()),
-        None => Name("standard input"),
-    }
-}
-
-/// How messages name OUT.
-fn output_name<'a>(job: &'a Job) -> Name<'a> {
-    match &job.output {
-        Some(name) => Name(name.as_str()),
-        None => Name("standard output"),
-    }
-}
-
-/// Does the work from this input to this output.
-fn perform_between<'a, R: Read, W: Write>(
-    alloc: Global,
-    job: &Job,
-    task: &Task,
-    input: &mut R,
-    out: &mut W,
-) -> Result<(), Fault<'a>>
-    requires { IsInRange job.now }
-{
-    match task {
-        Task::Encrypt(secret, seed) => encrypt(alloc, job, secret, seed, input, out),
-        Task::Decrypt(secret) => decrypt(alloc, job, secret, input, out),
-        Task::Rewrap(old, new, salt) => rewrap(alloc, job, old, new, *salt, input, out),
-        Task::Inspect(file_key) => inspect(alloc, job, file_key, input, out),
+        None => perform_to(rt.alloc(), job, task, &mut input, out),
     }
 }
 

@@ -1,9 +1,9 @@
-//! The input and the output of a command, with what a message about them may need.
+//! The input of a command, with what a message about it may need.
 ghost use Rattle.std.specs.Prelude.{◌≡◌};
 
 use std::alloc::Global;
 use std::io;
-use std::io::{Read, Seek, SeekFrom, Write};
+use std::io::{Read, Seek, SeekFrom};
 
 /// A reader that keeps the reason of its last failed read, the first bytes that it gave, and where
 /// it ended.
@@ -22,7 +22,9 @@ pub(crate) struct Watched<R> {
 
 impl<R> Watched<R> {
     /// Watches this reader, which is at its first byte, and keeps at most so many bytes.
-    pub(crate) fn new(alloc: Global, reader: R, most: usize) -> Watched<R> {
+    pub(crate) fn new(alloc: Global, reader: R, most: usize) -> Watched<R>
+        ensures { result.reader ≡ reader }
+    {
         Watched {
             reader,
             reason: None,
@@ -100,56 +102,6 @@ impl<R: Seek> Seek for Watched<R> {
                 self.at = at;
                 Ok(at)
             }
-            Err(reason) => {
-                self.reason = Some(reason);
-                Err(reason)
-            }
-        }
-    }
-}
-
-/// A writer that keeps the reason of its last failed write.
-#[derive(Drop)]
-pub(crate) struct WatchedWriter<W> {
-    writer: W,
-    reason: Option<io::Error>,
-}
-
-impl<W> WatchedWriter<W> {
-    pub(crate) fn new(writer: W) -> WatchedWriter<W> {
-        WatchedWriter {
-            writer,
-            reason: None,
-        }
-    }
-
-    /// Why the last failed write failed.
-    pub(crate) fn reason(&self) -> Option<io::Error> {
-        self.reason
-    }
-
-    pub(crate) fn into_inner(self) -> W {
-        let WatchedWriter { writer, reason: _ } = self;
-        writer
-    }
-}
-
-impl<W: Write> Write for WatchedWriter<W> {
-    ghost contents = { λ watched. W.contents watched.writer };
-
-    fn write(&mut self, buf: &[u8]) -> io::Result<usize> {
-        match self.writer.write(buf) {
-            Ok(n) => Ok(n),
-            Err(reason) => {
-                self.reason = Some(reason);
-                Err(reason)
-            }
-        }
-    }
-
-    fn flush(&mut self) -> io::Result<()> {
-        match self.writer.flush() {
-            Ok(()) => Ok(()),
             Err(reason) => {
                 self.reason = Some(reason);
                 Err(reason)

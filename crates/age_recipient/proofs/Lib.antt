@@ -1,5 +1,5 @@
-mod AnswerLemmas
-mod LabelLemmas
+pub mod AnswerLemmas
+pub mod LabelLemmas
 mod PassphraseLemmas
 mod SealingLemmas
 mod SaltLemmas

@@ -42,11 +42,11 @@ pub enum Unwrapped {
 }
 
 impl Unwrapped {
-    /// Combines this answer with the next one.
+    /// Combines this answer with the next one, where several are asked in order.
     ///
     /// # Errors
     /// The next answer, if it decides: then no later answer counts.
-    pub(crate) fn followed_by(self, next: Unwrapped) -> Result<Unwrapped, Unwrapped>
+    pub fn followed_by(self, next: Unwrapped) -> Result<Unwrapped, Unwrapped>
         ensures continues { IfOk result (λ both.
             (more : List Unwrapped) → decided_from self (next ∷ more) ≡ decided_from both more) }
         ensures decides { IfErr result (λ decision.

@@ -1,0 +1,6 @@
+mod InspectLemmas
+mod OutputLemmas
+mod ProgramLemmas
+mod SecretLemmas
+mod TaskLemmas
+mod WorkLemmas

@@ -1,0 +1,35 @@
+-- What the output of a command takes: first a buffer, then the writer behind it.
+use Rattle.std.specs.Prelude.{◌≡◌, ◌⊎◌, ◌++◌, ℕ, ⊤, None, Some, Result, Err}
+use Rattle.std.specs.Io.KnownBytes.{Appends, Keeps, append_known}
+use Rattle.age_header.specs.Device.{Bytes, Known}
+use Rattle.age_file.specs.declared.fault.Fault.{Fault}
+use Rattle.age_file.specs.declared.fault.Fault.TheVariants.{Write}
+
+-- a buffered sink: what its writer has, the bytes behind it in the buffer, and how many writes have
+-- failed
+pub record Buffered : Type 0 where
+  pub written : Known
+  pub held : Bytes
+  pub failed : ℕ
+
+-- all that a sink has taken
+abbrev pub taken_by : Buffered → Known
+taken_by s = append_known s.written s.held
+
+-- known bytes stay at the front
+abbrev pub Grows : (old new : Known) → Type 0
+Grows old new = (more : Bytes) × Appends old new more
+
+-- the output has a prefix of the known bytes of the whole
+abbrev pub HasFront : (whole new : Known) → Type 0
+HasFront None new = ⊤
+HasFront (Some xs) None = ⊥
+HasFront (Some xs) (Some ys) = (rest : Bytes) × (xs ≡ ys ++ rest)
+
+-- How an output ends that had `old`, and whose sink has `taken`, after work with this result: it
+-- has all of it, and the result is the work's; or a write failed, and it has a prefix of it, and
+-- still what it had.
+abbrev pub Ends : (old taken new : Known) (work result : Result ⊤ Fault) → Type 0
+Ends old taken new work result =
+    ((result ≡ work) × Keeps taken new)
+    ⊎ ((result ≡ Err Write) × (Grows old new × HasFront taken new))

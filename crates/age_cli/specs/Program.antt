@@ -1,0 +1,56 @@
+-- What a job comes to, from its input to its output.
+use Rattle.std.specs.Prelude.{◌≡◌, ◌⊎◌, ⊤, Result, Ok, Err}
+use Rattle.std.specs.Io.KnownBytes.{Keeps}
+use Rattle.age_header.specs.Device.{Known}
+use Rattle.age_file.specs.declared.fault.Fault.{Fault as FileFault}
+use Rattle.age_file.specs.declared.fault.Fault.TheVariants.{OutOfMemory}
+use Rattle.age_words.specs.declared.job.Command.{Command}
+use Rattle.age_words.specs.declared.job.Command.TheVariants as command
+use Rattle.age_words.specs.declared.job.Job.{Job}
+use Rattle.age_cli.specs.declared.failure.Failure.{Failure}
+use Rattle.age_cli.specs.declared.fault.Fault.TheVariants.{AgeFile}
+use Rattle.age_cli.specs.declared.task.Task.{Task}
+use Rattle.age_cli.specs.declared.task.Task.TheVariants as task
+use Rattle.age_cli.specs.Output.{Ends}
+use Rattle.age_cli.specs.Task.{Performs}
+
+-- a task of this command
+abbrev pub IsTaskOf : (command : Command) (task : Task) → Type 0
+IsTaskOf command.Encrypt (task.Encrypt secret seed) = ⊤
+IsTaskOf command.Decrypt (task.Decrypt secret) = ⊤
+IsTaskOf command.Rewrap (task.Rewrap old new salt) = ⊤
+IsTaskOf command.Inspect (task.Inspect key) = ⊤
+IsTaskOf _ _ = ⊥
+
+-- The work of a task, where the input gives `from`: a buffer before the output takes what the
+-- library writes, and the output ends with what the buffer took.
+abbrev pub Works : (job : Job) (task : Task) (from old new : Known)
+    (result : Result ⊤ FileFault) → Type 0
+Works job task from old new result =
+    (taken : Known) × (work : Result ⊤ FileFault) × Performs job task from old taken work
+    × Ends old taken new work result
+
+-- the same with what a failure names as its fault; memory may be refused before
+abbrev pub PerformsTo : (job : Job) (task : Task) (from old new : Known)
+    (result : Result ⊤ Failure) → Type 0
+PerformsTo job task from old new (Ok _) = Works job task from old new (Ok tt)
+PerformsTo job task from old new (Err failure) =
+    (fault : FileFault) × (failure.fault ≡ AgeFile fault)
+    × (((fault ≡ OutOfMemory) × Keeps old new) ⊎ Works job task from old new (Err fault))
+
+-- a task of the job's command is done
+abbrev pub Finishes : (job : Job) (from old new : Known) → Type 0
+Finishes job from old new =
+    (task : Task) × IsTaskOf job.command task × Works job task from old new (Ok tt)
+
+-- nothing was written, or a task of the job's command ended with a fault
+abbrev pub Begins : (job : Job) (from old new : Known) → Type 0
+Begins job from old new =
+    Keeps old new
+    ⊎ ((task : Task) × IsTaskOf job.command task × (fault : FileFault)
+    × Works job task from old new (Err fault))
+
+-- what the job's work comes to
+abbrev pub Completes : (job : Job) (from old new : Known) (result : Result ⊤ Failure) → Type 0
+Completes job from old new (Ok _) = Finishes job from old new
+Completes job from old new (Err failure) = Begins job from old new
