@@ -208,13 +208,19 @@ interrupted_calls() {
     done
 }
 
+# Whether the run before ended in this line, with a front of what is expected. An OUT that was there
+# is not emptied for nothing: it has a part of the new file, or all of the old one.
+has_failed_to_read() {
+    has_failed "$@" && [[ $2 != -o || -s made ]]
+}
+
 # A read that fails is no end of a file, whichever file it is.
 failing_reads() {
     local job form
     for job in "${jobs[@]}"; do
         for form in -o ""; do
             has_form "$job" "$form" || continue
-            each_call read "$io_error" "$job" "$form" has_failed "read failed"
+            each_call read "$io_error" "$job" "$form" has_failed_to_read "read failed"
         done
     done
 }
