@@ -1,16 +1,24 @@
 // Loaded before the C library, refuses the process its allocation with the number REFUSE (from 1),
-// and then makes the empty file "refused".
+// and then makes the empty file "refused". Where LARGE is set, refuses each allocation of more than
+// so many bytes, and the file holds the size of the last one.
 #define _GNU_SOURCE
 #include <dlfcn.h>
 #include <fcntl.h>
 #include <stddef.h>
+#include <stdio.h>
 #include <stdlib.h>
 #include <unistd.h>
 
-static int is_refused(void)
+static int is_refused(size_t size)
 {
     static long allocations;
-    const char *number = getenv("REFUSE");
+    const char *number = getenv("REFUSE"), *most = getenv("LARGE");
+    if (most != NULL && size > strtoull(most, NULL, 10)) {
+        int refused = open("refused", O_CREAT | O_TRUNC | O_WRONLY, 0600);
+        dprintf(refused, "%zu\n", size);
+        close(refused);
+        return 1;
+    }
     if (number == NULL || ++allocations != atol(number))
         return 0;
     close(open("refused", O_CREAT | O_WRONLY, 0600));
@@ -20,11 +28,11 @@ static int is_refused(void)
 void *malloc(size_t size)
 {
     void *(*real)(size_t) = (void *(*)(size_t))dlsym(RTLD_NEXT, "malloc");
-    return is_refused() ? NULL : real(size);
+    return is_refused(size) ? NULL : real(size);
 }
 
 void *realloc(void *old, size_t size)
 {
     void *(*real)(void *, size_t) = (void *(*)(void *, size_t))dlsym(RTLD_NEXT, "realloc");
-    return is_refused() ? NULL : real(old, size);
+    return is_refused(size) ? NULL : real(old, size);
 }
