@@ -1,4 +1,5 @@
 mod InspectLemmas
+mod LawLemmas
 mod OutputLemmas
 mod ProgramLemmas
 mod SecretLemmas

@@ -10,8 +10,8 @@
 //!
 //! `program` has `run`, `run_job` and the statuses. A command with its secrets is a `task`, and
 //! `work` does it from an input to an output, through `buffered_sink`. Each command has a module of
-//! its own; `recipient` and `identity` say what a secret means to it. `fault` and `file_names` have the
-//! texts of errors, `failure` and `hint` those of `--verbose`, for which `watched` keeps what a
+//! its own; `recipient` and `identity` say what a secret means to it. `fault` and `file_names` have
+//! the texts of errors, `failure` and `hint` those of `--verbose`, for which `watched` keeps what a
 //! failed read told.
 //!
 //! Limits: the program cannot promise what files hold, nor that the job is the one that the
@@ -29,6 +29,7 @@ mod files;
 mod hint;
 mod identity;
 mod inspect;
+pub mod laws;
 mod output;
 mod program;
 mod range;

@@ -1,0 +1,30 @@
+//! What status 0 means, over the definitions alone: a function that does nothing, with laws as its
+//! contract.
+
+ghost use Rattle.std.specs.Prelude.{◌≡◌, ◌++◌, List, Some};
+ghost use Rattle.age_header.specs.Device.{Bytes, Known};
+ghost use Rattle.age_header.specs.Header.{StanzaParts};
+ghost use Rattle.age_recipient.specs.declared.key.FileKey.{FileKey};
+ghost use Rattle.age_file.specs.AgeFile.{AgeFile};
+ghost use Rattle.age_words.specs.declared.job.Job.{Job};
+ghost use Rattle.age_cli.specs.Program.{Finishes};
+ghost use Rattle.age_cli.specs.Secret.{limits_of};
+
+use age_file::laws::ok_is_age_file;
+use age_words::Command;
+
+/// Where the contents of input and output are known, a `decrypt` that `run_job` has done means that
+/// the input is an age file, and that the output gained its whole plaintext, and nothing else. An
+/// `encrypt` means that the output gained an age file of the input, and nothing else.
+pub fn done_jobs()
+    ensures decrypt { (job : Job) (b xs : Bytes) (new : Known) → job.command ≡ Command.Decrypt
+        → Finishes job (Some b) (Some xs) new
+        → (stanzas : List StanzaParts) × (k : FileKey) × (plain : Bytes)
+        × AgeFile (limits_of job) k stanzas plain b × (new ≡ Some (xs ++ plain)) }
+    ensures encrypt { (job : Job) (plain xs : Bytes) (new : Known) → job.command ≡ Command.Encrypt
+        → Finishes job (Some plain) (Some xs) new
+        → (stanzas : List StanzaParts) × (k : FileKey) × (b : Bytes)
+        × AgeFile (limits_of job) k stanzas plain b × (new ≡ Some (xs ++ b)) }
+{
+    ok_is_age_file();
+}
