@@ -89,8 +89,8 @@ impl ChunkOpener {
         })
     }
 
-    /// The text of the piece that was opened last. It is empty before the first piece, once the last
-    /// was followed by false, and after a fault.
+    /// The text of the piece that was opened last. It is empty before the first piece, after false,
+    /// and after a fault.
     pub fn text(&self) -> &[u8]
         ensures text { result.now ≡ self.now.text }
         ensures len { length result.now ≤ chunk_size }
