@@ -3,6 +3,7 @@ pub use Rattle.age_header.specs.Device.{Bytes, Known}
 pub use Rattle.age_header.specs.Header.{StanzaParts}
 pub use Rattle.age_recipient.specs.declared.key.FileKey.{FileKey}
 pub use Rattle.age_recipient.specs.Key.{IsFileKey}
+pub use Rattle.age_recipient.specs.PassphraseHolders.{IsPassError, PairFits, WorkFits}
 pub use Rattle.age_recipient.specs.declared.labels.Labels.{Labels}
 pub use Rattle.age_recipient.specs.declared.labels.Labels.TheVariants.{Alone, Names}
 pub use Rattle.age_recipient.specs.declared.unwrapped.StanzaFault.{StanzaFault}

@@ -1,7 +1,7 @@
 //! Ranges of a file's plaintext.
 
 ghost use Rattle.std.specs.Prelude.{◌≡◌, ◌+◌, ◌-◌, ◌≤◌, ℕ, map, Err, Some, IfOk, IfErr, IfSome};
-ghost use Rattle.age_stream.specs.Ranges.{chunks_of, source_at_of};
+ghost use Rattle.age_stream.specs.Ranges.{KeepsVerified, chunks_of, source_at_of};
 ghost use Rattle.age_file.specs.Device.{CountsRead};
 ghost use Rattle.age_file.specs.Ranges.{HasHeader, IsOpenFault, IsRangesOf, MissesHeader, MissesRanges};
 ghost use Rattle.age_file.specs.Verdict.{Answering};
@@ -97,6 +97,8 @@ pub fn open_ranges<'a, D: ReadAt>(
         λ stanzas. map (λ i. meaning i stanzas) identities.now in
         IfOk result (λ reader. IfSome (D.bytes dev.old) (λ b. IsRangesOf limits.now answers b
         (chunks_of reader) (D.given dev.old) (D.given (source_at_of reader).now))) }
+    ensures verified { IfOk result (λ reader.
+        KeepsVerified (D.was_read (source_at_of reader).now) (chunks_of reader)) }
     ensures kept_chunk { IfOk result (λ reader. ((chunks_of reader).index
         ≡ Some ((chunks_of reader).layout.count - 1))
         × ((chunks_of reader).opened ≡ 1)) }

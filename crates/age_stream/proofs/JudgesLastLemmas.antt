@@ -1,7 +1,7 @@
 -- What the last piece gives, and what opening a payload for ranges finds.
-use Rattle.std.proofs.Common.{◌≡◌, ◌⊎◌, ℕ, List, [], ◌+◌, ◌-◌, ◌*◌, ◌/◌, ◌<◌, ◌≤◌, length, take, drop, get_or, nat_lt, sym, ◌∙◌, ap, arith, true, refl, inl, inr, subst, Option, Some, None, Result, Ok, Err}
+use Rattle.std.proofs.Common.{◌≡◌, ◌⊎◌, ℕ, List, [], ◌+◌, ◌-◌, ◌*◌, ◌/◌, ◌<◌, ◌≤◌, length, take, drop, get_or, nat_lt, nat_eq, sym, ◌∙◌, ap, arith, true, refl, inl, inr, subst, Option, Some, None, Result, Ok, Err}
 use Rattle.std.specs.Prelude.{unwrap_or, IfSome}
-use Rattle.std.proofs.lemmas.Bool.{cases_lt, le-leb, le-ltb, cond-false}
+use Rattle.std.proofs.lemmas.Bool.{cases_lt, eq-eqb, le-leb, le-ltb, cond-false}
 use Rattle.std.proofs.lemmas.List.{length-drop, length-take-le, drop-drop, take_all}
 use Rattle.age_cipher.proofs.OpeningLemmas.{length-sealed, opened-sealed}
 use Rattle.age_recipient.specs.declared.key.FileKey.{FileKey}
@@ -10,9 +10,9 @@ use Rattle.age_stream.specs.declared.fault.StreamFault.TheVariants.{NonceTruncat
 use Rattle.age_stream.specs.declared.layout.Layout.{Layout}
 use Rattle.age_stream.specs.Opening.{IsAtPiece}
 use Rattle.age_stream.specs.Payload.{pieces, chunk_nonce, payload_key}
-use Rattle.age_stream.specs.Places.{EndsBefore, HasAt}
+use Rattle.age_stream.specs.Places.{EndsBefore, HasAt, WereRead}
 use Rattle.age_stream.specs.Reading.{opened_at, outcome}
-use Rattle.age_stream.specs.Ranges.{last_len, opens_to, IsOpenFault, JudgesLast, OpensRanges}
+use Rattle.age_stream.specs.Ranges.{last_len, opens_to, IsOpenFault, IsVerified, JudgesLast, OpensRanges}
 use Rattle.age_stream.specs.Slice.{opening, plain_len, chunk_len, last_piece, last_outcome, range_outcome}
 use Rattle.age_stream.proofs.ReadingLemmas.{cut-count}
 use Rattle.age_stream.proofs.OutcomeLemmas.{outcome-many}
@@ -93,6 +93,21 @@ open-len key max i end n buf after room le opens within =
     let a : length (take end buf) ≡ end = length-take-le end buf (omega arith) in
     let b : length (take n after) ≡ n = length-take-le n after within in
     (omega arith, λ pos. let some : 0 < length (take n after) = o.some refl pos in omega arith)
+
+-- a last piece that was read, and opens
+pub last-verified : (was_read : ℕ → ℕ → Type 0) (layout : Layout) (max last end n : ℕ) (buf after : List ℕ) → layout.count ≡ last + 1
+    → WereRead was_read (layout.first + 65552 * last) (take end buf) → outcome layout.key max last true (take end buf) ≡ Ok (take n after)
+    → n ≡ chunk_len layout.plain last → IsVerified was_read layout (layout.count - 1) (take (chunk_len layout.plain (layout.count - 1)) after)
+last-verified was_read layout max last end n buf after count read opens len =
+    let o = outcome-opens layout.key max last true (take end buf) (take n after) opens in
+    let at : last ≡ layout.count - 1 = omega arith in
+    let is_last : nat_eq (last + 1) layout.count ≡ true = eq-eqb (last + 1) layout.count (sym count) in
+    subst (λ i. IsVerified was_read layout i (take (chunk_len layout.plain i) after)) at (record {
+      piece = take end buf;
+      read = read;
+      opens = ap (λ b. opened_at layout.key last b (take end buf)) is_last ∙ ap (opened_at layout.key last true) o.sealed_so
+          ∙ opened-sealed layout.key (chunk_nonce last true) [] (take n after) ∙ ap (λ k. Some (take k after)) len;
+    })
 
 -- a last piece that opens
 last-opens : (key : List ℕ) (max : ℕ) (rest t : List ℕ) (last : ℕ) → last ≡ (length rest - 1) / 65552 → last_outcome key max rest ≡ Ok t → opening key rest last ≡ Some t

@@ -11,5 +11,6 @@ pub mod ReadingLemmas
 pub mod SealingLemmas
 pub mod SliceLemmas
 pub mod TailLemmas
+pub mod VerifiedLemmas
 pub mod WholeSlices
 pub mod WritesAllLemmas

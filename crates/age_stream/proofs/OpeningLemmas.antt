@@ -154,18 +154,18 @@ pub advances-err : (now : OpenerState) (from to : Option (List ℕ)) (key : List
     → IsErrOf {T = Piece} (Err fault) Read ⊎ ((d : List ℕ) → MayGive to d → (c : List ℕ) × MayGive from c × OpensPiece key max i (take ahead (drop 65552 slice) ++ c) bytes d (Err fault))
     → IsErrOf {T = Piece} (Err fault) Read ⊎ GaveAtMost (65553 - ahead) from to
     → (fault ≡ Read) ⊎ IsAtPiece max i fault
-    → IfNone now.fault (IsErrOf {T = Bool} (Err fault) Read ⊎ Advances now (parts key max i more ahead items 0 (Some fault)) from to (Err fault))
+    → IfNone now.fault (IsErrOf {T = Bool} (Err fault) Read ⊎ Advances now (parts key max i false ahead items 0 (Some fault)) from to (Err fault))
 advances-err now from to key max i ahead len more old slice bytes items kept fault view is_more same size le small (inl e) gave at =
-    advances-read now (parts key max i more ahead items 0 (Some fault)) from to fault (same-fault fault e)
+    advances-read now (parts key max i false ahead items 0 (Some fault)) from to fault (same-fault fault e)
 advances-err now from to key max i ahead len more old slice bytes items kept fault view is_more same size le small (inr opens) (inl e) at =
-    advances-read now (parts key max i more ahead items 0 (Some fault)) from to fault (same-fault fault e)
+    advances-read now (parts key max i false ahead items 0 (Some fault)) from to fault (same-fault fault e)
 advances-err now from to key max i ahead len more old slice bytes items kept fault view is_more same size le small (inr opens) (inr gave) (inl read) =
-    advances-read now (parts key max i more ahead items 0 (Some fault)) from to fault read
+    advances-read now (parts key max i false ahead items 0 (Some fault)) from to fault read
 advances-err now from to key max i ahead len more old slice bytes items kept fault view is_more same size le small (inr opens) (inr gave) (inr at) =
     let front : List ℕ = take ahead (drop 65552 old) in
     let l : length front ≡ ahead = ahead-len ahead old size le in
     let held : held_of more front ≡ Some front = ap (λ m. held_of m front) is_more in
-    let next : OpenerState = parts key max i more ahead items 0 (Some fault) in
+    let next : OpenerState = parts key max i false ahead items 0 (Some fault) in
     let short : ahead_len (held_of more front) ≤ 1 = short-ahead more front (omega arith) in
     let given : GaveAtMost (65553 - ahead_len (held_of more front)) from to =
     subst (λ h. GaveAtMost (65553 - ahead_len h) from to) (sym held) (subst (λ n. GaveAtMost (65553 - n) from to) (sym l) gave) in
@@ -183,22 +183,24 @@ advances-err now from to key max i ahead len more old slice bytes items kept fau
     })))
 
 -- after the last piece
-pub advances-end : (now : OpenerState) (from : Option (List ℕ)) → now.held ≡ None → now.fault ≡ None → now.max_chunks ≤ 2 ^ 88 → Advances now now from from (Ok false)
-advances-end now from is none small = record {
+advances-end : (key : List ℕ) (max i : ℕ) (text text2 : List ℕ) (from : Option (List ℕ)) → max ≤ 2 ^ 88
+    → Advances (record { key = key; max_chunks = max; index = i; held = None; text = text; fault = None })
+    (record { key = key; max_chunks = max; index = i; held = None; text = text2; fault = None }) from from (Ok false)
+advances-end key max i text text2 from small = record {
   key = refl;
   max_chunks = refl;
   small = small;
-  keeps = (none, refl, (λ e. absurd (cc)), subst (λ (x : Option (List ℕ)). IfSome x (λ ahead. (length ahead ≡ 1) × (length now.text ≡ 65536))) (sym is) tt);
-  ahead = subst (λ (x : Option (List ℕ)). ahead_len x ≤ 1) (sym is) (omega arith);
+  keeps = (refl, refl, (λ e. absurd (cc)), tt);
+  ahead = omega arith;
   gave = ([], Consumes-nil from, omega arith);
-  opens = λ d may. (d, may, subst (λ (x : Option (List ℕ)). OpensNext now.key now.max_chunks now.index (left_of x d) (left_of x d) now.text (Ok false)) (sym is) (refl, refl));
+  opens = λ d may. (d, may, (refl, refl));
 }
 
 pub advances-none : (now : OpenerState) (from : Option (List ℕ)) (key : List ℕ) (max i ahead len : ℕ) (more : Bool) (bytes : List ℕ) (fault : Option StreamFault)
     → parts key max i more ahead bytes len fault ≡ now → more ≡ false → fault ≡ None → max ≤ 2 ^ 88
-    → IfNone now.fault (IsErrOf {T = Bool} (Ok false) Read ⊎ Advances now now from from (Ok false))
-advances-none now from key max i ahead len more bytes fault view over none small =
-    unkept now.fault (inr (advances-end now from
-    (sym (ap (λ (s : OpenerState). s.held) view) ∙ ap (λ m. held_of m (take ahead (drop 65552 bytes))) over)
-    (sym (ap (λ (s : OpenerState). s.fault) view) ∙ none)
-    (subst (λ (s : OpenerState). s.max_chunks ≤ 2 ^ 88) view small)))
+    → IfNone now.fault (IsErrOf {T = Bool} (Ok false) Read ⊎ Advances now (parts key max i more ahead bytes 0 fault) from from (Ok false))
+advances-none now from key max i ahead len true bytes fault view over none small = absurd (cc)
+advances-none now from key max i ahead len false bytes (Some fault) view over none small = absurd (cc)
+advances-none now from key max i ahead len false bytes None view over none small =
+    subst (λ s. IfNone s.fault (IsErrOf {T = Bool} (Ok false) Read ⊎ Advances s (parts key max i false ahead bytes 0 None) from from (Ok false))) view
+    (inr (advances-end key max i (take len bytes) (take 0 bytes) from small))

@@ -72,6 +72,10 @@ KeepsState old new (Ok some) =
 KeepsState old new (Err fault) =
     (new.fault ≡ Some fault) × (new.text ≡ []) × IsAtPiece old.max_chunks old.index fault
 
+-- there is no text, and no byte of another piece
+abbrev pub IsSpent : OpenerState → Type 0
+IsSpent s = (s.text ≡ []) × (s.held ≡ None)
+
 -- One call of an opener that keeps no fault, on a source that could give `from` before it and can
 -- give `to` after it. For each d that the source may still give, there is a c that it may have
 -- given before the call, such that the first piece of what was held and c was opened, and what is

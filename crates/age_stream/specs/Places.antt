@@ -1,6 +1,6 @@
 -- What a read at an offset gives of the contents of a source, and what it does to the source's
 -- counts.
-use Rattle.std.specs.Prelude.{◌≡◌, ℕ, ◌+◌, ◌-◌, ◌^◌, ◌<◌, ◌≤◌, min, length, take, drop, ⊤, IfSome, IfOk, MatchResult, Option, Some, None, Result}
+use Rattle.std.specs.Prelude.{◌≡◌, ℕ, ◌+◌, ◌-◌, ◌^◌, ◌<◌, ◌≤◌, min, length, take, drop, slice_index, ⊤, IfSome, IfOk, MatchResult, Option, Some, None, Result}
 use Rattle.age_header.specs.Device.{Known}
 use Rattle.age_kdf.specs.Bytes.{Bytes}
 
@@ -24,6 +24,14 @@ abbrev pub GivesAt : {E : Type 0} (told : Known) (size : Option ℕ) (at : ℕ) 
 GivesAt told size at r buf =
     IfOk r (λ n. HasAt told at (take n buf)
     × (n ≡ 0 → 0 < length buf → IsPast told at × IfSome size (λ s. s ≤ at)))
+
+-- each of xs was read, at its offset from `at` on
+abbrev pub WereRead : (was_read : (at byte : ℕ) → Type 0) (at : ℕ) (xs : Bytes) → Type 0
+WereRead was_read at xs = (k : ℕ) → k < length xs → was_read (at + k) (slice_index xs k)
+
+-- what was read before stays so
+abbrev pub StaysRead : (old new : (at byte : ℕ) → Type 0) → Type 0
+StaysRead old new = (at byte : ℕ) → old at byte → new at byte
 
 -- the offsets of all known bytes fit a u64
 abbrev pub HasPlaces : Known → Type 0

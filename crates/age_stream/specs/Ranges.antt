@@ -1,5 +1,5 @@
 -- A reader of ranges between two calls, and what its calls do.
-use Rattle.std.specs.Prelude.{ℕ, [], ◌+◌, ◌-◌, ◌*◌, ◌/◌, ◌^◌, ◌<◌, ◌≤◌, ◌≡◌, ◌⊎◌, length, take, drop, min, nat_eq, unwrap_or, IsSome, IfSome, MatchResult, ⊤, Bool, false, Option, Some, None, Result, Ok, Err, if◌then◌else◌}
+use Rattle.std.specs.Prelude.{ℕ, [], ◌+◌, ◌-◌, ◌*◌, ◌/◌, ◌^◌, ◌<◌, ◌≤◌, ◌≡◌, ◌⊎◌, length, take, drop, min, nat_eq, slice_get, slice_index, ◌%◌, unwrap_or, IsSome, IfSome, MatchResult, ⊤, Bool, false, Option, Some, None, Result, Ok, Err, if◌then◌else◌}
 use Rattle.age_cipher.specs.Bytes.{Key}
 use Rattle.age_header.specs.Device.{Known}
 use Rattle.age_kdf.specs.Bytes.{Bytes}
@@ -10,6 +10,8 @@ use Rattle.age_stream.specs.declared.fault.StreamFault.TheVariants.{BadChunk, Re
 use Rattle.age_stream.specs.declared.layout.Layout.{Layout}
 use Rattle.age_stream.specs.declared.ranges.RangeReader.{RangeReader}
 use Rattle.age_stream.specs.Payload.{payload_key}
+use Rattle.age_stream.specs.Places.{WereRead}
+use Rattle.age_stream.specs.Reading.{opened_at}
 use Rattle.age_stream.specs.Slice.{opening, plain_len, chunk_len, IsSlice, last_piece, last_outcome, range_outcome}
 use Rattle.age_stream.specs.Sizes.{nonce_size, tag_size, chunk_size, sealed_chunk_size}
 
@@ -44,6 +46,47 @@ pub record IsSound (told : Known) (s : RangeState) : Type 0 where
   pub there : IsThere told s.layout
   pub keeps : (i : ℕ) → s.index ≡ Some i → opens_to told s.layout i ≡ Some (kept_text s i)
 
+-- a text was verified as chunk i: it is what a piece opens to at the chunk's number, and this piece
+-- was read at the chunk's offset (C2SP age.md, "Payload")
+pub record IsVerified (was_read : (at byte : ℕ) → Type 0) (layout : Layout) (i : ℕ) (text : Bytes)
+    : Type 0 where
+  pub piece : Bytes
+  pub read : WereRead was_read (layout.first + sealed_chunk_size * i) piece
+  pub opens : opened_at layout.key i (nat_eq (i + 1) layout.count) piece ≡ Some text
+
+-- a reader was opened on the payload at this offset, whether or not the source's contents are
+-- known: its key is that of the nonce that was read there, and its pieces end where the source does
+pub record BeginsAt (file_key : FileKey) (at : ℕ) (was_read : (at byte : ℕ) → Type 0)
+    (size : Option ℕ) (s : RangeState) : Type 0 where
+  pub nonce : Bytes
+  pub len : length nonce ≡ nonce_size
+  pub read : WereRead was_read at nonce
+  pub key : s.layout.key ≡ payload_key file_key nonce
+  pub first : s.layout.first ≡ at + nonce_size
+  pub end : size ≡ Some (s.layout.first + s.layout.plain + tag_size * s.layout.count)
+
+-- the kept chunk was verified, whether or not the source's contents are known
+abbrev pub KeepsVerified : (was_read : (at byte : ℕ) → Type 0) (s : RangeState) → Type 0
+KeepsVerified was_read s =
+    (i : ℕ) → s.index ≡ Some i → IsVerified was_read s.layout i (kept_text s i)
+
+-- the byte has this offset in a plaintext: it is a byte of a text that was verified
+abbrev pub IsVerifiedByte : (was_read : (at byte : ℕ) → Type 0) (layout : Layout) (at byte : ℕ)
+    → Type 0
+IsVerifiedByte was_read layout at byte =
+    (text : Bytes) × IsVerified was_read layout (at / chunk_size) text
+    × (slice_get text (at % chunk_size) ≡ Some byte)
+
+-- A range from `at` on gave only verified bytes: on Ok(n) the first n bytes of the buffer are, and
+-- on Err each that changed.
+abbrev pub GivesVerified : (was_read : (at byte : ℕ) → Type 0) (layout : Layout) (at : ℕ)
+    (old new : Bytes) (r : Result ℕ StreamFault) → Type 0
+GivesVerified was_read layout at old new (Ok n) =
+    (k : ℕ) → k < n → IsVerifiedByte was_read layout (at + k) (slice_index new k)
+GivesVerified was_read layout at old new (Err fault) =
+    (k : ℕ) → (slice_index new k ≡ slice_index old k)
+    ⊎ IsVerifiedByte was_read layout (at + k) (slice_index new k)
+
 -- how many bytes a range of n from `at` on has
 abbrev pub range_len : (s : RangeState) (at n : ℕ) → ℕ
 range_len s at n = min n (s.layout.plain - at)
@@ -75,10 +118,11 @@ first_to_open index at = at / chunk_size + (if is_kept index (at / chunk_size) t
 abbrev pub OpenedAtLeast : (s : RangeState) (opened n : ℕ) → Type 0
 OpenedAtLeast s opened n = min (s.opened + n) (2 ^ 64 - 1) ≤ opened
 
--- a range of n bytes from `at` on stops at chunk i, which has bytes of it: the bytes before
--- that chunk are filled in, and each chunk up to this one is counted that was not kept
+-- a range of n bytes, at least one, from `at` on stops at chunk i, which has bytes of it: the bytes
+-- before that chunk are filled in, and each chunk up to this one is counted that was not kept
 pub record Stops (told : Known) (s : RangeState) (at n : ℕ) (old new : Bytes)
     (opened : ℕ) (fault : StreamFault) : Type 0 where
+  pub some : 0 < n
   pub chunk : ℕ
   pub from : at < chunk_size * (chunk + 1)
   pub to : chunk_size * chunk < at + n

@@ -1,7 +1,8 @@
 //! The chunks of a payload, of which one is kept. The source is passed to each call.
 ghost use Rattle.std.specs.Prelude.{◌≡◌, ◌+◌, ◌-◌, ◌*◌, ◌/◌, ◌<◌, ◌≤◌, ◌++◌, ℕ, length, take, drop, min, Some, None, IfOk, OnOk, OnErr, IfErr, if◌then◌else◌};
 ghost use Rattle.age_stream.specs.Counts.{CountsRead};
-ghost use Rattle.age_stream.specs.Ranges.{Fills, IsLost, IsOpenFault, IsSound, OpenedAtLeast, OpensRanges, Probes, Stops, first_to_open, is_kept, kept_text, range_len, sealed_span};
+ghost use Rattle.age_stream.specs.Places.{StaysRead};
+ghost use Rattle.age_stream.specs.Ranges.{BeginsAt, Fills, GivesVerified, IsLost, IsOpenFault, IsSound, IsVerified, KeepsVerified, OpenedAtLeast, OpensRanges, Probes, Stops, first_to_open, is_kept, kept_text, range_len, sealed_span};
 ghost use Rattle.age_stream.specs.Slice.{chunk_len};
 ghost use Rattle.age_stream.specs.Sizes.{chunk_size, tag_size, chunk_buf_size};
 
@@ -95,6 +96,9 @@ impl Chunks {
         ensures probes { Probes (D.bytes dev.old) (D.bytes dev.new) payload_at (D.given dev.old)
             (D.given dev.new) }
         ensures opens { OpensRanges key.now max_chunks payload_at (D.bytes dev.old) result }
+        ensures begins { IfOk result
+            (BeginsAt key.now payload_at (D.was_read dev.new) (D.found dev.new)) }
+        ensures verified { IfOk result (KeepsVerified (D.was_read dev.new)) }
         ensures named { IfErr result IsOpenFault }
         ensures count { CountsRead (D.failed dev.old) (D.failed dev.new) result }
     {
@@ -130,6 +134,9 @@ impl Chunks {
         ensures kept_chunk { OnOk result (self.new.index ≡ Some i) }
         ensures none { OnErr result (self.new.index ≡ None) }
         ensures sound { IsSound (D.bytes dev.old) self.old → IsSound (D.bytes dev.old) self.new }
+        ensures stays_read { StaysRead (D.was_read dev.old) (D.was_read dev.new) }
+        ensures keeps_verified { KeepsVerified (D.was_read dev.old) self.old
+            → KeepsVerified (D.was_read dev.new) self.new }
         ensures lost { IfErr result (IsLost (D.bytes dev.old) self.old i) }
         ensures rises { self.old.opened ≤ self.new.opened }
         ensures counts { OpenedAtLeast self.old self.new.opened
@@ -173,6 +180,10 @@ impl Chunks {
         ensures stay { D.bytes dev.new ≡ D.bytes dev.old }
         ensures same { self.new.layout ≡ self.old.layout }
         ensures sound { IsSound (D.bytes dev.old) self.old → IsSound (D.bytes dev.old) self.new }
+        ensures keeps_verified { KeepsVerified (D.was_read dev.old) self.old
+            → KeepsVerified (D.was_read dev.new) self.new }
+        ensures verified { KeepsVerified (D.was_read dev.old) self.old
+            → GivesVerified (D.was_read dev.new) self.old.layout at buf.old buf.new result }
         ensures number { IfOk result (λ n. n ≡ range_len self.old at (length buf.old)) }
         ensures filled { IfOk result (λ n. Fills (D.bytes dev.old) self.old at n buf.old buf.new) }
         ensures stop { IfErr result (Stops (D.bytes dev.old) self.old at
@@ -191,8 +202,7 @@ impl Chunks {
             → D.given dev.new
             ≤ D.given dev.old + sealed_span self.old.layout (first_to_open self.old.index at) end }
         ensures empty { range_len self.old at (length buf.old) ≡ 0
-            → (self.new.index ≡ self.old.index) × (self.new.opened ≡ self.old.opened)
-            × (D.given dev.new ≡ D.given dev.old) }
+            → (self.new ≡ self.old) × (dev.new ≡ dev.old) }
     {
         let layout = self.layout();
         let end = range_len(layout.plain, at, buf.len());

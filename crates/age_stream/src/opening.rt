@@ -1,11 +1,11 @@
 //! Opening a payload's pieces, one after another.
-ghost use Rattle.std.specs.Prelude.{◌≡◌, ◌≢◌, ◌⊎◌, ◌<◌, ◌≤◌, ◌+◌, ◌-◌, ◌^◌, ◌++◌, ◌&&◌, [], length, take, drop, Some, None, Ok, Err, IfOk, OnOk, OnErr, IfErr, IfSome, IfNone, IsErrOf, nat_lt, nat_eq, true};
+ghost use Rattle.std.specs.Prelude.{◌≡◌, ◌≢◌, ◌⊎◌, ◌<◌, ◌≤◌, ◌+◌, ◌-◌, ◌^◌, ◌++◌, ◌&&◌, [], length, take, drop, Some, None, Ok, Err, IfOk, OnOk, OnErr, IfErr, IfSome, IfNone, IsErrOf, MatchResult, nat_lt, nat_eq, true};
 ghost use Rattle.std.specs.Bool.{OnTrue, OnFalse};
 ghost use Rattle.age_kdf.specs.Bytes.{Bytes};
 ghost use Rattle.age_cipher.specs.Sealing.{opened};
 ghost use Rattle.age_header.specs.Device.{GaveAtMost, MayGive};
 ghost use Rattle.age_stream.specs.Counts.{CountsRead, CountsWrite};
-ghost use Rattle.age_stream.specs.Opening.{Advances, EndsAt, GivesNonce, GivesText, IsAtPiece, OpensPiece, Starts, WritesAll};
+ghost use Rattle.age_stream.specs.Opening.{Advances, EndsAt, GivesNonce, GivesText, IsAtPiece, IsSpent, OpensPiece, Starts, WritesAll};
 ghost use Rattle.age_stream.specs.Reading.{outcome};
 ghost use Rattle.age_stream.specs.Sizes.{chunk_size, sealed_chunk_size, most_chunks, nonce_size, tag_size, chunk_buf_size};
 
@@ -89,7 +89,8 @@ impl ChunkOpener {
         })
     }
 
-    /// The text of the piece that was opened last; empty before the first, and after a fault.
+    /// The text of the piece that was opened last. It is empty before the first piece, after false,
+    /// and after a fault.
     pub fn text(&self) -> &[u8]
         ensures text { result.now ≡ self.now.text }
         ensures len { length result.now ≤ chunk_size }
@@ -113,11 +114,14 @@ impl ChunkOpener {
             (CountsRead (S.failed source.old) (S.failed source.new) result) }
         ensures opens { IfNone self.old.fault (IsErrOf result StreamFault.Read
             ⊎ Advances self.old self.new (S.to_come source.old) (S.to_come source.new) result) }
+        ensures blank { IfNone self.old.fault (MatchResult result
+            (λ some. OnFalse some (IsSpent self.new)) (λ _. IsSpent self.new)) }
     {
         if let Some(fault) = self.fault {
             return Err(fault);
         }
         if !self.more {
+            self.len = 0;
             return Ok(false);
         }
         match next_piece(
@@ -137,6 +141,7 @@ impl ChunkOpener {
             }
             Err(fault) => {
                 self.len = 0;
+                self.more = false;
                 self.fault = Some(fault);
                 Err(fault)
             }

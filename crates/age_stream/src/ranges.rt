@@ -1,7 +1,7 @@
 //! Reading any part of a plaintext from a caller's source.
 ghost use Rattle.std.specs.Prelude.{◌≡◌, ◌+◌, ◌-◌, ◌*◌, ◌/◌, ◌<◌, ◌≤◌, ℕ, length, Ok, Err, Some, None, IfOk, IfErr, OnErr};
 ghost use Rattle.age_stream.specs.Counts.{CountsRead, CountsReadFault};
-ghost use Rattle.age_stream.specs.Ranges.{Fills, IsOpenFault, IsSound, OpenedAtLeast, OpensRanges, Probes, Stops, first_to_open, range_len, sealed_span};
+ghost use Rattle.age_stream.specs.Ranges.{BeginsAt, Fills, GivesVerified, IsOpenFault, IsSound, KeepsVerified, OpenedAtLeast, OpensRanges, Probes, Stops, first_to_open, range_len, sealed_span};
 ghost use Rattle.age_stream.specs.Sizes.{chunk_size};
 
 use crate::chunks::Chunks;
@@ -45,6 +45,10 @@ impl<'a, D: ReadAt> RangeReader<'a, D> {
             (λ reader. reader.dev.ghost_name ≡ dev.entry.ghost_name) }
         ensures opens { IfOk result (λ reader.
             OpensRanges key.now max_chunks payload_at (D.bytes dev.old) (Ok reader.chunks)) }
+        ensures begins { IfOk result (λ reader. BeginsAt key.now payload_at
+            (D.was_read reader.dev.now) (D.found reader.dev.now) reader.chunks) }
+        ensures verified { IfOk result
+            (λ reader. KeepsVerified (D.was_read reader.dev.now) reader.chunks) }
         ensures probes { IfOk result (λ reader. Probes (D.bytes dev.old) (D.bytes reader.dev.now)
             payload_at (D.given dev.old) (D.given reader.dev.now)) }
         ensures uncounted { IfOk result (λ reader. D.failed reader.dev.now ≡ D.failed dev.old) }
@@ -85,6 +89,10 @@ impl<'a, D: ReadAt> RangeReader<'a, D> {
             (λ reader. reader.dev.ghost_name ≡ dev.entry.ghost_name) }
         ensures opens { IfOk result (λ reader.
             OpensRanges key.now max_chunks payload_at (D.bytes dev.old) (Ok reader.chunks)) }
+        ensures begins { IfOk result (λ reader. BeginsAt key.now payload_at
+            (D.was_read reader.dev.now) (D.found reader.dev.now) reader.chunks) }
+        ensures verified { IfOk result
+            (λ reader. KeepsVerified (D.was_read reader.dev.now) reader.chunks) }
         ensures probes { IfOk result (λ reader. Probes (D.bytes dev.old) (D.bytes reader.dev.now)
             payload_at (D.given dev.old) (D.given reader.dev.now)) }
         ensures uncounted { IfOk result (λ reader. D.failed reader.dev.now ≡ D.failed dev.old) }
@@ -132,6 +140,11 @@ impl<'a, D: ReadAt> RangeReader<'a, D> {
         ensures same { self.new.chunks.layout ≡ self.old.chunks.layout }
         ensures sound { IsSound (D.bytes self.old.dev.now) self.old.chunks
             → IsSound (D.bytes self.old.dev.now) self.new.chunks }
+        ensures keeps_verified { KeepsVerified (D.was_read self.old.dev.now) self.old.chunks
+            → KeepsVerified (D.was_read self.new.dev.now) self.new.chunks }
+        ensures verified { KeepsVerified (D.was_read self.old.dev.now) self.old.chunks
+            → GivesVerified (D.was_read self.new.dev.now) self.old.chunks.layout at buf.old buf.new
+            result }
         ensures number { IfOk result (λ n. n ≡ range_len self.old.chunks at (length buf.old)) }
         ensures filled { IfOk result
             (λ n. Fills (D.bytes self.old.dev.now) self.old.chunks at n buf.old buf.new) }
@@ -156,9 +169,7 @@ impl<'a, D: ReadAt> RangeReader<'a, D> {
             ≤ D.given self.old.dev.now
             + sealed_span self.old.chunks.layout (first_to_open self.old.chunks.index at) end }
         ensures empty { range_len self.old.chunks at (length buf.old) ≡ 0
-            → (self.new.chunks.index ≡ self.old.chunks.index)
-            × (self.new.chunks.opened ≡ self.old.chunks.opened)
-            × (D.given self.new.dev.now ≡ D.given self.old.dev.now) }
+            → (self.new.chunks ≡ self.old.chunks) × (self.new.dev.now ≡ self.old.dev.now) }
     {
         self.chunks.read_range(self.dev, at, buf)
     }

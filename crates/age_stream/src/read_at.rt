@@ -1,10 +1,10 @@
 //! Sources that are read at offsets.
 
-ghost use Rattle.std.specs.Prelude.{◌≡◌, ◌+◌, ◌-◌, ◌^◌, ℕ, Some, None, length, min};
+ghost use Rattle.std.specs.Prelude.{◌≡◌, ◌+◌, ◌-◌, ◌^◌, ℕ, Some, None, IfOk, length, min, slice_get, take, ⊤};
 ghost use Rattle.std.specs.declared.option.Option.{Option};
 ghost use Rattle.std.specs.Io.{ReadsAtMost};
 ghost use Rattle.age_header.specs.Device.{Known, Counts};
-ghost use Rattle.age_stream.specs.Places.{CountsGiven, FindsSize, GivesAt, HasPlaces};
+ghost use Rattle.age_stream.specs.Places.{CountsGiven, FindsSize, GivesAt, HasPlaces, StaysRead, WereRead};
 
 use age_header::DeviceFault;
 use std::io::{Read, Seek, SeekFrom};
@@ -19,6 +19,9 @@ pub trait ReadAt {
     // The size in bytes, once it was found.
     ghost found: { Self → Option ℕ };
 
+    // Whether this byte was read at this offset. The default says nothing.
+    ghost was_read: { Self → (at byte : ℕ) → Type 0 } = { λ _ _ _. ⊤ };
+
     // The number of bytes read so far, saturating at the largest u64.
     ghost given: { Self → ℕ };
 
@@ -31,6 +34,7 @@ pub trait ReadAt {
     /// If the size was not found. The failure is counted.
     fn size(&mut self) -> Result<u64, DeviceFault>
         ensures stay { bytes self.new ≡ bytes self.old }
+        ensures stays_read { StaysRead (was_read self.old) (was_read self.new) }
         ensures size { FindsSize (bytes self.old) (found self.old) (found self.new) result }
         ensures given { given self.new ≡ given self.old }
         ensures count { Counts (failed self.old) (failed self.new) result };
@@ -46,6 +50,8 @@ pub trait ReadAt {
         ensures bound { ReadsAtMost result buf.new }
         ensures places { HasPlaces (bytes self.old) }
         ensures bytes { GivesAt (bytes self.old) (found self.old) at result buf.new }
+        ensures stays_read { StaysRead (was_read self.old) (was_read self.new) }
+        ensures read { IfOk result (λ n. WereRead (was_read self.new) at (take n buf.new)) }
         ensures given { CountsGiven (given self.old) (given self.new) result }
         ensures count { Counts (failed self.old) (failed self.new) result };
 
@@ -77,6 +83,8 @@ impl<'a> MemAt<'a> {
 
 impl<'a> ReadAt for MemAt<'a> {
     ghost bytes = { λ s. Some s.bytes.now };
+
+    ghost was_read = { λ s at byte. slice_get s.bytes.now at ≡ Some byte };
 
     ghost found = { λ s. Some (length s.bytes.now) };
 

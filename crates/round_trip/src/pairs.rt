@@ -1,8 +1,8 @@
 //! Encrypting and decrypting, for the pairs.
 
-ghost use Rattle.std.specs.Prelude.{◌≡◌, IfOk, IfErr};
-ghost use Rattle.age_file.specs.Words.{IsFileKey};
-ghost use Rattle.round_trip.specs.Losses.{IsLoss};
+ghost use Rattle.std.specs.Prelude.{◌≡◌, IfOk, IfErr, MatchResult};
+ghost use Rattle.age_file.specs.Words.{IsFileKey, PairFits};
+ghost use Rattle.round_trip.specs.Losses.{IsLoss, IsPaired, IsPairedIf};
 
 use crate::file::{decrypted, encrypted};
 use age_file::{
@@ -46,6 +46,7 @@ pub fn there_and_back<M: Matched>(
         ≡ M.I.meaning (M.the_identity pair.now) }
     ensures back { IfOk result (λ text. text.items ≡ plain.now) }
     ensures lost { IfErr result IsLoss }
+    ensures paired { IfErr result IsPaired }
 {
     laws::pair_opens(pair);
     has_sixteen_bytes(fresh.file_key);
@@ -82,6 +83,8 @@ pub fn pass_there_and_back(
 ) -> Result<Vec<u8>, Lost>
     ensures back { IfOk result (λ text. text.items ≡ plain.now) }
     ensures lost { IfErr result IsLoss }
+    ensures paired { MatchResult result (λ _. PairFits work max)
+        (IsPairedIf (PairFits work max)) }
 {
     let pair = match PassPair::new(alloc, pass, salt, work, max) {
         Ok(pair) => pair,
@@ -116,6 +119,7 @@ pub fn key_there_and_back(
 ) -> Result<Vec<u8>, Lost>
     ensures back { IfOk result (λ text. text.items ≡ plain.now) }
     ensures lost { IfErr result IsLoss }
+    ensures paired { IfErr result IsPaired }
 {
     let pair = KeyPair::new(key, salt);
     let recipient = Box::new(alloc, KeyRecipient::new(key, salt));

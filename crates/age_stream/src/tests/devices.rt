@@ -106,6 +106,8 @@ impl<'a> ReadAt for CountingReadAt<'a> {
 
     ghost bytes = { λ _. None };
 
+    ghost was_read = { λ s. ⟦<MemAt<'a> as ReadAt>⟧.was_read s.bytes };
+
     ghost found = { λ s. ⟦<MemAt<'a> as ReadAt>⟧.found s.bytes };
 
     ghost given = { λ s. ⟦<MemAt<'a> as ReadAt>⟧.given s.bytes };

@@ -2,7 +2,7 @@ use Rattle.std.proofs.Common.{rules, arith, ◌≡◌, ◌+◌, ◌-◌, ◌*◌
 use Rattle.std.proofs.lemmas.Bool.{OnTrue_at, OnFalse_at}
 use Rattle.age_stream.specs.Slice.{chunk_len}
 use Rattle.age_stream.specs.declared.fault.StreamFault.TheVariants.{BadChunk}
-use Rattle.age_stream.proofs.JudgesLastLemmas.{last-many, last-gone, last-read, open-len, piece-named}
+use Rattle.age_stream.proofs.JudgesLastLemmas.{last-many, last-gone, last-read, last-verified, open-len, piece-named}
 use Rattle.age_stream.proofs.loading.load_last.Goals as goal
 
 pub returns-then-last-max-clause-judges : goal.returns-then-last-max-clause-judges
@@ -63,3 +63,17 @@ returns-in-Ok-clause-judges g c =
 pub returns-in-Err-open_chunk-clause-named : goal.returns-in-Err-open_chunk-clause-named
 returns-in-Err-open_chunk-clause-named g c =
     piece-named c.args.max (c.saturating_sub.result / 65552) c.in-Err-open_chunk.fault c.in-Err-open_chunk.ensures.at
+
+pub returns-in-Ok-clause-verified : goal.returns-in-Ok-clause-verified
+returns-in-Ok-clause-verified g c =
+    let less : c.saturating_sub.result ≡ c.args.sealed - 1 = search rules in
+    let last = c.saturating_sub.result / 65552 in
+    let end = c.args.sealed - 65552 * last in
+    let n = c.in-Ok.len in
+    let short : end ≤ 65552 = omega (arith, less) in
+    let room = c.read_full.auto.buf ∙ c.requires.room in
+    let len = open-len c.args.key c.args.max last end n c.read_full.new.buf c.open_chunk.new.bytes room short c.in-Ok.ensures.text.0 c.in-Ok.ensures.text.1 in
+    let is : n + 16 ≡ end = len.0 in
+    let text : n ≡ chunk_len (65536 * last + n) last = omega (arith, is, short) in
+    last-verified (g.D.ReadAt.was_read c.read_full.new.dev) _ c.args.max last end n c.read_full.new.buf c.open_chunk.new.bytes refl
+    (OnTrue_at c.in-Ok-true.field-0-test c.in-Ok-true.ensures.read) c.in-Ok.ensures.text.0 text

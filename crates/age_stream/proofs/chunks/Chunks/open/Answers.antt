@@ -1,7 +1,8 @@
-use Rattle.std.proofs.Common.{arith, rules, ◌≡◌, ◌-◌, ◌∙◌, sym, length, subst, Some, Ok}
+use Rattle.std.proofs.Common.{arith, rules, ◌≡◌, ◌-◌, ◌∙◌, ◌+◌, ◌*◌, ap, sym, length, slice_index, subst, Some, Ok}
 use Rattle.age_stream.specs.Ranges.{OpensRanges}
 use Rattle.age_stream.proofs.TailLemmas.{written-all}
 use Rattle.age_stream.proofs.JudgesLastLemmas.{given-last, judged-err, judged-ok}
+use Rattle.age_stream.proofs.VerifiedLemmas.{keeps-last}
 use Rattle.age_stream.proofs.chunks.Chunks.open.Goals as goal
 
 pub returns-in-Ok-load_last-clause-probes : goal.returns-in-Ok-load_last-clause-probes
@@ -36,3 +37,27 @@ returns-in-Ok-load_last-clause-opens g c =
     (Ok (record { layout = layout; index = Some (layout.count - 1); buf = b; opened = 1 }))) (sym all)
     (judged-ok c.args.key.now c.args.max_chunks c.args.payload_at (g.D.ReadAt.bytes c.args.dev.now) c.in_ok-start.start.nonce new c.in_ok-start.start.sealed_len
     layout c.in_ok-start.ensures.ok (rw (c.payload_key-key.ensures, c.payload_start.ensures.stay) at c.in-Ok-load_last.ensures.judges))
+
+pub returns-in-Ok-load_last-clause-verified : goal.returns-in-Ok-load_last-clause-verified
+returns-in-Ok-load_last-clause-verified g c =
+    let new = c.load_last.new.buf in
+    let same : length new ≡ length c.into_bytes-buf.result.items = search rules in
+    let len : c.into_bytes-buf.result.len ≡ length c.into_bytes-buf.result.items = search rules in
+    keeps-last (g.D.ReadAt.was_read c.load_last.new.dev) c.in-Ok-load_last.layout 1 _ new (written-all new c.into_bytes-buf.result.items c.into_bytes-buf.result.len same len)
+    c.in-Ok-load_last.ensures.verified
+
+pub returns-in-Ok-load_last-clause-begins : goal.returns-in-Ok-load_last-clause-begins
+returns-in-Ok-load_last-clause-begins g c =
+    let start = c.in_ok-start.start in
+    let layout = c.in-Ok-load_last.layout in
+    let judged = c.in-Ok-load_last.ensures.judges in
+    let first : layout.first ≡ c.args.payload_at + 16 = judged.1 in
+    let all : layout.plain + 16 * layout.count ≡ start.sealed_len = judged.2 in
+    record {
+      nonce = start.nonce;
+      len = search rules;
+      read = λ k lt. c.load_last.ensures.stays_read (c.args.payload_at + k) (slice_index start.nonce k) (c.in_ok-start.ensures.read k lt);
+      key = judged.0 ∙ c.payload_key-key.ensures;
+      first = first;
+      end = c.load_last.ensures.found ∙ c.in_ok-start.ensures.found ∙ ap Some (omega (arith, first, all));
+    }

@@ -3,6 +3,7 @@ use Rattle.age_stream.specs.declared.layout.Layout.{Layout}
 use Rattle.age_stream.specs.Ranges.{HasPlain, IsSound, bytes_from, is_kept, opens_to}
 use Rattle.age_stream.specs.Slice.{chunk_len}
 use Rattle.age_stream.proofs.RangeLemmas.{put-front, put-rest, length-part, rest-on, front-on, counts-at_first, counts-later, opened-later, given-later, opened-at_first, given-at_first, at-chunk, under-chunk, below-chunk, opens-moved}
+use Rattle.age_stream.proofs.VerifiedLemmas.{changed-verified, verified-on, verified-text}
 use Rattle.age_stream.proofs.chunks.Chunks.read_range.Goals as goal
 
 pub returns-clause-filled : goal.returns-clause-filled
@@ -27,6 +28,7 @@ returns-in-Err-clause-stop g c =
     ] in
     let same : c.layout-layout.result.plain ≡ s.layout.plain = ap (λ (x : Layout). x.plain) c.layout-layout.ensures in
     record {
+      some = omega (arith, c.loop-done-test.true, c.range_len-end.ensures, same);
       chunk = i;
       from = elim inv.stage [
         | inl z ↦ at-chunk c.args.at i z.1
@@ -51,6 +53,16 @@ returns-in-Err-clause-stop g c =
             c.hold-held.ensures.counts inv.counts
       ];
     }
+
+pub returns-clause-verified : goal.returns-clause-verified
+returns-clause-verified g c keeps k lt =
+    let inv = c.loop-done.invariant in
+    inv.verified keeps k (omega (arith, inv.within, c.loop-done-test.false, lt))
+
+pub returns-in-Err-clause-verified : goal.returns-in-Err-clause-verified
+returns-in-Err-clause-verified g c keeps =
+    changed-verified (g.D.ReadAt.was_read c.loop-done.dev) (g.D.ReadAt.was_read c.hold-held.new.dev) c.args.self.now.layout c.args.buf.now c.loop-done.buf c.args.at c.loop-done.done
+    c.hold-held.ensures.stays_read c.loop-done.invariant.rest (c.loop-done.invariant.verified keeps)
 
 pub loop-done-preserved : goal.loop-done-preserved
 loop-done-preserved g c =
@@ -82,6 +94,7 @@ loop-done-preserved g c =
     let inside : done + n ≤ end = omega (arith, count, more) in
     let buf_len : length c.loop-done.buf ≡ length c.args.buf.now = inv.len in
     let room : done + n ≤ length c.loop-done.buf = omega (arith, inside, is, buf_len) in
+    let new_len : length c.put-n.new.buf ≡ length c.loop-done.buf = c.put-n.auto.buf in
     let sized : length (take n (drop skip t)) ≡ n = length-part n skip t part in
     let put = c.put-n.ensures.bytes in
     let size : length t ≤ 65536 = omega (arith, len) in
@@ -108,6 +121,11 @@ loop-done-preserved g c =
       rest = rest-on c.loop-done.buf c.put-n.new.buf c.args.buf.now done n inv.rest (put-rest c.loop-done.buf (take n (drop skip t)) c.put-n.new.buf done n (omega (arith, room)) sized put);
       front = λ told_so. front-on s.layout.key (bytes_from told s.layout.first) t c.loop-done.buf c.put-n.new.buf at done i skip n pos (omega (arith, room)) part size (opens told_so) (inv.front told_so)
           (put-front c.loop-done.buf (take n (drop skip t)) c.put-n.new.buf done n (omega (arith, room)) sized put);
+      keeps = λ keeps. c.hold-held.ensures.keeps_verified (inv.keeps keeps);
+      verified = λ keeps. verified-on (g.D.ReadAt.was_read c.loop-done.dev) (g.D.ReadAt.was_read c.hold-held.new.dev) s.layout t c.loop-done.buf c.put-n.new.buf at done i skip n
+          c.hold-held.ensures.stays_read pos (omega (arith, room)) (omega (arith, room, new_len)) part size
+          (verified-text (g.D.ReadAt.was_read c.hold-held.new.dev) h s.layout i t lies c.in_default.ensures.kept_chunk c.text.ensures.text (c.hold-held.ensures.keeps_verified (inv.keeps keeps)))
+          (inv.verified keeps) (put-front c.loop-done.buf (take n (drop skip t)) c.put-n.new.buf done n (omega (arith, room)) sized put);
       counts = elim inv.stage [
         | inl z ↦ counts-at_first l.index s.index h.opened l.opened s.opened at i z.3 z.1 c.hold-held.ensures.counts z.4
         | inr z ↦ counts-later (is_kept s.index (at / 65536)) l.index h.opened l.opened s.opened (at / 65536) i z.4 z.2 c.hold-held.ensures.counts inv.counts

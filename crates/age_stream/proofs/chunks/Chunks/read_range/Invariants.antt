@@ -1,5 +1,5 @@
-use Rattle.std.proofs.Common.{length, ◌-◌, ◌≡◌, ◌+◌, ◌*◌, ◌/◌, ◌%◌, ◌≤◌, ◌<◌, ◌⊎◌, take, drop, Some}
-use Rattle.age_stream.specs.Ranges.{HasPlain, IsSound, OpenedAtLeast, first_to_open, sealed_span}
+use Rattle.std.proofs.Common.{length, ◌-◌, ◌≡◌, ◌+◌, ◌*◌, ◌/◌, ◌%◌, ◌≤◌, ◌<◌, ◌⊎◌, take, drop, slice_index, ℕ, Some}
+use Rattle.age_stream.specs.Ranges.{HasPlain, IsSound, IsVerifiedByte, KeepsVerified, OpenedAtLeast, first_to_open, sealed_span}
 use Rattle.age_stream.specs.Sizes.{chunk_size}
 use Rattle.age_stream.proofs.chunks.Chunks.read_range.Given as goal
 
@@ -18,6 +18,10 @@ invariant-loop-done g l =
       below : l.at + l.done ≤ chunk_size * l.i + l.skip;
       rest : drop l.done l.buf ≡ drop l.done l.fn.buf;
       front : IsSound told s → HasPlain told s.layout l.at (take l.done l.buf);
+      keeps : KeepsVerified (g.D.ReadAt.was_read l.fn.dev) s
+          → KeepsVerified (g.D.ReadAt.was_read l.dev) l.self;
+      verified : KeepsVerified (g.D.ReadAt.was_read l.fn.dev) s → (k : ℕ) → k < l.done
+          → IsVerifiedByte (g.D.ReadAt.was_read l.dev) s.layout (l.at + k) (slice_index l.buf k);
       counts : OpenedAtLeast s l.self.opened (l.i - first_to_open s.index l.at);
       rises : s.opened ≤ l.self.opened;
       opened : l.self.opened ≤ s.opened + (l.i - first_to_open s.index l.at);
@@ -26,7 +30,8 @@ invariant-loop-done g l =
       failed : g.D.ReadAt.failed l.dev ≡ g.D.ReadAt.failed l.fn.dev;
       stage : ((l.done ≡ 0) × (l.i ≡ l.at / chunk_size) × (l.skip ≡ l.at % chunk_size)
           × (l.self.index ≡ s.index) × (l.self.opened ≡ s.opened)
-          × (g.D.ReadAt.given l.dev ≡ g.D.ReadAt.given l.fn.dev))
+          × (g.D.ReadAt.given l.dev ≡ g.D.ReadAt.given l.fn.dev)
+          × (l.self ≡ s) × (l.dev ≡ l.fn.dev))
           ⊎ ((0 < l.done) × (l.skip ≡ 0) × (l.at / chunk_size < l.i)
           × (chunk_size * l.i < l.at + l.done + chunk_size)
           × (l.self.index ≡ Some (l.i - 1)));
