@@ -84,7 +84,7 @@ libraries() {
     trap 'kill "$cipher" $words 2>/dev/null; exit 130' INT TERM
     if library age_kdf && library age_header && wait "$cipher" && library age_recipient &&
         library age_stream && library age_file && [ -n "$words" ] && wait "$words"; then
-        library age_cli || :
+        library age_commands && library age_cli || :
     fi
     wait
     trap - INT TERM

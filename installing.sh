@@ -2,8 +2,9 @@
 # usage in `usage`: how they read their words, and put and remove files.
 # shellcheck shell=sh disable=SC2034,SC2154
 
-# Reads [--uninstall] [PREFIX] to `action`, which is put or remove, and `prefix`. Ends the script
-# where it is asked for help, and where it is given other words or an empty PREFIX.
+# Reads [--uninstall] [PREFIX] to `action`, which is put or remove, and to `top`: PREFIX, or PREFIX
+# below the folder that the variable DESTDIR names. Ends the script where it is asked for help, and
+# where it is given other words or an empty PREFIX.
 read_words() {
     action=put
     if [ "${1:-}" = --uninstall ]; then
@@ -21,28 +22,31 @@ read_words() {
         echo "$usage" >&2
         exit 2
     fi
-    prefix=${1:-/usr/local}
+    top=${1:-/usr/local}
+    if [ -n "${DESTDIR:-}" ]; then
+        top=${DESTDIR%/}/${top#/}
+    fi
 }
 
 # Installs a file under PREFIX: put MODE FILE PATH. A file that is in use is replaced, and not
 # overwritten. Others may enter the folders that it makes.
 put() {
-    (umask 022 && mkdir -p "$(dirname "$prefix/$3")")
-    cp "$2" "$prefix/$3.new"
-    chmod "$1" "$prefix/$3.new"
-    mv "$prefix/$3.new" "$prefix/$3"
-    echo "installed $prefix/$3"
+    (umask 022 && mkdir -p "$(dirname "$top/$3")")
+    cp "$2" "$top/$3.new"
+    chmod "$1" "$top/$3.new"
+    mv "$top/$3.new" "$top/$3"
+    echo "installed $top/$3"
 }
 
 # Removes a file under PREFIX where it is there, and the folders below PREFIX that it leaves empty:
 # remove PATH.
 remove() {
-    [ -e "$prefix/$1" ] || [ -L "$prefix/$1" ] || return 0
-    rm "$prefix/$1"
-    echo "removed $prefix/$1"
+    [ -e "$top/$1" ] || [ -L "$top/$1" ] || return 0
+    rm "$top/$1"
+    echo "removed $top/$1"
     folder=$(dirname "$1")
-    while [ "$folder" != . ] && rmdir "$prefix/$folder" 2>/dev/null; do
-        echo "removed $prefix/$folder"
+    while [ "$folder" != . ] && rmdir "$top/$folder" 2>/dev/null; do
+        echo "removed $top/$folder"
         folder=$(dirname "$folder")
     done
 }

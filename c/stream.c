@@ -16,11 +16,15 @@ static bool is_ok(uint32_t code, const agefile_report *report)
     return code == AGEFILE_OK;
 }
 
-/* Reads after the first `have` bytes of `buf`, up to `most`. Returns how many bytes `buf` then has,
- * fewer than `most` at the end. */
-static size_t fill(size_t have, size_t most)
+/* Reads after the first `have` bytes of `buf`, up to `most`, and adds what it read to `have`: it is
+ * below `most` only at the end. False if a read failed, which is no end: a chunk sealed as the last
+ * one then would make a whole file of a part of the input. */
+static bool fill(size_t *have, size_t most)
 {
-    return have + fread(buf + have, 1, most - have, stdin);
+    *have += fread(buf + *have, 1, most - *have, stdin);
+    if (*have < most && ferror(stdin))
+        return fputs("stream: read failed\n", stderr), false;
+    return true;
 }
 
 static bool put(const uint8_t *bytes, size_t len)
@@ -32,13 +36,14 @@ static bool decrypt(const uint8_t key[32])
 {
     agefile_reader reader;
     agefile_report report;
-    size_t have = fill(0, AGEFILE_FRONT);
-    if (!is_ok(agefile_reader_open_key(buf, have, key, &reader, &report), &report))
+    size_t have = 0;
+    if (!fill(&have, AGEFILE_FRONT) || !is_ok(agefile_reader_open_key(buf, have, key, &reader, &report), &report))
         return false;
     have -= report.len;
     memmove(buf, buf + report.len, have);
     for (bool last = false; !last; have = 1) {
-        have = fill(have, sizeof buf);
+        if (!fill(&have, sizeof buf))
+            return false;
         last = have < sizeof buf;
         if (!is_ok(agefile_reader_chunk(&reader, buf, last ? have : AGEFILE_SEALED_CHUNK, last, &report), &report) || !put(buf, report.len))
             return false;
@@ -57,7 +62,8 @@ static bool encrypt(const uint8_t key[32])
         return false;
     size_t have = 0;
     for (bool last = false; !last; have = 1) {
-        have = fill(have, AGEFILE_TEXT_CHUNK + 1);
+        if (!fill(&have, AGEFILE_TEXT_CHUNK + 1))
+            return false;
         last = have <= AGEFILE_TEXT_CHUNK;
         size_t len = last ? have : AGEFILE_TEXT_CHUNK;
         uint8_t ahead = buf[AGEFILE_TEXT_CHUNK]; /* the tag goes there */
@@ -76,5 +82,5 @@ int main(int argc, char **argv)
     if (file == NULL || fread(key, 1, sizeof key, file) != 32)
         return fputs("usage: stream [-e] KEY_FILE\n", stderr), 2;
     bool is_done = is_encrypting ? encrypt(key) : decrypt(key);
-    return is_done && !ferror(stdin) && fflush(stdout) == 0 ? 0 : 1;
+    return is_done && fflush(stdout) == 0 ? 0 : 1;
 }

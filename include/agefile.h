@@ -4,8 +4,10 @@
  * Every length and every number is checked inside. The following duties are the caller's;
  * nothing can check them, and a call that breaks one of them has undefined behaviour:
  *
- *  1. No pointer is null. The macros at the end of this file make a null pointer with the length
- *     0 safe.
+ *  1. A pointer that no length follows is not null. One that a length follows may be null: with
+ *     the length 0 it stands for no bytes, and with another the call returns
+ *     AGEFILE_NULL_POINTER. This is checked by the functions of this header. A caller of the
+ *     library's own functions, by dlsym or from another language, passes no null pointer.
  *  2. A pointer is valid for the length that follows it, which is below 2^63. A key has 32
  *     bytes, a seed 48.
  *  3. Structs are aligned as the compiler aligns them, and a bool is 0 or 1.
@@ -14,15 +16,16 @@
  *     in place.
  *  5. During a call no other thread reads or writes what the call writes, or writes what it
  *     reads. Nothing else is shared: any number of calls may run at once.
- *  6. 128 KiB of stack are free.
- *  7. No call is made in a signal handler, or in a forked child of a process that had threads.
+ *  6. 32 KiB of stack are free.
+ *  7. No call is made in a signal handler. A forked child may make calls where it may use malloc.
  *  8. malloc, realloc and free belong to one allocator, and align blocks as C demands.
  *
  * Each call except the two of sizes returns an agefile_code and sets all of its report. If it
  * fails, it writes only what its comment says. Lines are counted from 1, chunks, stanzas and
  * bytes from 0. A passphrase is any bytes. A work factor is 1 to 30; `max_work` is the greatest
  * that is accepted, and 22 is usual; 18 is usual for a new file. A seed is 48 fresh random bytes
- * (getrandom) for each file: the same seed for two files repeats their keys. Keys and
+ * (getrandom) for each file: the same seed for two files repeats their keys. A writer in use is
+ * never copied, since a copy would seal another chunk under a nonce that was used. Keys and
  * passphrases stay in freed memory. docs/C.md says what is proved and what is trusted. */
 #ifndef AGEFILE_H
 #define AGEFILE_H
@@ -33,13 +36,31 @@
 extern "C" {
 #endif
 
+/* What the compiler is told of a call: its result is used, these parameters are not null, an
+ * array has at least so many elements, and the name in an object file where it is not inlined. */
+#ifdef __GNUC__
+#define AGEFILE_USED __attribute__((__warn_unused_result__))
+#define AGEFILE_NONNULL(parameters) __attribute__((__nonnull__ parameters))
+#else
+#define AGEFILE_USED
+#define AGEFILE_NONNULL(parameters)
+#endif
+#ifdef __cplusplus
+#define AGEFILE_LEAST
+#else
+#define AGEFILE_LEAST static
+#endif
+#define AGEFILE_CALL(name, parameters) \
+    __asm__("agefile_checked_" name) AGEFILE_USED AGEFILE_NONNULL(parameters)
+
 #define AGEFILE_TEXT_CHUNK 65536   /* bytes of a full chunk of the plaintext */
 #define AGEFILE_SEALED_CHUNK 65552 /* the same with its tag */
 #define AGEFILE_FRONT 65552        /* bytes from a file's start that hold its header and nonce */
 #define AGEFILE_HEADER_ROOM 256    /* bytes that hold a new file's header and nonce */
 
 /* A code is never reused. 15, 16 and 18 to 20 are faults of files and of other recipients; no
- * call here returns them. */
+ * call here returns them. AGEFILE_NULL_POINTER comes before every other code: a reader, writer
+ * or ranges that was to be opened is not open, and otherwise only the report is written. */
 enum agefile_code {
     AGEFILE_OK = 0,
     AGEFILE_NOT_AGE = 1,
@@ -64,7 +85,8 @@ enum agefile_code {
     AGEFILE_INCOMPATIBLE_RECIPIENTS = 20,
     AGEFILE_TOO_SMALL = 21,
     AGEFILE_WORK_FACTOR = 22,
-    AGEFILE_OUT_OF_ORDER = 23
+    AGEFILE_OUT_OF_ORDER = 23,
+    AGEFILE_NULL_POINTER = 24
 };
 
 /* The message of a code: the text of the program `agep`, without its numbers. The report's
@@ -96,33 +118,54 @@ static inline const char *agefile_message(uint32_t code)
     case AGEFILE_TOO_SMALL: return "buffer is too small";
     case AGEFILE_WORK_FACTOR: return "work factor is not 1 to 30";
     case AGEFILE_OUT_OF_ORDER: return "no such stanza or offset, or a call out of order";
+    case AGEFILE_NULL_POINTER: return "null pointer with a length";
     default: return "unknown code";
+    }
+}
+
+/* The part of a stanza that is malformed, by the detail of a report on AGEFILE_MALFORMED: the text
+ * that `agep` prints after "malformed stanza: ". */
+static inline const char *agefile_detail(uint64_t detail)
+{
+    switch (detail) {
+    case 1: return "argument count";
+    case 2: return "salt";
+    case 3: return "work factor";
+    case 4: return "work factor is too high";
+    case 5: return "body length";
+    default: return "other";
     }
 }
 
 /* What a call returns in addition to its code. */
 typedef struct agefile_report {
     uint64_t len;
-    uint64_t place;  /* the line or the chunk of a fault, else 0; for the calls of ranges an offset, see there */
-    uint64_t detail; /* for AGEFILE_MALFORMED: 1 argument count, 2 salt, 3 work factor's text, 4 work factor too high, 5 body's length */
+    uint64_t place;  /* the line or the chunk of a fault, else 0; for ranges an offset, see there */
+    uint64_t detail; /* for AGEFILE_MALFORMED the part of the stanza, see agefile_detail, else 0 */
 } agefile_report;
 
 /* ---- Whole buffers. report.len is the number of bytes written to the start of `out`; on
  * AGEFILE_TOO_SMALL it is the number that would have been written. After a fault of the payload
  * these bytes are the plaintext of the verified chunks before the fault: use it only after
  * AGEFILE_OK. */
-uint32_t agefile_decrypt_passphrase(const uint8_t *file, size_t file_len, const uint8_t *pass, size_t pass_len, uint8_t max_work,
-                                    uint8_t *out, size_t out_len, agefile_report *report);
-uint32_t agefile_decrypt_key(const uint8_t *file, size_t file_len, const uint8_t key[32],
-                             uint8_t *out, size_t out_len, agefile_report *report);
-uint32_t agefile_encrypt_passphrase(const uint8_t *plain, size_t plain_len, const uint8_t *pass, size_t pass_len, uint8_t work,
-                                    const uint8_t seed[48], uint8_t *out, size_t out_len, agefile_report *report);
-uint32_t agefile_encrypt_key(const uint8_t *plain, size_t plain_len, const uint8_t key[32], const uint8_t seed[48],
-                             uint8_t *out, size_t out_len, agefile_report *report);
+static inline uint32_t agefile_decrypt_passphrase(
+    const uint8_t *file, size_t file_len, const uint8_t *pass, size_t pass_len, uint8_t max_work,
+    uint8_t *out, size_t out_len, agefile_report *report) AGEFILE_CALL("decrypt_passphrase", (8));
+static inline uint32_t agefile_decrypt_key(
+    const uint8_t *file, size_t file_len, const uint8_t key[AGEFILE_LEAST 32], uint8_t *out,
+    size_t out_len, agefile_report *report) AGEFILE_CALL("decrypt_key", (3, 6));
+static inline uint32_t agefile_encrypt_passphrase(
+    const uint8_t *plain, size_t plain_len, const uint8_t *pass, size_t pass_len, uint8_t work,
+    const uint8_t seed[AGEFILE_LEAST 48], uint8_t *out, size_t out_len, agefile_report *report)
+    AGEFILE_CALL("encrypt_passphrase", (6, 9));
+static inline uint32_t agefile_encrypt_key(
+    const uint8_t *plain, size_t plain_len, const uint8_t key[AGEFILE_LEAST 32],
+    const uint8_t seed[AGEFILE_LEAST 48], uint8_t *out, size_t out_len, agefile_report *report)
+    AGEFILE_CALL("encrypt_key", (3, 4, 7));
 
 /* The size of a buffer that suffices; UINT64_MAX if it exceeds 64 bits. */
-uint64_t agefile_sealed_len(uint64_t plain_len);
-uint64_t agefile_plain_len_at_most(uint64_t file_len);
+uint64_t agefile_sealed_len(uint64_t plain_len) AGEFILE_USED;
+uint64_t agefile_plain_len_at_most(uint64_t file_len) AGEFILE_USED;
 
 /* ---- Headers. Reading a header needs no passphrase or key, so its MAC is not verified. `front` is
  * the file's first AGEFILE_FRONT bytes, or all of a shorter file. */
@@ -138,54 +181,68 @@ typedef struct agefile_stanza_summary {
     uint64_t body_len;
 } agefile_stanza_summary;
 
-uint32_t agefile_inspect(const uint8_t *front, size_t front_len, agefile_summary *summary, agefile_report *report);
+static inline uint32_t agefile_inspect(
+    const uint8_t *front, size_t front_len, agefile_summary *summary, agefile_report *report)
+    AGEFILE_CALL("inspect", (3, 4));
 /* Writes the arguments, joined by single spaces; report.len is their length. On
  * AGEFILE_TOO_SMALL `args` is unchanged, and `stanza` is set nevertheless. AGEFILE_OUT_OF_ORDER
  * if there is no such stanza. */
-uint32_t agefile_stanza(const uint8_t *front, size_t front_len, uint64_t index, uint8_t *args, size_t args_len,
-                        agefile_stanza_summary *stanza, agefile_report *report);
+static inline uint32_t agefile_stanza(
+    const uint8_t *front, size_t front_len, uint64_t index, uint8_t *args, size_t args_len,
+    agefile_stanza_summary *stanza, agefile_report *report) AGEFILE_CALL("stanza", (6, 7));
 
 /* ---- Reading in steps: open, then one call for each sealed chunk. The caller keeps the struct,
- * and only the calls change it. If an opening returns 0, report.len is the offset of the first
- * sealed chunk; otherwise the reader is not open. Even if no byte follows, one call for the last
- * chunk is needed: it finds that the file was cut short. A call that does not fit the state, or
- * a chunk of another length, returns AGEFILE_OUT_OF_ORDER, and everything except the report is
- * unchanged. */
+ * only the calls change it, and it is never copied while it is in use. If an opening returns 0,
+ * report.len is the offset of the first sealed chunk; otherwise the reader is not open. Even if no
+ * byte follows, one call for the last chunk is needed: it finds that the file was cut short. A
+ * call that does not fit the state, or a chunk of another length, returns AGEFILE_OUT_OF_ORDER,
+ * and everything except the report is unchanged. */
 typedef struct agefile_reader {
     uint8_t key[32];
     uint64_t number; /* of the next chunk */
     uint64_t state;  /* 0 not open, 1 open, 2 ended, 3 failed */
 } agefile_reader;
 
-uint32_t agefile_reader_open_passphrase(const uint8_t *front, size_t front_len, const uint8_t *pass, size_t pass_len,
-                                        uint8_t max_work, agefile_reader *reader, agefile_report *report);
-uint32_t agefile_reader_open_key(const uint8_t *front, size_t front_len, const uint8_t key[32],
-                                 agefile_reader *reader, agefile_report *report);
+static inline uint32_t agefile_reader_open_passphrase(
+    const uint8_t *front, size_t front_len, const uint8_t *pass, size_t pass_len, uint8_t max_work,
+    agefile_reader *reader, agefile_report *report) AGEFILE_CALL("reader_open_passphrase", (6, 7));
+static inline uint32_t agefile_reader_open_key(
+    const uint8_t *front, size_t front_len, const uint8_t key[AGEFILE_LEAST 32],
+    agefile_reader *reader, agefile_report *report) AGEFILE_CALL("reader_open_key", (3, 4, 5));
 /* Opens the next sealed chunk in place: AGEFILE_SEALED_CHUNK bytes, or what is left if it is the
  * last. On 0 its text is at the start of the chunk, report.len bytes; otherwise the chunk is
  * unchanged. After a fault the reader accepts no other chunk. A plaintext is complete only after
  * a 0 for its last chunk. */
-uint32_t agefile_reader_chunk(agefile_reader *reader, uint8_t *chunk, size_t chunk_len, bool last, agefile_report *report);
+static inline uint32_t agefile_reader_chunk(
+    agefile_reader *reader, uint8_t *chunk, size_t chunk_len, bool last, agefile_report *report)
+    AGEFILE_CALL("reader_chunk", (1, 5));
 
-/* ---- Writing in steps: open, then one call for each chunk. An empty plaintext has one chunk,
- * which is empty; no other is empty. If an opening returns 0, `out` starts with the header and
- * the nonce, report.len bytes; otherwise the writer is not open, and on AGEFILE_TOO_SMALL
- * report.len is the size that is needed. A call that does not fit the state, or a chunk of
- * another length, returns AGEFILE_OUT_OF_ORDER, as for a reader. */
+/* ---- Writing in steps: open, then one call for each chunk. Only the calls change the struct, and
+ * it is never copied while it is in use: a copy repeats nonces, as a seed does. An empty plaintext
+ * has one chunk, which is empty; no other is empty. If an opening returns 0, `out` starts with the
+ * header and the nonce, report.len bytes; otherwise the writer is not open, and on
+ * AGEFILE_TOO_SMALL report.len is the size that is needed. A call that does not fit the state, or
+ * a chunk of another length, returns AGEFILE_OUT_OF_ORDER, as for a reader. */
 typedef struct agefile_writer {
     uint8_t key[32];
     uint64_t number; /* of the next chunk */
     uint64_t state;  /* 0 not open, 1 open, 2 ended, 3 after one chunk too many */
 } agefile_writer;
 
-uint32_t agefile_writer_open_passphrase(const uint8_t *pass, size_t pass_len, uint8_t work, const uint8_t seed[48],
-                                        uint8_t *out, size_t out_len, agefile_writer *writer, agefile_report *report);
-uint32_t agefile_writer_open_key(const uint8_t key[32], const uint8_t seed[48],
-                                 uint8_t *out, size_t out_len, agefile_writer *writer, agefile_report *report);
+static inline uint32_t agefile_writer_open_passphrase(
+    const uint8_t *pass, size_t pass_len, uint8_t work, const uint8_t seed[AGEFILE_LEAST 48],
+    uint8_t *out, size_t out_len, agefile_writer *writer, agefile_report *report)
+    AGEFILE_CALL("writer_open_passphrase", (4, 7, 8));
+static inline uint32_t agefile_writer_open_key(
+    const uint8_t key[AGEFILE_LEAST 32], const uint8_t seed[AGEFILE_LEAST 48], uint8_t *out,
+    size_t out_len, agefile_writer *writer, agefile_report *report)
+    AGEFILE_CALL("writer_open_key", (1, 2, 5, 6));
 /* Seals the next chunk in place: its text, AGEFILE_TEXT_CHUNK bytes or what is left if it is the
  * last, and then 16 bytes for the tag. On 0 all chunk_len bytes are the sealed chunk; otherwise
  * they are unchanged. */
-uint32_t agefile_writer_chunk(agefile_writer *writer, uint8_t *chunk, size_t chunk_len, bool last, agefile_report *report);
+static inline uint32_t agefile_writer_chunk(
+    agefile_writer *writer, uint8_t *chunk, size_t chunk_len, bool last, agefile_report *report)
+    AGEFILE_CALL("writer_chunk", (1, 5));
 
 /* ---- Ranges in steps: open, verify the last sealed chunk, then locate and open the chunks that
  * are wanted. Damage in other chunks is not noticed. If an opening returns 0, report.place and
@@ -200,68 +257,288 @@ typedef struct agefile_ranges {
     uint64_t state;      /* 0 not open, 1 open, 2 the last chunk was verified */
 } agefile_ranges;
 
-uint32_t agefile_ranges_open_passphrase(const uint8_t *front, size_t front_len, uint64_t file_len, const uint8_t *pass,
-                                        size_t pass_len, uint8_t max_work, agefile_ranges *ranges, agefile_report *report);
-uint32_t agefile_ranges_open_key(const uint8_t *front, size_t front_len, uint64_t file_len, const uint8_t key[32],
-                                 agefile_ranges *ranges, agefile_report *report);
+static inline uint32_t agefile_ranges_open_passphrase(
+    const uint8_t *front, size_t front_len, uint64_t file_len, const uint8_t *pass, size_t pass_len,
+    uint8_t max_work, agefile_ranges *ranges, agefile_report *report)
+    AGEFILE_CALL("ranges_open_passphrase", (7, 8));
+static inline uint32_t agefile_ranges_open_key(
+    const uint8_t *front, size_t front_len, uint64_t file_len, const uint8_t key[AGEFILE_LEAST 32],
+    agefile_ranges *ranges, agefile_report *report) AGEFILE_CALL("ranges_open_key", (4, 5, 6));
 /* Verifies the last sealed chunk, which proves where the file ends, and must come first. On 0
  * its text is at the start of the chunk, and report.len is the plaintext's length. On a fault
  * the chunk is unchanged, and the payload counts as not verified. */
-uint32_t agefile_ranges_last(agefile_ranges *ranges, uint8_t *chunk, size_t chunk_len, agefile_report *report);
+static inline uint32_t agefile_ranges_last(
+    agefile_ranges *ranges, uint8_t *chunk, size_t chunk_len, agefile_report *report)
+    AGEFILE_CALL("ranges_last", (1, 4));
 /* Finds the sealed chunk that holds the plaintext's byte `at`: report.place is its offset in the
  * file, report.len its length. AGEFILE_OUT_OF_ORDER past the plaintext's end. */
-uint32_t agefile_ranges_locate(const agefile_ranges *ranges, uint64_t at, agefile_report *report);
+uint32_t agefile_ranges_locate(
+    const agefile_ranges *ranges, uint64_t at, agefile_report *report)
+    AGEFILE_USED AGEFILE_NONNULL((1, 3));
 /* Opens the sealed chunk that holds byte `at` in place. On 0 report.len bytes of the plaintext
  * from `at` on are at chunk + report.place; otherwise the chunk is unchanged. */
-uint32_t agefile_ranges_chunk(const agefile_ranges *ranges, uint64_t at, uint8_t *chunk, size_t chunk_len, agefile_report *report);
+static inline uint32_t agefile_ranges_chunk(
+    const agefile_ranges *ranges, uint64_t at, uint8_t *chunk, size_t chunk_len,
+    agefile_report *report) AGEFILE_CALL("ranges_chunk", (1, 5));
 
-/* ---- Null pointers. A null pointer with the length 0 is replaced by the address of a byte that
- * is neither read nor written. A name in parentheses, as (agefile_inspect)(..), is the function
- * itself. */
+/* ---- How null pointers are checked. The library's own functions take no null pointer. They have
+ * names of their own here, and the calls above, which are functions of this header, check the
+ * pointers and call them. A null pointer with the length 0 is replaced by the address of a byte
+ * that is neither read nor written. */
+uint32_t agefile_export_decrypt_passphrase(
+    const uint8_t *file, size_t file_len, const uint8_t *pass, size_t pass_len, uint8_t max_work,
+    uint8_t *out, size_t out_len, agefile_report *report) __asm__("agefile_decrypt_passphrase");
+uint32_t agefile_export_decrypt_key(
+    const uint8_t *file, size_t file_len, const uint8_t key[AGEFILE_LEAST 32], uint8_t *out,
+    size_t out_len, agefile_report *report) __asm__("agefile_decrypt_key");
+uint32_t agefile_export_encrypt_passphrase(
+    const uint8_t *plain, size_t plain_len, const uint8_t *pass, size_t pass_len, uint8_t work,
+    const uint8_t seed[AGEFILE_LEAST 48], uint8_t *out, size_t out_len, agefile_report *report)
+    __asm__("agefile_encrypt_passphrase");
+uint32_t agefile_export_encrypt_key(
+    const uint8_t *plain, size_t plain_len, const uint8_t key[AGEFILE_LEAST 32],
+    const uint8_t seed[AGEFILE_LEAST 48], uint8_t *out, size_t out_len, agefile_report *report)
+    __asm__("agefile_encrypt_key");
+uint32_t agefile_export_inspect(
+    const uint8_t *front, size_t front_len, agefile_summary *summary, agefile_report *report)
+    __asm__("agefile_inspect");
+uint32_t agefile_export_stanza(
+    const uint8_t *front, size_t front_len, uint64_t index, uint8_t *args, size_t args_len,
+    agefile_stanza_summary *stanza, agefile_report *report) __asm__("agefile_stanza");
+uint32_t agefile_export_reader_open_passphrase(
+    const uint8_t *front, size_t front_len, const uint8_t *pass, size_t pass_len, uint8_t max_work,
+    agefile_reader *reader, agefile_report *report) __asm__("agefile_reader_open_passphrase");
+uint32_t agefile_export_reader_open_key(
+    const uint8_t *front, size_t front_len, const uint8_t key[AGEFILE_LEAST 32],
+    agefile_reader *reader, agefile_report *report) __asm__("agefile_reader_open_key");
+uint32_t agefile_export_reader_chunk(
+    agefile_reader *reader, uint8_t *chunk, size_t chunk_len, bool last, agefile_report *report)
+    __asm__("agefile_reader_chunk");
+uint32_t agefile_export_writer_open_passphrase(
+    const uint8_t *pass, size_t pass_len, uint8_t work, const uint8_t seed[AGEFILE_LEAST 48],
+    uint8_t *out, size_t out_len, agefile_writer *writer, agefile_report *report)
+    __asm__("agefile_writer_open_passphrase");
+uint32_t agefile_export_writer_open_key(
+    const uint8_t key[AGEFILE_LEAST 32], const uint8_t seed[AGEFILE_LEAST 48], uint8_t *out,
+    size_t out_len, agefile_writer *writer, agefile_report *report)
+    __asm__("agefile_writer_open_key");
+uint32_t agefile_export_writer_chunk(
+    agefile_writer *writer, uint8_t *chunk, size_t chunk_len, bool last, agefile_report *report)
+    __asm__("agefile_writer_chunk");
+uint32_t agefile_export_ranges_open_passphrase(
+    const uint8_t *front, size_t front_len, uint64_t file_len, const uint8_t *pass, size_t pass_len,
+    uint8_t max_work, agefile_ranges *ranges, agefile_report *report)
+    __asm__("agefile_ranges_open_passphrase");
+uint32_t agefile_export_ranges_open_key(
+    const uint8_t *front, size_t front_len, uint64_t file_len, const uint8_t key[AGEFILE_LEAST 32],
+    agefile_ranges *ranges, agefile_report *report) __asm__("agefile_ranges_open_key");
+uint32_t agefile_export_ranges_last(
+    agefile_ranges *ranges, uint8_t *chunk, size_t chunk_len, agefile_report *report)
+    __asm__("agefile_ranges_last");
+uint32_t agefile_export_ranges_chunk(
+    const agefile_ranges *ranges, uint64_t at, uint8_t *chunk, size_t chunk_len,
+    agefile_report *report) __asm__("agefile_ranges_chunk");
+
+static inline bool agefile_is_missing(const uint8_t *bytes, size_t len)
+{
+    return bytes == NULL && len != 0;
+}
+
+static inline uint32_t agefile_null_pointer(agefile_report *report)
+{
+    static const agefile_report none = {0, 0, 0};
+    *report = none;
+    return AGEFILE_NULL_POINTER;
+}
+
 static inline const uint8_t *agefile_input(const uint8_t *bytes)
 {
     static const uint8_t none = 0;
-    return bytes ? bytes : &none;
+    return bytes != NULL ? bytes : &none;
 }
 
 static inline uint8_t *agefile_output(uint8_t *bytes)
 {
     static uint8_t none;
-    return bytes ? bytes : &none;
+    return bytes != NULL ? bytes : &none;
 }
 
-#define agefile_decrypt_passphrase(file, file_len, pass, pass_len, max_work, out, out_len, report) \
-    (agefile_decrypt_passphrase)(agefile_input(file), file_len, agefile_input(pass), pass_len, max_work, agefile_output(out), out_len, report)
-#define agefile_decrypt_key(file, file_len, key, out, out_len, report) \
-    (agefile_decrypt_key)(agefile_input(file), file_len, key, agefile_output(out), out_len, report)
-#define agefile_encrypt_passphrase(plain, plain_len, pass, pass_len, work, seed, out, out_len, report) \
-    (agefile_encrypt_passphrase)(agefile_input(plain), plain_len, agefile_input(pass), pass_len, work, seed, agefile_output(out), out_len, report)
-#define agefile_encrypt_key(plain, plain_len, key, seed, out, out_len, report) \
-    (agefile_encrypt_key)(agefile_input(plain), plain_len, key, seed, agefile_output(out), out_len, report)
-#define agefile_inspect(front, front_len, summary, report) \
-    (agefile_inspect)(agefile_input(front), front_len, summary, report)
-#define agefile_stanza(front, front_len, index, args, args_len, stanza, report) \
-    (agefile_stanza)(agefile_input(front), front_len, index, agefile_output(args), args_len, stanza, report)
-#define agefile_reader_open_passphrase(front, front_len, pass, pass_len, max_work, reader, report) \
-    (agefile_reader_open_passphrase)(agefile_input(front), front_len, agefile_input(pass), pass_len, max_work, reader, report)
-#define agefile_reader_open_key(front, front_len, key, reader, report) \
-    (agefile_reader_open_key)(agefile_input(front), front_len, key, reader, report)
-#define agefile_reader_chunk(reader, chunk, chunk_len, last, report) \
-    (agefile_reader_chunk)(reader, agefile_output(chunk), chunk_len, last, report)
-#define agefile_writer_open_passphrase(pass, pass_len, work, seed, out, out_len, writer, report) \
-    (agefile_writer_open_passphrase)(agefile_input(pass), pass_len, work, seed, agefile_output(out), out_len, writer, report)
-#define agefile_writer_open_key(key, seed, out, out_len, writer, report) \
-    (agefile_writer_open_key)(key, seed, agefile_output(out), out_len, writer, report)
-#define agefile_writer_chunk(writer, chunk, chunk_len, last, report) \
-    (agefile_writer_chunk)(writer, agefile_output(chunk), chunk_len, last, report)
-#define agefile_ranges_open_passphrase(front, front_len, file_len, pass, pass_len, max_work, ranges, report) \
-    (agefile_ranges_open_passphrase)(agefile_input(front), front_len, file_len, agefile_input(pass), pass_len, max_work, ranges, report)
-#define agefile_ranges_open_key(front, front_len, file_len, key, ranges, report) \
-    (agefile_ranges_open_key)(agefile_input(front), front_len, file_len, key, ranges, report)
-#define agefile_ranges_last(ranges, chunk, chunk_len, report) \
-    (agefile_ranges_last)(ranges, agefile_output(chunk), chunk_len, report)
-#define agefile_ranges_chunk(ranges, at, chunk, chunk_len, report) \
-    (agefile_ranges_chunk)(ranges, at, agefile_output(chunk), chunk_len, report)
+static inline uint32_t agefile_decrypt_passphrase(
+    const uint8_t *file, size_t file_len, const uint8_t *pass, size_t pass_len, uint8_t max_work,
+    uint8_t *out, size_t out_len, agefile_report *report)
+{
+    if (agefile_is_missing(file, file_len) || agefile_is_missing(pass, pass_len) ||
+        agefile_is_missing(out, out_len))
+        return agefile_null_pointer(report);
+    return agefile_export_decrypt_passphrase(
+        agefile_input(file), file_len, agefile_input(pass), pass_len, max_work, agefile_output(out),
+        out_len, report);
+}
+
+static inline uint32_t agefile_decrypt_key(
+    const uint8_t *file, size_t file_len, const uint8_t key[AGEFILE_LEAST 32], uint8_t *out,
+    size_t out_len, agefile_report *report)
+{
+    if (agefile_is_missing(file, file_len) || agefile_is_missing(out, out_len))
+        return agefile_null_pointer(report);
+    return agefile_export_decrypt_key(
+        agefile_input(file), file_len, key, agefile_output(out), out_len, report);
+}
+
+static inline uint32_t agefile_encrypt_passphrase(
+    const uint8_t *plain, size_t plain_len, const uint8_t *pass, size_t pass_len, uint8_t work,
+    const uint8_t seed[AGEFILE_LEAST 48], uint8_t *out, size_t out_len, agefile_report *report)
+{
+    if (agefile_is_missing(plain, plain_len) || agefile_is_missing(pass, pass_len) ||
+        agefile_is_missing(out, out_len))
+        return agefile_null_pointer(report);
+    return agefile_export_encrypt_passphrase(
+        agefile_input(plain), plain_len, agefile_input(pass), pass_len, work, seed,
+        agefile_output(out), out_len, report);
+}
+
+static inline uint32_t agefile_encrypt_key(
+    const uint8_t *plain, size_t plain_len, const uint8_t key[AGEFILE_LEAST 32],
+    const uint8_t seed[AGEFILE_LEAST 48], uint8_t *out, size_t out_len, agefile_report *report)
+{
+    if (agefile_is_missing(plain, plain_len) || agefile_is_missing(out, out_len))
+        return agefile_null_pointer(report);
+    return agefile_export_encrypt_key(
+        agefile_input(plain), plain_len, key, seed, agefile_output(out), out_len, report);
+}
+
+static inline uint32_t agefile_inspect(
+    const uint8_t *front, size_t front_len, agefile_summary *summary, agefile_report *report)
+{
+    if (agefile_is_missing(front, front_len))
+        return agefile_null_pointer(report);
+    return agefile_export_inspect(agefile_input(front), front_len, summary, report);
+}
+
+static inline uint32_t agefile_stanza(
+    const uint8_t *front, size_t front_len, uint64_t index, uint8_t *args, size_t args_len,
+    agefile_stanza_summary *stanza, agefile_report *report)
+{
+    if (agefile_is_missing(front, front_len) || agefile_is_missing(args, args_len))
+        return agefile_null_pointer(report);
+    return agefile_export_stanza(
+        agefile_input(front), front_len, index, agefile_output(args), args_len, stanza, report);
+}
+
+static inline uint32_t agefile_reader_open_passphrase(
+    const uint8_t *front, size_t front_len, const uint8_t *pass, size_t pass_len, uint8_t max_work,
+    agefile_reader *reader, agefile_report *report)
+{
+    static const agefile_reader closed = {{0}, 0, 0};
+    if (agefile_is_missing(front, front_len) || agefile_is_missing(pass, pass_len)) {
+        *reader = closed;
+        return agefile_null_pointer(report);
+    }
+    return agefile_export_reader_open_passphrase(
+        agefile_input(front), front_len, agefile_input(pass), pass_len, max_work, reader, report);
+}
+
+static inline uint32_t agefile_reader_open_key(
+    const uint8_t *front, size_t front_len, const uint8_t key[AGEFILE_LEAST 32],
+    agefile_reader *reader, agefile_report *report)
+{
+    static const agefile_reader closed = {{0}, 0, 0};
+    if (agefile_is_missing(front, front_len)) {
+        *reader = closed;
+        return agefile_null_pointer(report);
+    }
+    return agefile_export_reader_open_key(agefile_input(front), front_len, key, reader, report);
+}
+
+static inline uint32_t agefile_reader_chunk(
+    agefile_reader *reader, uint8_t *chunk, size_t chunk_len, bool last, agefile_report *report)
+{
+    if (agefile_is_missing(chunk, chunk_len))
+        return agefile_null_pointer(report);
+    return agefile_export_reader_chunk(reader, agefile_output(chunk), chunk_len, last, report);
+}
+
+static inline uint32_t agefile_writer_open_passphrase(
+    const uint8_t *pass, size_t pass_len, uint8_t work, const uint8_t seed[AGEFILE_LEAST 48],
+    uint8_t *out, size_t out_len, agefile_writer *writer, agefile_report *report)
+{
+    static const agefile_writer closed = {{0}, 0, 0};
+    if (agefile_is_missing(pass, pass_len) || agefile_is_missing(out, out_len)) {
+        *writer = closed;
+        return agefile_null_pointer(report);
+    }
+    return agefile_export_writer_open_passphrase(
+        agefile_input(pass), pass_len, work, seed, agefile_output(out), out_len, writer, report);
+}
+
+static inline uint32_t agefile_writer_open_key(
+    const uint8_t key[AGEFILE_LEAST 32], const uint8_t seed[AGEFILE_LEAST 48], uint8_t *out,
+    size_t out_len, agefile_writer *writer, agefile_report *report)
+{
+    static const agefile_writer closed = {{0}, 0, 0};
+    if (agefile_is_missing(out, out_len)) {
+        *writer = closed;
+        return agefile_null_pointer(report);
+    }
+    return agefile_export_writer_open_key(key, seed, agefile_output(out), out_len, writer, report);
+}
+
+static inline uint32_t agefile_writer_chunk(
+    agefile_writer *writer, uint8_t *chunk, size_t chunk_len, bool last, agefile_report *report)
+{
+    if (agefile_is_missing(chunk, chunk_len))
+        return agefile_null_pointer(report);
+    return agefile_export_writer_chunk(writer, agefile_output(chunk), chunk_len, last, report);
+}
+
+static inline uint32_t agefile_ranges_open_passphrase(
+    const uint8_t *front, size_t front_len, uint64_t file_len, const uint8_t *pass, size_t pass_len,
+    uint8_t max_work, agefile_ranges *ranges, agefile_report *report)
+{
+    static const agefile_ranges closed = {{0}, 0, 0, 0};
+    if (agefile_is_missing(front, front_len) || agefile_is_missing(pass, pass_len)) {
+        *ranges = closed;
+        return agefile_null_pointer(report);
+    }
+    return agefile_export_ranges_open_passphrase(
+        agefile_input(front), front_len, file_len, agefile_input(pass), pass_len, max_work, ranges,
+        report);
+}
+
+static inline uint32_t agefile_ranges_open_key(
+    const uint8_t *front, size_t front_len, uint64_t file_len, const uint8_t key[AGEFILE_LEAST 32],
+    agefile_ranges *ranges, agefile_report *report)
+{
+    static const agefile_ranges closed = {{0}, 0, 0, 0};
+    if (agefile_is_missing(front, front_len)) {
+        *ranges = closed;
+        return agefile_null_pointer(report);
+    }
+    return agefile_export_ranges_open_key(
+        agefile_input(front), front_len, file_len, key, ranges, report);
+}
+
+static inline uint32_t agefile_ranges_last(
+    agefile_ranges *ranges, uint8_t *chunk, size_t chunk_len, agefile_report *report)
+{
+    if (agefile_is_missing(chunk, chunk_len))
+        return agefile_null_pointer(report);
+    return agefile_export_ranges_last(ranges, agefile_output(chunk), chunk_len, report);
+}
+
+static inline uint32_t agefile_ranges_chunk(
+    const agefile_ranges *ranges, uint64_t at, uint8_t *chunk, size_t chunk_len,
+    agefile_report *report)
+{
+    if (agefile_is_missing(chunk, chunk_len))
+        return agefile_null_pointer(report);
+    return agefile_export_ranges_chunk(ranges, at, agefile_output(chunk), chunk_len, report);
+}
+
+#undef AGEFILE_CALL
+#undef AGEFILE_LEAST
+#undef AGEFILE_NONNULL
+#undef AGEFILE_USED
 
 #ifdef __cplusplus
 }

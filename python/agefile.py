@@ -48,6 +48,7 @@ _MESSAGES = (
     "buffer is too small",
     "work factor is not 1 to 30",
     "no such stanza or offset, or a call out of order",
+    "null pointer with a length",
 )
 _DETAILS = ("other", "argument count", "salt", "work factor", "work factor is too high", "body length")
 

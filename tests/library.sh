@@ -5,7 +5,7 @@
 # arguments all groups run; what is installed and built for them is checked in any case. The last
 # line is 'N passed, M failed'.
 groups=(
-    names languages constants buffers steps refuse second_compiler threads programs faults with_age
+    names folders languages declarations diagnoses constants nulls buffers steps refuse second_compiler threads programs faults with_age
     memory document python rust
 )
 source "$(dirname "$0")/checks.bash"
@@ -34,7 +34,7 @@ files_of() {
 }
 
 installs() {
-    local usage="usage: ./install-library [--uninstall] [PREFIX]"
+    local usage="usage: ./install-library [--libdir=DIR] [--v3] [--uninstall] [PREFIX]" words
     mkdir -p prefix/include
     touch prefix/include/other.h
     chmod 644 prefix/include/other.h
@@ -63,6 +63,11 @@ installs() {
     keep "$root/install-library" ''
     has_ended 2 "$usage"
     check "./install-library refuses an empty PREFIX"
+    for words in --libdir= --libdir=/lib --libdir=../lib --libdir=lib/.. "--libdir=a b" --libdir=lib/ --v2; do
+        keep "$root/install-library" "$words" refused
+        has_ended 2 "$usage" && [[ ! -e refused ]]
+        check "./install-library refuses $words"
+    done
     keep "$root/install-library" --help
     has_said 0 "" && holds out "$usage"
     check "./install-library --help prints the usage"
@@ -74,13 +79,15 @@ names_of() {
 }
 
 names() {
-    grep -oE '^uint(32|64)_t agefile_[a-z_]+' "$header" | cut -d ' ' -f 2 | sort >expected
+    grep -oE '^uint(32|64)_t agefile_[a-z_]+' "$header" | sed 's/.* agefile_\(export_\)\?/agefile_/' | sort >expected
     [[ $(wc -l <expected) == 19 ]]
     check "the header declares 19 functions"
     names_of -g --defined-only "$archive" | cmp -s - expected
     check "libagefile.a has just these names"
-    names_of -D --defined-only "$shared" | cmp -s - expected
-    check "libagefile.so.0 has just these names"
+    names_of -D --defined-only "$shared" | cmp -s - <({ sed 's/$/@@AGEFILE_0/' expected && echo AGEFILE_0; } | sort)
+    check "libagefile.so.0 has just these names, with the version AGEFILE_0"
+    nm -D stream | grep -q ' agefile_writer_open_key@AGEFILE_0$'
+    check "a program that is linked with it asks for this version"
     names_of -u "$archive" | grep -vxE 'free|malloc|realloc|memcpy|memmove|memset|memcmp' >out
     [[ $? -eq 1 && ! -s out ]]
     check "libagefile.a needs nothing but malloc, realloc, free and functions on memory"
@@ -88,6 +95,66 @@ names() {
     grep -q 'SONAME.*\[libagefile.so.0\]' out && grep -q BIND_NOW out && grep -q GNU_RELRO out && ! grep -q TEXTREL out &&
         [[ $(grep -c NEEDED out) == 1 ]] && grep -q 'NEEDED.*\[libc.so.6\]' out
     check "libagefile.so.0 has a soname, is bound and made read-only at the start, and needs libc.so.6 alone"
+}
+
+# The loader that a program names.
+loader_of() {
+    readelf -Wl "$1" | sed -n 's/.*interpreter: \(.*\)\]$/\1/p'
+}
+
+# The shared library that the loader finds for a program; the words are the loader's own.
+loaded() {
+    local program=$1
+    shift
+    "$(loader_of "$program")" "$@" --list "./$program" | sed -n 's/.*libagefile.so.0 => \(.*\) (.*/\1/p'
+}
+
+# Which of the two libraries under this folder the loader takes.
+loads() {
+    if ! "$(loader_of staged_stream)" --help | grep -q -e --glibc-hwcaps-mask; then
+        echo "skipped: which library is loaded, since the loader knows no levels of processors"
+        return
+    fi
+    [[ $(loaded staged_stream --glibc-hwcaps-mask x86-64-v2) == "$1/libagefile.so.0" ]]
+    check "the loader takes the first library where x86-64-v3 is masked"
+    # shellcheck source=../build.sh
+    if ! (source "$root/build.sh" && has_v3); then
+        echo "skipped: the library for x86-64-v3 in use, which this processor lacks"
+        return
+    fi
+    [[ $(loaded staged_stream) == "$1/glibc-hwcaps/x86-64-v3/libagefile.so.0" ]] && seq 100000 >plain &&
+        ./staged_stream -e key <plain | ./staged_stream key | cmp -s - plain && ./staged_stream -e key <plain | "$agep" decrypt -k key | cmp -s - plain
+    check "the loader takes the library for x86-64-v3 on this processor, and it seals and opens"
+}
+
+# An installation for a package, in a folder of libraries for one architecture, with the library for
+# x86-64-v3.
+folders() {
+    local libraries=staged/usr/lib/x86_64-linux-gnu second
+    second=$libraries/glibc-hwcaps/x86-64-v3/libagefile.so.0
+    DESTDIR=staged keep "$root/install-library" --v3 --libdir=lib/x86_64-linux-gnu /usr
+    [[ $(cat status) == 0 ]] && files_of staged/usr | cmp -s - <(
+        printf '%s\n' '644 include/agefile.h' '644 lib/x86_64-linux-gnu/libagefile.a' '644 lib/x86_64-linux-gnu/pkgconfig/agefile.pc' \
+            '755 lib/x86_64-linux-gnu/glibc-hwcaps/x86-64-v3/libagefile.so.0' '755 lib/x86_64-linux-gnu/libagefile.so.0' \
+            'lib/x86_64-linux-gnu/libagefile.so -> libagefile.so.0'
+    )
+    check "./install-library with DESTDIR, --libdir and --v3 puts each file into its folder"
+    cmp -s "$libraries/libagefile.so.0" "$shared" && objdump -d "$second" | grep -q '%ymm' && ! objdump -d "$shared" | grep -q '%ymm'
+    check "of the two libraries only that for x86-64-v3 uses AVX2"
+    cmp -s <(names_of -D --defined-only "$second") <(names_of -D --defined-only "$shared")
+    check "both libraries have the same names and versions"
+    if command -v pkg-config >/dev/null; then
+        # shellcheck disable=SC2046
+        cc -O2 -o staged_stream "$root/c/stream.c" $(PKG_CONFIG_PATH=$work/$libraries/pkgconfig pkg-config --cflags --libs agefile) \
+            "-Wl,-rpath,$work/$libraries"
+        check "agefile.pc names the folders of the header and the library"
+    else
+        cc -O2 "-I$work/staged/usr/include" -o staged_stream "$root/c/stream.c" "-L$work/$libraries" -lagefile "-Wl,-rpath,$work/$libraries"
+    fi
+    loads "$work/$libraries"
+    DESTDIR=staged keep "$root/install-library" --libdir=lib/x86_64-linux-gnu --uninstall /usr
+    has_said 0 "" && [[ -z $(ls -A staged/usr) ]]
+    check "./install-library --uninstall with DESTDIR and --libdir removes them all"
 }
 
 languages() {
@@ -100,6 +167,87 @@ languages() {
         c++ "${warnings[@]}" -x c++ -std=c++11 -o header header.c -x none "$archive" 2>err
         check "the header is C++11, and links"
     fi
+}
+
+# What the comparison of the declarations says of the repository in a folder.
+compare_declarations() {
+    AGEFILE_LIBRARY=$shared PYTHONDONTWRITEBYTECODE=1 keep python3 "$root/tests/library/declarations.py" "$1"
+}
+
+# Whether the comparison finds a change of one declaration, and shows it as one of that file, or of
+# the file that is named last: finds FILE OLD NEW [FILE].
+finds() {
+    rm -rf copy && mkdir -p copy/crates/agefile copy/rust &&
+        cp -r "$root/crates/agefile/src" copy/crates/agefile && cp -r "$root/include" "$root/python" copy && cp -r "$root/rust/src" copy/rust &&
+        python3 -c 'import pathlib, sys
+path, old, new = pathlib.Path(sys.argv[1]), *sys.argv[2:]
+text = path.read_text()
+sys.exit(old not in text or path.write_text(text.replace(old, new)) == 0)' "copy/$1" "$2" "$3" || return 1
+    compare_declarations copy
+    [[ $(cat status) == 1 ]] && grep -q '^--- crates/agefile/src' out && grep -q "^+++ ${4:-$1}" out && grep -q '^[+-][^+-]' out
+}
+
+declarations() {
+    if ! command -v python3 >/dev/null; then
+        echo "skipped: the comparison of the declarations, since python3 is missing"
+        return
+    fi
+    compare_declarations "$root"
+    has_said 0 "" && holds out "19 functions, 6 structs"
+    check_shown "the exports, agefile.h, agefile.py and ffi.rs declare the same functions and structs"
+    finds crates/agefile/src/ranges.rt 'file_len: u64' 'file_len: u32' include/agefile.h
+    check "another type of an export's parameter is found"
+    finds crates/agefile/src/report.rt 'pub detail: u64' 'pub detail: u32' include/agefile.h
+    check "another type of an export's field is found"
+    finds include/agefile.h 'uint64_t index' 'uint32_t index'
+    check "another type in the header is found"
+    finds include/agefile.h 'const agefile_ranges *ranges, uint64_t at' 'uint64_t at, const agefile_ranges *ranges'
+    check "another order of parameters in the header is found"
+    finds include/agefile.h '__asm__("agefile_decrypt_key")' '__asm__("agefile_encrypt_key")'
+    check "another export behind a call of the header is found"
+    finds include/agefile.h 'AGEFILE_CALL("decrypt_key", (3, 6))' 'AGEFILE_CALL("decrypt_key", (3))'
+    check "a parameter that the header lets be null is found"
+    finds include/agefile.h 'uint8_t mac[32]' 'uint8_t mac[24]'
+    check "another size of a struct in the header is found"
+    finds python/agefile.py '"ranges_locate": [ranges, number, report]' '"ranges_locate": [ranges, byte, report]'
+    check "another type in Python is found"
+    finds python/agefile.py '("first", ctypes.c_uint64)' '("first", ctypes.c_uint8)'
+    check "another field in Python is found"
+    finds rust/src/ffi.rs 'last: bool' 'last: u8'
+    check "another type in Rust is found"
+    finds rust/src/ffi.rs 'pub header_len: u64' 'pub header_len: u32'
+    check "another field in Rust is found"
+}
+
+# Whether a compiler refuses a function with this body, and what it says has this pattern:
+# is_refused COMPILER BODY PATTERN.
+is_refused() {
+    local flags=("${warnings[@]}" -O2 -c -o call.o)
+    [[ $1 != *++ ]] || flags+=(-x c++)
+    echo "#include <agefile.h>
+uint8_t key[32], front[9], short_key[31];
+agefile_reader reader;
+agefile_report report;
+uint32_t call(void);
+uint32_t call(void) { $2 }" >call.c
+    ! "$1" "${flags[@]}" call.c 2>err && grep -qE "$3" err
+}
+
+diagnoses() {
+    local compiler call='agefile_reader_open_key(front, 9, key, &reader, &report)'
+    for compiler in gcc clang g++ clang++; do
+        command -v $compiler >/dev/null || continue
+        ! is_refused $compiler "return $call;" . && [[ ! -s err ]]
+        check "$compiler: a right call is not diagnosed"
+        is_refused $compiler "$call; return 0;" unused-result
+        check "$compiler: a result that is ignored is diagnosed"
+        is_refused $compiler "return ${call/&report/NULL};" nonnull && is_refused $compiler "return ${call/&reader/NULL};" nonnull &&
+            is_refused $compiler "return ${call/key,/NULL,};" nonnull
+        check "$compiler: a null pointer without a length is diagnosed"
+        [[ $compiler != *++ ]] || continue
+        is_refused $compiler "return ${call/key,/short_key,};" 'array-bounds|stringop-overflow|stringop-overread|array-parameter'
+        check "$compiler: a key of 31 bytes is diagnosed"
+    done
 }
 
 # The codes of the crate, one a line: NAME NUMBER.
@@ -119,14 +267,25 @@ messages_of_faults() {
         text != "" && /^    [A-Z]/ { sub(/[,(].*/, "", $1); print $1 "\t" text; text = "" }' "$root/crates/age_file/src/fault.rt")
 }
 
+# The program's texts for the parts of a stanza, by the crate's details, one a line: NUMBER TEXT.
+details_of_faults() {
+    local name text number
+    while IFS=$'\t' read -r name text; do
+        number=$(sed -nE "s/^ +Fault::Malformed\(StanzaFault::$name\) => ([0-9]+),/\1/p" "$root/crates/agefile/src/code.rt")
+        [[ -z $number ]] || echo "$number $text"
+    done < <(awk '/#\[error/ { text = $0; gsub(/^[^"]*"|"[^"]*$/, "", text); next }
+        text != "" && /^    [A-Z]/ { sub(/[,(].*/, "", $1); print $1 "\t" text; text = "" }' "$root/crates/age_recipient/src/unwrapped.rt")
+}
+
 # The number that a file gives a constant of this name, in C, Rust or Python.
 number_of() {
     sed -nE "s/^(#define |(pub(\(crate\))? )?const )?$2(: [a-z0-9]+)?( =)? ([0-9_]+)\b.*/\6/p" "$1" | tr -d _
 }
 
 constants() {
-    sed -nE 's/^    AGEFILE_([A-Z_]+) = ([0-9]+),?$/\1 \2/p' "$header" | sort | cmp -s - codes && [[ $(wc -l <codes) == 24 ]]
-    check "the header's codes are the crate's"
+    sed -nE 's/^    AGEFILE_([A-Z_]+) = ([0-9]+),?$/\1 \2/p' "$header" | sort | cmp -s - <(sort codes <(echo NULL_POINTER 24)) &&
+        [[ $(wc -l <codes) == 24 ]]
+    check "the header's codes are the crate's, and its own for a null pointer"
     [[ $(sed -nE 's/^const MAX_HEADER: usize = ([0-9_]+);/\1/p' "$root/crates/agefile/src/limits.rt") == 65_536 ]] &&
         grep -q '^#define AGEFILE_FRONT 65552 ' "$header"
     check "AGEFILE_FRONT is the crate's greatest header, and a nonce"
@@ -146,6 +305,8 @@ constants() {
     check "each fault of the library has a code and a message"
     sed -n 2,21p all | cmp -s - <(sed -E 's/ ?\{0\} ?/ /; s/:? ?\{[01]\}//; s/:? $//' faults)
     check "the header's messages are the program's"
+    [[ $(wc -l <details) == 5 ]] && sed -n 's/^detail //p' all | cmp -s - details
+    check "the header's texts for the parts of a stanza are the program's"
 }
 
 # Runs each test of a C program, and shows the line that it writes where it passes.
@@ -160,6 +321,13 @@ tests_of() {
     done < <("./$1")
 }
 
+# Builds nulls.c as C++, where there is a compiler for it.
+cpp_program() {
+    command -v c++ >/dev/null || return
+    c++ -g "${warnings[@]}" -std=c++11 "$@" -o nulls_cpp -x c++ "$root/tests/library/nulls.c" -x none "$archive"
+    check "nulls.c builds as C++ without a warning"
+}
+
 # Builds the C programs. Where there are no sanitizers they are built without.
 c_programs() {
     local sanitizers=("-fsanitize=address,undefined" -fno-sanitize-recover=all) wrapped name
@@ -169,15 +337,16 @@ int main(void) { return *agefile_message(agefile_sealed_len(0) == 0); }' >header
         echo "skipped: sanitizers, which this C compiler lacks"
         sanitizers=()
     fi
-    for name in buffers steps refuse; do
+    for name in nulls buffers steps refuse; do
         wrapped=()
         [[ $name == refuse ]] && wrapped=("-Wl,--wrap=malloc,--wrap=realloc,--wrap=free")
         cc -g "${warnings[@]}" "${sanitizers[@]}" -o "$name" "$root/tests/library/$name.c" "$archive" "${wrapped[@]}"
         check "$name.c builds without a warning"
     done
+    cpp_program "${sanitizers[@]}"
     cc -g "${warnings[@]}" "${sanitizers[@]}" -o safe_stream "$root/c/stream.c" "$archive"
     check "the example builds without a warning"
-    for name in convert threads peak; do
+    for name in convert threads peak breaks; do
         cc -O2 "${warnings[@]}" -pthread -o "$name" "$root/tests/library/$name.c" "$archive"
         check "$name.c builds without a warning"
     done
@@ -189,6 +358,16 @@ int main(void) { return *agefile_message(agefile_sealed_len(0) == 0); }' >header
         cc -O2 "-I$prefix/include" -o stream "$root/c/stream.c" "-L$prefix/lib" -lagefile "-Wl,-rpath,$prefix/lib"
     fi
     check "the example builds over libagefile.so"
+}
+
+# Null pointers, in C and in C++; also where the header's functions are inlined.
+nulls() {
+    tests_of nulls
+    [[ ! -e nulls_cpp ]] || tests_of nulls_cpp
+    cc -O2 "${warnings[@]}" -o inlined_nulls "$root/tests/library/nulls.c" "$archive"
+    tests_of inlined_nulls
+    cc "${warnings[@]}" -Wno-unused-parameter -o passed "$root/tests/library/passed.c" && ./passed >out 2>err
+    check_shown "no call passes a null pointer on to the library"
 }
 
 buffers() {
@@ -222,7 +401,7 @@ threads() {
     local kib
     kib=$(./threads)
     [[ $? -eq 0 && $kib -gt 0 ]]
-    check "four threads at once, $kib KiB of 128 KiB of stack taken, no signal's handler changed"
+    check "four threads at once and a forked child, $kib KiB of 32 KiB of stack taken, no signal's handler changed"
 }
 
 # Whether a plaintext goes from the C calls to the program and back under this secret, in the same
@@ -292,6 +471,19 @@ faults() {
     keep ./safe_stream key <part
     has_ended 1 "stream: wrong passphrase or key (0)"
     check "the example says why it ends"
+    keep ./safe_stream -e key <.
+    has_said 1 "stream: read failed" && ! opens_whole out
+    check "the example makes no file of a directory"
+    for len in 0 10 65535 65536 65537 131072 131073; do
+        keep ./breaks $len ./safe_stream -e key
+        has_said 1 "stream: read failed" && ! opens_whole out
+        check "the example makes no file of an input that fails after $len bytes"
+    done
+}
+
+# Whether a file is whole under the key.
+opens_whole() {
+    "$agep" decrypt -k key "$1" >/dev/null 2>&1
 }
 
 # Runs age on these words, and types the passphrase at its prompts.
@@ -340,6 +532,25 @@ block() {
     awk -v begin="\`\`\`$1" '$0 == begin { shown = 1; next } /^```$/ { shown = 0 } shown' "$root/$2"
 }
 
+# The lines of docs/C.md that compile a program, here under this PREFIX.
+compiles() {
+    local line
+    if ! command -v pkg-config >/dev/null; then
+        echo "skipped: the lines of docs/C.md that compile, since pkg-config is missing"
+        return
+    fi
+    cp document.c program.c
+    grep '^cc .* program\.c ' "$root/docs/C.md" >lines
+    [[ $(wc -l <lines) == 2 ]]
+    check "docs/C.md: two lines compile a program"
+    while IFS= read -r line; do
+        rm -f program
+        PKG_CONFIG_PATH=$prefix/lib/pkgconfig bash -c "${line//\/usr\/local/$prefix}" &&
+            LD_LIBRARY_PATH=$prefix/lib ./program 'correct horse' <made | cmp -s - plain
+        check "docs/C.md: $line"
+    done <lines
+}
+
 # The programs of docs/C.md do what they are there for.
 document() {
     local language
@@ -358,6 +569,7 @@ document() {
     head -c 150 made | keep ./document 'correct horse'
     has_ended 1 "payload nonce is cut short"
     check "docs/C.md: the program in C says what is wrong"
+    compiles
     command -v python3 >/dev/null || return
     AGEFILE_LIBRARY=$shared PYTHONPATH=$root/python PYTHONDONTWRITEBYTECODE=1 python3 document.py >out 2>err
     [[ $? -eq 0 && $(cat out) == "b'two\n'
@@ -379,8 +591,11 @@ for code in range(24): print(code, agefile.AgeError(code, 7, 2))' | sed -n '2,21
             s/^19 .*/19 recipient refused/; s/^20 .*/20 recipient does not go with recipient 0/' faults)
     check "Python's messages are the program's"
     python3 -c 'import agefile
-for code in (0, 21, 22, 23): print(code, agefile.AgeError(code))' | cmp -s - <(sed -n '1p;22,24p' all)
+for code in (0, 21, 22, 23, 24): print(code, agefile.AgeError(code))' | cmp -s - <(sed -n '1p;22,25p' all)
     check "Python's other messages are the header's"
+    python3 -c 'import agefile
+for detail in range(1, 6): print(detail, str(agefile.AgeError(8, 0, detail))[len("malformed stanza: "):])' | cmp -s - details
+    check "Python's texts for the parts of a stanza are the program's"
 }
 
 rust() {
@@ -399,6 +614,7 @@ set_up() {
     c_programs
     codes_of_crate >codes
     messages_of_faults | sort -n >faults
+    details_of_faults | sort -n >details
     ./convert messages >all
     head -c 32 /dev/urandom >key
     head -c 48 /dev/urandom >seed

@@ -341,6 +341,10 @@ installs() {
     keep "$root/install" "$work/other" && keep "$root/install" --uninstall other/
     has_said 0 "" && [[ -d other && -z $(ls -A other) ]]
     check "./install --uninstall leaves PREFIX itself, here an empty folder"
+    DESTDIR=staged keep "$root/install" /usr
+    has_said 0 "" && [[ -x staged/usr/bin/agep && -e staged/usr/share/man/man1/agep.1 ]] && DESTDIR=staged/ keep "$root/install" --uninstall /usr &&
+        has_said 0 "" && [[ -d staged/usr && -z $(ls -A staged/usr) ]]
+    check "./install puts its files below DESTDIR, and removes them there"
     for words in --other "--uninstall --other" "a b" "--uninstall a b"; do
         # shellcheck disable=SC2086
         keep "$root/install" $words

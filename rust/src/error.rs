@@ -44,6 +44,7 @@ impl fmt::Display for Error {
             21 => write!(f, "buffer is too small"),
             22 => write!(f, "work factor is not 1 to 30"),
             23 => write!(f, "no such stanza or offset, or a call out of order"),
+            24 => write!(f, "null pointer with a length"),
             _ => write!(f, "unknown code"),
         }
     }

@@ -114,17 +114,26 @@ fn headers_are_inspected() {
     assert_eq!(inspect(b"age-encryption.org/v1\nbad\n").unwrap_err().to_string(), "bad header line 2");
 }
 
-/// The texts of `agefile_message` in the header, which have no numbers.
+/// The texts that the header returns, in their order.
+fn texts_of(header: &str) -> Vec<&str> {
+    header.lines().filter_map(|line| line.split_once(": return \"")?.1.strip_suffix("\";")).collect()
+}
+
+/// The texts of `agefile_message`, which have no numbers, and of `agefile_detail` in the header.
 #[test]
 fn messages_are_those_of_the_header() {
     let header = include_str!("../../include/agefile.h");
-    let texts: Vec<&str> =
-        header.lines().filter_map(|line| line.split_once(": return \"")?.1.strip_suffix("\";")).collect();
-    assert_eq!(texts.len(), 25);
-    for (code, text) in texts.iter().enumerate() {
+    let (messages, details) = header.split_once("char *agefile_detail").unwrap();
+    assert_eq!(texts_of(messages).len(), 26);
+    for (code, text) in texts_of(messages).iter().enumerate() {
         let message = Error { code: code as u32, place: 7, detail: 2 }.to_string();
         let message = message.strip_suffix(": salt").unwrap_or(&message).replace("chunk 7 ", "chunk ");
         assert_eq!(message.strip_suffix(" 7").unwrap_or(&message), *text);
+    }
+    assert_eq!(texts_of(details).len(), 6);
+    for (text, detail) in texts_of(details).iter().zip([1, 2, 3, 4, 5, 0]) {
+        let message = Error { code: 8, place: 0, detail }.to_string();
+        assert_eq!(message.strip_prefix("malformed stanza: "), Some(*text));
     }
 }
 

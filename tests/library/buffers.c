@@ -159,31 +159,10 @@ static void work_factors(void)
     CHECK(agefile_decrypt_passphrase(out, len, pass, pass_len, 3, out + len, 4, &report) == AGEFILE_OK && report.len == 4);
 }
 
-static void null_pointers(void)
-{
-    uint8_t out[1000];
-    agefile_report report = unset_report();
-    agefile_summary summary;
-    agefile_reader reader;
-    agefile_writer writer;
-    CHECK(agefile_encrypt_key(NULL, 0, key, seed, out, sizeof out, &report) == AGEFILE_OK);
-    size_t len = report.len;
-    CHECK(agefile_decrypt_key(out, len, key, NULL, 0, &report) == AGEFILE_OK && has_fields(&report, 0, 0, 0));
-    CHECK(agefile_decrypt_key(NULL, 0, key, NULL, 0, &report) == AGEFILE_HEADER_TRUNCATED);
-    CHECK(agefile_encrypt_key(NULL, 0, key, seed, NULL, 0, &report) == AGEFILE_TOO_SMALL && report.len == len);
-    CHECK(agefile_inspect(NULL, 0, &summary, &report) == AGEFILE_HEADER_TRUNCATED);
-    CHECK(agefile_reader_open_key(out, len, key, &reader, &report) == AGEFILE_OK);
-    CHECK(agefile_reader_chunk(&reader, NULL, 0, true, &report) == AGEFILE_CHUNK_SHORT);
-    CHECK(agefile_writer_open_passphrase(NULL, 0, work, seed, out, sizeof out, &writer, &report) == AGEFILE_OK);
-    CHECK(agefile_encrypt_passphrase(NULL, 0, NULL, 0, work, seed, out, sizeof out, &report) == AGEFILE_OK);
-    CHECK(agefile_decrypt_passphrase(out, report.len, NULL, 0, work, NULL, 0, &report) == AGEFILE_OK);
-    CHECK(agefile_decrypt_passphrase(NULL, 0, NULL, 0, work, NULL, 0, &report) == AGEFILE_HEADER_TRUNCATED);
-}
-
 static void sizes_suffice(void)
 {
     CHECK(agefile_sealed_len(UINT64_MAX) == UINT64_MAX && agefile_sealed_len(UINT64_MAX - 200) == UINT64_MAX);
-    CHECK(agefile_plain_len_at_most(0) <= AGEFILE_FRONT && agefile_plain_len_at_most(UINT64_MAX) <= UINT64_MAX);
+    CHECK(agefile_plain_len_at_most(0) <= AGEFILE_FRONT && agefile_plain_len_at_most(UINT64_MAX) < UINT64_MAX);
     uint64_t before = agefile_sealed_len(0);
     for (uint64_t len = 1; len < (uint64_t)1 << 63; len += len / 2 + 1) {
         uint64_t now = agefile_sealed_len(len);
@@ -250,7 +229,6 @@ static const struct {
     {"damage in the header, the nonce and each chunk", damage},
     {"files that were cut", truncation},
     {"work factors out of range", work_factors},
-    {"null pointers with the length 0", null_pointers},
     {"the sizes suffice, at their limits too", sizes_suffice},
     {"headers and their stanzas", headers},
     {"headers beyond the limit", long_headers},

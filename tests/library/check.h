@@ -33,7 +33,7 @@ static inline bool has_fields(const agefile_report *report, uint64_t len, uint64
 // Memory of exactly this size, so that a sanitizer sees one byte too many.
 static inline uint8_t *room(size_t len)
 {
-    uint8_t *bytes = malloc(len);
+    uint8_t *bytes = (uint8_t *)malloc(len);
     if (bytes == NULL && len > 0)
         exit(3);
     return bytes;
@@ -68,9 +68,10 @@ static inline bool are_all(const uint8_t *bytes, size_t len, uint8_t byte)
     return true;
 }
 
-static const uint8_t key[32] = "a key of thirty-two bytes, fixed";
-static const uint8_t other_key[32] = "another key, which opens nothing";
-static const uint8_t seed[48] = "forty-eight bytes, which no real file may share";
+// 32 and 48 bytes, each before a zero.
+static const uint8_t key[33] = "a key of thirty-two bytes, fixed";
+static const uint8_t other_key[33] = "another key, which opens nothing";
+static const uint8_t seed[49] = "forty-eight bytes, which no real file may share";
 static const uint8_t *const pass = (const uint8_t *)"correct horse";
 enum { pass_len = 13, work = 2, tag = 16 };
 

@@ -1,7 +1,8 @@
 // Encrypts or decrypts standard input to standard output by one kind of call, for comparisons with other programs:
 //   convert (whole | steps | ranges) (encrypt | decrypt) (-k | -p) SECRET_FILE [WORK [SEED_FILE]]
 //   convert messages
-// The status is the call's code, whose message is shown on standard error. messages prints the code and the message of each code.
+// The status is the call's code, whose message is shown on standard error. messages prints the code and the message of each code, and the
+// detail and the text of each detail.
 #include "check.h"
 #include <sys/random.h>
 
@@ -104,9 +105,12 @@ static uint32_t decrypt_ranges(void)
 int main(int argc, char **argv)
 {
     if (argc == 2 && strcmp(argv[1], "messages") == 0) {
-        for (uint32_t code = 0; code <= AGEFILE_OUT_OF_ORDER; code++)
+        for (uint32_t code = 0; code <= AGEFILE_NULL_POINTER; code++)
             printf("%u %s\n", (unsigned)code, agefile_message(code));
-        return strcmp(agefile_message(AGEFILE_OUT_OF_ORDER + 1), "unknown code") != 0;
+        for (uint64_t detail = 1; detail <= 5; detail++)
+            printf("detail %u %s\n", (unsigned)detail, agefile_detail(detail));
+        return strcmp(agefile_message(AGEFILE_NULL_POINTER + 1), "unknown code") != 0 || strcmp(agefile_detail(0), "other") != 0 ||
+               strcmp(agefile_detail(6), "other") != 0 || strcmp(agefile_detail(UINT64_MAX), "other") != 0;
     }
     if (argc < 5)
         return 98;

@@ -368,6 +368,9 @@ static void ranges_out_of_order(void)
     for (uint64_t number = 3; number != 0; number <<= 3) {
         bad.state = number;
         CHECK(agefile_ranges_locate(&bad, 0, &report) == AGEFILE_OUT_OF_ORDER);
+        memcpy(chunk, file.bytes + place, len);
+        CHECK(agefile_ranges_last(&bad, chunk, len, &report) == AGEFILE_OUT_OF_ORDER && bad.state == number);
+        CHECK(are_equal(chunk, file.bytes + place, len));
         bad = ranges;
         bad.sealed_len = 0 - number;
         bad.first = 0 - number;

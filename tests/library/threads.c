@@ -1,10 +1,12 @@
-// Four threads that call the library at once, each on a stack of 128 KiB; and which signals' handlers it changes. Prints how much stack the
-// calls took at most.
+// Four threads that call the library at once, each on a stack of 32 KiB, and a forked child; and which signals' handlers it changes. Prints
+// how much stack the calls took at most.
 #include "check.h"
 #include <pthread.h>
 #include <signal.h>
+#include <sys/wait.h>
+#include <unistd.h>
 
-enum { threads = 4, turns = 20, stack_size = 128 * 1024 };
+enum { threads = 4, turns = 20, stack_size = 32 * 1024 };
 
 static const size_t len = 140000;
 static made_file file;
@@ -60,6 +62,20 @@ static void *run(void *unused)
     return unused;
 }
 
+// Makes the calls in a forked child, while the threads make them here.
+static void in_a_child(void)
+{
+    int status;
+    pid_t child = fork();
+    if (child == 0) {
+        uint8_t *text = text_of(len);
+        whole_buffers(text);
+        steps(text);
+        _exit(failed != 0);
+    }
+    fail_if(child < 0 || waitpid(child, &status, 0) != child || status != 0);
+}
+
 // Runs the calls on painted stacks, and looks how deep they went.
 static void run_all(void)
 {
@@ -72,6 +88,7 @@ static void run_all(void)
         if (pthread_attr_setstack(&attributes, stacks[i], stack_size) != 0 || pthread_create(&ids[i], &attributes, run, NULL) != 0)
             exit(3);
     }
+    in_a_child();
     for (int i = 0; i < threads; i++) {
         size_t unused = 0;
         pthread_join(ids[i], NULL);

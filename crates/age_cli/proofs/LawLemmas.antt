@@ -17,12 +17,12 @@ use Rattle.age_file.specs.Verdict.{Answering, IsVerdict}
 use Rattle.age_words.specs.declared.job.Command.{Command}
 use Rattle.age_words.specs.declared.job.Command.TheVariants as command
 use Rattle.age_words.specs.declared.job.Job.{Job}
-use Rattle.age_cli.specs.declared.task.Task.{Task}
-use Rattle.age_cli.specs.declared.task.Task.TheVariants as task
+use Rattle.age_commands.specs.declared.task.Task.{Task}
+use Rattle.age_commands.specs.declared.task.Task.TheVariants as task
 use Rattle.age_cli.specs.Output.{Ends}
 use Rattle.age_cli.specs.Program.{Finishes, IsTaskOf, Works}
-use Rattle.age_cli.specs.Secret.{answers_of, limits_of}
-use Rattle.age_cli.specs.Task.{Decrypting, Encrypting, without_counts}
+use Rattle.age_commands.specs.Secret.{answers_of, limits_of}
+use Rattle.age_commands.specs.Task.{Decrypting, Encrypting, without_counts}
 
 -- the output ends with what was appended
 grown : (xs more : Bytes) (taken new : Known) → Appends (Some xs) taken more → Keeps taken new → new ≡ Some (xs ++ more)

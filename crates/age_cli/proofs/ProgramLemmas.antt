@@ -4,7 +4,7 @@ use Rattle.std.specs.Prelude.{⊤}
 use Rattle.age_header.specs.Device.{Known}
 use Rattle.age_words.specs.declared.job.Job.{Job}
 use Rattle.age_cli.specs.declared.failure.Failure.{Failure}
-use Rattle.age_cli.specs.declared.task.Task.{Task}
+use Rattle.age_commands.specs.declared.task.Task.{Task}
 use Rattle.age_cli.specs.Program.{Completes, IsTaskOf, PerformsTo}
 
 pub completes : (job : Job) (task : Task) (from old new : Known) (r : Result ⊤ Failure) → IsTaskOf job.command task

@@ -6,10 +6,10 @@ use Rattle.std.specs.Prelude.{⊤}
 use Rattle.age_header.specs.Device.{Bytes, Known}
 use Rattle.age_file.specs.declared.fault.Fault.{Fault}
 use Rattle.age_words.specs.declared.job.Job.{Job}
-use Rattle.age_cli.specs.declared.task.Task.{Task}
+use Rattle.age_commands.specs.declared.task.Task.{Task}
 use Rattle.age_cli.specs.Output.{Ends}
 use Rattle.age_cli.specs.Program.{Works}
-use Rattle.age_cli.specs.Task.{Performs}
+use Rattle.age_commands.specs.Task.{Performs}
 
 -- an empty buffer
 pub held_none : (known : Known) (held : Bytes) → held ≡ [] → append_known known held ≡ known

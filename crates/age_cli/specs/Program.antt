@@ -9,10 +9,10 @@ use Rattle.age_words.specs.declared.job.Command.TheVariants as command
 use Rattle.age_words.specs.declared.job.Job.{Job}
 use Rattle.age_cli.specs.declared.failure.Failure.{Failure}
 use Rattle.age_cli.specs.declared.fault.Fault.TheVariants.{AgeFile}
-use Rattle.age_cli.specs.declared.task.Task.{Task}
-use Rattle.age_cli.specs.declared.task.Task.TheVariants as task
+use Rattle.age_commands.specs.declared.task.Task.{Task}
+use Rattle.age_commands.specs.declared.task.Task.TheVariants as task
 use Rattle.age_cli.specs.Output.{Ends}
-use Rattle.age_cli.specs.Task.{Performs}
+use Rattle.age_commands.specs.Task.{Performs}
 
 -- a task of this command
 abbrev pub IsTaskOf : (command : Command) (task : Task) → Type 0

@@ -3,8 +3,8 @@
 
 ghost use Rattle.age_words.specs.Job.{IsInRange};
 
-use crate::buffering::limits_of;
 use crate::watched::Watched;
+use age_commands::limits_of;
 use age_file::{
     CHUNK_SIZE, Fault, Header, MemSource, NONCE_SIZE, SEALED_CHUNK_SIZE, Stanza, StanzaFault,
     TAG_SIZE, inspect,

@@ -8,7 +8,7 @@ ghost use Rattle.age_recipient.specs.declared.key.FileKey.{FileKey};
 ghost use Rattle.age_file.specs.AgeFile.{AgeFile};
 ghost use Rattle.age_words.specs.declared.job.Job.{Job};
 ghost use Rattle.age_cli.specs.Program.{Finishes};
-ghost use Rattle.age_cli.specs.Secret.{limits_of};
+ghost use Rattle.age_commands.specs.Secret.{limits_of};
 
 use age_file::laws::ok_is_age_file;
 use age_words::Command;

@@ -8,12 +8,10 @@ use crate::fault::Fault;
 use crate::file_names::{Lines, Role};
 use crate::files::{NamedFile, open, open_seekable, read_just, refuse_shared_input};
 use crate::output::create;
-use crate::secret::{
-    Secret, Seed, new_secret_files, read_new_secret, read_secret, read_seed, secret_files,
-};
-use crate::task::Task;
+use crate::secret::{new_secret_files, read_new_secret, read_secret, read_seed, secret_files};
 use crate::watched::Watched;
 use crate::work::{kept_front, perform_to, range_to};
+use age_commands::{Secret, Task};
 use age_words::{Command, Job, WordsFault, read_words};
 use std::fmt::Display;
 use std::io::{IsTerminal, Read, Write};

@@ -9,10 +9,8 @@ use crate::failure::{Detail, Doing, Failure};
 use crate::fault::Fault;
 use crate::file_names::Name;
 use crate::hint::{header_of, hint_at};
-use crate::range::range_of;
-use crate::secret::Secret;
-use crate::task::{Task, perform_between};
 use crate::watched::Watched;
+use age_commands::{Secret, Task, perform_between, range_of, source_at_offsets};
 use age_words::{Command, Job};
 use std::alloc::Global;
 use std::io;
@@ -114,7 +112,10 @@ fn range_through<'b, R: Read + Seek, W: Write, K: Start>(
     requires contents { K.contents ≡ W.contents parts.out.now }
 {
     let mut sink: BufferedSink<'b, W, K> = BufferedSink::new(parts);
-    let work = range_of(alloc, job, secret, input, &mut sink);
+    let work = match source_at_offsets(alloc, input) {
+        Ok(mut source) => range_of(alloc, job, secret, &mut source, &mut sink),
+        Err(fault) => Err(fault),
+    };
     sink.finish(work)
 }
 

@@ -45,11 +45,6 @@ abbrev pub IsIncompatible : (meant : List Labels) (index : Option ℕ) → Type 
 IsIncompatible meant index =
     (labels : List Labels) × AllZip MayLabel meant labels × (index ≡ incompatible labels)
 
--- the same, of which the labels of recipient 0 are known
-abbrev pub IsIncompatibleWith : (first : Labels) (meant : List Labels) (index : Option ℕ) → Type 0
-IsIncompatibleWith first meant index =
-    (labels : List Labels) × AllZip MayLabel meant labels × (index ≡ incompatible (first ∷ labels))
-
 -- what recipients with these meanings may give: all their stanzas, the first refusal, or the first
 -- recipient that does not go together with recipient 0
 abbrev pub Gathered : (wrapped : List (Result (List StanzaParts) ℕ)) (meant : List Labels)

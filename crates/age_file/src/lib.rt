@@ -54,7 +54,7 @@ pub use age_header::{
 pub use age_recipient::{
     FileKey, Identity, KeyIdentity, KeyPair, KeyRecipient, LabelSet, Labels, Matched, PassError,
     PassIdentity, PassPair, PassRecipient, Recipient, StanzaFault, UnlockFault, Unwrapped,
-    WrapFault, unlock,
+    WrapFault, first_incompatible, unlock,
 };
 pub use age_stream::{
     CHUNK_SIZE, Done, FileAt, MemAt, NONCE_SIZE, RangeReader, ReadAt, Refused, SEALED_CHUNK_SIZE,

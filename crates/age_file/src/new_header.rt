@@ -1,17 +1,18 @@
 //! The header of a new file.
 
 ghost use Rattle.std.specs.Prelude.{◌≡◌, ◌≤◌, Some, None, map, IfOk, IfErr};
+ghost use Rattle.std.specs.List.{AllZip};
 ghost use Rattle.age_header.specs.Device.{Bytes};
 ghost use Rattle.age_header.specs.Mac.{header_mac};
 ghost use Rattle.age_recipient.specs.Labels.{MayLabel};
 ghost use Rattle.age_recipient.specs.Wrap.{WrapsAs};
-ghost use Rattle.age_file.specs.NewFile.{FailsHeading, Gathered, Gathers, IsIncompatible, IsIncompatibleWith, IsHeading, WrapsAll, gathered_from};
+ghost use Rattle.age_file.specs.NewFile.{FailsHeading, Gathered, Gathers, IsHeading, WrapsAll, gathered_from};
 
 use crate::fault::Fault;
 use crate::limits::Limits;
 use crate::unlocking::is_mixed;
 use age_header::{Header, Stanza, mac_of};
-use age_recipient::{FileKey, Labels, Recipient, WrapFault};
+use age_recipient::{FileKey, Labels, Recipient, WrapFault, first_incompatible};
 use std::alloc::{AllocError, Global};
 
 /// Makes the header of a new file for these recipients, with its MAC under the file key.
@@ -71,10 +72,12 @@ fn gather_stanzas(
         Ok(stanzas) => stanzas,
         Err(fault) => return Err(fault),
     };
-    match first_incompatible(alloc, recipients) {
-        Ok(None) => Ok(stanzas),
-        Ok(Some(i)) => Err(Fault::IncompatibleRecipients(i)),
-        Err(_) => Err(Fault::OutOfMemory),
+    let Ok(labels) = labels_of_all(alloc, recipients) else {
+        return Err(Fault::OutOfMemory);
+    };
+    match first_incompatible(labels.as_slice()) {
+        None => Ok(stanzas),
+        Some(i) => Err(Fault::IncompatibleRecipients(i)),
     }
 }
 
@@ -102,34 +105,19 @@ fn wrap_all(
     Ok(all)
 }
 
-/// The least index of a recipient whose labels do not go together with those of recipient 0.
-fn first_incompatible(
+/// The labels of the recipients, in order.
+fn labels_of_all(
     alloc: Global,
     recipients: &[Box<dyn Recipient>],
-) -> Result<Option<usize>, AllocError>
-    ensures { IfOk result (IsIncompatible (map (λ r. the_labels r) recipients.now)) }
+) -> Result<Vec<Labels>, AllocError>
+    ensures { IfOk result (λ labels.
+        AllZip MayLabel (map (λ r. the_labels r) recipients.now) labels.items) }
 {
-    match recipients.split_first() {
-        Some((first, others)) => incompatible_with(alloc, &labels_of(alloc, first)?, others),
-        None => Ok(None),
+    let mut all = Vec::new(alloc);
+    for recipient in recipients {
+        all.push(labels_of(alloc, recipient)?)?;
     }
-}
-
-/// The index, counted from 1, of the first of the others whose labels do not go together with
-/// these.
-fn incompatible_with(
-    alloc: Global,
-    first: &Labels,
-    others: &[Box<dyn Recipient>],
-) -> Result<Option<usize>, AllocError>
-    ensures { IfOk result (IsIncompatibleWith first.now (map (λ r. the_labels r) others.now)) }
-{
-    for (i, other) in others.iter().enumerate() {
-        if !first.go_together(&labels_of(alloc, other)?) {
-            return Ok(Some(i + 1));
-        }
-    }
-    Ok(None)
+    Ok(all)
 }
 
 /// Calls one recipient's `wrap`. It is a function of its own since its contract can cite the box,

@@ -1,7 +1,7 @@
 //! Labels: which recipients go together in one file.
 
 ghost use Rattle.std.specs.Prelude.{◌≡◌, map, IfOk};
-ghost use Rattle.age_recipient.specs.Labels.{IsSetOf, go_together};
+ghost use Rattle.age_recipient.specs.Labels.{IsSetOf, go_together, incompatible};
 
 use std::alloc::{AllocError, Global};
 use std::collections::BTreeSet;
@@ -71,6 +71,21 @@ impl Labels {
             _ => false,
         }
     }
+}
+
+/// The least index, from 1 up, whose labels do not go together with those at index 0.
+pub fn first_incompatible(labels: &[Labels]) -> Option<usize>
+    ensures { result ≡ incompatible labels.now }
+{
+    let Some((first, others)) = labels.split_first() else {
+        return None;
+    };
+    for (i, other) in others.iter().enumerate() {
+        if !first.go_together(other) {
+            return Some(i + 1);
+        }
+    }
+    None
 }
 
 impl Clone for Labels {

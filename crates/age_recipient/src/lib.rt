@@ -36,7 +36,7 @@ pub use choice::{UnlockFault, unlock};
 pub use identity::Identity;
 pub use key::FileKey;
 pub use keyed::{KeyIdentity, KeyPair, KeyRecipient};
-pub use labels::{LabelSet, Labels};
+pub use labels::{LabelSet, Labels, first_incompatible};
 pub use matched::Matched;
 pub use passphrase::{PassError, PassIdentity, PassPair, PassRecipient};
 pub use recipient::{Recipient, WrapFault};

@@ -1,6 +1,6 @@
 -- Ranges of a plaintext in steps: the caller reads one sealed chunk of the file at a time (C2SP
 -- age.md, "Payload").
-use Rattle.std.specs.Prelude.{ℕ, ◌≡◌, ◌⊎◌, ◌<◌, ◌≤◌, ◌+◌, ◌-◌, ◌*◌, ◌/◌, ◌%◌, ◌^◌, ◌++◌, ◌&&◌, Bool, length, take, drop, min, nat_eq, nat_le, nat_lt, replicate, None, Some, Result, Ok, Err}
+use Rattle.std.specs.Prelude.{ℕ, ◌≡◌, ◌⊎◌, ◌<◌, ◌≤◌, ◌+◌, ◌-◌, ◌*◌, ◌/◌, ◌%◌, ◌^◌, ◌++◌, ◌&&◌, ◌||◌, Bool, length, take, drop, min, nat_eq, nat_le, nat_lt, replicate, None, Some, Result, Ok, Err}
 use Rattle.age_kdf.specs.Bytes.{Bytes}
 use Rattle.age_stream.specs.declared.fault.StreamFault.{StreamFault}
 use Rattle.age_stream.specs.Reading.{outcome}
@@ -108,7 +108,7 @@ Verified old new chunk after report code (Err fault) =
 -- the payload was opened, and these are as many bytes as the last piece has
 abbrev pub may_verify : (r : Ranges) (chunk : Bytes) → Bool
 may_verify r chunk =
-    nat_lt state_closed r.state
+    (nat_eq r.state state_open || nat_eq r.state state_verified)
     && nat_eq (length chunk) (piece_len r.sealed_len (last_index r.sealed_len))
 
 -- the last piece was verified, offsets in the file fit 64 bits, and the plaintext has a byte at

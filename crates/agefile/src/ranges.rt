@@ -176,7 +176,7 @@ pub extern "C" fn agefile_ranges_last(
     let sealed_len = ranges.sealed_len;
     let last = last_index(sealed_len);
     let len = chunk.len();
-    if ranges.state == CLOSED || len != piece_len(sealed_len, last) {
+    if !matches!(ranges.state, OPEN | VERIFIED) || len != piece_len(sealed_len, last) {
         return OUT_OF_ORDER;
     }
     ranges.state = OPEN;

@@ -4,7 +4,7 @@ use crate::{MemAt, ReadAt};
 use age_header::{DeviceFault, Sink, Source};
 use std::cell::Cell;
 use std::io;
-use std::io::{Read, Seek, SeekFrom};
+use std::io::{ErrorKind, Read, Seek, SeekFrom};
 
 /// Gives at most `most` of these bytes at a time. Its contents are not known to proofs.
 #[derive(Drop)]
@@ -158,5 +158,40 @@ impl<F: Read> Read for SlowFile<F> {
 impl<F: Seek> Seek for SlowFile<F> {
     fn seek(&mut self, to: SeekFrom) -> io::Result<u64> {
         self.file.seek(to)
+    }
+}
+
+/// A file whose seek with this number, counted from 1, fails, though it has moved the file.
+#[derive(Drop)]
+pub(super) struct FailingSeek<F> {
+    file: F,
+    seeks: u64,
+    failing: u64,
+}
+
+impl<F> FailingSeek<F> {
+    pub(super) fn new(file: F, failing: u64) -> FailingSeek<F> {
+        FailingSeek {
+            file,
+            seeks: 0,
+            failing,
+        }
+    }
+}
+
+impl<F: Read> Read for FailingSeek<F> {
+    fn read(&mut self, buf: &mut [u8]) -> io::Result<usize> {
+        self.file.read(buf)
+    }
+}
+
+impl<F: Seek> Seek for FailingSeek<F> {
+    fn seek(&mut self, to: SeekFrom) -> io::Result<u64> {
+        self.seeks = self.seeks.saturating_add(1);
+        let moved = self.file.seek(to);
+        if self.seeks == self.failing {
+            return Err(io::Error::from(ErrorKind::Other));
+        }
+        moved
     }
 }

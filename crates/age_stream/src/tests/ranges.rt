@@ -1,8 +1,9 @@
 //! Ranges of a plaintext, over memory, over a file, and over sources that are slow or fail.
 
-use super::devices::{CountingReadAt, SlowFile};
+use super::devices::{CountingReadAt, FailingSeek, SlowFile};
 use super::{EMPTY, KEY, plain_of, written};
 use crate::{FileAt, MemAt, RangeReader, ReadAt, StreamFault};
+use age_header::DeviceFault;
 use std::alloc::Global;
 use std::cell::Cell;
 use std::fs;
@@ -216,6 +217,50 @@ fn truncated_file_is_a_failed_read(rt: HostRuntime) -> Result<(), Fail> {
     )?;
     range(&rt, alloc, &mut reader, (0, 10), Ok(10), 10)?;
     fs::remove_file(&rt, "cut.tmp")?;
+    Ok(())
+}
+
+/// Reads at this offset into three bytes 255: what is returned, and what the buffer has then.
+fn read_at<T: Abort, D: ReadAt>(
+    rt: &T,
+    dev: &mut D,
+    at: u64,
+    answer: Result<usize, DeviceFault>,
+    bytes: &[u8; 3],
+) {
+    let mut buf = [255u8; 3];
+    assert_eq!(rt; dev.read_at(at, &mut buf), answer, "at {at}");
+    assert_eq!(rt; &buf, bytes, "at {at}");
+}
+
+/// A failed seek is a failed read, and the next read seeks again, where the file was moved too.
+#[test]
+fn failed_seek_is_a_failed_read(rt: HostRuntime) -> Result<(), Fail> {
+    fs::write(&rt, "seek.tmp", b"0123456789")?;
+    let mut dev = FileAt::new(FailingSeek::new(File::open(&rt, "seek.tmp")?, 2));
+    read_at(&rt, &mut dev, 0, Ok(3), b"012");
+    read_at(&rt, &mut dev, 6, Err(DeviceFault), &[255; 3]);
+    assert_eq!(rt; dev.failures(), 1);
+    assert_eq!(rt; dev.given(), 3);
+    read_at(&rt, &mut dev, 3, Ok(3), b"345");
+    let mut dev = FileAt::new(FailingSeek::new(File::open(&rt, "seek.tmp")?, 1));
+    assert_eq!(rt; dev.size(), Err(DeviceFault));
+    assert_eq!(rt; dev.failures(), 1);
+    assert_eq!(rt; dev.size(), Ok(10));
+    fs::remove_file(&rt, "seek.tmp")?;
+    Ok(())
+}
+
+/// After a short read the file is where the bytes that were read end, and not where the buffer
+/// would have ended.
+#[test]
+fn short_read_moves_by_what_it_read(rt: HostRuntime) -> Result<(), Fail> {
+    fs::write(&rt, "short.tmp", b"0123456789")?;
+    let mut dev = FileAt::new(SlowFile::new(File::open(&rt, "short.tmp")?));
+    read_at(&rt, &mut dev, 0, Ok(1), &[b'0', 255, 255]);
+    read_at(&rt, &mut dev, 3, Ok(1), &[b'3', 255, 255]);
+    read_at(&rt, &mut dev, 4, Ok(1), &[b'4', 255, 255]);
+    fs::remove_file(&rt, "short.tmp")?;
     Ok(())
 }
 

@@ -1,0 +1,109 @@
+-- What reading a header returns, as what `inspect` says of it.
+use Rattle.std.proofs.Common.{◌≡◌, ◌∙◌, ◌++◌, ◌∷◌, ◌+◌, ◌<◌, ℕ, List, ap, arith, get_or, length, take, Option, None, Some, Bool, Ok, Err, inl, inr, refl, [], subst, sym}
+use Rattle.std.proofs.lemmas.List.{append_assoc, append-nil, length-take-le, take_more}
+use Rattle.std.specs.Prelude.{⊤, ◌^◌, ◌-◌, OnOk, Result, codes, min}
+use Rattle.std.specs.Io.KnownBytes.{Appends, Keeps}
+use Rattle.std.proofs.KnownBytes.{Appends-trans, Keeps-refl}
+use Rattle.age_header.specs.Device.{Bytes, Known}
+use Rattle.age_header.specs.declared.fault.HeaderFault.{HeaderFault}
+use Rattle.age_header.specs.declared.fault.HeaderFault.TheVariants as header
+use Rattle.age_header.specs.Base64.{IsBase64}
+use Rattle.age_header.specs.Header.{Head, HeaderParts, StanzaParts}
+use Rattle.age_header.specs.Reader.{ReadsHeader, ReadsHeaderOf}
+use Rattle.age_file.specs.declared.fault.Fault.{Fault}
+use Rattle.age_file.specs.declared.fault.Fault.TheVariants.{OutOfMemory, Write}
+use Rattle.age_file.specs.AgeFile.{Bounds}
+use Rattle.age_file.specs.Inspect.{Inspects}
+use Rattle.age_file.specs.Verdict.{header_fault}
+use Rattle.age_commands.specs.declared.inspect.Check.{Check}
+use Rattle.age_commands.specs.Inspect.{Inspecting, InspectsText, IsTable, Shows, ShowsFront, check_of, first_lines, last_lines, row, rows}
+
+missed_of : (limits : Bounds) (raw : Bool) (key : Option Bytes) (b : Bytes) (from to old : Known) (e : HeaderFault)
+    → ReadsHeaderOf b from to limits.max_header (Err e) → InspectsText limits raw key b old old (Err (header_fault e))
+missed_of limits raw key b from to old header.NotAge h = (header.NotAge, h, refl, Keeps-refl old)
+missed_of limits raw key b from to old (header.BadLine n) h = (header.BadLine n, h, refl, Keeps-refl old)
+missed_of limits raw key b from to old header.Truncated h = (header.Truncated, h, refl, Keeps-refl old)
+missed_of limits raw key b from to old header.TooLarge h = (header.TooLarge, h, refl, Keeps-refl old)
+missed_of limits raw key b from to old header.Read h = Keeps-refl old
+missed_of limits raw key b from to old header.Memory h = Keeps-refl old
+
+missed_from : (limits : Bounds) (raw : Bool) (key : Option Bytes) (from to old : Known) (e : HeaderFault)
+    → ReadsHeader from to limits.max_header (Err e) → Inspecting limits raw key from old old (Err (header_fault e))
+missed_from limits raw key None to old e (b, h) = (b, missed_of limits raw key b None to old e h)
+missed_from limits raw key (Some b) to old e h = missed_of limits raw key b (Some b) to old e h
+
+-- there is no header
+pub missed : (limits l : Bounds) (raw : Bool) (key : Option Bytes) (from to old : Known) (fault : Fault) → l ≡ limits
+    → Inspects l from to (Err fault) → Inspecting limits raw key from old old (Err fault)
+missed limits l raw key from to old fault same (Ok h, is, reads) = absurd (cc)
+missed limits l raw key from to old fault same (Err e, is, reads) =
+    let one : ◌≡◌ {A = Fault} fault (header_fault e) = cc in
+    subst (λ f. Inspecting limits raw key from old old (Err f)) (sym one)
+    (missed_from limits raw key from to old e (subst (λ (m : Bounds). ReadsHeader from to m.max_header (Err e)) same reads))
+
+-- the same of a header that was not shown to its end
+front_of : (limits : Bounds) (raw : Bool) (key : Option Bytes) (b : Bytes) (from to old new : Known) (h : HeaderParts)
+    → ReadsHeaderOf b from to limits.max_header (Ok h) → ShowsFront raw h (check_of key h) old new → InspectsText limits raw key b old new (Err Write)
+front_of limits raw key b from to old new h (text, verdict, took) front = (h, text, verdict, front)
+
+front_from : (limits : Bounds) (raw : Bool) (key : Option Bytes) (from to old new : Known) (h : HeaderParts)
+    → ReadsHeader from to limits.max_header (Ok h) → ShowsFront raw h (check_of key h) old new → Inspecting limits raw key from old new (Err Write)
+front_from limits raw key None to old new h (b, reads) front = (b, front_of limits raw key b None to old new h reads front)
+front_from limits raw key (Some b) to old new h reads front = front_of limits raw key b (Some b) to old new h reads front
+
+-- nothing is shown where memory was refused
+unshown : (limits : Bounds) (raw : Bool) (key : Option Bytes) (from old new : Known) → Keeps old new → Inspecting limits raw key from old new (Err OutOfMemory)
+unshown limits raw key None old new k = ([], k)
+unshown limits raw key (Some b) old new k = k
+
+shown_of : (limits : Bounds) (raw : Bool) (key : Option Bytes) (from to old new : Known) (h : HeaderParts) (fault : Fault)
+    → ReadsHeader from to limits.max_header (Ok h) → Shows raw h (check_of key h) old new (Err fault) → Inspecting limits raw key from old new (Err fault)
+shown_of limits raw key from to old new h fault reads (inl (is, front)) =
+    subst (λ f. Inspecting limits raw key from old new (Err f)) (sym is) (front_from limits raw key from to old new h reads front)
+shown_of limits raw key from to old new h fault reads (inr (is, k)) =
+    subst (λ f. Inspecting limits raw key from old new (Err f)) (sym is) (unshown limits raw key from old new k)
+
+pub shown_in_part : (limits l : Bounds) (raw : Bool) (key : Option Bytes) (from to old new : Known) (h : HeaderParts) (checked : Check) (fault : Fault) → l ≡ limits
+    → Inspects l from to (Ok h) → checked ≡ check_of key h → Shows raw h checked old new (Err fault) → Inspecting limits raw key from old new (Err fault)
+shown_in_part limits l raw key from to old new h checked fault same (Err e, is, reads) made shows = absurd (cc)
+shown_in_part limits l raw key from to old new h checked fault same (Ok g, is, reads) made shows =
+    let one : ◌≡◌ {A = HeaderParts} g h = cc in
+    shown_of limits raw key from to old new h fault
+    (subst (λ (m : Bounds). ReadsHeader from to m.max_header (Ok h)) same (subst (λ (x : HeaderParts). ReadsHeader from to l.max_header (Ok x)) one reads))
+    (subst (λ (x : Check). Shows raw h x old new (Err fault)) made shows)
+
+-- the rows of one more stanza
+rows_push : (n : ℕ) (xs : List StanzaParts) (x : StanzaParts) → rows n (xs ++ x ∷ []) ≡ rows n xs ++ row (n + length xs) x
+rows_push n [] x = append-nil (row n x) ∙ ap (λ k. row k x) (omega arith)
+rows_push n (y ∷ xs) x = ap (λ r. row n y ++ r) (rows_push (n + 1) xs x ∙ ap (λ k. rows (n + 1) xs ++ row k x) (omega arith)) ∙ sym (append_assoc (row n y) (rows (n + 1) xs) (row (n + length (y ∷ xs)) x))
+
+pub rows_more : (old mid new : Known) (xs : List StanzaParts) (x d : StanzaParts) (i : ℕ) → i < length xs → x ≡ get_or xs i d
+    → Appends old mid (rows 0 (take i xs)) → Appends mid new (row i x) → Appends old new (rows 0 (take (i + 1) xs))
+rows_more old mid new xs x d i low is before one =
+    let l : length (take i xs) ≡ i = length-take-le i xs (omega arith) in
+    let start : 0 + length (take i xs) ≡ i = omega arith in
+    let at : rows 0 (take (i + 1) xs) ≡ rows 0 (take i xs) ++ row i x =
+    ap (rows 0) (take_more xs i d low) ∙ rows_push 0 (take i xs) (get_or xs i d) ∙ ap (λ k. rows 0 (take i xs) ++ row k (get_or xs i d)) start ∙ ap (λ (y : StanzaParts). rows 0 (take i xs) ++ row i y) (sym is) in
+    subst (Appends old new) (sym at) (Appends-trans old mid new (rows 0 (take i xs)) (row i x) before one)
+
+-- the parts of a table, one after the other
+pub tabled : {E : Type 0} (header : HeaderParts) (checked : Check) (one two three four five six : Known) (characters text : Bytes) (n : ℕ) (r : Result ⊤ E)
+    → n ≡ min (length text) (2 ^ 64 - 1) → IsBase64 header.mac characters → Head header.stanzas header.mac text
+    → Appends one two (first_lines (length header.stanzas)) → Appends two three (rows 0 header.stanzas) → Appends three four (codes "mac ") → Appends four five characters
+    → OnOk r (Appends five six (last_lines n checked)) → OnOk r ((shown : Bytes) × IsTable header checked shown × Appends one six shown)
+tabled header checked one two three four five six characters text n (Err e) is mac whole a b c d f = tt
+tabled header checked one two three four five six characters text n (Ok u) is mac whole a b c d f =
+    let front : Bytes = first_lines (length header.stanzas) in
+    let lines : Bytes = rows 0 header.stanzas in (
+      front ++ lines ++ codes "mac " ++ characters ++ last_lines n checked,
+      record {
+        characters = characters;
+        text = text;
+        mac = mac;
+        whole = whole;
+        spelled = ap (λ k. first_lines (length header.stanzas) ++ rows 0 header.stanzas ++ codes "mac " ++ characters ++ last_lines k checked) is;
+      },
+      Appends-trans one five six (front ++ lines ++ codes "mac " ++ characters) (last_lines n checked)
+          (Appends-trans one four five (front ++ lines ++ codes "mac ") characters
+          (Appends-trans one three four (front ++ lines) (codes "mac ") (Appends-trans one two three front lines a b) c) d) f,
+    )

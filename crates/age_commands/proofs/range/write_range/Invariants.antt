@@ -1,0 +1,26 @@
+use Rattle.std.proofs.Common.{◌≤◌, ◌<◌, ◌≡◌, ◌+◌, ◌-◌, ◌^◌, length}
+use Rattle.age_stream.specs.Ranges.{IsSound, range_len}
+use Rattle.age_commands.specs.Range.{WritesPlain}
+use Rattle.age_commands.proofs.RangeLemmas.{IsWhole}
+use Rattle.age_commands.proofs.range.write_range.Given as goal
+
+abbrev pub invariant-loop-left : goal.invariant-loop-left
+invariant-loop-left g l =
+    let s = l.fn.reader.chunks in
+    let told = g.D.ReadAt.bytes l.fn.reader.dev.now in
+    record {
+      end : l.at + l.left ≡ l.fn.at + l.fn.len;
+      begin : l.fn.at ≤ l.at;
+      within : l.at + l.left < 2 ^ 64;
+      piece : length l.piece ≡ 65536;
+      stay : g.D.ReadAt.bytes l.reader.dev.now ≡ told;
+      same : l.reader.chunks.layout ≡ s.layout;
+      sound : IsSound told s → IsSound told l.reader.chunks;
+      some : l.at - l.fn.at ≤ range_len s l.fn.at l.fn.len;
+      whole : IsWhole s.layout.plain l.fn.at l.at l.left;
+      written : IsSound told s
+          → WritesPlain told s.layout l.fn.at (l.at - l.fn.at) (g.W.Sink.taken l.fn.out) (g.W.Sink.taken l.out);
+    }
+
+abbrev pub decreases-loop-left : goal.decreases-loop-left
+decreases-loop-left g l = l.left

@@ -1,0 +1,135 @@
+-- What the command `inspect` writes and returns.
+use Rattle.std.specs.Prelude.{◌≡◌, ◌⊎◌, ◌^◌, ◌-◌, ◌+◌, ◌∷◌, ◌++◌, ℕ, List, [], ⊤, Bool, true, false, Result, Ok, Err, if◌then◌else◌, codes, decimal, flat_map, length, min}
+use Rattle.std.specs.Fmt.{format_spec, styled_decimal}
+use Rattle.std.specs.Str.{bytes_eq}
+use Rattle.std.specs.declared.option.Option.{Option}
+use Rattle.std.specs.declared.option.Option.TheVariants.{None, Some}
+use Rattle.std.specs.Io.KnownBytes.{Appends, Keeps}
+use Rattle.age_header.specs.Device.{Bytes, Known, WritesPart}
+use Rattle.age_header.specs.declared.fault.HeaderFault.{HeaderFault}
+use Rattle.age_header.specs.Base64.{IsBase64}
+use Rattle.age_header.specs.Header.{Head, HeaderParts, StanzaParts, line}
+use Rattle.age_header.specs.Mac.{header_mac}
+use Rattle.age_header.specs.Verdict.{HeaderVerdict}
+use Rattle.age_file.specs.declared.fault.Fault.{Fault}
+use Rattle.age_file.specs.declared.fault.Fault.TheVariants.{BadMac, OutOfMemory, Read, Write}
+use Rattle.age_file.specs.AgeFile.{Bounds}
+use Rattle.age_file.specs.Verdict.{found_in, header_fault}
+use Rattle.age_commands.specs.declared.inspect.Check.{Check}
+use Rattle.age_commands.specs.declared.inspect.Check.TheVariants as check
+
+-- `None` if no file key was given; otherwise `Good` exactly if the MAC is that of the stanzas under
+-- this key
+abbrev pub check_of : (key : Option Bytes) (header : HeaderParts) → Check
+check_of None header = check.None
+check_of (Some key) header =
+    if bytes_eq header.mac (header_mac key header.stanzas) then check.Good else check.Bad
+
+-- the word for a check
+abbrev pub check_name : Check → Bytes
+check_name check.None = codes "none"
+check_name check.Good = codes "good"
+check_name check.Bad = codes "bad"
+
+-- n in decimal, at the right of so many columns, as the standard library writes it
+abbrev pub aligned : (width n : ℕ) → Bytes
+aligned width n = styled_decimal (format_spec 32 3 0 width (2 ^ 64 - 1)) n
+
+-- arguments, each after a space
+abbrev pub spaced : List Bytes → Bytes
+spaced args = flat_map (λ arg. 32 ∷ arg) args
+
+-- the line of a stanza: its index, the length of its body, and its arguments
+abbrev pub row : (index : ℕ) (stanza : StanzaParts) → Bytes
+row index stanza =
+    line (aligned 4 index ++ codes " " ++ aligned 8 (length stanza.body) ++ spaced stanza.args)
+
+-- the lines of stanzas that are counted from `index` on
+abbrev pub rows : (index : ℕ) (stanzas : List StanzaParts) → Bytes
+rows index [] = []
+rows index (stanza ∷ more) = row index stanza ++ rows (index + 1) more
+
+-- the lines before those of the stanzas, and what follows the MAC
+abbrev pub first_lines : (count : ℕ) → Bytes
+first_lines count = codes "version age-encryption.org/v1\nstanzas " ++ decimal count ++ codes "\n"
+
+abbrev pub last_lines : (len : ℕ) (checked : Check) → Bytes
+last_lines len checked =
+    codes "\nheader " ++ (decimal len ++ (codes " bytes\ncheck " ++ (check_name checked ++ codes "\n")))
+
+-- The table of a header: its version, the number of its stanzas, a line for each, the base64 of its
+-- MAC, its length (at most the largest u64), and what the check of the MAC found.
+pub record IsTable (header : HeaderParts) (checked : Check) (shown : Bytes) : Type 0 where
+  pub characters : Bytes
+  pub text : Bytes
+  pub mac : IsBase64 header.mac characters
+  pub whole : Head header.stanzas header.mac text
+  pub spelled : shown
+      ≡ first_lines (length header.stanzas) ++ rows 0 header.stanzas ++ codes "mac " ++ characters
+      ++ last_lines (min (length text) (2 ^ 64 - 1)) checked
+
+-- what is shown of a header: its own text, or else the table
+abbrev pub IsShown : (raw : Bool) (header : HeaderParts) (checked : Check) (shown : Bytes) → Type 0
+IsShown true header checked shown = Head header.stanzas header.mac shown
+IsShown false header checked shown = IsTable header checked shown
+
+-- a prefix of what is shown of a header was written
+abbrev pub ShowsFront : (raw : Bool) (header : HeaderParts) (checked : Check) (old new : Known)
+    → Type 0
+ShowsFront raw header checked old new =
+    (shown : Bytes) × IsShown raw header checked shown × WritesPart old new shown
+
+-- what showing a header writes: all of it, a prefix where a write failed, or nothing
+abbrev pub Shows : (raw : Bool) (header : HeaderParts) (checked : Check) (old new : Known)
+    (result : Result ⊤ Fault) → Type 0
+Shows raw header checked old new (Ok _) =
+    (shown : Bytes) × IsShown raw header checked shown × Appends old new shown
+Shows raw header checked old new (Err fault) =
+    ((fault ≡ Write) × ShowsFront raw header checked old new)
+    ⊎ ((fault ≡ OutOfMemory) × Keeps old new)
+
+-- what is returned after a header was shown
+abbrev pub checked_result : Check → Result ⊤ Fault
+checked_result check.Bad = Err BadMac
+checked_result _ = Ok tt
+
+-- b begins with a header, of which all was shown, and the result is that of the check
+abbrev pub ShowsAll : (limits : Bounds) (raw : Bool) (key : Option Bytes) (b : Bytes)
+    (old new : Known) (result : Result ⊤ Fault) → Type 0
+ShowsAll limits raw key b old new result =
+    (header : HeaderParts) × (text : Bytes)
+    × HeaderVerdict b limits.max_header (Ok (found_in text header))
+    × Shows raw header (check_of key header) old new (Ok tt)
+    × (result ≡ checked_result (check_of key header))
+
+-- b begins with a header, of which a prefix was shown
+abbrev pub ShowsPart : (limits : Bounds) (raw : Bool) (key : Option Bytes) (b : Bytes)
+    (old new : Known) → Type 0
+ShowsPart limits raw key b old new =
+    (header : HeaderParts) × (text : Bytes)
+    × HeaderVerdict b limits.max_header (Ok (found_in text header))
+    × ShowsFront raw header (check_of key header) old new
+
+-- b begins with no header, and this is its fault; nothing was written
+abbrev pub Misses : (limits : Bounds) (b : Bytes) (old new : Known) (fault : Fault) → Type 0
+Misses limits b old new fault =
+    (e : HeaderFault) × HeaderVerdict b limits.max_header (Err e) × (fault ≡ header_fault e)
+    × Keeps old new
+
+-- What `inspect` returns where b was to come, and what it writes.
+abbrev pub InspectsText : (limits : Bounds) (raw : Bool) (key : Option Bytes) (b : Bytes)
+    (old new : Known) (result : Result ⊤ Fault) → Type 0
+InspectsText limits raw key b old new (Ok _) = ShowsAll limits raw key b old new (Ok tt)
+InspectsText limits raw key b old new (Err BadMac) =
+    ShowsAll limits raw key b old new (Err BadMac)
+InspectsText limits raw key b old new (Err Write) = ShowsPart limits raw key b old new
+InspectsText limits raw key b old new (Err Read) = Keeps old new
+InspectsText limits raw key b old new (Err OutOfMemory) = Keeps old new
+InspectsText limits raw key b old new (Err fault) = Misses limits b old new fault
+
+-- The same of a source whose bytes may be unknown: then of some bytes.
+abbrev pub Inspecting : (limits : Bounds) (raw : Bool) (key : Option Bytes) (from old new : Known)
+    (result : Result ⊤ Fault) → Type 0
+Inspecting limits raw key None old new result =
+    (b : Bytes) × InspectsText limits raw key b old new result
+Inspecting limits raw key (Some b) old new result = InspectsText limits raw key b old new result

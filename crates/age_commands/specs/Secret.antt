@@ -1,0 +1,70 @@
+-- What a job's secrets and limits mean.
+use Rattle.std.specs.Prelude.{◌^◌, ℕ, List, [], ◌∷◌, map, Result, Ok}
+use Rattle.age_header.specs.Device.{Bytes}
+use Rattle.age_header.specs.Header.{StanzaParts}
+use Rattle.age_recipient.specs.declared.key.FileKey.{FileKey}
+use Rattle.age_recipient.specs.declared.labels.Labels.{Labels}
+use Rattle.age_recipient.specs.declared.labels.Labels.TheVariants.{Alone, Names}
+use Rattle.age_recipient.specs.declared.unwrapped.Unwrapped.{Unwrapped}
+use Rattle.age_recipient.specs.Answer.{decided}
+use Rattle.age_recipient.specs.KeyedHolders.{key_unwraps}
+use Rattle.age_recipient.specs.KeyedStanza.{keyed_stanza}
+use Rattle.age_recipient.specs.PassphraseHolders.{pass_unwraps, pass_wraps}
+use Rattle.age_file.specs.AgeFile.{Bounds}
+use Rattle.age_file.specs.NewFile.{Gathered, Gathering}
+use Rattle.age_file.specs.Verdict.{Answering}
+use Rattle.age_words.specs.declared.job.Job.{Job}
+use Rattle.age_commands.specs.declared.identity.SecretIdentity.{SecretIdentity}
+use Rattle.age_commands.specs.declared.identity.SecretIdentity.TheVariants as identity
+use Rattle.age_commands.specs.declared.recipient.SecretRecipient.{SecretRecipient}
+use Rattle.age_commands.specs.declared.recipient.SecretRecipient.TheVariants as recipient
+use Rattle.age_commands.specs.declared.secret.Secret.{Secret}
+use Rattle.age_commands.specs.declared.secret.Secret.TheVariants.{Passphrase, Keys}
+
+-- the job's limit of a header, and the default limit of chunks
+abbrev pub limits_of : Job → Bounds
+limits_of job = record { max_header = job.max_header; max_chunks = 2 ^ 88 }
+
+-- the identity of a secret: that of a passphrase has this greatest work factor
+abbrev pub identity_of : (secret : Secret) (max_work : ℕ) → SecretIdentity
+identity_of (Passphrase pass) max_work =
+    identity.Passphrase (record { pass = pass.items; max = max_work })
+identity_of (Keys keys) max_work = identity.Keys keys
+
+-- what keys answer, asked in order
+abbrev pub keys_unwrap : (keys : List Bytes) (stanzas : List StanzaParts) → Unwrapped
+keys_unwrap keys stanzas = decided (map (λ key. key_unwraps key stanzas) keys)
+
+-- what the identity of a secret answers
+abbrev pub unwraps_of : (identity : SecretIdentity) (stanzas : List StanzaParts) → Unwrapped
+unwraps_of (identity.Passphrase guess) stanzas = pass_unwraps guess stanzas
+unwraps_of (identity.Keys keys) stanzas = keys_unwrap keys.items stanzas
+
+-- what the one identity of a secret answers to a header's stanzas
+abbrev pub answers_of : (secret : Secret) (max_work : ℕ) → Answering
+answers_of secret max_work = λ stanzas. unwraps_of (identity_of secret max_work) stanzas ∷ []
+
+-- the recipient of a secret, with this salt: that of a passphrase has this work factor
+abbrev pub recipient_of : (secret : Secret) (work : ℕ) (salt : Bytes) → SecretRecipient
+recipient_of (Passphrase pass) work salt =
+    recipient.Passphrase (record { pass = pass.items; salt = salt; work = work })
+recipient_of (Keys keys) work salt = recipient.Keys keys salt
+
+-- what the recipient of a secret gives for a file key: one stanza for the passphrase or each key
+abbrev pub wraps_of : (recipient : SecretRecipient) (file_key : FileKey)
+    → Result (List StanzaParts) ℕ
+wraps_of (recipient.Passphrase secret) file_key = pass_wraps secret file_key
+wraps_of (recipient.Keys keys salt) file_key =
+    Ok (map (λ key. keyed_stanza key salt file_key) keys.items)
+
+-- its labels: a passphrase is alone in its file
+abbrev pub labels_of : SecretRecipient → Labels
+labels_of (recipient.Passphrase _) = Alone
+labels_of (recipient.Keys keys salt) = Names []
+
+-- what the one recipient of a secret may give
+abbrev pub gathering_of : (secret : Secret) (work : ℕ) (salt : Bytes) (file_key : FileKey)
+    → Gathering
+gathering_of secret work salt file_key =
+    let one = recipient_of secret work salt in
+    Gathered (wraps_of one file_key ∷ []) (labels_of one ∷ [])

@@ -1,0 +1,87 @@
+//! A job's limits, and the sources over its input.
+ghost use Rattle.std.specs.Prelude.{◌≡◌, ◌<◌, None, IfOk, IfErr};
+ghost use Rattle.age_words.specs.Job.{IsInRange};
+ghost use Rattle.age_commands.specs.Secret.{limits_of};
+
+use age_file::{Fault, FileAt, Limits, ReadAt, ReadSource, Source};
+use age_words::Job;
+use std::alloc::Global;
+use std::io::{BufReader, Read, Seek};
+
+/// The size of the buffer for reading a header alone, byte by byte.
+const BUFFER_LEN: usize = 65_536;
+
+/// The size of the buffer for reading a header before its payload. The payload's bytes that it
+/// holds are copied out of it. The rest of the payload is read straight into the buffer in which it
+/// is opened.
+const HEADER_BUFFER_LEN: usize = 8_192;
+
+/// The maximum number of chunks, which is the default of `age_file`.
+const MAX_CHUNKS: u128 = 1 << 88;
+
+/// The limits of this job.
+pub fn limits_of(job: &Job) -> Limits
+    requires { IsInRange job.now }
+    ensures { result ≡ limits_of job.now }
+{
+    let Some(limits) = Limits::new(job.max_header, MAX_CHUNKS) else {
+        unreachable!();
+    };
+    limits
+}
+
+/// Makes a source over this reader, for a header alone.
+pub(crate) fn header_source<R: Read + Drop>(
+    alloc: Global,
+    input: R,
+) -> Result<ReadSource<BufReader<R>>, Fault>
+    ensures ok { IfOk result (λ source. ⟦<ReadSource<BufReader<R>> as Source>⟧.to_come source
+        ≡ R.remaining input) }
+    ensures err { IfErr result (λ fault. fault ≡ Fault.OutOfMemory) }
+{
+    buffered_source(alloc, BUFFER_LEN, input)
+}
+
+/// Makes a source over this reader, for a header and its payload.
+pub(crate) fn file_source<R: Read + Drop>(
+    alloc: Global,
+    input: R,
+) -> Result<ReadSource<BufReader<R>>, Fault>
+    ensures ok { IfOk result (λ source. ⟦<ReadSource<BufReader<R>> as Source>⟧.to_come source
+        ≡ R.remaining input) }
+    ensures err { IfErr result (λ fault. fault ≡ Fault.OutOfMemory) }
+{
+    buffered_source(alloc, HEADER_BUFFER_LEN, input)
+}
+
+fn buffered_source<R: Read + Drop>(
+    alloc: Global,
+    len: usize,
+    input: R,
+) -> Result<ReadSource<BufReader<R>>, Fault>
+    requires { 0 < len }
+    ensures ok { IfOk result (λ source. ⟦<ReadSource<BufReader<R>> as Source>⟧.to_come source
+        ≡ R.remaining input) }
+    ensures err { IfErr result (λ fault. fault ≡ Fault.OutOfMemory) }
+{
+    match BufReader::with_capacity(alloc, len, input) {
+        Ok(buffered) => Ok(ReadSource::new(buffered)),
+        Err(_) => Err(Fault::OutOfMemory),
+    }
+}
+
+/// Makes a `ReadAt` over this file, for a header, its payload's nonce, and whole chunks.
+pub fn source_at_offsets<F: Read + Seek + Drop>(
+    alloc: Global,
+    file: F,
+) -> Result<FileAt<BufReader<F>>, Fault>
+    ensures bytes { IfOk result
+        (λ source. ⟦<FileAt<BufReader<F>> as ReadAt>⟧.bytes source ≡ None) }
+    ensures given { IfOk result (λ source. ⟦<FileAt<BufReader<F>> as ReadAt>⟧.given source ≡ 0) }
+    ensures err { IfErr result (λ fault. fault ≡ Fault.OutOfMemory) }
+{
+    match BufReader::with_capacity(alloc, HEADER_BUFFER_LEN, file) {
+        Ok(buffered) => Ok(FileAt::new(buffered)),
+        Err(_) => Err(Fault::OutOfMemory),
+    }
+}

@@ -1,0 +1,54 @@
+//! The command `decrypt`: the plaintext of a file of the format.
+ghost use Rattle.std.specs.Prelude.{◌∷◌, []};
+ghost use Rattle.age_words.specs.Job.{IsInRange};
+ghost use Rattle.age_commands.specs.Secret.{answers_of, limits_of};
+ghost use Rattle.age_commands.specs.Task.{Decrypting};
+
+use crate::buffering::limits_of;
+use crate::identity::SecretIdentity;
+use crate::secret::Secret;
+use age_file::{Done, Fault, Identity, Sink, Source};
+use age_words::Job;
+use std::alloc::Global;
+
+/// Decrypts the source to the sink, with the identity of this secret, as `age_file::decrypt` does.
+/// On a fault of the payload the plaintext of the chunks before it was written.
+pub(crate) fn decrypt<S: Source, W: Sink>(
+    alloc: Global,
+    job: &Job,
+    secret: Secret,
+    input: &mut S,
+    out: &mut W,
+) -> Result<Done, Fault>
+    requires { IsInRange job.now }
+    ensures { Decrypting (limits_of job.now) (answers_of secret job.now.max_work)
+        (S.to_come input.old) (W.taken out.old) (W.taken out.new) result }
+{
+    let Ok(identity) = SecretIdentity::new(alloc, job, secret) else {
+        return Err(Fault::OutOfMemory);
+    };
+    match Box::new(alloc, identity) {
+        Ok(identity) => decrypt_by(alloc, job, identity, input, out),
+        Err(_) => Err(Fault::OutOfMemory),
+    }
+}
+
+/// The same with any identity.
+fn decrypt_by<S: Source, W: Sink>(
+    alloc: Global,
+    job: &Job,
+    identity: Box<dyn Identity>,
+    input: &mut S,
+    out: &mut W,
+) -> Result<Done, Fault>
+    requires { IsInRange job.now }
+    ensures { Decrypting (limits_of job.now) (λ stanzas. meaning identity stanzas ∷ [])
+        (S.to_come input.old) (W.taken out.old) (W.taken out.new) result }
+{
+    match vec![in alloc; identity] {
+        Ok(identities) => {
+            age_file::decrypt(alloc, input, out, identities.as_slice(), &limits_of(job))
+        }
+        Err(_) => Err(Fault::OutOfMemory),
+    }
+}

@@ -1,0 +1,65 @@
+//! The command `encrypt`: a file of the format, made of any bytes.
+ghost use Rattle.std.specs.Prelude.{◌∷◌, []};
+ghost use Rattle.age_file.specs.NewFile.{Gathered};
+ghost use Rattle.age_words.specs.Job.{IsInRange};
+ghost use Rattle.age_commands.specs.Secret.{gathering_of, limits_of};
+ghost use Rattle.age_commands.specs.Task.{Encrypting};
+
+use crate::buffering::limits_of;
+use crate::recipient::SecretRecipient;
+use crate::secret::{Secret, Seed};
+use age_file::{Done, Fault, Fresh, Recipient, Sink, Source};
+use age_words::Job;
+use std::alloc::Global;
+
+/// Encrypts the source to the sink, for the recipient of this secret, as `age_file::encrypt` does.
+pub(crate) fn encrypt<S: Source, W: Sink>(
+    alloc: Global,
+    job: &Job,
+    secret: Secret,
+    seed: &Seed,
+    input: &mut S,
+    out: &mut W,
+) -> Result<Done, Fault>
+    requires { IsInRange job.now }
+    ensures { Encrypting (limits_of job.now) seed.now.fresh
+        (gathering_of secret job.now.work seed.now.salt seed.now.fresh.file_key)
+        (S.to_come input.old) (W.taken out.old) (W.taken out.new) result }
+{
+    let Ok(recipient) = SecretRecipient::new(alloc, job, secret, seed.salt) else {
+        return Err(Fault::OutOfMemory);
+    };
+    match Box::new(alloc, recipient) {
+        Ok(recipient) => encrypt_for(alloc, job, recipient, &seed.fresh, input, out),
+        Err(_) => Err(Fault::OutOfMemory),
+    }
+}
+
+/// The same for any recipient.
+fn encrypt_for<S: Source, W: Sink>(
+    alloc: Global,
+    job: &Job,
+    recipient: Box<dyn Recipient>,
+    fresh: &Fresh,
+    input: &mut S,
+    out: &mut W,
+) -> Result<Done, Fault>
+    requires { IsInRange job.now }
+    ensures { Encrypting (limits_of job.now) fresh.now
+        (Gathered (wraps recipient fresh.now.file_key ∷ []) (the_labels recipient ∷ []))
+        (S.to_come input.old) (W.taken out.old) (W.taken out.new) result }
+{
+    match vec![in alloc; recipient] {
+        Ok(recipients) => {
+            age_file::encrypt(
+                alloc,
+                input,
+                out,
+                recipients.as_slice(),
+                fresh,
+                &limits_of(job),
+            )
+        }
+        Err(_) => Err(Fault::OutOfMemory),
+    }
+}

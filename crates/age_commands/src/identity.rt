@@ -1,0 +1,70 @@
+//! The identity of a secret.
+ghost use Rattle.std.specs.Prelude.{◌≡◌, IfOk};
+ghost use Rattle.age_words.specs.Job.{IsInRange};
+ghost use Rattle.age_commands.specs.Secret.{identity_of, keys_unwrap};
+
+use crate::secret::Secret;
+use age_file::{Identity, KeyIdentity, PassError, PassIdentity, Stanza, Unwrapped};
+use age_words::Job;
+use std::alloc::{AllocError, Global};
+
+/// The identity of a secret: that of its passphrase, or those of its keys, asked in order.
+#[derive(Drop)]
+pub(crate) enum SecretIdentity {
+    Passphrase(PassIdentity),
+    Keys(Vec<[u8; 32]>),
+}
+
+impl SecretIdentity {
+    /// The identity of this secret. A passphrase has the job's greatest work factor.
+    pub(crate) fn new(
+        alloc: Global,
+        job: &Job,
+        secret: Secret,
+    ) -> Result<SecretIdentity, AllocError>
+        requires { IsInRange job.now }
+        ensures { IfOk result (λ identity. identity ≡ identity_of secret job.now.max_work) }
+    {
+        match secret {
+            Secret::Passphrase(passphrase) => {
+                match PassIdentity::new(alloc, passphrase.as_slice(), job.max_work) {
+                    Ok(identity) => Ok(SecretIdentity::Passphrase(identity)),
+                    Err(PassError::WorkFactor) => unreachable!(),
+                    Err(PassError::Memory) => Err(AllocError),
+                }
+            }
+            Secret::Keys(keys) => Ok(SecretIdentity::Keys(keys)),
+        }
+    }
+}
+
+impl Identity for SecretIdentity {
+    ghost use Rattle.age_commands.specs.Secret.{unwraps_of};
+
+    ghost meaning = { λ identity stanzas. unwraps_of identity stanzas };
+
+    fn unwrap(&self, alloc: Global, stanzas: &[Stanza]) -> Result<Unwrapped, AllocError> {
+        match self {
+            SecretIdentity::Passphrase(identity) => identity.unwrap(alloc, stanzas),
+            SecretIdentity::Keys(keys) => unwrap_by_keys(alloc, keys.as_slice(), stanzas),
+        }
+    }
+}
+
+/// The first answer of these keys that decides.
+fn unwrap_by_keys(
+    alloc: Global,
+    keys: &[[u8; 32]],
+    stanzas: &[Stanza],
+) -> Result<Unwrapped, AllocError>
+    ensures { IfOk result (λ answer. answer ≡ keys_unwrap keys.now stanzas.now) }
+{
+    let mut so_far = Unwrapped::NotMine;
+    for key in keys {
+        match so_far.followed_by(KeyIdentity::new(*key).unwrap(alloc, stanzas)?) {
+            Ok(next) => so_far = next,
+            Err(decision) => return Ok(decision),
+        }
+    }
+    Ok(so_far)
+}

@@ -1,0 +1,158 @@
+//! The command `inspect`: what a header holds, as a table or as its own bytes.
+ghost use Rattle.std.specs.Prelude.{◌≡◌, map, IfOk, OnOk};
+ghost use Rattle.std.specs.String.{string_bytes};
+ghost use Rattle.std.specs.Io.KnownBytes.{Appends};
+ghost use Rattle.age_header.specs.Device.{Bytes};
+ghost use Rattle.age_words.specs.Job.{IsInRange};
+ghost use Rattle.age_commands.specs.Inspect.{Inspecting, IsTable, Shows, check_of, row, rows, spaced};
+ghost use Rattle.age_commands.specs.Secret.{limits_of};
+
+use crate::buffering::limits_of;
+use age_file::{Fault, Header, Sink, Source, Stanza, mac_of, write_all, write_header};
+use age_words::Job;
+use std::alloc::{AllocError, Global};
+use std::io::Write;
+use std::{fmt, io};
+
+/// The result of checking a header's MAC.
+#[derive(Clone, Copy, Debug, PartialEq, Eq)]
+enum Check {
+    /// No file key was given.
+    None,
+    Good,
+    Bad,
+}
+
+impl fmt::Display for Check {
+    ghost use Rattle.std.specs.Prelude.{Some};
+    ghost use Rattle.age_commands.specs.Inspect.{check_name};
+
+    ghost output = { λ check. Some (check_name check) };
+
+    fn fmt<W: fmt::Write>(&self, f: &mut fmt::Formatter<W>) -> fmt::Result {
+        f.write_str(match self {
+            Check::None => "none",
+            Check::Good => "good",
+            Check::Bad => "bad",
+        })
+    }
+}
+
+/// Shows the header at the start of the source. If there is none, nothing is written. A header that
+/// fails its check is shown before the fault is returned.
+pub(crate) fn inspect<S: Source, W: Sink>(
+    alloc: Global,
+    job: &Job,
+    file_key: &Option<[u8; 16]>,
+    input: &mut S,
+    out: &mut W,
+) -> Result<(), Fault>
+    requires { IsInRange job.now }
+    ensures { Inspecting (limits_of job.now) job.now.raw file_key.now
+        (S.to_come input.old) (W.taken out.old) (W.taken out.new) result }
+{
+    let header = match age_file::inspect(alloc, input, &limits_of(job)) {
+        Ok(header) => header,
+        Err(fault) => return Err(fault),
+    };
+    let Ok(check) = check_of(alloc, &header, file_key) else {
+        return Err(Fault::OutOfMemory);
+    };
+    match show(alloc, job.raw, &header, check, out) {
+        Ok(()) => {}
+        Err(fault) => return Err(fault),
+    }
+    match check {
+        Check::Bad => Err(Fault::BadMac),
+        Check::None | Check::Good => Ok(()),
+    }
+}
+
+/// Writes the header's own text, or the table of it.
+fn show<W: Sink>(
+    alloc: Global,
+    raw: bool,
+    header: &Header,
+    check: Check,
+    out: &mut W,
+) -> Result<(), Fault>
+    ensures { Shows raw header.now check (W.taken out.old) (W.taken out.new) result }
+{
+    if raw {
+        return match write_header(header, out) {
+            Ok(()) => Ok(()),
+            Err(_) => Err(Fault::Write),
+        };
+    }
+    let mut table = Vec::new(alloc);
+    if write_table(header, check, &mut table).is_err() {
+        return Err(Fault::OutOfMemory);
+    }
+    match write_all(out, table.as_slice()) {
+        Ok(()) => Ok(()),
+        Err(_) => Err(Fault::Write),
+    }
+}
+
+/// Whether the header's MAC is the one of its stanzas under the file key.
+fn check_of(
+    alloc: Global,
+    header: &Header,
+    file_key: &Option<[u8; 16]>,
+) -> Result<Check, AllocError>
+    ensures { IfOk result (λ check. check ≡ check_of file_key.now header.now) }
+{
+    match file_key {
+        None => Ok(Check::None),
+        Some(key) if mac_of(alloc, key, header.stanzas())? == *header.mac() => Ok(Check::Good),
+        Some(_) => Ok(Check::Bad),
+    }
+}
+
+/// Writes the table of a header.
+fn write_table<W: Write>(header: &Header, check: Check, out: &mut W) -> io::Result<()>
+    ensures { OnOk result ((shown : Bytes) × IsTable header.now check shown
+        × Appends (W.contents out.old) (W.contents out.new) shown) }
+{
+    let count = header.stanzas().len();
+    write!(out, "version age-encryption.org/v1\nstanzas {count}\n")?;
+    write_rows(header.stanzas(), out)?;
+    out.write_all(b"mac ")?;
+    out.write_all(&header.mac_signs())?;
+    let len = header.text_len();
+    write!(out, "\nheader {len} bytes\ncheck {check}\n")
+}
+
+/// Writes a line for each stanza.
+fn write_rows<W: Write>(stanzas: &[Stanza], out: &mut W) -> io::Result<()>
+    ensures { OnOk result (Appends (W.contents out.old) (W.contents out.new)
+        (rows 0 stanzas.now)) }
+{
+    for (index, stanza) in stanzas.iter().enumerate() {
+        write_row(index, stanza, out)?;
+    }
+    Ok(())
+}
+
+/// Writes a stanza's index, the length of its body, and its arguments.
+fn write_row<W: Write>(index: usize, stanza: &Stanza, out: &mut W) -> io::Result<()>
+    ensures { OnOk result (Appends (W.contents out.old) (W.contents out.new)
+        (row index stanza.now)) }
+{
+    let len = stanza.body().len();
+    write!(out, "{index:>4} {len:>8}")?;
+    write_args(stanza.args(), out)?;
+    out.write_all(b"\n")
+}
+
+/// Writes arguments, each after a space.
+fn write_args<W: Write>(args: &[String], out: &mut W) -> io::Result<()>
+    ensures { OnOk result (Appends (W.contents out.old) (W.contents out.new)
+        (spaced (map string_bytes args.now))) }
+{
+    for arg in args {
+        out.write_all(b" ")?;
+        out.write_all(arg.as_bytes())?;
+    }
+    Ok(())
+}

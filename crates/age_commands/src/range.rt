@@ -1,0 +1,124 @@
+//! The command `range`: a part of the plaintext of a file of the format.
+ghost use Rattle.std.specs.Prelude.{◌≤◌, ◌<◌, ◌≡◌, ◌+◌, ◌-◌, ◌^◌, ◌%◌, ◌∷◌, [], length, min, IfOk};
+ghost use Rattle.age_stream.specs.Ranges.{IsSound, chunks_of, range_len, source_at_of};
+ghost use Rattle.age_stream.specs.Sizes.{chunk_size};
+ghost use Rattle.age_words.specs.Job.{IsInRange, most_offset};
+ghost use Rattle.age_commands.specs.Range.{Ranging, WritesNext, WritesRange};
+ghost use Rattle.age_commands.specs.Secret.{answers_of, limits_of};
+
+use crate::buffering::limits_of;
+use crate::identity::SecretIdentity;
+use crate::secret::Secret;
+use age_file::{CHUNK_SIZE, Fault, Identity, RangeReader, ReadAt, Sink, open_ranges, write_all};
+use age_words::Job;
+use std::alloc::Global;
+
+/// Writes the plaintext of the source from the job's offset on to the sink, at most as many bytes
+/// as the job requests. On a fault of a chunk the plaintext up to that chunk was written.
+pub fn range_of<D: ReadAt, W: Sink>(
+    alloc: Global,
+    job: &Job,
+    secret: Secret,
+    input: &mut D,
+    out: &mut W,
+) -> Result<(), Fault>
+    requires { IsInRange job.now }
+    ensures { Ranging (limits_of job.now) (answers_of secret job.now.max_work) job.now.at
+        job.now.len (D.bytes input.old) (W.taken out.old) (W.taken out.new) result }
+{
+    let Ok(identity) = SecretIdentity::new(alloc, job, secret) else {
+        return Err(Fault::OutOfMemory);
+    };
+    match Box::new(alloc, identity) {
+        Ok(identity) => range_by(alloc, job, identity, input, out),
+        Err(_) => Err(Fault::OutOfMemory),
+    }
+}
+
+/// The same with any identity.
+fn range_by<D: ReadAt, W: Sink>(
+    alloc: Global,
+    job: &Job,
+    identity: Box<dyn Identity>,
+    input: &mut D,
+    out: &mut W,
+) -> Result<(), Fault>
+    requires { IsInRange job.now }
+    ensures { Ranging (limits_of job.now) (λ stanzas. meaning identity stanzas ∷ []) job.now.at
+        job.now.len (D.bytes input.old) (W.taken out.old) (W.taken out.new) result }
+{
+    let Ok(identities) = vec![in alloc; identity] else {
+        return Err(Fault::OutOfMemory);
+    };
+    let Ok(mut piece) = vec![in alloc; 0u8; CHUNK_SIZE] else {
+        return Err(Fault::OutOfMemory);
+    };
+    match open_ranges(alloc, input, identities.as_slice(), &limits_of(job)) {
+        Ok(mut reader) => { write_range(&mut reader, job.at, job.len, piece.as_mut_slice(), out) }
+        Err(fault) => Err(fault),
+    }
+}
+
+/// Writes at most `len` bytes from offset `at` on.
+fn write_range<D: ReadAt, W: Sink>(
+    reader: &mut RangeReader<'_, D>,
+    at: u64,
+    len: u64,
+    piece: &mut [u8],
+    out: &mut W,
+) -> Result<(), Fault>
+    requires at { at ≤ most_offset }
+    requires len { len ≤ most_offset }
+    requires piece { length piece.old ≡ CHUNK_SIZE }
+    ensures { let told = D.bytes (source_at_of reader.old).now in
+        IsSound told (chunks_of reader.old) → WritesRange told (chunks_of reader.old) at len
+        (W.taken out.old) (W.taken out.new) result }
+{
+    let mut at = at;
+    let mut left = len;
+    while left > 0 {
+        let n = match write_next(reader, at, left, piece, out) {
+            Ok(0) => return Ok(()),
+            Ok(n) => n,
+            Err(fault) => return Err(fault),
+        };
+        at += n as u64;
+        left -= n as u64;
+    }
+    Ok(())
+}
+
+/// Writes as many of `left` bytes from offset `at` on as the chunk there has, and returns their
+/// number. No read crosses the end of a chunk, so a failed one leaves nothing in the buffer to
+/// write.
+fn write_next<D: ReadAt, W: Sink>(
+    reader: &mut RangeReader<'_, D>,
+    at: u64,
+    left: u64,
+    piece: &mut [u8],
+    out: &mut W,
+) -> Result<usize, Fault>
+    requires end { at + left < 2 ^ 64 }
+    requires left { 0 < left }
+    requires piece { length piece.old ≡ CHUNK_SIZE }
+    ensures piece { length piece.new ≡ CHUNK_SIZE }
+    ensures stay { D.bytes (source_at_of reader.new).now ≡ D.bytes (source_at_of reader.old).now }
+    ensures same { (chunks_of reader.new).layout ≡ (chunks_of reader.old).layout }
+    ensures sound { let told = D.bytes (source_at_of reader.old).now in
+        IsSound told (chunks_of reader.old) → IsSound told (chunks_of reader.new) }
+    ensures number { IfOk result (λ n. n
+        ≡ range_len (chunks_of reader.old) at (min left (chunk_size - at % chunk_size))) }
+    ensures writes { let told = D.bytes (source_at_of reader.old).now in
+        IsSound told (chunks_of reader.old) → WritesNext told (chunks_of reader.old) at left
+        (W.taken out.old) (W.taken out.new) result }
+{
+    let most = left.min(CHUNK_SIZE as u64 - at % CHUNK_SIZE as u64) as usize;
+    let n = match reader.read_range(at, &mut piece[..most]) {
+        Ok(n) => n,
+        Err(fault) => return Err(Fault::from(fault)),
+    };
+    match write_all(out, &piece[..n]) {
+        Ok(()) => Ok(n),
+        Err(_) => Err(Fault::Write),
+    }
+}

@@ -1,0 +1,86 @@
+//! The recipient of a secret.
+ghost use Rattle.std.specs.Prelude.{◌≡◌, Ok, map, IfOk};
+ghost use Rattle.age_recipient.specs.KeyedStanza.{keyed_stanza};
+ghost use Rattle.age_recipient.specs.Wrap.{WrapsAs};
+ghost use Rattle.age_words.specs.Job.{IsInRange};
+ghost use Rattle.age_commands.specs.Secret.{recipient_of};
+
+use crate::secret::Secret;
+use age_file::{
+    FileKey, KeyRecipient, LabelSet, Labels, PassError, PassRecipient, Recipient, Stanza, WrapFault,
+};
+use age_words::Job;
+use std::alloc::{AllocError, Global};
+
+/// The recipient of a secret: that of its passphrase, or those of its keys in order.
+#[derive(Drop)]
+pub(crate) enum SecretRecipient {
+    Passphrase(PassRecipient),
+    /// With their salt.
+    Keys(Vec<[u8; 32]>, [u8; 16]),
+}
+
+impl SecretRecipient {
+    /// The recipient of this secret, with this salt. A passphrase has the job's work factor.
+    pub(crate) fn new(
+        alloc: Global,
+        job: &Job,
+        secret: Secret,
+        salt: [u8; 16],
+    ) -> Result<SecretRecipient, AllocError>
+        requires { IsInRange job.now }
+        ensures { IfOk result (λ recipient. recipient ≡ recipient_of secret job.now.work salt) }
+    {
+        match secret {
+            Secret::Passphrase(passphrase) => {
+                match PassRecipient::new(alloc, passphrase.as_slice(), salt, job.work) {
+                    Ok(recipient) => Ok(SecretRecipient::Passphrase(recipient)),
+                    Err(PassError::WorkFactor) => unreachable!(),
+                    Err(PassError::Memory) => Err(AllocError),
+                }
+            }
+            Secret::Keys(keys) => Ok(SecretRecipient::Keys(keys, salt)),
+        }
+    }
+}
+
+impl Recipient for SecretRecipient {
+    ghost use Rattle.age_commands.specs.Secret.{labels_of, wraps_of};
+
+    ghost wraps = { λ recipient file_key. wraps_of recipient file_key };
+
+    ghost the_labels = { λ recipient. labels_of recipient };
+
+    fn wrap(&self, alloc: Global, key: &FileKey) -> Result<Vec<Stanza>, WrapFault> {
+        match self {
+            SecretRecipient::Passphrase(recipient) => recipient.wrap(alloc, key),
+            SecretRecipient::Keys(keys, salt) => wrap_for_keys(alloc, keys.as_slice(), *salt, key),
+        }
+    }
+
+    fn labels(&self, alloc: Global) -> Result<Labels, AllocError> {
+        match self {
+            SecretRecipient::Passphrase(recipient) => recipient.labels(alloc),
+            SecretRecipient::Keys(_, _) => Ok(Labels::Names(LabelSet::new(alloc, &[])?)),
+        }
+    }
+}
+
+/// The stanzas of these keys, one each.
+fn wrap_for_keys(
+    alloc: Global,
+    keys: &[[u8; 32]],
+    salt: [u8; 16],
+    file_key: &FileKey,
+) -> Result<Vec<Stanza>, WrapFault>
+    ensures { WrapsAs (Ok (map (λ key. keyed_stanza key salt file_key.now) keys.now)) result }
+{
+    let mut stanzas = Vec::new(alloc);
+    for key in keys {
+        let mut one = KeyRecipient::new(*key, salt).wrap(alloc, file_key)?;
+        if stanzas.append(&mut one).is_err() {
+            return Err(WrapFault::Memory);
+        }
+    }
+    Ok(stanzas)
+}

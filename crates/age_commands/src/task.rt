@@ -1,0 +1,74 @@
+//! A command with its secrets, and its work from an input to a sink.
+ghost use Rattle.std.specs.Prelude.{◌≡◌};
+ghost use Rattle.age_words.specs.Job.{IsInRange};
+ghost use Rattle.age_commands.specs.Task.{Performs, without_counts};
+
+use crate::buffering::{file_source, header_source};
+use crate::decrypt::decrypt;
+use crate::encrypt::encrypt;
+use crate::inspect::inspect;
+use crate::rewrap::rewrap;
+use crate::secret::{Secret, Seed};
+use age_file::{Done, Fault, ReadSource, Sink};
+use age_words::Job;
+use std::alloc::Global;
+use std::io::Read;
+
+/// A command with all that it needs besides its input, which it reads from the start to the end.
+#[derive(Drop)]
+pub enum Task {
+    Encrypt(Secret, Seed),
+    Decrypt(Secret),
+    /// With the old secret, the new one, and the salt.
+    Rewrap(Secret, Secret, [u8; 16]),
+    /// With the file key, if the header is to be checked.
+    Inspect(Option<[u8; 16]>),
+}
+
+/// Does the work from this input to this sink.
+pub fn perform_between<R: Read, W: Sink>(
+    alloc: Global,
+    job: &Job,
+    task: Task,
+    input: &mut R,
+    out: &mut W,
+) -> Result<(), Fault>
+    requires { IsInRange job.now }
+    ensures { Performs job.now task (R.remaining input.old) (W.taken out.old)
+        (W.taken out.new) result }
+{
+    match task {
+        Task::Encrypt(secret, seed) => {
+            let mut source = ReadSource::new(input);
+            without_counts(encrypt(alloc, job, secret, &seed, &mut source, out))
+        }
+        Task::Decrypt(secret) => {
+            let Ok(mut source) = file_source(alloc, input) else {
+                return Err(Fault::OutOfMemory);
+            };
+            without_counts(decrypt(alloc, job, secret, &mut source, out))
+        }
+        Task::Rewrap(old, new, salt) => {
+            let Ok(mut source) = file_source(alloc, input) else {
+                return Err(Fault::OutOfMemory);
+            };
+            rewrap(alloc, job, old, new, salt, &mut source, out)
+        }
+        Task::Inspect(file_key) => {
+            let Ok(mut source) = header_source(alloc, input) else {
+                return Err(Fault::OutOfMemory);
+            };
+            inspect(alloc, job, &file_key, &mut source, out)
+        }
+    }
+}
+
+/// The result without the counts of bytes and chunks.
+fn without_counts(done: Result<Done, Fault>) -> Result<(), Fault>
+    ensures { result ≡ without_counts done }
+{
+    match done {
+        Ok(_) => Ok(()),
+        Err(fault) => Err(fault),
+    }
+}

@@ -1,0 +1,13 @@
+use Rattle.age_file.proofs.IncompatibleLemmas.{collects, collects_all}
+use Rattle.age_file.proofs.new_header.labels_of_all.Goals as goal
+
+pub loop-recipient-init : goal.loop-recipient-init
+loop-recipient-init g c = rw c.new-all.ensures.items tt
+
+pub loop-recipient-preserved : goal.loop-recipient-preserved
+loop-recipient-preserved g c =
+    collects _ _ c.loop-recipient.recipient-index _ c.in_ok-labels_of.field-0 _ _ c.loop-recipient-test.true c.recipient-item.is
+    c.in_ok-labels_of.ensures c.in_ok-push.ensures.items c.loop-recipient.invariant
+
+pub returns : goal.returns
+returns g c = collects_all _ _ c.loop-recipient.recipient-index _ c.loop-recipient-test.false c.loop-recipient.invariant
