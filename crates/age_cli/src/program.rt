@@ -13,6 +13,7 @@ use crate::watched::Watched;
 use crate::work::{kept_front, perform_to, range_to};
 use age_commands::{Secret, Task};
 use age_words::{Command, Job, WordsFault, read_words};
+use std::alloc::Global;
 use std::fmt::Display;
 use std::io::{IsTerminal, Read, Write};
 use std::rt::Files;
@@ -44,7 +45,7 @@ pub fn run<F: Files + AllocGlobal, R: Read, W: Write + IsTerminal, E: Write>(
 {
     match read_words(rt.alloc(), words) {
         Ok(job) => run_job(rt, &job, input, out, err),
-        Err(fault) => answer_refusal(&fault, out, err),
+        Err(fault) => answer_refusal(rt.alloc(), &fault, out, err),
     }
 }
 
@@ -66,7 +67,7 @@ pub fn run_job<F: Files + AllocGlobal, R: Read, W: Write + IsTerminal, E: Write>
 {
     match perform(rt, job, input, out) {
         Ok(()) => DONE,
-        Err(failure) => report(&failure, job.verbose, err),
+        Err(failure) => report(rt.alloc(), &failure, job.verbose, err),
     }
 }
 
@@ -218,32 +219,44 @@ fn perform_on<'a, F: Files + AllocGlobal, R: Read, W: Write>(
     }
 }
 
-/// Prints the fault on standard error, with what more is known of it if that is wanted. A failed
-/// write changes nothing.
-fn report<E: Write>(failure: &Failure<'_>, verbose: bool, err: &mut E) -> u8
+/// Prints a text on standard error, in one write if it fits into memory. A failed write changes
+/// nothing.
+fn say<D: Display, E: Write>(alloc: Global, text: &D, err: &mut E) {
+    let mut whole = Vec::new(alloc);
+    let _ = match write!(whole, "{text}") {
+        Ok(()) => err.write_all(whole.as_slice()),
+        Err(_) => write!(err, "{text}"),
+    };
+}
+
+/// Prints the fault, with what more is known of it if that is wanted.
+fn report<E: Write>(alloc: Global, failure: &Failure<'_>, verbose: bool, err: &mut E) -> u8
     ensures { result ≡ 1 }
 {
     let fault = failure.fault;
-    let _ = writeln!(err, "agep: {fault}");
+    say(alloc, &format_args!("agep: {fault}\n"), err);
     match &failure.detail {
-        Some(detail) if verbose => {
-            let _ = writeln!(err, "agep: {detail}");
-        }
+        Some(detail) if verbose => say(alloc, &format_args!("agep: {detail}\n"), err),
         _ => {}
     }
     FAILED
 }
 
-/// Prints on standard error why the command line was refused. A failed write changes nothing.
-fn refuse<D: Display, E: Write>(why: &D, err: &mut E) -> u8
+/// Prints why the command line was refused.
+fn refuse<D: Display, E: Write>(alloc: Global, why: &D, err: &mut E) -> u8
     ensures { result ≡ 2 }
 {
-    let _ = write!(err, "{why}");
+    say(alloc, why, err);
     REFUSED
 }
 
 /// Prints why the arguments make no job, or prints help or the version.
-fn answer_refusal<W: Write, E: Write>(fault: &WordsFault, out: &mut W, err: &mut E) -> u8
+fn answer_refusal<W: Write, E: Write>(
+    alloc: Global,
+    fault: &WordsFault,
+    out: &mut W,
+    err: &mut E,
+) -> u8
     ensures status { result ≤ 2 }
     ensures refused { result ≡ 2 → out.new ≡ out.old }
     ensures quiet { result ≡ 0 → err.new ≡ err.old }
@@ -251,11 +264,12 @@ fn answer_refusal<W: Write, E: Write>(fault: &WordsFault, out: &mut W, err: &mut
     match fault {
         WordsFault::Refused(error) => {
             if error.use_stderr() {
-                return refuse(&Lines(error), err);
+                return refuse(alloc, &Lines(error), err);
             }
             match write!(out, "{error}").and_then(|()| out.flush()) {
                 Ok(()) => DONE,
                 Err(_) => report(
+                    alloc,
                     &Failure::from(Fault::AgeFile(age_file::Fault::Write)),
                     false,
                     err,
@@ -264,11 +278,12 @@ fn answer_refusal<W: Write, E: Write>(fault: &WordsFault, out: &mut W, err: &mut
         }
         WordsFault::Memory => {
             report(
+                alloc,
                 &Failure::from(Fault::AgeFile(age_file::Fault::OutOfMemory)),
                 false,
                 err,
             )
         }
-        WordsFault::Lost => refuse(&"agep: bad command line\n", err),
+        WordsFault::Lost => refuse(alloc, &"agep: bad command line\n", err),
     }
 }
