@@ -1,7 +1,7 @@
 #!/usr/bin/env bash
-# Builds cipher_bench for a level of the processor, and looks whether the compiler made of Poly1305's
-# loop what it was written to be: status 1 if not. Usage: bench/cipher.sh [CPU]. CPU is a level such
-# as x86-64-v3; the default is the toolchain's.
+# Builds cipher_bench for a level of the processor, and checks how many instructions the compiler
+# made of Poly1305's loop: status 1 if more than it was written for. Usage: bench/cipher.sh [CPU].
+# CPU is a level such as x86-64-v3; the default is the toolchain's.
 set -euo pipefail
 cpu=${1:-}
 cd "$(dirname "$0")/../crates/cipher_bench"

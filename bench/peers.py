@@ -217,7 +217,8 @@ def cells(here, there):
         return ["-"] * 3
     ours, peers = ((min(times), statistics.median(times)) for times in (here, there))
     ratios = (b / a if a > 0 else math.inf for a, b in zip(ours, peers))
-    return [f"{best:.{n}f} ({median:.{n}f})" for n, (best, median) in ((3, ours), (3, peers), (2, ratios))]
+    columns = ((3, ours), (3, peers), (2, ratios))
+    return [f"{best:.{n}f} ({median:.{n}f})" for n, (best, median) in columns]
 
 
 def print_table(works, times):
