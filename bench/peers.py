@@ -5,7 +5,7 @@ usage: bench/peers.py [--mib 1024] [--runs 7] [--files 1000] [--cpu LEVEL] [--on
 
 The programs are built for the level of the processor at hand, or for the one that --cpu names.
 --only leaves out the rows without this word. It needs the toolchain, a C compiler, openssl, age and
-GNU time. TMPDIR names the folder of the files, which takes six times the size.
+GNU time. TMPDIR names the folder of the files, which takes four times the size.
 """
 
 import argparse
