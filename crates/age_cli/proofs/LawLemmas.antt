@@ -11,7 +11,7 @@ use Rattle.age_stream.specs.Reading.{whole}
 use Rattle.age_file.specs.declared.fault.Fault.{Fault}
 use Rattle.age_file.specs.declared.limits.Fresh.{Fresh}
 use Rattle.age_file.specs.AgeFile.{AgeFile, Bounds}
-use Rattle.age_file.specs.Decrypt.{DecryptsText}
+use Rattle.age_file.specs.Decrypt.{Decrypts, DecryptsText}
 use Rattle.age_file.specs.NewFile.{EncryptsText, Gathering}
 use Rattle.age_file.specs.Verdict.{Answering, IsVerdict}
 use Rattle.age_words.specs.declared.job.Command.{Command}
@@ -22,7 +22,7 @@ use Rattle.age_commands.specs.declared.task.Task.TheVariants as task
 use Rattle.age_cli.specs.Output.{Ends}
 use Rattle.age_cli.specs.Program.{Finishes, IsTaskOf, Works}
 use Rattle.age_commands.specs.Secret.{answers_of, limits_of}
-use Rattle.age_commands.specs.Task.{Decrypting, Encrypting, without_counts}
+use Rattle.age_commands.specs.Task.{Encrypting, without_counts}
 
 -- the output ends with what was appended
 grown : (xs more : Bytes) (taken new : Known) → Appends (Some xs) taken more → Keeps taken new → new ≡ Some (xs ++ more)
@@ -45,14 +45,14 @@ decrypted_whole law limits answers b xs taken new counts (verdict, judged, (none
     (found.0, found.1, verdict.front, found.2, grown xs verdict.front taken new appends keeps)
 
 decrypted : OkIsAgeFile → (limits : Bounds) (answers : Answering) (b xs : Bytes) (taken new : Known) (done : Result Done Fault) (work : Result ⊤ Fault)
-    → work ≡ without_counts done → Decrypting limits answers (Some b) (Some xs) taken done → Ends (Some xs) taken new work (Ok tt) → Gained limits b xs new
+    → work ≡ without_counts done → Decrypts limits answers (Some b) (Some xs) taken done → Ends (Some xs) taken new work (Ok tt) → Gained limits b xs new
 decrypted law limits answers b xs taken new (Err fault) work is d (inl (ended, keeps)) = absurd (cc)
 decrypted law limits answers b xs taken new (Err fault) work is d (inr (failed, rest)) = absurd (cc)
-decrypted law limits answers b xs taken new (Ok counts) work is d (inl (ended, keeps)) = decrypted_whole law limits answers b xs taken new counts d.0 keeps
+decrypted law limits answers b xs taken new (Ok counts) work is d (inl (ended, keeps)) = decrypted_whole law limits answers b xs taken new counts d keeps
 decrypted law limits answers b xs taken new (Ok counts) work is d (inr (failed, rest)) = absurd (cc)
 
 decrypt_done : OkIsAgeFile → (job : Job) (b xs : Bytes) (new : Known) (task : Task) → IsTaskOf command.Decrypt task → Works job task (Some b) (Some xs) new (Ok tt) → Gained (limits_of job) b xs new
-decrypt_done law job b xs new (task.Decrypt secret) is (taken, work, (done, same, d), ends) =
+decrypt_done law job b xs new (task.Decrypt secret) is (taken, work, (done, same, d), quiet, ends) =
     decrypted law (limits_of job) (answers_of secret job.max_work) b xs taken new done work same d ends
 decrypt_done law job b xs new (task.Encrypt secret seed) is w = absurd is
 decrypt_done law job b xs new (task.Rewrap old other salt) is w = absurd is
@@ -78,7 +78,7 @@ encrypted limits fresh gathered plain xs taken new (Ok counts) work is e (inl (e
 encrypted limits fresh gathered plain xs taken new (Ok counts) work is e (inr (failed, rest)) = absurd (cc)
 
 encrypt_done : (job : Job) (plain xs : Bytes) (new : Known) (task : Task) → IsTaskOf command.Encrypt task → Works job task (Some plain) (Some xs) new (Ok tt) → Made (limits_of job) plain xs new
-encrypt_done job plain xs new (task.Encrypt secret seed) is (taken, work, (done, same, e), ends) = encrypted (limits_of job) seed.fresh _ plain xs taken new done work same e ends
+encrypt_done job plain xs new (task.Encrypt secret seed) is (taken, work, (done, same, e), quiet, ends) = encrypted (limits_of job) seed.fresh _ plain xs taken new done work same e ends
 encrypt_done job plain xs new (task.Decrypt secret) is w = absurd is
 encrypt_done job plain xs new (task.Rewrap old other salt) is w = absurd is
 encrypt_done job plain xs new (task.Inspect key) is w = absurd is

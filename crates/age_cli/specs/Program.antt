@@ -12,7 +12,7 @@ use Rattle.age_cli.specs.declared.fault.Fault.TheVariants.{AgeFile}
 use Rattle.age_commands.specs.declared.task.Task.{Task}
 use Rattle.age_commands.specs.declared.task.Task.TheVariants as task
 use Rattle.age_cli.specs.Output.{Ends}
-use Rattle.age_commands.specs.Task.{Performs}
+use Rattle.age_commands.specs.Task.{Performs, PerformsQuietly}
 
 -- a task of this command
 abbrev pub IsTaskOf : (command : Command) (task : Task) → Type 0
@@ -28,7 +28,7 @@ abbrev pub Works : (job : Job) (task : Task) (from old new : Known)
     (result : Result ⊤ FileFault) → Type 0
 Works job task from old new result =
     (taken : Known) × (work : Result ⊤ FileFault) × Performs job task from old taken work
-    × Ends old taken new work result
+    × PerformsQuietly task old taken work × Ends old taken new work result
 
 -- the same with what a failure names as its fault; memory may be refused before
 abbrev pub PerformsTo : (job : Job) (task : Task) (from old new : Known)

@@ -15,7 +15,7 @@ use Rattle.age_stream.specs.Slice.{opening}
 use Rattle.age_file.specs.declared.fault.Fault.{Fault}
 use Rattle.age_file.specs.AgeFile.{Bounds}
 use Rattle.age_file.specs.Ranges.{IsRangesOf, MissesRanges}
-use Rattle.age_file.specs.Verdict.{Answering, stream_fault}
+use Rattle.age_file.specs.Verdict.{stream_fault}
 use Rattle.age_commands.specs.Range.{Ranging, WritesPlain, WritesRange}
 
 -- nothing is written

@@ -14,7 +14,7 @@ use Rattle.age_file.specs.AgeFile.{Bounds}
 use Rattle.age_file.specs.Decrypt.{Decrypts}
 use Rattle.age_file.specs.NewFile.{Gathered}
 use Rattle.age_file.specs.Rewrap.{Rewraps}
-use Rattle.age_commands.specs.Task.{Decrypting, Encrypting, Rewrapping}
+use Rattle.age_commands.specs.Task.{Encrypting}
 
 pub decrypts_alone : {X : Type 0} (m : X → List StanzaParts → Unwrapped) (items : List X) (x : X) (l limits : Bounds) (from old new : Known) (r : Result Done Fault)
     → items ≡ x ∷ [] → l ≡ limits → Decrypts l (λ s. map (λ i. m i s) items) from old new r → Decrypts limits (λ s. m x s ∷ []) from old new r
@@ -22,8 +22,8 @@ decrypts_alone m items x l limits from old new r one is h =
     subst (λ b. Decrypts b (λ s. m x s ∷ []) from old new r) is (subst (λ xs. Decrypts l (λ s. map (λ i. m i s) xs) from old new r) one h)
 
 pub decrypting_meant : (f g : List StanzaParts → Unwrapped) (limits : Bounds) (from old new : Known) (r : Result Done Fault) → f ≡ g
-    → Decrypting limits (λ s. f s ∷ []) from old new r → Decrypting limits (λ s. g s ∷ []) from old new r
-decrypting_meant f g limits from old new r same h = subst (λ (m : List StanzaParts → Unwrapped). Decrypting limits (λ s. m s ∷ []) from old new r) same h
+    → Decrypts limits (λ s. f s ∷ []) from old new r → Decrypts limits (λ s. g s ∷ []) from old new r
+decrypting_meant f g limits from old new r same h = subst (λ (m : List StanzaParts → Unwrapped). Decrypts limits (λ s. m s ∷ []) from old new r) same h
 
 pub encrypting_meant : (w v : FileKey → Result (List StanzaParts) ℕ) (l m : Labels) (limits : Bounds) (fresh : Fresh) (from old new : Known) (r : Result Done Fault) → w ≡ v → l ≡ m
     → Encrypting limits fresh (Gathered (w fresh.file_key ∷ []) (l ∷ [])) from old new r → Encrypting limits fresh (Gathered (v fresh.file_key ∷ []) (m ∷ [])) from old new r
@@ -43,11 +43,11 @@ rewraps_alone m w labels items x others y l limits from old new r one other is h
 
 pub rewrapping_meant : (f g : List StanzaParts → Unwrapped) (w v : FileKey → Result (List StanzaParts) ℕ) (l m : Labels) (limits : Bounds) (from old new : Known) (r : Result ⊤ Fault)
     → f ≡ g → w ≡ v → l ≡ m
-    → Rewrapping limits (λ s. f s ∷ []) (λ key. Gathered (w key ∷ []) (l ∷ [])) from old new r → Rewrapping limits (λ s. g s ∷ []) (λ key. Gathered (v key ∷ []) (m ∷ [])) from old new r
+    → Rewraps limits (λ s. f s ∷ []) (λ key. Gathered (w key ∷ []) (l ∷ [])) from old new r → Rewraps limits (λ s. g s ∷ []) (λ key. Gathered (v key ∷ []) (m ∷ [])) from old new r
 rewrapping_meant f g w v l m limits from old new r same wraps labels h =
-    subst (λ (x : Labels). Rewrapping limits (λ s. g s ∷ []) (λ key. Gathered (v key ∷ []) (x ∷ [])) from old new r) labels
-    (subst (λ (x : FileKey → Result (List StanzaParts) ℕ). Rewrapping limits (λ s. g s ∷ []) (λ key. Gathered (x key ∷ []) (l ∷ [])) from old new r) wraps
-    (subst (λ (x : List StanzaParts → Unwrapped). Rewrapping limits (λ s. x s ∷ []) (λ key. Gathered (w key ∷ []) (l ∷ [])) from old new r) same h))
+    subst (λ (x : Labels). Rewraps limits (λ s. g s ∷ []) (λ key. Gathered (v key ∷ []) (x ∷ [])) from old new r) labels
+    (subst (λ (x : FileKey → Result (List StanzaParts) ℕ). Rewraps limits (λ s. g s ∷ []) (λ key. Gathered (x key ∷ []) (l ∷ [])) from old new r) wraps
+    (subst (λ (x : List StanzaParts → Unwrapped). Rewraps limits (λ s. x s ∷ []) (λ key. Gathered (w key ∷ []) (l ∷ [])) from old new r) same h))
 
 -- one more is made for the next key
 pub wrapped_more : {S : Type 0} (f : Bytes → S) (keys : List Bytes) (i : ℕ) (old one new : List S) → i < length keys

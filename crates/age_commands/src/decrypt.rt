@@ -1,8 +1,9 @@
 //! The command `decrypt`: the plaintext of a file of the format.
 ghost use Rattle.std.specs.Prelude.{◌∷◌, []};
+ghost use Rattle.age_file.specs.Decrypt.{Decrypts};
+ghost use Rattle.age_file.specs.Device.{IsQuiet};
 ghost use Rattle.age_words.specs.Job.{IsInRange};
 ghost use Rattle.age_commands.specs.Secret.{answers_of, limits_of};
-ghost use Rattle.age_commands.specs.Task.{Decrypting};
 
 use crate::buffering::limits_of;
 use crate::identity::SecretIdentity;
@@ -21,8 +22,9 @@ pub(crate) fn decrypt<S: Source, W: Sink>(
     out: &mut W,
 ) -> Result<Done, Fault>
     requires { IsInRange job.now }
-    ensures { Decrypting (limits_of job.now) (answers_of secret job.now.max_work)
+    ensures decrypts { Decrypts (limits_of job.now) (answers_of secret job.now.max_work)
         (S.to_come input.old) (W.taken out.old) (W.taken out.new) result }
+    ensures quiet { IsQuiet out.old out.new result }
 {
     let Ok(identity) = SecretIdentity::new(alloc, job, secret) else {
         return Err(Fault::OutOfMemory);
@@ -42,8 +44,9 @@ fn decrypt_by<S: Source, W: Sink>(
     out: &mut W,
 ) -> Result<Done, Fault>
     requires { IsInRange job.now }
-    ensures { Decrypting (limits_of job.now) (λ stanzas. meaning identity stanzas ∷ [])
+    ensures decrypts { Decrypts (limits_of job.now) (λ stanzas. meaning identity stanzas ∷ [])
         (S.to_come input.old) (W.taken out.old) (W.taken out.new) result }
+    ensures quiet { IsQuiet out.old out.new result }
 {
     match vec![in alloc; identity] {
         Ok(identities) => {

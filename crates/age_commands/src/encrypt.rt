@@ -1,5 +1,6 @@
 //! The command `encrypt`: a file of the format, made of any bytes.
 ghost use Rattle.std.specs.Prelude.{◌∷◌, []};
+ghost use Rattle.age_file.specs.Device.{IsQuiet};
 ghost use Rattle.age_file.specs.NewFile.{Gathered};
 ghost use Rattle.age_words.specs.Job.{IsInRange};
 ghost use Rattle.age_commands.specs.Secret.{gathering_of, limits_of};
@@ -22,9 +23,10 @@ pub(crate) fn encrypt<S: Source, W: Sink>(
     out: &mut W,
 ) -> Result<Done, Fault>
     requires { IsInRange job.now }
-    ensures { Encrypting (limits_of job.now) seed.now.fresh
+    ensures encrypts { Encrypting (limits_of job.now) seed.now.fresh
         (gathering_of secret job.now.work seed.now.salt seed.now.fresh.file_key)
         (S.to_come input.old) (W.taken out.old) (W.taken out.new) result }
+    ensures quiet { IsQuiet out.old out.new result }
 {
     let Ok(recipient) = SecretRecipient::new(alloc, job, secret, seed.salt) else {
         return Err(Fault::OutOfMemory);
@@ -45,9 +47,10 @@ fn encrypt_for<S: Source, W: Sink>(
     out: &mut W,
 ) -> Result<Done, Fault>
     requires { IsInRange job.now }
-    ensures { Encrypting (limits_of job.now) fresh.now
+    ensures encrypts { Encrypting (limits_of job.now) fresh.now
         (Gathered (wraps recipient fresh.now.file_key ∷ []) (the_labels recipient ∷ []))
         (S.to_come input.old) (W.taken out.old) (W.taken out.new) result }
+    ensures quiet { IsQuiet out.old out.new result }
 {
     match vec![in alloc; recipient] {
         Ok(recipients) => {

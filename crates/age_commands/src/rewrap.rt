@@ -1,9 +1,10 @@
 //! The command `rewrap`: a file with a new header for the same file key.
 ghost use Rattle.std.specs.Prelude.{◌∷◌, []};
+ghost use Rattle.age_file.specs.Device.{IsQuiet};
 ghost use Rattle.age_file.specs.NewFile.{Gathered};
+ghost use Rattle.age_file.specs.Rewrap.{Rewraps};
 ghost use Rattle.age_words.specs.Job.{IsInRange};
 ghost use Rattle.age_commands.specs.Secret.{answers_of, gathering_of, limits_of};
-ghost use Rattle.age_commands.specs.Task.{Rewrapping};
 
 use crate::buffering::limits_of;
 use crate::identity::SecretIdentity;
@@ -25,9 +26,10 @@ pub(crate) fn rewrap<S: Source, W: Sink>(
     out: &mut W,
 ) -> Result<(), Fault>
     requires { IsInRange job.now }
-    ensures { Rewrapping (limits_of job.now) (answers_of old job.now.max_work)
+    ensures rewraps { Rewraps (limits_of job.now) (answers_of old job.now.max_work)
         (gathering_of new job.now.work salt)
         (S.to_come input.old) (W.taken out.old) (W.taken out.new) result }
+    ensures quiet { IsQuiet out.old out.new result }
 {
     let Ok(identity) = SecretIdentity::new(alloc, job, old) else {
         return Err(Fault::OutOfMemory);
@@ -54,9 +56,10 @@ fn rewrap_for<S: Source, W: Sink>(
     out: &mut W,
 ) -> Result<(), Fault>
     requires { IsInRange job.now }
-    ensures { Rewrapping (limits_of job.now) (λ stanzas. meaning identity stanzas ∷ [])
+    ensures rewraps { Rewraps (limits_of job.now) (λ stanzas. meaning identity stanzas ∷ [])
         (λ key. Gathered (wraps recipient key ∷ []) (the_labels recipient ∷ []))
         (S.to_come input.old) (W.taken out.old) (W.taken out.new) result }
+    ensures quiet { IsQuiet out.old out.new result }
 {
     let Ok(identities) = vec![in alloc; identity] else {
         return Err(Fault::OutOfMemory);

@@ -1,7 +1,7 @@
 //! A command with its secrets, and its work from an input to a sink.
 ghost use Rattle.std.specs.Prelude.{◌≡◌};
 ghost use Rattle.age_words.specs.Job.{IsInRange};
-ghost use Rattle.age_commands.specs.Task.{Performs, without_counts};
+ghost use Rattle.age_commands.specs.Task.{Performs, PerformsQuietly, without_counts};
 
 use crate::buffering::{file_source, header_source};
 use crate::decrypt::decrypt;
@@ -34,8 +34,9 @@ pub fn perform_between<R: Read, W: Sink>(
     out: &mut W,
 ) -> Result<(), Fault>
     requires { IsInRange job.now }
-    ensures { Performs job.now task (R.remaining input.old) (W.taken out.old)
+    ensures performs { Performs job.now task (R.remaining input.old) (W.taken out.old)
         (W.taken out.new) result }
+    ensures quiet { PerformsQuietly task out.old out.new result }
 {
     match task {
         Task::Encrypt(secret, seed) => {

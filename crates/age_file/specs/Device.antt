@@ -1,5 +1,5 @@
 -- What a result says of the devices: of their counts of failures, and of what was written.
-use Rattle.std.specs.Prelude.{◌≡◌, ℕ, ◌+◌, ◌-◌, ◌^◌, ⊤, min, Result, Err}
+use Rattle.std.specs.Prelude.{◌≡◌, ◌⊎◌, ℕ, ◌+◌, ◌-◌, ◌^◌, ⊤, min, IfErr, Result, Err}
 use Rattle.age_file.specs.declared.fault.Fault.{Fault}
 use Rattle.age_file.specs.declared.fault.Fault.TheVariants.{ChunkShort, EmptyFinal, BadChunk, TooManyChunks, Read, Write}
 
@@ -28,3 +28,7 @@ IsLate TooManyChunks = ⊤
 IsLate Read = ⊤
 IsLate Write = ⊤
 IsLate _ = ⊥
+
+-- a fault that is not late leaves the sink as it was, whether its contents are known or not
+abbrev pub IsQuiet : {W A : Type 0} (old new : W) (result : Result A Fault) → Type 0
+IsQuiet old new result = IfErr result (λ fault. IsLate fault ⊎ (new ≡ old))

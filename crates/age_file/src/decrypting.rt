@@ -1,9 +1,8 @@
 //! Decrypting a whole file.
 
-ghost use Rattle.std.specs.Prelude.{◌⊎◌, map, IfErr};
-ghost use Rattle.std.specs.Io.KnownBytes.{Keeps};
+ghost use Rattle.std.specs.Prelude.{map, IfErr};
 ghost use Rattle.age_file.specs.Decrypt.{Decrypts, TookUpTo};
-ghost use Rattle.age_file.specs.Device.{CountsRead, CountsWrite, IsLate};
+ghost use Rattle.age_file.specs.Device.{CountsRead, CountsWrite, IsQuiet};
 ghost use Rattle.age_file.specs.Verdict.{Answering};
 
 use crate::fault::Fault;
@@ -42,8 +41,7 @@ pub fn decrypt<S: Source, W: Sink>(
         λ stanzas. map (λ i. meaning i stanzas) identities.now in
         Decrypts limits.now answers
         (S.to_come input.old) (W.taken out.old) (W.taken out.new) result }
-    ensures quiet { IfErr result
-        (λ fault. IsLate fault ⊎ Keeps (W.taken out.old) (W.taken out.new)) }
+    ensures quiet { IsQuiet out.old out.new result }
     ensures reads { CountsRead (S.failed input.old) (S.failed input.new) result }
     ensures writes { CountsWrite (W.failed out.old) (W.failed out.new) result }
     ensures took { IfErr result (TookUpTo limits.now (S.to_come input.old) (S.to_come input.new)

@@ -1,10 +1,9 @@
 //! Encrypting a whole file.
 
 ghost use Rattle.std.specs.Prelude.{◌≡◌, ◌⊎◌, ◌++◌, Err, None, map, IfErr};
-ghost use Rattle.std.specs.Io.KnownBytes.{Keeps};
 ghost use Rattle.age_header.specs.Device.{Bytes, Counts, Writes};
 ghost use Rattle.age_header.specs.Header.{Head};
-ghost use Rattle.age_file.specs.Device.{CountsRead, CountsWrite, IsLate};
+ghost use Rattle.age_file.specs.Device.{CountsRead, CountsWrite, IsQuiet};
 ghost use Rattle.age_file.specs.NewFile.{EncryptsGiven, RefusesFirst, Gathered, MayFillChunk, SealsRest, TookWhileEncrypting};
 ghost use Rattle.age_stream.specs.Counts as stream;
 
@@ -50,8 +49,7 @@ pub fn encrypt<S: Source, W: Sink>(
     ensures refused { let gathered = Gathered (map (λ r. wraps r fresh.now.file_key) recipients.now)
         (map (λ r. the_labels r) recipients.now) in
         IfErr result (RefusesFirst limits.now fresh.now.file_key gathered) }
-    ensures quiet { IfErr result
-        (λ fault. IsLate fault ⊎ Keeps (W.taken out.old) (W.taken out.new)) }
+    ensures quiet { IsQuiet out.old out.new result }
     ensures spared { result ≡ Err Fault.Read
         → (out.new ≡ out.old) ⊎ MayFillChunk (S.to_come plain.old) }
     ensures reads { CountsRead (S.failed plain.old) (S.failed plain.new) result }

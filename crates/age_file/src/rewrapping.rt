@@ -1,8 +1,7 @@
 //! Replacing the header of a file; the payload stays.
 
-ghost use Rattle.std.specs.Prelude.{◌⊎◌, map, IfErr};
-ghost use Rattle.std.specs.Io.KnownBytes.{Keeps};
-ghost use Rattle.age_file.specs.Device.{CountsRead, CountsWrite, IsLate};
+ghost use Rattle.std.specs.Prelude.{map};
+ghost use Rattle.age_file.specs.Device.{CountsRead, CountsWrite, IsQuiet};
 ghost use Rattle.age_file.specs.NewFile.{Gathered};
 ghost use Rattle.age_file.specs.Rewrap.{Rewraps};
 ghost use Rattle.age_file.specs.Verdict.{Answering};
@@ -41,8 +40,7 @@ pub fn rewrap<S: Source, W: Sink>(
         Rewraps limits.now answers (λ key. Gathered (map (λ r. wraps r key) recipients.now)
         (map (λ r. the_labels r) recipients.now))
         (S.to_come input.old) (W.taken out.old) (W.taken out.new) result }
-    ensures quiet { IfErr result
-        (λ fault. IsLate fault ⊎ Keeps (W.taken out.old) (W.taken out.new)) }
+    ensures quiet { IsQuiet out.old out.new result }
     ensures reads { CountsRead (S.failed input.old) (S.failed input.new) result }
     ensures writes { CountsWrite (W.failed out.old) (W.failed out.new) result }
 {

@@ -3,5 +3,5 @@ use Rattle.age_file.specs.declared.fault.Fault.TheVariants.{OutOfMemory}
 use Rattle.age_commands.proofs.TaskLemmas.{not_decrypted}
 use Rattle.age_commands.proofs.task.perform_between.Goals as goal
 
-pub returns-in_default : goal.returns-in_default
-returns-in_default g c = rw c.in-Decrypt.is (Err OutOfMemory, refl, not_decrypted _ _ _ _)
+pub returns-in_default-clause-performs : goal.returns-in_default-clause-performs
+returns-in_default-clause-performs g c = rw c.in-Decrypt.is (Err OutOfMemory, refl, not_decrypted _ _ _ _)
