@@ -8,12 +8,12 @@
  *     the length 0 it stands for no bytes, and with another the call returns
  *     AGEFILE_NULL_POINTER. This is checked by the functions of this header. A caller of the
  *     library's own functions, by dlsym or from another language, passes no null pointer.
- *  2. A pointer is valid for the length that follows it, which is below 2^63. A key has 32
+ *  2. A pointer is valid for the length that follows it, which is below 2^63 bytes. A key has 32
  *     bytes, a seed 48.
  *  3. Structs are aligned as the compiler aligns them, and a bool is 0 or 1.
- *  4. What a call writes (`out`, `args`, `chunk`, the structs) overlaps no other argument. So a
- *     whole buffer cannot be encrypted or decrypted in place; a chunk of the steps is processed
- *     in place.
+ *  4. What a call writes (`out`, `args`, `text`, `chunk`, the structs) overlaps no other argument.
+ *     So a whole buffer cannot be encrypted or decrypted in place; a chunk of the steps is
+ *     processed in place.
  *  5. During a call no other thread reads or writes what the call writes, or writes what it
  *     reads. Nothing else is shared: any number of calls may run at once.
  *  6. 32 KiB of stack are free.
@@ -140,7 +140,7 @@ static inline const char *agefile_detail(uint64_t detail)
 /* What a call returns in addition to its code. */
 typedef struct agefile_report {
     uint64_t len;
-    uint64_t place;  /* the line or the chunk of a fault, else 0; for ranges an offset, see there */
+    uint64_t place;  /* the line or the chunk of a fault, else 0, or what the call's comment says */
     uint64_t detail; /* for AGEFILE_MALFORMED the part of the stanza, see agefile_detail, else 0 */
 } agefile_report;
 
@@ -190,6 +190,13 @@ static inline uint32_t agefile_inspect(
 static inline uint32_t agefile_stanza(
     const uint8_t *front, size_t front_len, uint64_t index, uint8_t *args, size_t args_len,
     agefile_stanza_summary *stanza, agefile_report *report) AGEFILE_CALL("stanza", (6, 7));
+/* Lists all stanzas in one reading. Writes their sizes, in order, to the start of `stanzas`, and to
+ * the start of `text` of each its arguments, joined by single spaces, and then its body. report.len
+ * is the length of this text, and report.place the number of stanzas. On AGEFILE_TOO_SMALL, if one
+ * of the two does not suffice, both are unchanged, and the report says what they need. */
+static inline uint32_t agefile_stanzas(
+    const uint8_t *front, size_t front_len, agefile_stanza_summary *stanzas, size_t stanzas_len,
+    uint8_t *text, size_t text_len, agefile_report *report) AGEFILE_CALL("stanzas", (7));
 
 /* ---- Reading in steps: open, then one call for each sealed chunk. The caller keeps the struct,
  * only the calls change it, and it is never copied while it is in use. If an opening returns 0,
@@ -283,8 +290,8 @@ static inline uint32_t agefile_ranges_chunk(
 
 /* ---- How null pointers are checked. The library's own functions take no null pointer. They have
  * names of their own here, and the calls above, which are functions of this header, check the
- * pointers and call them. A null pointer with the length 0 is replaced by the address of a byte
- * that is neither read nor written. */
+ * pointers and call them. A null pointer with the length 0 is replaced by the address of a byte or
+ * struct that is neither read nor written. */
 uint32_t agefile_export_decrypt_passphrase(
     const uint8_t *file, size_t file_len, const uint8_t *pass, size_t pass_len, uint8_t max_work,
     uint8_t *out, size_t out_len, agefile_report *report) __asm__("agefile_decrypt_passphrase");
@@ -305,6 +312,9 @@ uint32_t agefile_export_inspect(
 uint32_t agefile_export_stanza(
     const uint8_t *front, size_t front_len, uint64_t index, uint8_t *args, size_t args_len,
     agefile_stanza_summary *stanza, agefile_report *report) __asm__("agefile_stanza");
+uint32_t agefile_export_stanzas(
+    const uint8_t *front, size_t front_len, agefile_stanza_summary *stanzas, size_t stanzas_len,
+    uint8_t *text, size_t text_len, agefile_report *report) __asm__("agefile_stanzas");
 uint32_t agefile_export_reader_open_passphrase(
     const uint8_t *front, size_t front_len, const uint8_t *pass, size_t pass_len, uint8_t max_work,
     agefile_reader *reader, agefile_report *report) __asm__("agefile_reader_open_passphrase");
@@ -339,9 +349,9 @@ uint32_t agefile_export_ranges_chunk(
     const agefile_ranges *ranges, uint64_t at, uint8_t *chunk, size_t chunk_len,
     agefile_report *report) __asm__("agefile_ranges_chunk");
 
-static inline bool agefile_is_missing(const uint8_t *bytes, size_t len)
+static inline bool agefile_is_missing(const void *first, size_t len)
 {
-    return bytes == NULL && len != 0;
+    return first == NULL && len != 0;
 }
 
 static inline uint32_t agefile_null_pointer(agefile_report *report)
@@ -423,6 +433,19 @@ static inline uint32_t agefile_stanza(
         return agefile_null_pointer(report);
     return agefile_export_stanza(
         agefile_input(front), front_len, index, agefile_output(args), args_len, stanza, report);
+}
+
+static inline uint32_t agefile_stanzas(
+    const uint8_t *front, size_t front_len, agefile_stanza_summary *stanzas, size_t stanzas_len,
+    uint8_t *text, size_t text_len, agefile_report *report)
+{
+    static agefile_stanza_summary none;
+    if (agefile_is_missing(front, front_len) || agefile_is_missing(stanzas, stanzas_len) ||
+        agefile_is_missing(text, text_len))
+        return agefile_null_pointer(report);
+    return agefile_export_stanzas(
+        agefile_input(front), front_len, stanzas != NULL ? stanzas : &none, stanzas_len,
+        agefile_output(text), text_len, report);
 }
 
 static inline uint32_t agefile_reader_open_passphrase(

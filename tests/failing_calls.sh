@@ -273,12 +273,13 @@ failing_seeks() {
     done
 }
 
-# What is said on standard error comes whole, and where it can't come the status is the same.
+# What is said on standard error comes whole, each message in one write. Where it can't come the
+# status is the same.
 messages() {
-    local row words status number
+    local row words status number writes
     head -c 131300 key.age >cut.age
-    for row in "1 decrypt -v -k key cut.age" "1 inspect -v nowhere" "2 inspect a b" "2 frob"; do
-        read -r status words <<<"$row"
+    for row in "1 2 decrypt -v -k key cut.age" "1 2 inspect -v nowhere" "1 1 inspect nowhere" "2 1 inspect a b" "2 1 frob"; do
+        read -r status writes words <<<"$row"
         # shellcheck disable=SC2086
         run $words
         cp err said
@@ -288,12 +289,16 @@ messages() {
         CALL=message NUMBER=0 DO=one LD_PRELOAD=./calls.so run $words
         [[ $(cat status) == "$status" ]] && cmp -s err said
         check "a message that is written byte by byte: $words"
-        for number in 1 2; do
+        for ((number = 1; number <= writes; number++)); do
             # shellcheck disable=SC2086
             CALL=message NUMBER=$number DO=$io_error LD_PRELOAD=./calls.so run $words
             [[ $(cat status) == "$status" ]] && ! cmp -s err said
             check "message $number can't be written, and the status is $status: $words"
         done
+        # shellcheck disable=SC2086
+        CALL=message NUMBER=$number DO=$io_error LD_PRELOAD=./calls.so run $words
+        [[ $(cat status) == "$status" ]] && cmp -s err said
+        check "$writes writes are all there are: $words"
     done
 }
 

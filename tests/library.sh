@@ -5,7 +5,7 @@
 # arguments all groups run; what is installed and built for them is checked in any case. The last
 # line is 'N passed, M failed'.
 groups=(
-    names folders languages declarations diagnoses constants nulls buffers steps refuse second_compiler threads programs faults with_age
+    names folders languages declarations diagnoses constants nulls buffers steps headers refuse second_compiler threads programs faults with_age
     memory document python rust
 )
 source "$(dirname "$0")/checks.bash"
@@ -80,8 +80,8 @@ names_of() {
 
 names() {
     grep -oE '^uint(32|64)_t agefile_[a-z_]+' "$header" | sed 's/.* agefile_\(export_\)\?/agefile_/' | sort >expected
-    [[ $(wc -l <expected) == 19 ]]
-    check "the header declares 19 functions"
+    [[ $(wc -l <expected) == 20 ]]
+    check "the header declares 20 functions"
     names_of -g --defined-only "$archive" | cmp -s - expected
     check "libagefile.a has just these names"
     names_of -D --defined-only "$shared" | cmp -s - <({ sed 's/$/@@AGEFILE_0/' expected && echo AGEFILE_0; } | sort)
@@ -193,12 +193,14 @@ declarations() {
         return
     fi
     compare_declarations "$root"
-    has_said 0 "" && holds out "19 functions, 6 structs"
+    has_said 0 "" && holds out "20 functions, 6 structs"
     check_shown "the exports, agefile.h, agefile.py and ffi.rs declare the same functions and structs"
     finds crates/agefile/src/ranges.rt 'file_len: u64' 'file_len: u32' include/agefile.h
     check "another type of an export's parameter is found"
     finds crates/agefile/src/report.rt 'pub detail: u64' 'pub detail: u32' include/agefile.h
     check "another type of an export's field is found"
+    finds crates/agefile/src/listing.rt 'stanzas: &mut [StanzaSummary]' 'stanzas: &mut [u8]' include/agefile.h
+    check "another type of an export's slice is found"
     finds include/agefile.h 'uint64_t index' 'uint32_t index'
     check "another type in the header is found"
     finds include/agefile.h 'const agefile_ranges *ranges, uint64_t at' 'uint64_t at, const agefile_ranges *ranges'
@@ -337,7 +339,7 @@ int main(void) { return *agefile_message(agefile_sealed_len(0) == 0); }' >header
         echo "skipped: sanitizers, which this C compiler lacks"
         sanitizers=()
     fi
-    for name in nulls buffers steps refuse; do
+    for name in nulls buffers steps headers refuse; do
         wrapped=()
         [[ $name == refuse ]] && wrapped=("-Wl,--wrap=malloc,--wrap=realloc,--wrap=free")
         cc -g "${warnings[@]}" "${sanitizers[@]}" -o "$name" "$root/tests/library/$name.c" "$archive" "${wrapped[@]}"
@@ -378,6 +380,18 @@ steps() {
     tests_of steps
 }
 
+# Headers that the test makes, and those of files of `age`: the stanzas that are listed are printed
+# as the lines that they were.
+headers() {
+    local file
+    tests_of headers
+    for file in "$root"/tests/data/*.age; do
+        ./headers stanzas <"$file" | cmp -s - <(sed -n '1d;/^--- /q;p' "$file")
+        [[ "${PIPESTATUS[*]}" == "0 0" ]]
+        check "the stanzas of ${file##*/} are listed"
+    done
+}
+
 refuse() {
     tests_of refuse
 }
@@ -391,7 +405,7 @@ second_compiler() {
     check_shown "Rattle's own compiler builds the library"
     mv "$archives/libagefile.a" second.a
     cp -p kept.a "$archives/libagefile.a"
-    for name in buffers steps; do
+    for name in buffers steps headers; do
         cc -g "${warnings[@]}" -o "second_$name" "$root/tests/library/$name.c" second.a "$(dirname "$(rt doc)")/c/liblibc_c.a"
         tests_of "second_$name"
     done

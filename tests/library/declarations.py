@@ -89,7 +89,7 @@ def number(token):
 
 
 def rust_type(tokens):
-    """A type: a word, an array, or a pointer. A slice is a pointer to `slice u8`."""
+    """A type: a word, an array, or a pointer. A slice of bytes is a pointer to `slice u8`."""
     if tokens.take("&"):
         return ("*mut " if tokens.take("mut") else "*const ") + rust_type(tokens)
     if tokens.take("*"):
@@ -109,7 +109,7 @@ def rust_parameters(tokens):
         name = part.next()
         part.need(":")
         kind = rust_type(part)
-        if kind.endswith("slice u8"):
+        if " slice " in kind:
             parameters += [(name, kind.replace("slice ", "")), (f"{name}_len", "usize")]
         elif kind != "global":
             parameters.append((name, kind))

@@ -88,6 +88,9 @@ static void with_a_length(void)
         REFUSES(agefile_inspect(NULL, n, &summary, &report));
         REFUSES(agefile_stanza(NULL, n, 0, out, sizeof out, &stanza, &report));
         REFUSES(agefile_stanza(file, file_len, 0, NULL, n, &stanza, &report));
+        REFUSES(agefile_stanzas(NULL, n, &stanza, 1, out, sizeof out, &report));
+        REFUSES(agefile_stanzas(file, file_len, NULL, n, out, sizeof out, &report));
+        REFUSES(agefile_stanzas(file, file_len, &stanza, 1, NULL, n, &report));
         REFUSES(agefile_reader_chunk(&reader, NULL, n, true, &report));
         REFUSES(agefile_writer_chunk(&writer, NULL, n, true, &report));
         REFUSES(agefile_ranges_last(&ranges, NULL, n, &report));
@@ -122,6 +125,11 @@ static void without_a_length(void)
     TAKES(agefile_inspect(NULL, 0, &summary, &report), AGEFILE_HEADER_TRUNCATED);
     TAKES(agefile_stanza(NULL, 0, 0, out, sizeof out, &stanza, &report), AGEFILE_HEADER_TRUNCATED);
     TAKES(agefile_stanza(file, file_len, 0, NULL, 0, &stanza, &report), AGEFILE_TOO_SMALL);
+    TAKES(agefile_stanzas(NULL, 0, &stanza, 1, out, sizeof out, &report), AGEFILE_HEADER_TRUNCATED);
+    TAKES(agefile_stanzas(file, file_len, NULL, 0, out, sizeof out, &report), AGEFILE_TOO_SMALL);
+    CHECK(report.place == 1 && are_kept());
+    TAKES(agefile_stanzas(file, file_len, &stanza, 1, NULL, 0, &report), AGEFILE_TOO_SMALL);
+    CHECK(report.place == 1 && are_kept());
     TAKES(agefile_reader_open_passphrase(NULL, 0, pass, pass_len, work, &reader, &report), AGEFILE_HEADER_TRUNCATED);
     TAKES(agefile_reader_open_passphrase(file, file_len, NULL, 0, work, &reader, &report), AGEFILE_NO_MATCH);
     TAKES(agefile_reader_open_key(NULL, 0, key, &reader, &report), AGEFILE_HEADER_TRUNCATED);

@@ -50,6 +50,12 @@ uint32_t agefile_export_stanza(const uint8_t *front, size_t front_len, uint64_t 
     return look("stanza", front, args, front);
 }
 
+uint32_t agefile_export_stanzas(const uint8_t *front, size_t front_len, agefile_stanza_summary *stanzas, size_t stanzas_len, uint8_t *text,
+                                size_t text_len, agefile_report *report)
+{
+    return look("stanzas", front, (const uint8_t *)(const void *)stanzas, text);
+}
+
 uint32_t agefile_export_reader_open_passphrase(const uint8_t *front, size_t front_len, const uint8_t *pass, size_t pass_len,
                                                uint8_t max_work, agefile_reader *reader, agefile_report *report)
 {
@@ -122,6 +128,7 @@ int main(void)
     codes |= agefile_encrypt_key(NULL, 0, secret, secret, NULL, 0, &report);
     codes |= agefile_inspect(NULL, 0, &summary, &report);
     codes |= agefile_stanza(NULL, 0, 0, NULL, 0, &stanza, &report);
+    codes |= agefile_stanzas(NULL, 0, NULL, 0, NULL, 0, &report);
     codes |= agefile_reader_open_passphrase(NULL, 0, NULL, 0, 1, &reader, &report);
     codes |= agefile_reader_open_key(NULL, 0, secret, &reader, &report);
     codes |= agefile_reader_chunk(&reader, NULL, 0, true, &report);
@@ -132,5 +139,5 @@ int main(void)
     codes |= agefile_ranges_open_key(NULL, 0, 0, secret, &ranges, &report);
     codes |= agefile_ranges_last(&ranges, NULL, 0, &report);
     codes |= agefile_ranges_chunk(&ranges, 0, NULL, 0, &report);
-    return failed != 0 || codes != AGEFILE_OK || seen != 16;
+    return failed != 0 || codes != AGEFILE_OK || seen != 17;
 }

@@ -58,6 +58,7 @@ static uint32_t decrypt_passphrase(void)
 }
 static uint32_t inspect(void) { return agefile_inspect(keyed, front_of(keyed_len), &summary, &report); }
 static uint32_t one_stanza(void) { return agefile_stanza(keyed, front_of(keyed_len), 0, out, sizeof out, &stanza, &report); }
+static uint32_t all_stanzas(void) { return agefile_stanzas(keyed, front_of(keyed_len), &stanza, 1, out, sizeof out, &report); }
 static uint32_t read_key(void) { return agefile_reader_open_key(keyed, front_of(keyed_len), key, &reader, &report); }
 static uint32_t read_passphrase(void)
 {
@@ -105,6 +106,7 @@ static const struct {
     {"decrypt with a passphrase", decrypt_passphrase, 2},
     {"inspect", inspect, 1},
     {"a stanza", one_stanza, 1},
+    {"all stanzas", all_stanzas, 1},
     {"open a reader with a key", read_key, 1},
     {"open a reader with a passphrase", read_passphrase, 2},
     {"open a writer with a key", write_key, 1},

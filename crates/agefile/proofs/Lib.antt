@@ -2,6 +2,7 @@ mod FrontLemmas
 mod GivesFileLemmas
 mod GivesPlainLemmas
 mod HeaderLemmas
+mod ListLemmas
 mod PlainSizes
 mod RangeFront
 pub mod RangeLemmas

@@ -2,6 +2,7 @@ pub mod Codes
 pub mod Giving
 pub mod Inspect
 pub mod Limits
+pub mod Listing
 pub mod Ranges
 pub mod Reader
 pub mod Report

@@ -125,7 +125,7 @@ fn give_stanza(
 }
 
 /// The sizes of a stanza whose arguments are joined to this text.
-fn stanza_summary(stanza: &Stanza, text: &[u8]) -> StanzaSummary
+pub(crate) fn stanza_summary(stanza: &Stanza, text: &[u8]) -> StanzaSummary
     requires { text.now ≡ joined stanza.now.args }
     ensures { result ≡ stanza_summary stanza.now }
 {
@@ -137,14 +137,14 @@ fn stanza_summary(stanza: &Stanza, text: &[u8]) -> StanzaSummary
 }
 
 /// The arguments of a stanza, joined by single spaces.
-fn joined(alloc: Global, stanza: &Stanza) -> Result<String, AllocError>
+pub(crate) fn joined(alloc: Global, stanza: &Stanza) -> Result<String, AllocError>
     ensures { IfOk result (λ text. string_bytes text ≡ joined stanza.now.args) }
 {
     stanza.args().join(alloc, " ")
 }
 
 /// The header at the start of a file.
-fn header_of(alloc: Global, front: &[u8]) -> Result<Header, Fault>
+pub(crate) fn header_of(alloc: Global, front: &[u8]) -> Result<Header, Fault>
     ensures front { HeaderOf front.now result }
     ensures file { (b : Bytes) → front.now ≡ take front_size b → HeaderOf b result }
 {

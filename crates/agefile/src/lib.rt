@@ -10,8 +10,8 @@
 //!     fwrite(out, 1, report.len, stdout);
 //! ```
 //!
-//! The exports are in `decrypting` and `encrypting` (whole buffers), `inspecting` (headers),
-//! `sizes`, and `reader`, `writer` and `ranges` (steps). The other modules have none.
+//! The exports are in `decrypting` and `encrypting` (whole buffers), `inspecting` and `listing`
+//! (headers), `sizes`, and `reader`, `writer` and `ranges` (steps). The other modules have none.
 //!
 //! Limits: a header of 65,536 bytes, 2^64 - 1 chunks, one recipient. The duties of a caller, and
 //! what is proved, are in docs/C.md.
@@ -24,6 +24,7 @@ mod giving;
 mod inspecting;
 pub mod laws;
 mod limits;
+mod listing;
 mod ranges;
 mod reader;
 mod report;

@@ -14,7 +14,7 @@ pub struct Report {
     /// number that would have been written. The calls of readers and ranges say what it is there.
     pub len: u64,
     /// The line, from 1, or the chunk, from 0, of a fault, else 0. The calls of ranges return an
-    /// offset here.
+    /// offset here, and the listing of stanzas their number.
     pub place: u64,
     /// The part of a malformed stanza that is malformed, else 0.
     pub detail: u64,

@@ -6,6 +6,7 @@ mod steps;
 use crate::decrypting::{agefile_decrypt_key, agefile_decrypt_passphrase};
 use crate::encrypting::{agefile_encrypt_key, agefile_encrypt_passphrase};
 use crate::inspecting::{StanzaSummary, Summary, agefile_inspect, agefile_stanza};
+use crate::listing::agefile_stanzas;
 use crate::report::Report;
 use crate::sizes::{agefile_plain_len_at_most, agefile_sealed_len};
 use std::process::Abort;
@@ -159,5 +160,35 @@ fn each_stanza_is_returned_by_its_index(rt: HostRuntime) -> Result<(), Fail> {
     assert_eq!(rt; code, 23);
     assert!(rt; is_report(&report, 0, 0, 0));
     assert!(rt; stanza.args == 1);
+    Ok(())
+}
+
+#[test]
+fn all_stanzas_are_listed(rt: HostRuntime) -> Result<(), Fail> {
+    let front =
+        b"age-encryption.org/v1\n-> kind of one\nAAAB\n-> X\n\n--- AAAAAAAAAAAAAAAAAAAAAAAAAAAAAAAAAAAAAAAAAAA\n";
+    let mut stanzas = [StanzaSummary {
+        args: 7,
+        args_len: 8,
+        body_len: 9,
+    }; 3];
+    let mut text = [9; 17];
+    let mut report = stale();
+    let code = agefile_stanzas(rt.alloc(), front, &mut stanzas, &mut text, &mut report);
+    assert_eq!(rt; code, 0);
+    assert!(rt; is_report(&report, 15, 2, 0));
+    assert!(rt; &text == b"kind of one\0\0\x01X\x09\x09");
+    assert!(rt; stanzas[0].args == 3 && stanzas[0].args_len == 11 && stanzas[0].body_len == 3);
+    assert!(rt; stanzas[1].args == 1 && stanzas[1].args_len == 1 && stanzas[1].body_len == 0);
+    assert!(rt; stanzas[2].args == 7 && stanzas[2].args_len == 8 && stanzas[2].body_len == 9);
+    report = stale();
+    let code = agefile_stanzas(rt.alloc(), front, &mut stanzas[..1], &mut text, &mut report);
+    assert_eq!(rt; code, 21);
+    assert!(rt; is_report(&report, 15, 2, 0));
+    report = stale();
+    let code = agefile_stanzas(rt.alloc(), b"age", &mut stanzas, &mut text, &mut report);
+    assert_eq!(rt; code, 3);
+    assert!(rt; is_report(&report, 0, 0, 0));
+    assert!(rt; stanzas[1].args == 1 && text[0] == b'k');
     Ok(())
 }

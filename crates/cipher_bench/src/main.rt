@@ -1,7 +1,8 @@
-//! Runs one part of `age_cipher` over many chunks and prints a checksum, to be timed from outside.
+//! Runs one part of `age_cipher` over many texts and prints a checksum, to be timed from outside.
 //!
-//! `cipher_bench PART MIB BYTE`: PART is `seal`, `open`, `chacha20` or `poly1305`, MIB says how
-//! many MiB, and key and text consist of BYTE. `bench/cipher.sh` builds and times it.
+//! `cipher_bench PART SIZE MIB BYTE`: PART is `seal`, `open`, `chacha20` or `poly1305`. The texts
+//! have SIZE bytes, 8 to 65,536, and MIB MiB together. Key and text consist of BYTE.
+//! `bench/cipher.sh` builds it, and `bench/peers.py` times it.
 #![tactic(auto)]
 
 ghost use Rattle.std.specs.Prelude.{◌≡◌, IfOk, length, vec_len, ◌≤◌};
@@ -10,9 +11,11 @@ use age_cipher::{Poly1305, chacha20_xor, open_in_place, seal_in_place};
 use std::alloc::{AllocError, Global};
 use std::{env, io};
 
-const CHUNK: usize = 65_536;
+const LEAST_SIZE: usize = 8;
 
-const CHUNKS_IN_A_MIB: u64 = 16;
+const MOST_SIZE: usize = 65_536;
+
+const MIB: u64 = 1_048_576;
 
 #[derive(Clone, Copy)]
 enum Part {
@@ -32,8 +35,8 @@ fn part_named(name: &str) -> Option<Part> {
     }
 }
 
-fn nonce_of(chunk: u64) -> [u8; 12] {
-    let [a, b, c, d, e, f, g, h] = chunk.to_le_bytes();
+fn nonce_of(number: u64) -> [u8; 12] {
+    let [a, b, c, d, e, f, g, h] = number.to_le_bytes();
     [a, b, c, d, e, f, g, h, 0, 0, 0, 0]
 }
 
@@ -51,20 +54,21 @@ fn filled(alloc: Global, byte: u8, len: usize) -> Result<Vec<u8>, AllocError>
     vec![in alloc; byte; len]
 }
 
-// What the part makes of one more chunk, cut to 8 bytes.
-fn one_chunk(
+// What the part makes of one more text, cut to 8 bytes.
+fn one_text(
     part: Part,
     key: &[u8; 32],
-    chunk: u64,
+    number: u64,
     text: &mut [u8],
     sealed: &[u8],
     tag: &[u8; 16],
 ) -> u64
-    requires size { length text.old ≡ CHUNK }
-    requires same_size { length sealed.now ≡ CHUNK }
+    requires least { LEAST_SIZE ≤ length text.old }
+    requires most { length text.old ≤ MOST_SIZE }
+    requires same_size { length sealed.now ≡ length text.old }
 {
     match part {
-        Part::Seal => front(&seal_in_place(key, &nonce_of(chunk), &[], text)),
+        Part::Seal => front(&seal_in_place(key, &nonce_of(number), &[], text)),
         Part::Open => {
             text.copy_from_slice(sealed);
             if open_in_place(key, &nonce_of(0), &[], text, tag) {
@@ -74,7 +78,7 @@ fn one_chunk(
             }
         }
         Part::ChaCha20 => {
-            chacha20_xor(key, &nonce_of(chunk), 1, text);
+            chacha20_xor(key, &nonce_of(number), 1, text);
             front(text)
         }
         Part::Poly1305 => {
@@ -87,41 +91,47 @@ fn one_chunk(
     }
 }
 
-// A checksum over all chunks.
-fn checksum(part: Part, byte: u8, chunks: u64, text: &mut [u8], sealed: &mut [u8]) -> u64
-    requires size { length text.old ≡ CHUNK }
-    requires same_size { length sealed.old ≡ CHUNK }
+// A checksum over all texts.
+fn checksum(part: Part, byte: u8, texts: u64, text: &mut [u8], sealed: &mut [u8]) -> u64
+    requires least { LEAST_SIZE ≤ length text.old }
+    requires most { length text.old ≤ MOST_SIZE }
+    requires same_size { length sealed.old ≡ length text.old }
 {
     let key = [byte; 32];
     let tag = seal_in_place(&key, &nonce_of(0), &[], sealed);
     let mut sum = 0u64;
-    for chunk in 0..chunks {
+    for number in 0..texts {
         sum = sum
             .rotate_left(1)
-            .wrapping_add(one_chunk(part, &key, chunk, text, sealed, &tag));
+            .wrapping_add(one_text(part, &key, number, text, sealed, &tag));
     }
     sum
 }
 
 fn main(rt: HostRuntime) -> io::Result<()> {
     let words: Vec<String> = env::args(&rt)?.collect(rt.alloc())?;
-    let [_, name, mib, byte] = words.as_slice() else {
+    let [_, name, size, mib, byte] = words.as_slice() else {
         return Err(io::Error::from(io::ErrorKind::InvalidInput));
     };
-    let (Some(part), Ok(mib), Ok(byte)) = (
+    let (Some(part), Ok(size), Ok(mib), Ok(byte)) = (
         part_named(name.as_str()),
+        size.as_str().parse::<u32>(),
         mib.as_str().parse::<u32>(),
         byte.as_str().parse::<u8>(),
     ) else {
         return Err(io::Error::from(io::ErrorKind::InvalidInput));
     };
-    let mut text = filled(rt.alloc(), byte, CHUNK)?;
-    let mut sealed = filled(rt.alloc(), byte, CHUNK)?;
-    let chunks = u64::from(mib) * CHUNKS_IN_A_MIB;
+    let size = size as usize;
+    if size < LEAST_SIZE || size > MOST_SIZE {
+        return Err(io::Error::from(io::ErrorKind::InvalidInput));
+    }
+    let mut text = filled(rt.alloc(), byte, size)?;
+    let mut sealed = filled(rt.alloc(), byte, size)?;
+    let texts = u64::from(mib) * MIB / size as u64;
     let sum = checksum(
         part,
         byte,
-        chunks,
+        texts,
         text.as_mut_slice(),
         sealed.as_mut_slice(),
     );

@@ -1,0 +1,267 @@
+#!/usr/bin/env python3
+"""Runs this repository's programs and their peers in turn, and prints one table of ratios.
+
+usage: bench/peers.py [--mib 1024] [--runs 7] [--files 1000] [--cpu LEVEL] [--only WORD]
+
+The programs are built for the level of the processor at hand, or for the one that --cpu names.
+--only leaves out the rows without this word. It needs the toolchain, a C compiler, openssl, age and
+GNU time. TMPDIR names the folder of the files, which takes four times the size.
+"""
+
+import argparse
+import filecmp
+import hashlib
+import math
+import os
+import resource
+import shutil
+import statistics
+import subprocess
+import sys
+import tempfile
+import time
+from pathlib import Path
+from typing import NamedTuple
+
+ROOT = Path(__file__).resolve().parent.parent
+AGEP = ROOT / "crates/agep/out/agep"
+CIPHER = ROOT / "crates/cipher_bench/out/cipher_bench"
+KDF = ROOT / "crates/kdf_bench/out/kdf_bench"
+LOG_N, R, P = 18, 8, 1
+# What openssl may not use at this level: AVX-512, and at x86-64-v2 also AVX and AVX2.
+HELD = {"x86-64-v3": ":~0xD0230000", "x86-64-v2": "~0x1000000000000000:~0xD0230020"}
+
+
+class Time(NamedTuple):
+    """The seconds of one measurement, on the clock and of the processor."""
+
+    clock: float
+    cpu: float
+
+
+class Command:
+    """A command that is run once for each of some files. {} in its words and in its output's name
+    is the file's number. With `user` only the user time of the processor counts."""
+
+    def __init__(self, *words, source="/dev/null", out="/dev/null", held="", files=1, user=False):
+        self.words = [str(word) for word in words]
+        self.words[0] = shutil.which(self.words[0]) or sys.exit(f"there is no {words[0]}")
+        self.source, self.out, self.files, self.user = source, out, files, user
+        self.environment = os.environ | ({"OPENSSL_ia32cap": held} if held else {})
+
+    def measure(self):
+        times = [self.measure_file(number) for number in range(self.files)]
+        clock, cpu = (sum(column) for column in zip(*times))
+        return Time(math.nan if self.user else clock, cpu)
+
+    def measure_file(self, number):
+        line = [word.format(number) for word in self.words]
+        out = self.out.format(number)
+        if out != "/dev/null":
+            Path(out).unlink(missing_ok=True)
+        streams = [
+            (os.POSIX_SPAWN_OPEN, 0, self.source, os.O_RDONLY, 0),
+            (os.POSIX_SPAWN_OPEN, 1, out, os.O_WRONLY | os.O_CREAT, 0o600),
+        ]
+        began = time.perf_counter()
+        child = os.posix_spawn(line[0], line, self.environment, file_actions=streams)
+        _, status, used = os.wait4(child, 0)
+        clock = time.perf_counter() - began
+        if status != 0:
+            sys.exit(f"{' '.join(line)} failed")
+        return Time(clock, used.ru_utime + (0 if self.user else used.ru_stime))
+
+    def memory(self):
+        """The most memory in MiB. GNU time starts the command, since a process that this script
+        starts is charged for the script's memory too."""
+        line = ["time", "-f", "%M", *(word.format(0) for word in self.words)]
+        with open(self.source, "rb") as source:
+            said = subprocess.run(line, stdin=source, capture_output=True, env=self.environment)
+        return f"{int(said.stderr.split()[-1]) / 1024:.1f}"
+
+
+class OpensslSpeed:
+    """Openssl's own benchmark, which counts the user time: what so many MiB would take."""
+
+    def __init__(self, words, size, mib, held=""):
+        self.line = ["openssl", "speed", *words, "-bytes", str(size), "-seconds", "1"]
+        self.environment = os.environ | ({"OPENSSL_ia32cap": held} if held else {})
+        self.mib = mib
+
+    def measure(self):
+        said = subprocess.run(self.line, env=self.environment, capture_output=True, check=True)
+        thousands = float(said.stdout.split()[-1].removesuffix(b"k"))
+        return Time(math.nan, self.mib * 2**20 / thousands / 1000)
+
+    def memory(self):
+        return "-"
+
+
+class HashlibScrypt:
+    """Scrypt of Python's hashlib, which is OpenSSL's, in this process."""
+
+    def key(self):
+        cost = {"n": 2**LOG_N, "r": R, "p": P, "maxmem": 2**31 - 1}
+        return hashlib.scrypt(b"correct horse", salt=b"battery staple", dklen=32, **cost)
+
+    def measure(self):
+        began, before = time.perf_counter(), resource.getrusage(resource.RUSAGE_SELF)
+        self.key()
+        clock, after = time.perf_counter() - began, resource.getrusage(resource.RUSAGE_SELF)
+        return Time(clock, sum(after[:2]) - sum(before[:2]))
+
+    def memory(self):
+        return "-"
+
+
+def primitives(level, mib):
+    """Each kind of work, the program here, and its peers."""
+    held, held_name = HELD[level], f"openssl held to {level}"
+    aead = ["-aead", "-evp", "chacha20-poly1305"]
+    for part, size, words in (
+        ("seal", 65536, aead),
+        ("open", 65536, ["-decrypt", *aead]),
+        ("chacha20", 65536, ["-evp", "chacha20"]),
+        *(("seal", size, aead) for size in (496, 528, 700, 1024)),
+    ):
+        here = Command(CIPHER, part, size, mib, 7, user=True)
+        peers = {
+            "openssl": OpensslSpeed(words, size, mib),
+            held_name: OpensslSpeed(words, size, mib, held),
+        }
+        yield f"{part} {mib} MiB, {size} bytes each", here, peers
+    mac = ["openssl", "mac", "-macopt", "hexkey:" + 32 * "07", "-in", "plain", "POLY1305"]
+    here = Command(CIPHER, "poly1305", 65536, mib, 7, user=True)
+    peers = {"openssl": Command(*mac, user=True), held_name: Command(*mac, held=held, user=True)}
+    yield f"poly1305 {mib} MiB, 65536 bytes each", here, peers
+    here, peers = Command(KDF, LOG_N, R, P), {"hashlib": HashlibScrypt()}
+    yield f"scrypt, N = 2^{LOG_N}, r = {R}, p = {P}", here, peers
+
+
+def whole_files(mib, files, recipient):
+    """The same for files. Age has no symmetric key, so each of its rows has an X25519 key."""
+    encrypt, age_encrypt = [AGEP, "encrypt", "-k", "key"], ["age", "-r", recipient]
+    decrypt, age_decrypt = [AGEP, "decrypt", "-k", "key"], ["age", "-d", "-i", "identity"]
+    for where, out in (("/dev/null", "/dev/null"), ("a file", "out")):
+        here = Command(*encrypt, "plain", out=out)
+        stream = Command("./stream", "-e", "key", source="plain", out=out)
+        peers = {"age": Command(*age_encrypt, "plain", out=out), "c/stream.c": stream}
+        yield f"encrypt {mib} MiB to {where}", here, peers
+        here = Command(*decrypt, "plain.here", out=out)
+        stream = Command("./stream", "key", source="plain.here", out=out)
+        peers = {"age": Command(*age_decrypt, "plain.age", out=out), "c/stream.c": stream}
+        yield f"decrypt {mib} MiB to {where}", here, peers
+    here = Command("sh", "-c", 'rm -f out && exec "$0" encrypt -k key -o out plain', AGEP)
+    age = Command("sh", "-c", 'rm -f out && age -r "$0" -o out plain && sync out', recipient)
+    yield f"encrypt {mib} MiB to a file, and sync it", here, {"age, sync": age}
+    here = Command(AGEP, "rewrap", "-k", "key", "-K", "new.key", "plain.here", out="out")
+    copy = Command("dd", "if=plain.here", "bs=64K", "status=none", out="out")
+    peers = {"dd bs=64K": copy, "cat": Command("cat", "plain.here", out="out")}
+    yield f"rewrap {mib} MiB to a file", here, peers
+    here = Command(AGEP, "range", "-k", "key", mib << 19, 10, "plain.here")
+    peers = {"age, all of it": Command(*age_decrypt, "plain.age")}
+    yield f"ten bytes in the middle of {mib} MiB", here, peers
+    many = {"out": "{}.out", "files": files}
+    peers = {"age": Command(*age_encrypt, "{}.txt", **many)}
+    yield f"encrypt {files} files of 1 KiB", Command(*encrypt, "{}.txt", **many), peers
+    peers = {"age": Command(*age_decrypt, "{}.age", **many)}
+    yield f"decrypt {files} files of 1 KiB", Command(*decrypt, "{}.here", **many), peers
+    here, age = (Command(program, "--version", files=files) for program in (AGEP, "age"))
+    yield f"start {files} times, --version", here, {"age": age}
+
+
+def build(level):
+    """Builds what is measured, and tests that both scrypts give the same key."""
+    os.environ["AGEP_CPU"] = level
+    stream = ["cc", "-O2", "-Iprefix/include", "-o", "stream", ROOT / "c/stream.c"]
+    for line, folder in (
+        ([ROOT / "agep", "--version"], "."),
+        ([ROOT / "bench/cipher.sh", level], "."),
+        (["rt", "run", "--cpu", level, "--", "1", "1", "1"], KDF.parent.parent),
+        ([ROOT / "install-library", "prefix"], "."),
+        ([*stream, "prefix/lib/libagefile.a"], "."),
+    ):
+        built = subprocess.run(line, cwd=folder, capture_output=True, text=True)
+        if built.returncode != 0:
+            sys.exit(f"{built.stdout}{built.stderr}{line[0]} failed")
+    if subprocess.check_output([KDF, str(LOG_N), str(R), str(P)], text=True).strip() != (
+        HashlibScrypt().key().hex()
+    ):
+        sys.exit("the keys differ")
+
+
+def make_files(mib, files):
+    """Makes the plaintexts, the secrets and the encrypted files. Returns age's recipient."""
+    with open("plain", "wb") as plain:
+        for _ in range(mib):
+            plain.write(bytes(2**20))
+    for name in ("key", "new.key"):
+        Path(name).write_bytes(os.urandom(32))
+    for number in range(files):
+        Path(f"{number}.txt").write_bytes(os.urandom(1024))
+    subprocess.run(["age-keygen", "-o", "identity"], capture_output=True, check=True)
+    recipient = subprocess.check_output(["age-keygen", "-y", "identity"], text=True).strip()
+    for name, line in (("here", [AGEP, "encrypt", "-k", "key"]), ("age", ["age", "-r", recipient])):
+        Command(*line, "plain", out=f"plain.{name}").measure()
+        Command(*line, "{}.txt", out="{}." + name, files=files).measure()
+    for line in ([AGEP, "decrypt", "-k", "key", "plain.here"], ["./stream", "key"]):
+        Command(*line, source="plain.here", out="out").measure()
+        if not filecmp.cmp("plain", "out", shallow=False):
+            sys.exit(f"{line[0]} changed the plaintext")
+    return recipient
+
+
+def cells(here, there):
+    """The best and the median of our times, of a peer's, and of their ratio."""
+    if any(math.isnan(seconds) for seconds in here + there):
+        return ["-"] * 3
+    ours, peers = ((min(times), statistics.median(times)) for times in (here, there))
+    ratios = (b / a if a > 0 else math.inf for a, b in zip(ours, peers))
+    columns = ((3, ours), (3, peers), (2, ratios))
+    return [f"{best:.{n}f} ({median:.{n}f})" for n, (best, median) in columns]
+
+
+def print_table(works, times):
+    print("| Work | Peer | Here, s | Peer, s | Ratio | Here, CPU s | Peer, CPU s | Ratio | MiB |")
+    print("|---|---|---|---|---|---|---|---|---|")
+    for name, ours, peers in works:
+        for peer, program in peers.items():
+            line = [name, peer]
+            for here, there in zip(zip(*times[ours]), zip(*times[program])):
+                line += cells(here, there)
+            line.append(f"{ours.memory()}, {program.memory()}")
+            print(f"| {' | '.join(line)} |")
+
+
+def arguments():
+    parser = argparse.ArgumentParser(description=__doc__.splitlines()[0])
+    for name, default in (("--mib", 1024), ("--runs", 7), ("--files", 1000)):
+        parser.add_argument(name, type=int, default=default)
+    at_hand = f"root='{ROOT}'; . '{ROOT}/build.sh'; processor"
+    level = subprocess.check_output(["sh", "-c", at_hand], text=True).strip()
+    parser.add_argument("--cpu", choices=HELD, default=level)
+    parser.add_argument("--only", metavar="WORD", default="")
+    return parser.parse_args()
+
+
+def main():
+    args = arguments()
+    with tempfile.TemporaryDirectory() as scratch:
+        os.chdir(scratch)
+        build(args.cpu)
+        recipient = make_files(args.mib, args.files)
+        works = [*primitives(args.cpu, args.mib), *whole_files(args.mib, args.files, recipient)]
+        works = [work for work in works if args.only in work[0]]
+        programs = [program for _, ours, peers in works for program in (ours, *peers.values())]
+        times = {program: [] for program in programs}
+        for _ in range(args.runs):
+            for program in programs:
+                times[program].append(program.measure())
+        processor = Path("/proc/cpuinfo").read_text().split("model name\t: ")[1].splitlines()[0]
+        print(f"{processor}, {os.cpu_count()} cores, load {os.getloadavg()[0]:.1f}, {args.cpu}.")
+        print(f"The best (and the median) of {args.runs} runs. A ratio above 1 is in our favour.\n")
+        print_table(works, times)
+
+
+if __name__ == "__main__":
+    main()

@@ -1,0 +1,10 @@
+use Rattle.std.proofs.Common.{◌≡◌, map, take}
+use Rattle.agefile.specs.Inspect.{stanza_summary}
+use Rattle.agefile.specs.Listing.{listed}
+use Rattle.agefile.proofs.listing.listing_of.Given as goal
+
+abbrev pub invariant-loop-stanza : goal.invariant-loop-stanza
+invariant-loop-stanza l = record {
+  sizes : l.sizes.items ≡ map stanza_summary (take l.stanza-index l.found);
+  text : l.text.items ≡ listed (take l.stanza-index l.found);
+}

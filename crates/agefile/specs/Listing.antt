@@ -1,0 +1,76 @@
+-- What listing the stanzas of a header gives.
+use Rattle.std.specs.Prelude.{◌≡◌, ◌⊎◌, ◌<◌, ◌≤◌, ◌++◌, ℕ, List, length, drop, map, flat_map, None, Result, Ok, Err}
+use Rattle.age_kdf.specs.Bytes.{Bytes}
+use Rattle.age_header.specs.declared.fault.HeaderFault.{HeaderFault}
+use Rattle.age_header.specs.Header.{StanzaParts}
+use Rattle.age_header.specs.Verdict.{Found, HeaderVerdict}
+use Rattle.agefile.specs.declared.inspecting.StanzaSummary.{StanzaSummary}
+use Rattle.agefile.specs.declared.report.Report.{Report}
+use Rattle.agefile.specs.Codes.{ok, out_of_memory, too_small}
+use Rattle.agefile.specs.Inspect.{ReportsFault, joined, stanza_summary}
+use Rattle.agefile.specs.Limits.{limits}
+use Rattle.agefile.specs.Report.{report_of}
+
+-- the text of a list of stanzas: of each its arguments, joined by single spaces, and its body
+abbrev pub listed : List StanzaParts → Bytes
+listed stanzas = flat_map (λ s. joined s.args ++ s.body) stanzas
+
+-- how many bytes this text has, and how many stanzas there are
+abbrev pub report_of_list : (sizes : List StanzaSummary) (text : Bytes) → Report
+report_of_list sizes text = record { len = length text; place = length sizes; detail = 0 }
+
+-- the array begins with the sizes and the buffer with the text, and the rest of both is as it was
+pub record ListFits (sizes before after : List StanzaSummary) (text old new : Bytes)
+    (report : Report) (code : ℕ) : Type 0 where
+  pub sizes_fit : length sizes ≤ length before
+  pub text_fits : length text ≤ length old
+  pub returned : code ≡ ok
+  pub reported : report ≡ report_of_list sizes text
+  pub array : after ≡ sizes ++ drop (length sizes) before
+  pub buffer : new ≡ text ++ drop (length text) old
+
+-- the array or the buffer is too small, and both are as they were; what they need is reported
+pub record ListExceeds (sizes before after : List StanzaSummary) (text old new : Bytes)
+    (report : Report) (code : ℕ) : Type 0 where
+  pub exceeds : (length before < length sizes) ⊎ (length old < length text)
+  pub returned : code ≡ too_small
+  pub reported : report ≡ report_of_list sizes text
+  pub array : after ≡ before
+  pub buffer : new ≡ old
+
+-- sizes and a text are given, if they fit
+abbrev pub GivesList : (sizes before after : List StanzaSummary) (text old new : Bytes)
+    (report : Report) (code : ℕ) → Type 0
+GivesList sizes before after text old new report code =
+    ListFits sizes before after text old new report code
+    ⊎ ListExceeds sizes before after text old new report code
+
+-- these stanzas are summed up, and their text is given
+abbrev pub GivesStanzas : (stanzas : List StanzaParts) (before after : List StanzaSummary)
+    (old new : Bytes) (report : Report) (code : ℕ) → Type 0
+GivesStanzas stanzas before after old new report code =
+    GivesList (map stanza_summary stanzas) before after (listed stanzas) old new report code
+
+-- the stanzas of a header are given; or the header's fault is returned, and nothing is given
+abbrev pub StanzasOf : (verdict : Result Found HeaderFault) (before after : List StanzaSummary)
+    (old new : Bytes) (report : Report) (code : ℕ) → Type 0
+StanzasOf (Ok found) before after old new report code =
+    GivesStanzas found.stanzas before after old new report code
+StanzasOf (Err reason) before after old new report code =
+    ReportsFault reason report code × (after ≡ before) × (new ≡ old)
+
+-- an allocation was refused, and nothing is given
+pub record ListRefused (before after : List StanzaSummary) (old new : Bytes) (report : Report)
+    (code : ℕ) : Type 0 where
+  pub returned : code ≡ out_of_memory
+  pub reported : report ≡ report_of 0 None
+  pub array : after ≡ before
+  pub buffer : new ≡ old
+
+-- what asking for the stanzas of b's header gives; or out of memory
+abbrev pub InspectsStanzas : (b : Bytes) (before after : List StanzaSummary) (old new : Bytes)
+    (report : Report) (code : ℕ) → Type 0
+InspectsStanzas b before after old new report code =
+    ListRefused before after old new report code
+    ⊎ ((verdict : Result Found HeaderFault) × HeaderVerdict b limits.max_header verdict
+    × StanzasOf verdict before after old new report code)

@@ -1,0 +1,193 @@
+// Headers that are written here, by the rules of C2SP age.md, and what the library says of them. Without an argument it lists its tests, with
+// one it runs the test of that name. `headers stanzas` prints the stanzas of the file on standard input as the lines of a header.
+#include "check.h"
+#include <time.h>
+
+enum { most = 1 << 17, most_stanzas = 10911 };
+
+static uint8_t header[most], text[most], expected[most];
+static size_t header_len, expected_len, count;
+static agefile_stanza_summary stanzas[most_stanzas + 1], sizes_of[most_stanzas + 1];
+static agefile_report report;
+
+static void add(const void *bytes, size_t len)
+{
+    memcpy(header + header_len, bytes, len);
+    header_len += len;
+}
+
+// Writes the base64 of some bytes without padding, with an LF after each 64 characters and at the end. Returns the number of bytes.
+static size_t base64_lines(const uint8_t *bytes, size_t len, uint8_t *out)
+{
+    static const char digits[] = "ABCDEFGHIJKLMNOPQRSTUVWXYZabcdefghijklmnopqrstuvwxyz0123456789+/";
+    size_t bits = 8 * len, at = 0;
+    for (size_t done = 0, i = 0; done < bits; done += 6) {
+        unsigned digit = 0;
+        for (size_t bit = done; bit < done + 6; bit++)
+            digit = digit << 1 | (bit < bits ? bytes[bit / 8] >> (7 - bit % 8) & 1u : 0u);
+        out[at++] = (uint8_t)digits[digit];
+        if (++i % 64 == 0)
+            out[at++] = '\n';
+    }
+    out[at++] = '\n';
+    return at;
+}
+
+static void begin(void)
+{
+    header_len = expected_len = count = 0;
+    add("age-encryption.org/v1\n", 22);
+}
+
+// Adds a stanza to the header, and to what is expected.
+static void add_stanza(const char *args, const uint8_t *body, size_t body_len)
+{
+    size_t args_len = strlen(args), words = 1;
+    for (size_t i = 0; i < args_len; i++)
+        words += args[i] == ' ';
+    add("-> ", 3);
+    add(args, args_len);
+    add("\n", 1);
+    header_len += base64_lines(body, body_len, header + header_len);
+    memcpy(expected + expected_len, args, args_len);
+    memcpy(expected + expected_len + args_len, body, body_len);
+    expected_len += args_len + body_len;
+    sizes_of[count++] = (agefile_stanza_summary){words, args_len, body_len};
+}
+
+static void end(void)
+{
+    add("--- ", 4);
+    memset(header + header_len, 'A', 43);
+    header_len += 43;
+    add("\n", 1);
+}
+
+static bool is_same_list(void)
+{
+    return report.len == expected_len && report.place == count && report.detail == 0 && are_equal(text, expected, expected_len) &&
+           memcmp(stanzas, sizes_of, count * sizeof *stanzas) == 0;
+}
+
+static void reset(void)
+{
+    memset(text, 0xEE, sizeof text);
+    memset(stanzas, 0xEE, sizeof stanzas);
+    report = unset_report();
+}
+
+static bool are_unset(size_t stanza, size_t at)
+{
+    return are_all(text + at, sizeof text - at, 0xEE) && are_all((const uint8_t *)(stanzas + stanza), sizeof stanzas - stanza * sizeof *stanzas, 0xEE);
+}
+
+static void lists(void)
+{
+    static const char *const args[] = {"X", "kind of one", "~!\" #", "X25519 TEiF0ypqr+bpvcqXNyCVJpL7OuwPdVwPL7KQEbFDOCc"};
+    static const size_t lens[] = {0, 1, 2, 3, 32, 47, 48, 49, 95, 96, 97, 500};
+    enum { arg_count = sizeof args / sizeof *args, len_count = sizeof lens / sizeof *lens };
+    uint8_t *body = text_of(600);
+    for (size_t i = 0; i < 200; i++) {
+        begin();
+        for (size_t n = 0; n <= i % 9; n++)
+            add_stanza(args[(i + n * 3) % arg_count], body + (i * 7 + n) % 100, lens[(i * 5 + n * 11) % len_count]);
+        end();
+        for (size_t more = 0; more < 2; more++) {
+            reset();
+            CHECK(agefile_stanzas(header, header_len + 20 * more, stanzas, count + more, text, expected_len + more, &report) == AGEFILE_OK);
+            CHECK(is_same_list() && are_unset(count, expected_len));
+        }
+        for (size_t less = 1; less < 4; less++) {
+            reset();
+            CHECK(agefile_stanzas(header, header_len, stanzas, count - less % 2, text, expected_len - less / 2, &report) == AGEFILE_TOO_SMALL);
+            CHECK(has_fields(&report, expected_len, count, 0) && are_unset(0, 0));
+        }
+    }
+    free(body);
+}
+
+static void one_by_one(void)
+{
+    static uint8_t args[100];
+    agefile_stanza_summary stanza;
+    begin();
+    add_stanza("kind of one", pass, 5);
+    add_stanza("Y", pass, 0);
+    add_stanza("Z z", pass, 13);
+    end();
+    reset();
+    CHECK(agefile_stanzas(header, header_len, stanzas, 3, text, sizeof text, &report) == AGEFILE_OK && is_same_list());
+    const uint8_t *at = text;
+    for (uint64_t i = 0; i < 3; i++) {
+        CHECK(agefile_stanza(header, header_len, i, args, sizeof args, &stanza, &report) == AGEFILE_OK);
+        CHECK(memcmp(&stanza, stanzas + i, sizeof stanza) == 0 && are_equal(args, at, report.len));
+        at += stanza.args_len + stanza.body_len;
+    }
+}
+
+static void no_header(void)
+{
+    reset();
+    CHECK(agefile_stanzas(pass, pass_len, stanzas, 3, text, sizeof text, &report) == AGEFILE_NOT_AGE && has_fields(&report, 0, 0, 0));
+    begin();
+    add_stanza("X", pass, 5);
+    add("bad\n", 4);
+    CHECK(agefile_stanzas(header, header_len, stanzas, 3, text, sizeof text, &report) == AGEFILE_BAD_LINE && has_fields(&report, 0, 4, 0));
+    header_len -= 4;
+    CHECK(agefile_stanzas(header, header_len, stanzas, 3, text, sizeof text, &report) == AGEFILE_HEADER_TRUNCATED && has_fields(&report, 0, 0, 0));
+    memset(header + header_len, '-', most - header_len);
+    CHECK(agefile_stanzas(header, AGEFILE_FRONT, stanzas, 3, text, sizeof text, &report) == AGEFILE_HEADER_TOO_LARGE);
+    CHECK(has_fields(&report, 0, 0, 0) && are_unset(0, 0));
+}
+
+// The header of the most stanzas: 6 bytes each.
+static void most_of_all(void)
+{
+    begin();
+    for (size_t i = 0; i < most_stanzas; i++)
+        add_stanza("x", pass, 0);
+    end();
+    reset();
+    clock_t began = clock();
+    CHECK(agefile_stanzas(header, header_len, stanzas, most_stanzas, text, sizeof text, &report) == AGEFILE_OK);
+    long took = (long)((clock() - began) * 1000 / CLOCKS_PER_SEC);
+    CHECK(is_same_list() && header_len == 65536 && are_unset(count, expected_len));
+    CHECK(took < 100);
+    printf("%ld ms\n", took);
+}
+
+static int print_stanzas(void)
+{
+    static uint8_t file[most], lines[most];
+    size_t len = fread(file, 1, most, stdin), at = 0;
+    uint32_t code = agefile_stanzas(file, front_of(len), stanzas, most_stanzas, text, sizeof text, &report);
+    for (size_t i = 0; code == AGEFILE_OK && i < report.place; i++) {
+        printf("-> %.*s\n", (int)stanzas[i].args_len, (const char *)text + at);
+        at += stanzas[i].args_len;
+        fwrite(lines, 1, base64_lines(text + at, stanzas[i].body_len, lines), stdout);
+        at += stanzas[i].body_len;
+    }
+    return code != AGEFILE_OK || fflush(stdout) != 0;
+}
+
+static const struct {
+    const char *name;
+    void (*run)(void);
+} tests[] = {
+    {"stanzas and their bodies, in buffers of their size, and one too small", lists},
+    {"the list has what a call for each stanza returns", one_by_one},
+    {"what is no header", no_header},
+    {"10,911 stanzas, in less than a tenth of a second", most_of_all},
+};
+
+int main(int argc, char **argv)
+{
+    if (argc == 2 && strcmp(argv[1], "stanzas") == 0)
+        return print_stanzas();
+    for (size_t i = 0; i < sizeof tests / sizeof *tests; i++)
+        if (argc < 2)
+            puts(tests[i].name);
+        else if (strcmp(argv[1], tests[i].name) == 0)
+            tests[i].run();
+    return failed != 0;
+}
