@@ -12,8 +12,8 @@
  *     bytes, a file key 16, a seed 48.
  *  3. Structs are aligned as the compiler aligns them, and a bool is 0 or 1.
  *  4. What a call writes (`out`, `args`, `text`, `file_key`, `chunk`, the structs) overlaps no
- *     other argument. So a whole buffer cannot be encrypted or decrypted in place; a chunk of the steps is
- *     processed in place.
+ *     other argument. So a whole buffer cannot be encrypted or decrypted in place; a chunk of the
+ *     steps is processed in place.
  *  5. During a call no other thread reads or writes what the call writes, or writes what it
  *     reads. Nothing else is shared: any number of calls may run at once.
  *  6. 32 KiB of stack are free.
