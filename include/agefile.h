@@ -9,11 +9,11 @@
  *     AGEFILE_NULL_POINTER. This is checked by the functions of this header. A caller of the
  *     library's own functions, by dlsym or from another language, passes no null pointer.
  *  2. A pointer is valid for the length that follows it, which is below 2^63 bytes. A key has 32
- *     bytes, a seed 48.
+ *     bytes, a file key 16, a seed 48.
  *  3. Structs are aligned as the compiler aligns them, and a bool is 0 or 1.
- *  4. What a call writes (`out`, `args`, `text`, `chunk`, the structs) overlaps no other argument.
- *     So a whole buffer cannot be encrypted or decrypted in place; a chunk of the steps is
- *     processed in place.
+ *  4. What a call writes (`out`, `args`, `text`, `file_key`, `chunk`, the structs) overlaps no
+ *     other argument. So a whole buffer cannot be encrypted or decrypted in place; a chunk of the
+ *     steps is processed in place.
  *  5. During a call no other thread reads or writes what the call writes, or writes what it
  *     reads. Nothing else is shared: any number of calls may run at once.
  *  6. 32 KiB of stack are free.
@@ -198,6 +198,17 @@ static inline uint32_t agefile_stanzas(
     const uint8_t *front, size_t front_len, agefile_stanza_summary *stanzas, size_t stanzas_len,
     uint8_t *text, size_t text_len, agefile_report *report) AGEFILE_CALL("stanzas", (7));
 
+/* ---- From a secret to the file key, once the header's MAC under it was verified. On 0 report.len
+ * is the header's length, where the payload's nonce begins; otherwise `file_key` is unchanged. */
+static inline uint32_t agefile_unlock_passphrase(
+    const uint8_t *front, size_t front_len, const uint8_t *pass, size_t pass_len, uint8_t max_work,
+    uint8_t file_key[AGEFILE_LEAST 16], agefile_report *report)
+    AGEFILE_CALL("unlock_passphrase", (6, 7));
+static inline uint32_t agefile_unlock_key(
+    const uint8_t *front, size_t front_len, const uint8_t key[AGEFILE_LEAST 32],
+    uint8_t file_key[AGEFILE_LEAST 16], agefile_report *report)
+    AGEFILE_CALL("unlock_key", (3, 4, 5));
+
 /* ---- Reading in steps: open, then one call for each sealed chunk. The caller keeps the struct,
  * only the calls change it, and it is never copied while it is in use. If an opening returns 0,
  * report.len is the offset of the first sealed chunk; otherwise the reader is not open. Even if no
@@ -315,6 +326,13 @@ uint32_t agefile_export_stanza(
 uint32_t agefile_export_stanzas(
     const uint8_t *front, size_t front_len, agefile_stanza_summary *stanzas, size_t stanzas_len,
     uint8_t *text, size_t text_len, agefile_report *report) __asm__("agefile_stanzas");
+uint32_t agefile_export_unlock_passphrase(
+    const uint8_t *front, size_t front_len, const uint8_t *pass, size_t pass_len, uint8_t max_work,
+    uint8_t file_key[AGEFILE_LEAST 16], agefile_report *report)
+    __asm__("agefile_unlock_passphrase");
+uint32_t agefile_export_unlock_key(
+    const uint8_t *front, size_t front_len, const uint8_t key[AGEFILE_LEAST 32],
+    uint8_t file_key[AGEFILE_LEAST 16], agefile_report *report) __asm__("agefile_unlock_key");
 uint32_t agefile_export_reader_open_passphrase(
     const uint8_t *front, size_t front_len, const uint8_t *pass, size_t pass_len, uint8_t max_work,
     agefile_reader *reader, agefile_report *report) __asm__("agefile_reader_open_passphrase");
@@ -446,6 +464,25 @@ static inline uint32_t agefile_stanzas(
     return agefile_export_stanzas(
         agefile_input(front), front_len, stanzas != NULL ? stanzas : &none, stanzas_len,
         agefile_output(text), text_len, report);
+}
+
+static inline uint32_t agefile_unlock_passphrase(
+    const uint8_t *front, size_t front_len, const uint8_t *pass, size_t pass_len, uint8_t max_work,
+    uint8_t file_key[AGEFILE_LEAST 16], agefile_report *report)
+{
+    if (agefile_is_missing(front, front_len) || agefile_is_missing(pass, pass_len))
+        return agefile_null_pointer(report);
+    return agefile_export_unlock_passphrase(
+        agefile_input(front), front_len, agefile_input(pass), pass_len, max_work, file_key, report);
+}
+
+static inline uint32_t agefile_unlock_key(
+    const uint8_t *front, size_t front_len, const uint8_t key[AGEFILE_LEAST 32],
+    uint8_t file_key[AGEFILE_LEAST 16], agefile_report *report)
+{
+    if (agefile_is_missing(front, front_len))
+        return agefile_null_pointer(report);
+    return agefile_export_unlock_key(agefile_input(front), front_len, key, file_key, report);
 }
 
 static inline uint32_t agefile_reader_open_passphrase(

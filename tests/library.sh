@@ -80,8 +80,8 @@ names_of() {
 
 names() {
     grep -oE '^uint(32|64)_t agefile_[a-z_]+' "$header" | sed 's/.* agefile_\(export_\)\?/agefile_/' | sort >expected
-    [[ $(wc -l <expected) == 20 ]]
-    check "the header declares 20 functions"
+    [[ $(wc -l <expected) == 22 ]]
+    check "the header declares 22 functions"
     names_of -g --defined-only "$archive" | cmp -s - expected
     check "libagefile.a has just these names"
     names_of -D --defined-only "$shared" | cmp -s - <({ sed 's/$/@@AGEFILE_0/' expected && echo AGEFILE_0; } | sort)
@@ -193,7 +193,7 @@ declarations() {
         return
     fi
     compare_declarations "$root"
-    has_said 0 "" && holds out "20 functions, 6 structs"
+    has_said 0 "" && holds out "22 functions, 6 structs"
     check_shown "the exports, agefile.h, agefile.py and ffi.rs declare the same functions and structs"
     finds crates/agefile/src/ranges.rt 'file_len: u64' 'file_len: u32' include/agefile.h
     check "another type of an export's parameter is found"

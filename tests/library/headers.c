@@ -140,6 +140,50 @@ static void no_header(void)
     CHECK(has_fields(&report, 0, 0, 0) && are_unset(0, 0));
 }
 
+// The seed's first 16 bytes are the file key. Unlocking ends as opening does, and a MAC that is wrong gives no file key.
+static void unlocks(void)
+{
+    static const uint8_t factors[] = {1, work, 30, 0, 31};
+    uint8_t file_key[17], kept[17];
+    made_file file = made(100);
+    size_t header_end = file.front - 16;
+    memset(kept, 0xEE, sizeof kept);
+    for (size_t at = 0; at <= file.len; at++) {
+        agefile_reader reader;
+        memset(file_key, 0xEE, sizeof file_key);
+        report = unset_report();
+        uint32_t code = agefile_unlock_key(file.bytes, at, key, file_key, &report);
+        CHECK(code == (at < header_end ? AGEFILE_HEADER_TRUNCATED : AGEFILE_OK) && has_fields(&report, code == AGEFILE_OK ? header_end : 0, 0, 0));
+        CHECK(are_equal(file_key, code == AGEFILE_OK ? seed : kept, 16) && file_key[16] == 0xEE);
+        uint32_t other = agefile_reader_open_key(file.bytes, at, key, &reader, &report);
+        CHECK(other == (at >= header_end && at < file.front ? AGEFILE_NONCE_TRUNCATED : code));
+    }
+    for (size_t at = 0; at < header_end; at++) {
+        agefile_report opening = unset_report();
+        agefile_reader reader;
+        memset(file_key, 0xEE, sizeof file_key);
+        file.bytes[at] ^= 1;
+        uint32_t code = agefile_unlock_key(file.bytes, file.len, key, file_key, &report);
+        CHECK(code != AGEFILE_OK && are_equal(file_key, kept, sizeof kept));
+        CHECK(agefile_reader_open_key(file.bytes, file.len, key, &reader, &opening) == code && memcmp(&report, &opening, sizeof report) == 0);
+        file.bytes[at] ^= 1;
+    }
+    CHECK(agefile_unlock_key(file.bytes, file.len, other_key, file_key, &report) == AGEFILE_WRONG_KEY);
+    CHECK(agefile_encrypt_passphrase(pass, 4, pass, pass_len, work, seed, text, sizeof text, &report) == AGEFILE_OK);
+    size_t len = report.len;
+    for (size_t i = 0; i < sizeof factors; i++) {
+        static const uint32_t codes[] = {AGEFILE_MALFORMED, AGEFILE_OK, AGEFILE_OK, AGEFILE_WORK_FACTOR, AGEFILE_WORK_FACTOR};
+        memset(file_key, 0xEE, sizeof file_key);
+        report = unset_report();
+        CHECK(agefile_unlock_passphrase(text, len, pass, pass_len, factors[i], file_key, &report) == codes[i]);
+        CHECK(has_fields(&report, codes[i] == AGEFILE_OK ? 149 : 0, 0, codes[i] == AGEFILE_MALFORMED ? 4 : 0));
+        CHECK(are_equal(file_key, codes[i] == AGEFILE_OK ? seed : kept, 16) && file_key[16] == 0xEE);
+    }
+    CHECK(agefile_unlock_passphrase(text, len, pass, 4, work, file_key, &report) == AGEFILE_WRONG_KEY);
+    CHECK(agefile_unlock_key(text, len, key, file_key, &report) == AGEFILE_NO_MATCH);
+    free(file.bytes);
+}
+
 // The header of the most stanzas: 6 bytes each.
 static void most_of_all(void)
 {
@@ -177,6 +221,7 @@ static const struct {
     {"stanzas and their bodies, in buffers of their size, and one too small", lists},
     {"the list has what a call for each stanza returns", one_by_one},
     {"what is no header", no_header},
+    {"from a secret to the file key", unlocks},
     {"10,911 stanzas, in less than a tenth of a second", most_of_all},
 };
 

@@ -91,6 +91,9 @@ static void with_a_length(void)
         REFUSES(agefile_stanzas(NULL, n, &stanza, 1, out, sizeof out, &report));
         REFUSES(agefile_stanzas(file, file_len, NULL, n, out, sizeof out, &report));
         REFUSES(agefile_stanzas(file, file_len, &stanza, 1, NULL, n, &report));
+        REFUSES(agefile_unlock_passphrase(NULL, n, pass, pass_len, work, out, &report));
+        REFUSES(agefile_unlock_passphrase(file, file_len, NULL, n, work, out, &report));
+        REFUSES(agefile_unlock_key(NULL, n, key, out, &report));
         REFUSES(agefile_reader_chunk(&reader, NULL, n, true, &report));
         REFUSES(agefile_writer_chunk(&writer, NULL, n, true, &report));
         REFUSES(agefile_ranges_last(&ranges, NULL, n, &report));
@@ -130,6 +133,9 @@ static void without_a_length(void)
     CHECK(report.place == 1 && are_kept());
     TAKES(agefile_stanzas(file, file_len, &stanza, 1, NULL, 0, &report), AGEFILE_TOO_SMALL);
     CHECK(report.place == 1 && are_kept());
+    TAKES(agefile_unlock_passphrase(NULL, 0, pass, pass_len, work, out, &report), AGEFILE_HEADER_TRUNCATED);
+    TAKES(agefile_unlock_passphrase(file, file_len, NULL, 0, work, out, &report), AGEFILE_NO_MATCH);
+    TAKES(agefile_unlock_key(NULL, 0, key, out, &report), AGEFILE_HEADER_TRUNCATED);
     TAKES(agefile_reader_open_passphrase(NULL, 0, pass, pass_len, work, &reader, &report), AGEFILE_HEADER_TRUNCATED);
     TAKES(agefile_reader_open_passphrase(file, file_len, NULL, 0, work, &reader, &report), AGEFILE_NO_MATCH);
     TAKES(agefile_reader_open_key(NULL, 0, key, &reader, &report), AGEFILE_HEADER_TRUNCATED);

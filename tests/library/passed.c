@@ -56,6 +56,17 @@ uint32_t agefile_export_stanzas(const uint8_t *front, size_t front_len, agefile_
     return look("stanzas", front, (const uint8_t *)(const void *)stanzas, text);
 }
 
+uint32_t agefile_export_unlock_passphrase(const uint8_t *front, size_t front_len, const uint8_t *pass, size_t pass_len, uint8_t max_work,
+                                          uint8_t file_key[16], agefile_report *report)
+{
+    return look("unlock_passphrase", front, pass, file_key);
+}
+
+uint32_t agefile_export_unlock_key(const uint8_t *front, size_t front_len, const uint8_t key[32], uint8_t file_key[16], agefile_report *report)
+{
+    return look("unlock_key", front, key, file_key);
+}
+
 uint32_t agefile_export_reader_open_passphrase(const uint8_t *front, size_t front_len, const uint8_t *pass, size_t pass_len,
                                                uint8_t max_work, agefile_reader *reader, agefile_report *report)
 {
@@ -115,6 +126,7 @@ uint32_t agefile_export_ranges_chunk(const agefile_ranges *ranges, uint64_t at, 
 int main(void)
 {
     static const uint8_t secret[48] = {0};
+    uint8_t file_key[16];
     agefile_summary summary;
     agefile_stanza_summary stanza;
     agefile_reader reader = {{0}, 0, 0};
@@ -129,6 +141,8 @@ int main(void)
     codes |= agefile_inspect(NULL, 0, &summary, &report);
     codes |= agefile_stanza(NULL, 0, 0, NULL, 0, &stanza, &report);
     codes |= agefile_stanzas(NULL, 0, NULL, 0, NULL, 0, &report);
+    codes |= agefile_unlock_passphrase(NULL, 0, NULL, 0, 1, file_key, &report);
+    codes |= agefile_unlock_key(NULL, 0, secret, file_key, &report);
     codes |= agefile_reader_open_passphrase(NULL, 0, NULL, 0, 1, &reader, &report);
     codes |= agefile_reader_open_key(NULL, 0, secret, &reader, &report);
     codes |= agefile_reader_chunk(&reader, NULL, 0, true, &report);
@@ -139,5 +153,5 @@ int main(void)
     codes |= agefile_ranges_open_key(NULL, 0, 0, secret, &ranges, &report);
     codes |= agefile_ranges_last(&ranges, NULL, 0, &report);
     codes |= agefile_ranges_chunk(&ranges, 0, NULL, 0, &report);
-    return failed != 0 || codes != AGEFILE_OK || seen != 17;
+    return failed != 0 || codes != AGEFILE_OK || seen != 19;
 }

@@ -59,6 +59,8 @@ static uint32_t decrypt_passphrase(void)
 static uint32_t inspect(void) { return agefile_inspect(keyed, front_of(keyed_len), &summary, &report); }
 static uint32_t one_stanza(void) { return agefile_stanza(keyed, front_of(keyed_len), 0, out, sizeof out, &stanza, &report); }
 static uint32_t all_stanzas(void) { return agefile_stanzas(keyed, front_of(keyed_len), &stanza, 1, out, sizeof out, &report); }
+static uint32_t unlock_key(void) { return agefile_unlock_key(keyed, front_of(keyed_len), key, out, &report); }
+static uint32_t unlock_passphrase(void) { return agefile_unlock_passphrase(locked, locked_len, pass, pass_len, work, out, &report); }
 static uint32_t read_key(void) { return agefile_reader_open_key(keyed, front_of(keyed_len), key, &reader, &report); }
 static uint32_t read_passphrase(void)
 {
@@ -107,6 +109,8 @@ static const struct {
     {"inspect", inspect, 1},
     {"a stanza", one_stanza, 1},
     {"all stanzas", all_stanzas, 1},
+    {"unlock with a key", unlock_key, 1},
+    {"unlock with a passphrase", unlock_passphrase, 2},
     {"open a reader with a key", read_key, 1},
     {"open a reader with a passphrase", read_passphrase, 2},
     {"open a writer with a key", write_key, 1},

@@ -11,5 +11,6 @@ mod SeedLemmas
 pub mod SizeLemmas
 mod StartLemmas
 mod StepsReadLemmas
+mod UnlockLemmas
 mod WriterLemmas
 mod WritesRunLemmas

@@ -40,12 +40,12 @@ start_none answers b mid fault (Err header.Truncated, is, h) count = subst (λ f
 start_none answers b mid fault (Err header.TooLarge, is, h) count = subst (λ f. FindsStart answers b (Err f)) (sym (err-err {A = HeaderParts} fault _ is)) (faulty answers b header.TooLarge h)
 
 -- a header that was read, and what follows it
-record Fronts (b rest : List ℕ) (h : HeaderParts) : Type 0 where
-  text : List ℕ
-  verdict : HeaderVerdict b 65536 (Ok (record { stanzas = h.stanzas; mac = h.mac; text = text }))
-  front : b ≡ text ++ rest
+pub record Fronts (b rest : List ℕ) (h : HeaderParts) : Type 0 where
+  pub text : List ℕ
+  pub verdict : HeaderVerdict b 65536 (Ok (record { stanzas = h.stanzas; mac = h.mac; text = text }))
+  pub front : b ≡ text ++ rest
 
-fronts : (b rest : List ℕ) (h : HeaderParts) → Inspects limits (Some b) (Some rest) (Ok h) → Fronts b rest h
+pub fronts : (b rest : List ℕ) (h : HeaderParts) → Inspects limits (Some b) (Some rest) (Ok h) → Fronts b rest h
 fronts b rest h (Err g, is, _) = absurd (cc)
 fronts b rest h (Ok parts, is, (text, verdict, took)) =
     subst (Fronts b rest) (sym (ok-ok h parts is)) (record { text = text; verdict = verdict; front = took })

@@ -11,4 +11,5 @@ pub mod Sizes
 pub mod Start
 pub mod State
 pub mod Steps
+pub mod Unlock
 pub mod Writer

@@ -7,7 +7,7 @@ ghost use Rattle.age_recipient.specs.declared.key.FileKey.{FileKey};
 ghost use Rattle.age_stream.specs.Payload.{chunks, pieces};
 ghost use Rattle.age_stream.specs.Reading.{Reading, outcome};
 ghost use Rattle.age_file.specs.declared.fault.Fault.{Fault};
-ghost use Rattle.age_file.specs.Verdict.{Answering, IsVerdict};
+ghost use Rattle.age_file.specs.Verdict.{Answering, IsVerdict, read_under};
 ghost use Rattle.agefile.specs.declared.reader.Reader.{Reader};
 ghost use Rattle.agefile.specs.declared.report.Report.{Report};
 ghost use Rattle.agefile.specs.declared.writer.Writer.{Writer};
@@ -17,6 +17,7 @@ ghost use Rattle.agefile.specs.Limits.{limits, front_size};
 ghost use Rattle.agefile.specs.Reader.{OpensReader};
 ghost use Rattle.agefile.specs.Report.{report_of};
 ghost use Rattle.agefile.specs.Runs.{ReadsRun, WritesRun};
+ghost use Rattle.agefile.specs.Unlock.{Unlocks};
 ghost use Rattle.agefile.specs.Writer.{OpensWriter};
 ghost use Rattle.age_stream.specs.Slice.{IsSlice, last_outcome, plain_len};
 ghost use Rattle.agefile.specs.declared.ranges.Ranges.{Ranges};
@@ -89,4 +90,18 @@ pub fn ranges_in_steps()
         → gives r (at / chunk_size) (piece_at r b (at / chunk_size)) ≡ Ok text
         → drop (at % chunk_size) text
         ≡ take (length (drop (at % chunk_size) text)) (drop at v.front) }
+{}
+
+/// Unlocking a header leads to what decrypting the file returns. A fault, except out of memory, is
+/// the verdict's, before any plaintext. Otherwise the verdict is what the payload after the header
+/// is under the file key.
+pub fn unlocked_reads()
+    ensures refused { (answers : Answering) (b old new : Bytes) (report : Report) (code : ℕ)
+        (v : Reading Fault)
+        → Unlocks answers b old new report code → IsVerdict limits answers b v
+        → code ≢ ok → code ≢ out_of_memory
+        → (v.front ≡ []) × (code_of v.fault ≡ code) × (report ≡ report_of 0 v.fault) }
+    ensures read { (answers : Answering) (b old new : Bytes) (report : Report) (v : Reading Fault)
+        → Unlocks answers b old new report ok → IsVerdict limits answers b v
+        → v ≡ read_under limits (drop report.len b) (Ok (record { 0 = new })) }
 {}

@@ -11,7 +11,8 @@
 //! ```
 //!
 //! The exports are in `decrypting` and `encrypting` (whole buffers), `inspecting` and `listing`
-//! (headers), `sizes`, and `reader`, `writer` and `ranges` (steps). The other modules have none.
+//! (headers), `unlocking` (file keys), `sizes`, and `reader`, `writer` and `ranges` (steps). The
+//! other modules have none.
 //!
 //! Limits: a header of 65,536 bytes, 2^64 - 1 chunks, one recipient. The duties of a caller, and
 //! what is proved, are in docs/C.md.
@@ -34,4 +35,5 @@ mod state;
 #[cfg(test)]
 mod tests;
 pub mod there_and_back;
+mod unlocking;
 mod writer;

@@ -9,6 +9,7 @@ use crate::inspecting::{StanzaSummary, Summary, agefile_inspect, agefile_stanza}
 use crate::listing::agefile_stanzas;
 use crate::report::Report;
 use crate::sizes::{agefile_plain_len_at_most, agefile_sealed_len};
+use crate::unlocking::{agefile_unlock_key, agefile_unlock_passphrase};
 use std::process::Abort;
 use std::test::Fail;
 
@@ -190,5 +191,29 @@ fn all_stanzas_are_listed(rt: HostRuntime) -> Result<(), Fail> {
     assert_eq!(rt; code, 3);
     assert!(rt; is_report(&report, 0, 0, 0));
     assert!(rt; stanzas[1].args == 1 && text[0] == b'k');
+    Ok(())
+}
+
+#[test]
+fn key_is_unlocked_with_its_header(rt: HostRuntime) -> Result<(), Fail> {
+    let mut file = [9; 200];
+    let mut report = stale();
+    let code = agefile_encrypt_key(rt.alloc(), b"", &KEY, &SEED, &mut file, &mut report);
+    assert_eq!(rt; code, 0);
+    let mut file_key = [9; 16];
+    report = stale();
+    let code = agefile_unlock_key(rt.alloc(), &file, &KEY, &mut file_key, &mut report);
+    assert_eq!(rt; code, 0);
+    assert!(rt; is_report(&report, 156, 0, 0));
+    assert!(rt; file_key == [7; 16]);
+    file_key = [9; 16];
+    let code = agefile_unlock_passphrase(rt.alloc(), &file, b"p", 1, &mut file_key, &mut report);
+    assert_eq!(rt; code, 6);
+    file[150] = if file[150] == b'A' { b'B' } else { b'A' };
+    report = stale();
+    let code = agefile_unlock_key(rt.alloc(), &file, &KEY, &mut file_key, &mut report);
+    assert_eq!(rt; code, 9);
+    assert!(rt; is_report(&report, 0, 0, 0));
+    assert!(rt; file_key == [9; 16]);
     Ok(())
 }
