@@ -145,11 +145,11 @@ def whole_files(mib, files, recipient):
     for where, out in (("/dev/null", "/dev/null"), ("a file", "out")):
         here = Command(*encrypt, "plain", out=out)
         stream = Command("./stream", "-e", "key", source="plain", out=out)
-        peers = {"age": Command(*age_encrypt, "plain", out=out), "c/stream.c": stream}
+        peers = {"age": Command(*age_encrypt, "plain", out=out), "bindings/c/examples/stream.c": stream}
         yield f"encrypt {mib} MiB to {where}", here, peers
         here = Command(*decrypt, "plain.here", out=out)
         stream = Command("./stream", "key", source="plain.here", out=out)
-        peers = {"age": Command(*age_decrypt, "plain.age", out=out), "c/stream.c": stream}
+        peers = {"age": Command(*age_decrypt, "plain.age", out=out), "bindings/c/examples/stream.c": stream}
         yield f"decrypt {mib} MiB to {where}", here, peers
     here = Command("sh", "-c", 'rm -f out && exec "$0" encrypt -k key -o out plain', AGEP)
     age = Command("sh", "-c", 'rm -f out && age -r "$0" -o out plain && sync out', recipient)
@@ -173,12 +173,12 @@ def whole_files(mib, files, recipient):
 def build(level):
     """Builds what is measured, and tests that both scrypts give the same key."""
     os.environ["AGEP_CPU"] = level
-    stream = ["cc", "-O2", "-Iprefix/include", "-o", "stream", ROOT / "c/stream.c"]
+    stream = ["cc", "-O2", "-Iprefix/include", "-o", "stream", ROOT / "bindings/c/examples/stream.c"]
     for line, folder in (
         ([ROOT / "agep", "--version"], "."),
         ([ROOT / "bench/cipher.sh", level], "."),
         (["rt", "run", "--cpu", level, "--", "1", "1", "1"], KDF.parent.parent),
-        ([ROOT / "install-library", "prefix"], "."),
+        ([ROOT / "install", "--library", "prefix"], "."),
         ([*stream, "prefix/lib/libagefile.a"], "."),
     ):
         built = subprocess.run(line, cwd=folder, capture_output=True, text=True)
@@ -237,7 +237,7 @@ def arguments():
     parser = argparse.ArgumentParser(description=__doc__.splitlines()[0])
     for name, default in (("--mib", 1024), ("--runs", 7), ("--files", 1000)):
         parser.add_argument(name, type=int, default=default)
-    at_hand = f"root='{ROOT}'; . '{ROOT}/build.sh'; processor"
+    at_hand = f"root='{ROOT}'; . '{ROOT}/share/build.sh'; processor"
     level = subprocess.check_output(["sh", "-c", at_hand], text=True).strip()
     parser.add_argument("--cpu", choices=HELD, default=level)
     parser.add_argument("--only", metavar="WORD", default="")

@@ -17,7 +17,8 @@ fi
 set_up() {
     local folder name part
     mkdir -p copy/crates
-    cp "$root/agep" "$root/build.sh" "$root/crates.txt" copy/
+    cp "$root/agep" "$root/crates.txt" copy/
+mkdir copy/share && cp "$root/share/build.sh" copy/share/
     for folder in "$root"/crates/*/; do
         name=$(basename "$folder")
         mkdir "copy/crates/$name"

@@ -43,7 +43,7 @@ documents() {
 
 # Of scripts the comments.
 scripts() {
-    are_narrow "$root"/{agep,install,install-library,build.sh,installing.sh} "$root"/{tests,bench}/*.{sh,bash,py}
+    are_narrow "$root"/{agep,install,share/build.sh} "$root"/{tests,bench}/*.{sh,bash,py}
     check "at most 100 columns: the comments of scripts"
 }
 

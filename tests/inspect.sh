@@ -355,7 +355,7 @@ scripts() {
 make_tree() {
     local tool
     mkdir -p tree/crates/agep/{src,specs,proofs,out} kit/bin tools
-    cp "$root/agep" "$root/build.sh" "$root/crates.txt" tree/
+    cp "$root/agep" "$root/crates.txt" tree/ && mkdir tree/share && cp "$root/share/build.sh" tree/share/
     cp "$agep" tree/crates/agep/out/agep
     printf '#!/bin/sh\necho "$@" >>%q\n' "$work/built" >kit/bin/rt
     chmod +x kit/bin/rt

@@ -14,7 +14,7 @@ if ! command -v cc >/dev/null || ! command -v objcopy >/dev/null; then
     skip "the library for C, since there is no C compiler, or no objcopy"
 fi
 prefix=$work/prefix
-header=$root/include/agefile.h
+header=$root/bindings/c/agefile.h
 archive=$prefix/lib/libagefile.a
 shared=$prefix/lib/libagefile.so.0
 warnings=(-Wall -Wextra -Wpedantic -Werror "-I$prefix/include")
@@ -34,43 +34,44 @@ files_of() {
 }
 
 installs() {
-    local usage="usage: ./install-library [--libdir=DIR] [--v3] [--uninstall] [PREFIX]" words
+    local words usage="usage: ./install [--uninstall] [PREFIX]
+       ./install --library [--libdir=DIR] [--v3] [--uninstall] [PREFIX]"
     mkdir -p prefix/include
     touch prefix/include/other.h
     chmod 644 prefix/include/other.h
     (
         umask 077
-        keep "$root/install-library" prefix
+        keep "$root/install" --library prefix
     )
-    { has_said 0 "" || has_said 0 "install-library: building the library; its proofs are checked first"; } && files_of prefix | cmp -s - <(
+    { has_said 0 "" || has_said 0 "install: building the library; its proofs are checked first"; } && files_of prefix | cmp -s - <(
         printf '%s\n' '644 include/agefile.h' '644 include/other.h' '644 lib/libagefile.a' '644 lib/pkgconfig/agefile.pc' \
             '755 lib/libagefile.so.0' 'lib/libagefile.so -> libagefile.so.0'
     )
-    check "./install-library puts the library, its header and its pkg-config file under PREFIX"
+    check "./install --library puts the library, its header and its pkg-config file under PREFIX"
     [[ $(stat -c %a prefix/lib prefix/lib/pkgconfig | xargs) == "755 755" ]]
-    check "the folders that ./install-library makes have the mode 755, with the umask 077"
+    check "the folders that ./install --library makes have the mode 755, with the umask 077"
     cmp -s prefix/include/agefile.h "$header"
-    check "the header that is installed is include/agefile.h"
-    grep -qx "Version: $version" prefix/lib/pkgconfig/agefile.pc && grep -qx "version = \"$version\"" "$root/rust/Cargo.toml"
+    check "the header that is installed is bindings/c/agefile.h"
+    grep -qx "Version: $version" prefix/lib/pkgconfig/agefile.pc && grep -qx "version = \"$version\"" "$root/bindings/rust/Cargo.toml"
     check "agefile.pc and the crate for Rust name the newest version of the change log"
     cp -a prefix other
-    keep "$root/install-library" --uninstall other
+    keep "$root/install" --library --uninstall other
     has_said 0 "" && [[ $(files_of other) == "644 include/other.h" && ! -e other/lib ]]
-    check "./install-library --uninstall removes just these files, and the folders that it leaves empty"
-    keep "$root/install-library" --other
+    check "./install --library --uninstall removes just these files, and the folders that it leaves empty"
+    keep "$root/install" --library --other
     has_ended 2 "$usage"
-    check "./install-library refuses another option"
-    keep "$root/install-library" ''
+    check "./install --library refuses another option"
+    keep "$root/install" --library ''
     has_ended 2 "$usage"
-    check "./install-library refuses an empty PREFIX"
+    check "./install --library refuses an empty PREFIX"
     for words in --libdir= --libdir=/lib --libdir=../lib --libdir=lib/.. "--libdir=a b" --libdir=lib/ --v2; do
-        keep "$root/install-library" "$words" refused
+        keep "$root/install" --library "$words" refused
         has_ended 2 "$usage" && [[ ! -e refused ]]
-        check "./install-library refuses $words"
+        check "./install --library refuses $words"
     done
-    keep "$root/install-library" --help
+    keep "$root/install" --library --help
     has_said 0 "" && holds out "$usage"
-    check "./install-library --help prints the usage"
+    check "./install --library --help prints the usage"
 }
 
 # The names that an object file defines for others, or leaves undefined.
@@ -132,29 +133,29 @@ loads() {
 folders() {
     local libraries=staged/usr/lib/x86_64-linux-gnu second
     second=$libraries/glibc-hwcaps/x86-64-v3/libagefile.so.0
-    DESTDIR=staged keep "$root/install-library" --v3 --libdir=lib/x86_64-linux-gnu /usr
+    DESTDIR=staged keep "$root/install" --library --v3 --libdir=lib/x86_64-linux-gnu /usr
     [[ $(cat status) == 0 ]] && files_of staged/usr | cmp -s - <(
         printf '%s\n' '644 include/agefile.h' '644 lib/x86_64-linux-gnu/libagefile.a' '644 lib/x86_64-linux-gnu/pkgconfig/agefile.pc' \
             '755 lib/x86_64-linux-gnu/glibc-hwcaps/x86-64-v3/libagefile.so.0' '755 lib/x86_64-linux-gnu/libagefile.so.0' \
             'lib/x86_64-linux-gnu/libagefile.so -> libagefile.so.0'
     )
-    check "./install-library with DESTDIR, --libdir and --v3 puts each file into its folder"
+    check "./install --library with DESTDIR, --libdir and --v3 puts each file into its folder"
     cmp -s "$libraries/libagefile.so.0" "$shared" && objdump -d "$second" | grep -q '%ymm' && ! objdump -d "$shared" | grep -q '%ymm'
     check "of the two libraries only that for x86-64-v3 uses AVX2"
     cmp -s <(names_of -D --defined-only "$second") <(names_of -D --defined-only "$shared")
     check "both libraries have the same names and versions"
     if command -v pkg-config >/dev/null; then
         # shellcheck disable=SC2046
-        cc -O2 -o staged_stream "$root/c/stream.c" $(PKG_CONFIG_PATH=$work/$libraries/pkgconfig pkg-config --cflags --libs agefile) \
+        cc -O2 -o staged_stream "$root/bindings/c/examples/stream.c" $(PKG_CONFIG_PATH=$work/$libraries/pkgconfig pkg-config --cflags --libs agefile) \
             "-Wl,-rpath,$work/$libraries"
         check "agefile.pc names the folders of the header and the library"
     else
-        cc -O2 "-I$work/staged/usr/include" -o staged_stream "$root/c/stream.c" "-L$work/$libraries" -lagefile "-Wl,-rpath,$work/$libraries"
+        cc -O2 "-I$work/staged/usr/include" -o staged_stream "$root/bindings/c/examples/stream.c" "-L$work/$libraries" -lagefile "-Wl,-rpath,$work/$libraries"
     fi
     loads "$work/$libraries"
-    DESTDIR=staged keep "$root/install-library" --libdir=lib/x86_64-linux-gnu --uninstall /usr
+    DESTDIR=staged keep "$root/install" --library --libdir=lib/x86_64-linux-gnu --uninstall /usr
     has_said 0 "" && [[ -z $(ls -A staged/usr) ]]
-    check "./install-library --uninstall with DESTDIR and --libdir removes them all"
+    check "./install --library --uninstall with DESTDIR and --libdir removes them all"
 }
 
 languages() {
@@ -177,8 +178,8 @@ compare_declarations() {
 # Whether the comparison finds a change of one declaration, and shows it as one of that file, or of
 # the file that is named last: finds FILE OLD NEW [FILE].
 finds() {
-    rm -rf copy && mkdir -p copy/crates/agefile copy/rust &&
-        cp -r "$root/crates/agefile/src" copy/crates/agefile && cp -r "$root/include" "$root/python" copy && cp -r "$root/rust/src" copy/rust &&
+    rm -rf copy && mkdir -p copy/crates/agefile &&
+        cp -r "$root/crates/agefile/src" copy/crates/agefile && cp -r "$root/include" "$root/python" copy && cp -r "$root/bindings/rust/src" copy/rust &&
         python3 -c 'import pathlib, sys
 path, old, new = pathlib.Path(sys.argv[1]), *sys.argv[2:]
 text = path.read_text()
@@ -195,29 +196,29 @@ declarations() {
     compare_declarations "$root"
     has_said 0 "" && holds out "22 functions, 6 structs"
     check_shown "the exports, agefile.h, agefile.py and ffi.rs declare the same functions and structs"
-    finds crates/agefile/src/ranges.rt 'file_len: u64' 'file_len: u32' include/agefile.h
+    finds crates/agefile/src/ranges.rt 'file_len: u64' 'file_len: u32' bindings/c/agefile.h
     check "another type of an export's parameter is found"
-    finds crates/agefile/src/report.rt 'pub detail: u64' 'pub detail: u32' include/agefile.h
+    finds crates/agefile/src/report.rt 'pub detail: u64' 'pub detail: u32' bindings/c/agefile.h
     check "another type of an export's field is found"
-    finds crates/agefile/src/listing.rt 'stanzas: &mut [StanzaSummary]' 'stanzas: &mut [u8]' include/agefile.h
+    finds crates/agefile/src/listing.rt 'stanzas: &mut [StanzaSummary]' 'stanzas: &mut [u8]' bindings/c/agefile.h
     check "another type of an export's slice is found"
-    finds include/agefile.h 'uint64_t index' 'uint32_t index'
+    finds bindings/c/agefile.h 'uint64_t index' 'uint32_t index'
     check "another type in the header is found"
-    finds include/agefile.h 'const agefile_ranges *ranges, uint64_t at' 'uint64_t at, const agefile_ranges *ranges'
+    finds bindings/c/agefile.h 'const agefile_ranges *ranges, uint64_t at' 'uint64_t at, const agefile_ranges *ranges'
     check "another order of parameters in the header is found"
-    finds include/agefile.h '__asm__("agefile_decrypt_key")' '__asm__("agefile_encrypt_key")'
+    finds bindings/c/agefile.h '__asm__("agefile_decrypt_key")' '__asm__("agefile_encrypt_key")'
     check "another export behind a call of the header is found"
-    finds include/agefile.h 'AGEFILE_CALL("decrypt_key", (3, 6))' 'AGEFILE_CALL("decrypt_key", (3))'
+    finds bindings/c/agefile.h 'AGEFILE_CALL("decrypt_key", (3, 6))' 'AGEFILE_CALL("decrypt_key", (3))'
     check "a parameter that the header lets be null is found"
-    finds include/agefile.h 'uint8_t mac[32]' 'uint8_t mac[24]'
+    finds bindings/c/agefile.h 'uint8_t mac[32]' 'uint8_t mac[24]'
     check "another size of a struct in the header is found"
-    finds python/agefile.py '"ranges_locate": [ranges, number, report]' '"ranges_locate": [ranges, byte, report]'
+    finds bindings/python/agefile.py '"ranges_locate": [ranges, number, report]' '"ranges_locate": [ranges, byte, report]'
     check "another type in Python is found"
-    finds python/agefile.py '("first", ctypes.c_uint64)' '("first", ctypes.c_uint8)'
+    finds bindings/python/agefile.py '("first", ctypes.c_uint64)' '("first", ctypes.c_uint8)'
     check "another field in Python is found"
-    finds rust/src/ffi.rs 'last: bool' 'last: u8'
+    finds bindings/rust/src/ffi.rs 'last: bool' 'last: u8'
     check "another type in Rust is found"
-    finds rust/src/ffi.rs 'pub header_len: u64' 'pub header_len: u32'
+    finds bindings/rust/src/ffi.rs 'pub header_len: u64' 'pub header_len: u32'
     check "another field in Rust is found"
 }
 
@@ -297,9 +298,9 @@ constants() {
     sealed=$((chunk + tag))
     [[ $chunk -gt 0 && $tag -gt 0 && $(number_of "$header" AGEFILE_SEALED_CHUNK) -eq $sealed && $(number_of "$header" AGEFILE_TEXT_CHUNK) -eq $chunk ]]
     check "the header's lengths of chunks are the crate's"
-    [[ $(number_of "$root/python/agefile.py" _SEALED_CHUNK) -eq $sealed && $(number_of "$root/rust/src/stream.rs" SEALED_CHUNK) -eq $sealed &&
-        $(number_of "$root/rust/src/stream.rs" TEXT_CHUNK) -eq $chunk && $(number_of "$root/rust/src/stream.rs" TAG) -eq $tag &&
-        $(number_of "$root/python/agefile.py" _FRONT) -eq 65552 && $(number_of "$root/rust/src/whole.rs" FRONT) -eq 65552 ]]
+    [[ $(number_of "$root/bindings/python/agefile.py" _SEALED_CHUNK) -eq $sealed && $(number_of "$root/bindings/rust/src/stream.rs" SEALED_CHUNK) -eq $sealed &&
+        $(number_of "$root/bindings/rust/src/stream.rs" TEXT_CHUNK) -eq $chunk && $(number_of "$root/bindings/rust/src/stream.rs" TAG) -eq $tag &&
+        $(number_of "$root/bindings/python/agefile.py" _FRONT) -eq 65552 && $(number_of "$root/bindings/rust/src/whole.rs" FRONT) -eq 65552 ]]
     check "the lengths in Python and Rust are the crate's"
     [[ $(number_of "$header" AGEFILE_HEADER_ROOM) -ge $(number_of "$root/crates/agefile/src/sizes.rt" FRONT) ]]
     check "AGEFILE_HEADER_ROOM holds a header that is written, and a nonce"
@@ -346,7 +347,7 @@ int main(void) { return *agefile_message(agefile_sealed_len(0) == 0); }' >header
         check "$name.c builds without a warning"
     done
     cpp_program "${sanitizers[@]}"
-    cc -g "${warnings[@]}" "${sanitizers[@]}" -o safe_stream "$root/c/stream.c" "$archive"
+    cc -g "${warnings[@]}" "${sanitizers[@]}" -o safe_stream "$root/bindings/c/examples/stream.c" "$archive"
     check "the example builds without a warning"
     for name in convert threads peak breaks; do
         cc -O2 "${warnings[@]}" -pthread -o "$name" "$root/tests/library/$name.c" "$archive"
@@ -354,10 +355,10 @@ int main(void) { return *agefile_message(agefile_sealed_len(0) == 0); }' >header
     done
     if command -v pkg-config >/dev/null; then
         # shellcheck disable=SC2046
-        cc -O2 -o stream "$root/c/stream.c" $(PKG_CONFIG_PATH=$prefix/lib/pkgconfig pkg-config --cflags --libs agefile) \
+        cc -O2 -o stream "$root/bindings/c/examples/stream.c" $(PKG_CONFIG_PATH=$prefix/lib/pkgconfig pkg-config --cflags --libs agefile) \
             "-Wl,-rpath,$prefix/lib"
     else
-        cc -O2 "-I$prefix/include" -o stream "$root/c/stream.c" "-L$prefix/lib" -lagefile "-Wl,-rpath,$prefix/lib"
+        cc -O2 "-I$prefix/include" -o stream "$root/bindings/c/examples/stream.c" "-L$prefix/lib" -lagefile "-Wl,-rpath,$prefix/lib"
     fi
     check "the example builds over libagefile.so"
 }
@@ -585,7 +586,7 @@ document() {
     check "docs/C.md: the program in C says what is wrong"
     compiles
     command -v python3 >/dev/null || return
-    AGEFILE_LIBRARY=$shared PYTHONPATH=$root/python PYTHONDONTWRITEBYTECODE=1 python3 document.py >out 2>err
+    AGEFILE_LIBRARY=$shared PYTHONPATH=$root/bindings/python PYTHONDONTWRITEBYTECODE=1 python3 document.py >out 2>err
     [[ $? -eq 0 && $(cat out) == "b'two\n'
 wrong passphrase or key 7" ]]
     check_shown "docs/C.md: the program in Python prints a line and an error"
@@ -596,7 +597,7 @@ python() {
         echo "skipped: Python, since python3 is missing"
         return
     fi
-    export AGEFILE_LIBRARY=$shared PYTHONPATH=$root/python PYTHONDONTWRITEBYTECODE=1
+    export AGEFILE_LIBRARY=$shared PYTHONPATH=$root/bindings/python PYTHONDONTWRITEBYTECODE=1
     python3 "$root/tests/library/test_agefile.py" >out 2>err
     check_shown "Python's tests"
     python3 -c 'import agefile, sys
@@ -617,7 +618,7 @@ rust() {
         echo "skipped: Rust, since cargo is missing"
         return
     fi
-    AGEFILE_LIB_DIR=$prefix/lib CARGO_TARGET_DIR=$work/target cargo test --offline --locked --manifest-path "$root/rust/Cargo.toml" >out 2>err
+    AGEFILE_LIB_DIR=$prefix/lib CARGO_TARGET_DIR=$work/target cargo test --offline --locked --manifest-path "$root/bindings/rust/Cargo.toml" >out 2>err
     check_shown "Rust's tests"
 }
 

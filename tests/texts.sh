@@ -196,7 +196,7 @@ examples() {
 
 # The part of the manual page between this heading and the next.
 section() {
-    awk -v heading="$1" '/^\.SH/ { shown = ($0 == ".SH " heading) } shown' "$root/agep.1" | sed 's/\\-/-/g'
+    awk -v heading="$1" '/^\.SH/ { shown = ($0 == ".SH " heading) } shown' "$root/share/man/agep.1" | sed 's/\\-/-/g'
 }
 
 manual() {
@@ -214,14 +214,14 @@ manual() {
     { for command in "${all[@]}" ''; do options_of "$command"; done; } | sort -u >expected
     cmp -s got expected
     check "the manual page describes each option once, by its letter and its name"
-    grep -q "\"agep $version\"" "$root/agep.1"
+    grep -q "\"agep $version\"" "$root/share/man/agep.1"
     check "the manual page names the newest version"
     if command -v mandoc >/dev/null; then
-        [[ -z $(mandoc -T lint -W warning "$root/agep.1" 2>&1) ]]
+        [[ -z $(mandoc -T lint -W warning "$root/share/man/agep.1" 2>&1) ]]
         check "mandoc renders the manual page without a warning"
     fi
     if man --version 2>/dev/null | grep -q '^man [0-9]'; then
-        LC_ALL=C.UTF-8 man --warnings -l "$root/agep.1" 2>err >out </dev/null
+        LC_ALL=C.UTF-8 man --warnings -l "$root/share/man/agep.1" 2>err >out </dev/null
         [[ -s out ]] && holds err ""
         check "man-db renders the manual page without a warning"
     fi
@@ -230,25 +230,25 @@ manual() {
 # What bash offers after these words, the last of them begun.
 by_bash() {
     bash -c 'source "$1"; shift; COMP_WORDS=("$@"); COMP_CWORD=$(($# - 1)); _agep; printf "%s\n" "${COMPREPLY[@]}"' \
-        bash "$root/completions/agep.bash" "$@" | sort
+        bash "$root/share/completions/agep.bash" "$@" | sort
 }
 
 # What fish offers after these words.
 by_fish() {
-    fish --no-config -c "source $root/completions/agep.fish; complete -C '$*'" | cut -f 1 | sort
+    fish --no-config -c "source $root/share/completions/agep.fish; complete -C '$*'" | cut -f 1 | sort
 }
 
 # The options that the file for zsh has in a command's part.
 by_zsh_file() {
-    awk -v command="$1)" '$1 == command { shown = 1 } /;;/ { shown = 0 } shown' "$root/completions/_agep" |
+    awk -v command="$1)" '$1 == command { shown = 1 } /;;/ { shown = 0 } shown' "$root/share/completions/_agep" |
         grep -oE '\{-[a-zA-Z]\+?,--[a-z-]+=?\}' | tr -d '{}+=' | tr , '\n' | sort
 }
 
 # The options that the file for fish has for a command.
 by_fish_file() {
     {
-        grep -E "seen_subcommand_from [a-z ]*\b$1\b[a-z ]*'" "$root/completions/agep.fish"
-        grep -E '^complete -c agep -s' "$root/completions/agep.fish"
+        grep -E "seen_subcommand_from [a-z ]*\b$1\b[a-z ]*'" "$root/share/completions/agep.fish"
+        grep -E '^complete -c agep -s' "$root/share/completions/agep.fish"
     } | sed -nE 's/.* -s ([a-zA-Z]) -l ([a-z-]+) .*/-\1\n--\2/p' | sort
 }
 
@@ -257,9 +257,9 @@ completions() {
     commands | sort >expected
     by_bash agep '' | grep -v -e '^-' -e '^help$' | cmp -s - expected
     check "bash offers the commands"
-    sed -n "s/^        '\([a-z]*\):.*/\1/p" "$root/completions/_agep" | grep -vx help | sort | cmp -s - expected
+    sed -n "s/^        '\([a-z]*\):.*/\1/p" "$root/share/completions/_agep" | grep -vx help | sort | cmp -s - expected
     check "the file for zsh has the commands"
-    sed -n 's/.*__fish_use_subcommand -f -a \([a-z]*\) .*/\1/p' "$root/completions/agep.fish" | grep -vx help | sort | cmp -s - expected
+    sed -n 's/.*__fish_use_subcommand -f -a \([a-z]*\) .*/\1/p' "$root/share/completions/agep.fish" | grep -vx help | sort | cmp -s - expected
     check "the file for fish has the commands"
     for command in "${all[@]}"; do
         options_of "$command" >expected
@@ -275,12 +275,12 @@ completions() {
         fi
     done
     mkdir -p files && touch files/some.age
-    [[ -z $(cd files && by_bash agep decrypt so) ]] && grep -qx 'complete -o default -F _agep agep' "$root/completions/agep.bash"
+    [[ -z $(cd files && by_bash agep decrypt so) ]] && grep -qx 'complete -o default -F _agep agep' "$root/share/completions/agep.bash"
     check "bash offers files, which is its default, where it offers no option"
     [[ -z $(by_bash agep decrypt -- -) && -z $(by_bash agep encrypt -k key -- -w -) ]]
     check "bash offers no option after --"
-    ! grep -E '\{-[a-zA-Z],--[a-z-]+\}.*\]:' "$root/completions/_agep" &&
-        [[ $(grep -cE "\)\*'\{-[kK]\+,--(new-)?key=\}" "$root/completions/_agep") == 5 ]]
+    ! grep -E '\{-[a-zA-Z],--[a-z-]+\}.*\]:' "$root/share/completions/_agep" &&
+        [[ $(grep -cE "\)\*'\{-[kK]\+,--(new-)?key=\}" "$root/share/completions/_agep") == 5 ]]
     check "the file for zsh takes words joined to their options, and -k and -K more than once"
     if command -v fish >/dev/null; then
         (cd files && by_fish agep decrypt so | grep -qx some.age && by_fish agep decrypt -k so | grep -qx some.age &&
@@ -288,7 +288,7 @@ completions() {
         check "fish offers files"
     fi
     if command -v zsh >/dev/null; then
-        keep zsh -n "$root/completions/_agep"
+        keep zsh -n "$root/share/completions/_agep"
         has_ended 0 ""
         check "zsh reads its file"
     fi
@@ -314,7 +314,8 @@ files_of() {
 }
 
 installs() {
-    local words usage="usage: ./install [--uninstall] [PREFIX]"
+    local words usage="usage: ./install [--uninstall] [PREFIX]
+       ./install --library [--libdir=DIR] [--v3] [--uninstall] [PREFIX]"
     mkdir -p prefix/share/man/man1
     echo other >prefix/share/man/man1/other.1
     (

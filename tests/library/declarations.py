@@ -2,8 +2,8 @@
 
     declarations.py [ROOT]
 
-The exports and structs of the crate, those of agefile.h, of python/agefile.py and of
-rust/src/ffi.rs are brought into one form, a line for each function and each field, and compared.
+The exports and structs of the crate, those of agefile.h, of bindings/python/agefile.py and of
+bindings/rust/src/ffi.rs are brought into one form, a line for each function and each field, and compared.
 Where two differ the difference is printed, and the status is 1. ROOT is the repository.
 """
 
@@ -85,7 +85,7 @@ def number(token):
     return int(token.replace("_", ""))
 
 
-# ---- Rust: the crate and its declaration in rust/src/ffi.rs
+# ---- Rust: the crate and its declaration in bindings/rust/src/ffi.rs
 
 
 def rust_type(tokens):
@@ -221,7 +221,7 @@ def c_function(tokens):
 
 def header_lines(root):
     """The header after the preprocessor, without the headers that it includes."""
-    header = os.path.join(root, "include/agefile.h")
+    header = os.path.join(root, "bindings/c/agefile.h")
     text = subprocess.run(["cc", "-E", header], check=True, capture_output=True, text=True).stdout
     kept, is_own = [], False
     for line in text.splitlines():
@@ -301,7 +301,7 @@ def compiled(root, structs):
         source, program = os.path.join(folder, "layout.c"), os.path.join(folder, "layout")
         with open(source, "w", encoding="utf-8") as file:
             file.write("\n".join(lines + ["}"]))
-        subprocess.run(["cc", "-I", os.path.join(root, "include"), "-o", program, source], check=True)
+        subprocess.run(["cc", "-I", os.path.join(root, "bindings/c"), "-o", program, source], check=True)
         rows = subprocess.run([program], check=True, capture_output=True, text=True).stdout.splitlines()
     layouts = {}
     for (name, fields), row in zip(structs.items(), rows):
@@ -342,7 +342,7 @@ def python_layout(structure, ctypes):
 def read_python(root):
     import ctypes
 
-    sys.path.insert(0, os.path.join(root, "python"))
+    sys.path.insert(0, os.path.join(root, "bindings/python"))
     import agefile
 
     structs = {
@@ -400,12 +400,12 @@ def compare_header(root, functions, layouts):
     pointers = {name: nonnull_of(function[0]) for name, function in functions.items()}
     rows = [f"{name} {places}" for name, places in sorted(pointers.items()) if places]
     return [
-        is_same("exports", expected, "include/agefile.h", function_lines(header.exports)),
-        is_same("calls", expected, "include/agefile.h", function_lines(header.calls)),
-        is_same("calls that check pointers", function_lines(wrapped), "include/agefile.h", function_lines(bodies)),
-        is_same("pointers not null", rows, "include/agefile.h", [f"{name} {places}" for name, places in sorted(header.nonnull.items())]),
-        is_same("results that are used", sorted(functions), "include/agefile.h", sorted(header.used)),
-        is_same("structs", struct_lines(layouts), "include/agefile.h", struct_lines(compiled(root, header.structs))),
+        is_same("exports", expected, "bindings/c/agefile.h", function_lines(header.exports)),
+        is_same("calls", expected, "bindings/c/agefile.h", function_lines(header.calls)),
+        is_same("calls that check pointers", function_lines(wrapped), "bindings/c/agefile.h", function_lines(bodies)),
+        is_same("pointers not null", rows, "bindings/c/agefile.h", [f"{name} {places}" for name, places in sorted(header.nonnull.items())]),
+        is_same("results that are used", sorted(functions), "bindings/c/agefile.h", sorted(header.used)),
+        is_same("structs", struct_lines(layouts), "bindings/c/agefile.h", struct_lines(compiled(root, header.structs))),
     ]
 
 
@@ -417,15 +417,15 @@ def compare_python(root, functions, layouts):
     found, structs = read_python(root)
     expected = {name: ([as_python(kind) for _, kind in parameters], result) for name, (parameters, result) in functions.items() if name in found}
     return [
-        is_same("functions that Python calls", [f"{name} {function}" for name, function in sorted(expected.items())], "python/agefile.py",
+        is_same("functions that Python calls", [f"{name} {function}" for name, function in sorted(expected.items())], "bindings/python/agefile.py",
                 [f"{name} {function}" for name, function in sorted(found.items())]),
-        is_same("structs of Python", struct_lines({name: layouts[name] for name in layouts if name in structs}), "python/agefile.py", struct_lines(structs)),
+        is_same("structs of Python", struct_lines({name: layouts[name] for name in layouts if name in structs}), "bindings/python/agefile.py", struct_lines(structs)),
     ]
 
 
 def compare_rust(root, functions, layouts):
     """The struct State of the crate for Rust is a reader and a writer."""
-    with open(os.path.join(root, "rust/src/ffi.rs"), encoding="utf-8") as file:
+    with open(os.path.join(root, "bindings/rust/src/ffi.rs"), encoding="utf-8") as file:
         found, structs = read_rust(file.read())
     named = {
         name: ([(parameter, kind.replace(" state", f" {parameter}") if parameter in ("reader", "writer") else kind) for parameter, kind in parameters], result)
@@ -434,9 +434,9 @@ def compare_rust(root, functions, layouts):
     state = structs.pop("state")
     structs.update(reader=state, writer=state)
     return [
-        is_same("functions that Rust calls", function_lines({name: function for name, function in functions.items() if name in found}), "rust/src/ffi.rs",
+        is_same("functions that Rust calls", function_lines({name: function for name, function in functions.items() if name in found}), "bindings/rust/src/ffi.rs",
                 function_lines(named)),
-        is_same("structs of Rust", struct_lines({name: layouts[name] for name in layouts if name in structs}), "rust/src/ffi.rs",
+        is_same("structs of Rust", struct_lines({name: layouts[name] for name in layouts if name in structs}), "bindings/rust/src/ffi.rs",
                 struct_lines({name: laid_out(fields) for name, fields in structs.items()})),
     ]
 

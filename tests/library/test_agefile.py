@@ -1,4 +1,4 @@
-"""Tests of python/agefile.py, and of how the library's errors arrive."""
+"""Tests of bindings/python/agefile.py, and of how the library's errors arrive."""
 
 import io
 import os

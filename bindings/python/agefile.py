@@ -6,7 +6,7 @@ open take a passphrase (bytes, or a str, which is encoded as UTF-8) or a key of 
 that the library returns raises AgeError.
 
 The library is the file that the variable AGEFILE_LIBRARY names, otherwise libagefile.so.0 in the
-loader's path: ./install-library installs it under PREFIX/lib. Calls may run in any number of
+loader's path: ./install --library installs it under PREFIX/lib. Calls may run in any number of
 threads; the interpreter's lock is released while they run.
 """
 

@@ -1,5 +1,5 @@
-# Sourced by ./agep, ./install-library and .ci/run, with the repository's folder in `root`: how what
-# they run is built.
+# Sourced by ./agep, ./install and .ci/run, with the repository's folder in `root`: how what they
+# run is built.
 # shellcheck shell=sh disable=SC2154
 
 # Whether the processor has all of the level x86-64-v3.
@@ -88,4 +88,48 @@ libraries() {
     fi
     wait
     trap - INT TERM
+}
+
+# The version of the last release: the newest heading of the change log that is a number.
+released_version() {
+    sed -n 's/^## \([0-9][0-9.]*\).*/\1/p' "$root/CHANGELOG.md" | head -n 1
+}
+
+# Proves the library for C, and builds it for a processor, to `archive`:
+# build_library WHO PROCESSOR.
+build_library() {
+    crate=$root/crates/agefile
+    archive=$crate/out/$2.a
+    # Names the processor and the toolchain of the last build, and is as old as its start.
+    built=$crate/out/$2.built
+    ! is_current "$archive" "$built" "$2" || return 0
+    need_rt "$1" library
+    echo "$1: building the library; its proofs are checked first" >&2
+    began=$(mktemp)
+    libraries age_file
+    if ! said=$(cd "$crate" && rt lib --cpu "$2" 2>&1 </dev/null); then
+        rm -f "$began"
+        printf '%s\n' "$said" >&2
+        echo "$1: the build failed" >&2
+        exit 1
+    fi
+    cp "$crate/out/libagefile.a" "$archive"
+    mark "$built" "$2" "$began"
+    rm -f "$began"
+}
+
+# Makes the archive and the shared library of what build_library built, in a folder: link_library
+# FOLDER. Both are one object, in which no other name is global. Three functions of C that allocate
+# come from the toolchain.
+link_library() {
+    mkdir -p "$1"
+    "${CC:-cc}" -nostdlib -r -o "$1/whole.o" -Wl,--whole-archive "$archive" \
+        "$(dirname "$(rt doc)")/c/liblibc_c.a"
+    objcopy --wildcard --keep-global-symbol='agefile_*' "$1/whole.o" "$1/agefile.o"
+    rm -f "$1/libagefile.a"
+    ar rcs "$1/libagefile.a" "$1/agefile.o"
+    echo 'AGEFILE_0 { global: agefile_*; local: *; };' >"$1/names"
+    "${CC:-cc}" -shared -o "$1/libagefile.so.0" "$1/agefile.o" -Wl,-soname,libagefile.so.0 \
+        -Wl,--version-script="$1/names" -Wl,--gc-sections -Wl,-z,relro,-z,now,-z,defs
+    rm -f "$1/whole.o" "$1/agefile.o" "$1/names"
 }
