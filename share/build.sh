@@ -90,9 +90,52 @@ libraries() {
     trap - INT TERM
 }
 
+# The program, and its mark: it names the processor and the toolchain of the last build, and is as
+# old as the start of that build.
+program=$root/crates/agep/out/agep
+built=$root/crates/agep/out/built
+
+# Proves the program, and builds it for a processor: build_program WHO PROCESSOR. All output goes to
+# standard error, and no input is read.
+build_program() {
+    need_rt "$1" program
+    echo "$1: building the program; its proofs are checked first, so a first build takes minutes" >&2
+    seconds=$(date +%s)
+    began=$(mktemp)
+    libraries age_cli
+    if ! said=$(cd "$root/crates/agep" && rt run --cpu "$2" -- --version 2>&1 </dev/null); then
+        rm -f "$began"
+        printf '%s\n' "$said" >&2
+        echo "$1: the build failed" >&2
+        exit 1
+    fi
+    mark "$built" "$2" "$began"
+    rm -f "$began"
+    echo "$1: built for $2 in $(($(date +%s) - seconds)) s" >&2
+}
+
 # The version of the last release: the newest heading of the change log that is a number.
 released_version() {
     sed -n 's/^## \([0-9][0-9.]*\).*/\1/p' "$root/CHANGELOG.md" | head -n 1
+}
+
+# The name that programs which link the library look for. A release that changes what an earlier one
+# promised has another number.
+soname=libagefile.so.0
+
+# Prints the pkg-config file, which finds PREFIX from its own folder: pkg_config_file LIBDIR.
+pkg_config_file() {
+    cat <<END
+prefix=\${pcfiledir}/$(echo "$1/pkgconfig" | sed 's|[^/][^/]*|..|g')
+libdir=\${prefix}/$1
+includedir=\${prefix}/include
+
+Name: agefile
+Description: A proved library for the age v1 encrypted file format
+Version: $(released_version)
+Cflags: -I\${includedir}
+Libs: -L\${libdir} -lagefile
+END
 }
 
 # Proves the library for C, and builds it for a processor, to `archive`:
@@ -100,9 +143,8 @@ released_version() {
 build_library() {
     crate=$root/crates/agefile
     archive=$crate/out/$2.a
-    # Names the processor and the toolchain of the last build, and is as old as its start.
-    built=$crate/out/$2.built
-    ! is_current "$archive" "$built" "$2" || return 0
+    archived=$crate/out/$2.built
+    ! is_current "$archive" "$archived" "$2" || return 0
     need_rt "$1" library
     echo "$1: building the library; its proofs are checked first" >&2
     began=$(mktemp)
@@ -114,7 +156,7 @@ build_library() {
         exit 1
     fi
     cp "$crate/out/libagefile.a" "$archive"
-    mark "$built" "$2" "$began"
+    mark "$archived" "$2" "$began"
     rm -f "$began"
 }
 
@@ -128,8 +170,8 @@ link_library() {
     objcopy --wildcard --keep-global-symbol='agefile_*' "$1/whole.o" "$1/agefile.o"
     rm -f "$1/libagefile.a"
     ar rcs "$1/libagefile.a" "$1/agefile.o"
-    echo 'AGEFILE_0 { global: agefile_*; local: *; };' >"$1/names"
-    "${CC:-cc}" -shared -o "$1/libagefile.so.0" "$1/agefile.o" -Wl,-soname,libagefile.so.0 \
+    echo "AGEFILE_${soname##*.} { global: agefile_*; local: *; };" >"$1/names"
+    "${CC:-cc}" -shared -o "$1/$soname" "$1/agefile.o" -Wl,-soname,$soname \
         -Wl,--version-script="$1/names" -Wl,--gc-sections -Wl,-z,relro,-z,now,-z,defs
     rm -f "$1/whole.o" "$1/agefile.o" "$1/names"
 }

@@ -1,0 +1,125 @@
+"""What goes wrong: the codes of the library and the exceptions that carry them."""
+
+from __future__ import annotations
+
+import enum
+from typing import Any
+
+
+class Code(enum.IntEnum):
+    """The codes of the library for C; none is ever reused."""
+
+    OK = 0
+    NOT_AGE = 1
+    BAD_LINE = 2
+    HEADER_TRUNCATED = 3
+    HEADER_TOO_LARGE = 4
+    MIXED_PASSPHRASE = 5
+    NO_MATCH = 6
+    WRONG_KEY = 7
+    MALFORMED = 8
+    BAD_MAC = 9
+    NONCE_TRUNCATED = 10
+    CHUNK_SHORT = 11
+    EMPTY_FINAL = 12
+    BAD_CHUNK = 13
+    TOO_MANY_CHUNKS = 14
+    READ = 15
+    WRITE = 16
+    OUT_OF_MEMORY = 17
+    NO_RECIPIENTS = 18
+    REFUSED = 19
+    INCOMPATIBLE_RECIPIENTS = 20
+    TOO_SMALL = 21
+    WORK_FACTOR = 22
+    OUT_OF_ORDER = 23
+    NULL_POINTER = 24
+    BAD_ARGUMENTS = 25
+
+
+_MESSAGES = {
+    Code.OK: "no fault",
+    Code.NOT_AGE: "not an age file",
+    Code.BAD_LINE: "bad header line",
+    Code.HEADER_TRUNCATED: "header is cut short",
+    Code.HEADER_TOO_LARGE: "header is too large",
+    Code.MIXED_PASSPHRASE: "a passphrase stanza must stand alone",
+    Code.NO_MATCH: "no key fits this file",
+    Code.WRONG_KEY: "wrong passphrase or key",
+    Code.MALFORMED: "malformed stanza",
+    Code.BAD_MAC: "header check failed",
+    Code.NONCE_TRUNCATED: "payload nonce is cut short",
+    Code.CHUNK_SHORT: "chunk is cut short",
+    Code.EMPTY_FINAL: "chunk is empty",
+    Code.BAD_CHUNK: "chunk is damaged",
+    Code.TOO_MANY_CHUNKS: "too many chunks",
+    Code.READ: "read failed",
+    Code.WRITE: "write failed",
+    Code.OUT_OF_MEMORY: "out of memory",
+    Code.NO_RECIPIENTS: "no recipients",
+    Code.REFUSED: "recipient refused",
+    Code.INCOMPATIBLE_RECIPIENTS: "recipient does not go with recipient 0",
+    Code.TOO_SMALL: "buffer is too small",
+    Code.WORK_FACTOR: "work factor is not 1 to 30",
+    Code.OUT_OF_ORDER: "no such stanza or offset, or a call out of order",
+    Code.NULL_POINTER: "null pointer with a length",
+    Code.BAD_ARGUMENTS: "stanza arguments are not words",
+}
+
+_DETAILS = {
+    1: "argument count",
+    2: "salt",
+    3: "work factor",
+    4: "work factor is too high",
+    5: "body length",
+}
+
+_LINES = {Code.BAD_LINE}
+_CHUNKS = {Code.CHUNK_SHORT, Code.EMPTY_FINAL, Code.BAD_CHUNK}
+
+
+def _text(code: int, place: int, detail: int) -> str:
+    message = _MESSAGES.get(Code(code), "unknown code")
+    if code in _LINES:
+        return f"{message} {place}"
+    if code in _CHUNKS:
+        return f"chunk {place}{message.removeprefix('chunk')}"
+    if code == Code.MALFORMED:
+        return f"{message}: {_DETAILS.get(detail, 'other')}"
+    return message
+
+
+class AgeError(ValueError):
+    """A file that is refused, or a call that is. `code` is the library's; `place` is the line of a
+    header, counted from 1, or the chunk, counted from 0; `detail` is the part of a malformed
+    stanza, from 1 to 5."""
+
+    def __init__(self, code: int, place: int = 0, detail: int = 0) -> None:
+        super().__init__(_text(code, place, detail))
+        self.code = Code(code)
+        self.place = place
+        self.detail = detail
+
+    def __reduce__(self) -> tuple[Any, ...]:
+        return type(self), (int(self.code), self.place, self.detail)
+
+    @staticmethod
+    def of(code: int, place: int = 0, detail: int = 0) -> AgeError:
+        """The exception of a code: the one for memory is a MemoryError too."""
+        kind = AgeMemoryError if code == Code.OUT_OF_MEMORY else AgeError
+        return kind(code, place, detail)
+
+
+class AgeMemoryError(AgeError, MemoryError):
+    """An allocation was refused: code 17."""
+
+
+class AgeChangedError(AgeError, OSError):
+    """The file is shorter than it was when it was opened, so this chunk could not be read whole."""
+
+    def __init__(self, code: int = Code.CHUNK_SHORT, place: int = 0, detail: int = 0) -> None:
+        super().__init__(code, place, detail)
+        self.args = (f"the file was cut while it was open: {_text(code, place, detail)}",)
+
+    def __str__(self) -> str:
+        return str(self.args[0])

@@ -1,0 +1,218 @@
+"""The functions of libagefile by ctypes, and the structs that they take. Nothing else calls it."""
+
+from __future__ import annotations
+
+import ctypes
+import os
+import pathlib
+from typing import Any, Callable
+
+from ._errors import AgeError, Code
+
+TEXT_CHUNK = 65536
+SEALED_CHUNK = 65552
+FRONT = 65552
+TAG = 16
+FILE_KEY = 16
+NONCE = 16
+SALT = 16
+STANZA_ROOM = 128
+HEADER_ROOM = 65536 + NONCE
+SONAME = "libagefile.so.1"
+
+number = ctypes.c_uint64
+size = ctypes.c_size_t
+byte = ctypes.c_uint8
+address = ctypes.c_void_p
+
+
+class Report(ctypes.Structure):
+    _fields_ = [("len", number), ("place", number), ("detail", number)]
+    len: int
+    place: int
+    detail: int
+
+
+class Summary(ctypes.Structure):
+    _fields_ = [("header_len", number), ("stanzas", number), ("mac", byte * 32)]
+    header_len: int
+    stanzas: int
+    mac: Any
+
+
+class StanzaSummary(ctypes.Structure):
+    _fields_ = [("args", number), ("args_len", number), ("body_len", number)]
+    args: int
+    args_len: int
+    body_len: int
+
+
+class Payload(ctypes.Structure):
+    _fields_ = [("key", byte * 32), ("number", number), ("state", number), ("spare", number * 2)]
+
+
+class Part(ctypes.Structure):
+    _fields_ = [
+        ("key", byte * 32),
+        ("number", number),
+        ("left", number),
+        ("state", number),
+        ("spare", number),
+    ]
+
+
+class Ranges(ctypes.Structure):
+    _fields_ = [("key", byte * 32), ("first", number), ("sealed_len", number), ("state", number)]
+    first: int
+    sealed_len: int
+    state: int
+
+
+def _pointer(struct: type[ctypes.Structure]) -> Any:
+    return ctypes.POINTER(struct)
+
+
+_report = _pointer(Report)
+_bytes = (address, size)
+_SIGNATURES: dict[str, tuple[Any, ...]] = {
+    "inspect": (*_bytes, _pointer(Summary), _report),
+    "stanzas": (*_bytes, ctypes.POINTER(StanzaSummary), size, *_bytes, _report),
+    "unlock_passphrase": (*_bytes, *_bytes, byte, address, _report),
+    "unlock_key": (*_bytes, address, address, _report),
+    "wrap_passphrase": (address, *_bytes, byte, address, *_bytes, _report),
+    "wrap_key": (address, address, address, *_bytes, _report),
+    "wrap": (*_bytes, *_bytes, *_bytes, _report),
+    "header": (*_bytes, address, *_bytes, _report),
+    "begin": (*_bytes, address, address, *_bytes, _pointer(Payload), _report),
+    "open": (*_bytes, address, _pointer(Payload), _report),
+    "open_next": (_pointer(Payload), *_bytes, ctypes.c_bool, _report),
+    "seal_next": (_pointer(Payload), *_bytes, ctypes.c_bool, _report),
+    "take_part": (_pointer(Payload), number, _pointer(Part), _report),
+    "part_open_next": (_pointer(Part), *_bytes, _report),
+    "part_seal_next": (_pointer(Part), *_bytes, _report),
+    "ranges_open": (*_bytes, number, address, _pointer(Ranges), _report),
+    "ranges_last": (_pointer(Ranges), *_bytes, _report),
+    "ranges_locate": (_pointer(Ranges), number, _report),
+    "ranges_chunk": (_pointer(Ranges), number, *_bytes, _report),
+    "decrypt": (*_bytes, address, *_bytes, _report),
+    "encrypt": (*_bytes, *_bytes, address, address, *_bytes, _report),
+}
+
+
+def _has_v3() -> bool:
+    """Whether the processor has all of the level x86-64-v3."""
+    try:
+        flags = pathlib.Path("/proc/cpuinfo").read_text().partition("flags")[2].partition("\n")[0]
+    except OSError:
+        return False
+    needed = {"avx", "avx2", "bmi1", "bmi2", "f16c", "fma", "abm", "movbe", "xsave"}
+    return needed <= set(flags.split())
+
+
+def _load() -> ctypes.CDLL:
+    """The library of the wheel, else the one that AGEFILE_LIBRARY names, else the loader's."""
+    inside = pathlib.Path(__file__).parent / "lib"
+    levels = ["x86-64-v3", "x86-64"] if _has_v3() else ["x86-64"]
+    found = [path for level in levels if (path := inside / level / SONAME).exists()]
+    return ctypes.CDLL(str(found[0]) if found else os.environ.get("AGEFILE_LIBRARY") or SONAME)
+
+
+_loaded = _load()
+
+
+def _function(name: str) -> Callable[..., int]:
+    function = getattr(_loaded, "agefile_" + name)
+    function.argtypes = _SIGNATURES[name]
+    function.restype = ctypes.c_uint32
+    return function  # type: ignore[no-any-return]
+
+
+_functions = {name: _function(name) for name in _SIGNATURES}
+_loaded.agefile_version.restype = ctypes.c_uint32
+
+
+def version() -> str:
+    """The version of the library that was loaded."""
+    packed = _loaded.agefile_version()
+    return f"{packed >> 16}.{packed >> 8 & 255}.{packed & 255}"
+
+
+def call(name: str, *arguments: Any) -> tuple[int, Report]:
+    """Calls a function, and returns its code and report."""
+    report = Report()
+    return _functions[name](*arguments, ctypes.byref(report)), report
+
+
+def check(name: str, *arguments: Any) -> Report:
+    """Calls a function, and returns its report. Raises the error of another code than 0."""
+    code, report = call(name, *arguments)
+    if code != Code.OK:
+        raise AgeError.of(code, report.place, report.detail)
+    return report
+
+
+class _PyBuffer(ctypes.Structure):
+    """CPython's Py_buffer."""
+
+    _fields_ = [
+        ("buf", address),
+        ("obj", address),
+        ("len", ctypes.c_ssize_t),
+        ("itemsize", ctypes.c_ssize_t),
+        ("readonly", ctypes.c_int),
+        ("ndim", ctypes.c_int),
+        ("format", ctypes.c_char_p),
+        ("shape", address),
+        ("strides", address),
+        ("suboffsets", address),
+        ("internal", address),
+    ]
+    buf: int
+    len: int
+
+
+_get_buffer = ctypes.pythonapi.PyObject_GetBuffer
+_get_buffer.argtypes = [ctypes.py_object, _pointer(_PyBuffer), ctypes.c_int]
+_release = ctypes.pythonapi.PyBuffer_Release
+_release.argtypes = [_pointer(_PyBuffer)]
+_release.restype = None
+_WRITABLE = 1
+
+
+class Bytes:
+    """The memory of a bytes-like object, for as long as the `with` statement lasts. Its length is
+    the memory's own, whatever the object's __len__ says."""
+
+    def __init__(self, data: Any, writable: bool = False) -> None:
+        self._view = _PyBuffer()
+        self._data = data
+        self._flags = _WRITABLE if writable else 0
+
+    def __enter__(self) -> Bytes:
+        _get_buffer(self._data, ctypes.byref(self._view), self._flags)
+        self.address = self._view.buf or 0
+        self.len = self._view.len
+        return self
+
+    def __exit__(self, *_: object) -> None:
+        _release(ctypes.byref(self._view))
+        self._data = None
+
+    @property
+    def pair(self) -> tuple[int, int]:
+        """Address and length, as the library's functions take them."""
+        return self.address or _nothing, self.len
+
+
+# An address of no bytes: the library's functions take no null pointer.
+_empty = ctypes.create_string_buffer(16)
+_nothing = ctypes.addressof(_empty)
+
+_new_bytes = ctypes.pythonapi.PyBytes_FromStringAndSize
+_new_bytes.argtypes = [address, ctypes.c_ssize_t]
+_new_bytes.restype = ctypes.py_object
+
+
+def fresh_bytes(length: int) -> bytes:
+    """Bytes of this length that nobody else holds yet: the library may write them once."""
+    return _new_bytes(None, length)  # type: ignore[no-any-return]

@@ -1,0 +1,231 @@
+"""Payloads in order: chunk by chunk, and on several threads."""
+
+from __future__ import annotations
+
+import collections
+import concurrent.futures
+import ctypes
+import os
+from collections.abc import Callable, Iterator
+from typing import Any, BinaryIO
+
+from . import _library as lib
+from ._errors import AgeError
+from ._secrets import Identities, Recipients, new_header, stanzas_text, unlock
+from ._sources import Front, read_into, write_all
+
+# How many chunks one thread seals or opens at a time.
+PART = 16
+
+
+def begin(recipients: Recipients) -> tuple[bytes, lib.Payload]:
+    """A new file's header and nonce, and its payload for writing."""
+    payload, file_key, nonce = lib.Payload(), os.urandom(lib.FILE_KEY), os.urandom(lib.NONCE)
+    text = stanzas_text(recipients, file_key)
+    out = bytearray(len(text) + 256)
+    with lib.Bytes(text) as stanzas, lib.Bytes(file_key) as key, lib.Bytes(nonce) as fresh:
+        with lib.Bytes(out, True) as memory:
+            report = lib.check(
+                "begin", *stanzas.pair, key.address, fresh.address, *memory.pair, ctypes.byref(payload)
+            )
+    return bytes(out[: report.len]), payload
+
+
+def open_payload(front: bytes, file_key: bytes) -> tuple[int, lib.Payload]:
+    """Where the first sealed chunk begins, and the payload for reading."""
+    payload = lib.Payload()
+    with lib.Bytes(front) as text, lib.Bytes(file_key) as key:
+        report = lib.check("open", *text.pair, key.address, ctypes.byref(payload))
+    return report.len, payload
+
+
+def open_source(source: BinaryIO, identities: Identities) -> tuple[bytes, lib.Payload]:
+    """The payload of a source for reading, and what was read of its chunks."""
+    front = Front(source)
+    header = front.header()
+    file_key = unlock(bytes(front.bytes[: header.length]), identities)
+    front.nonce(header)
+    at, payload = open_payload(bytes(front.bytes), file_key)
+    return bytes(front.bytes[at:]), payload
+
+
+class Chunk:
+    """Room for some chunks in a row, of the plaintext or sealed."""
+
+    def __init__(self, chunks: int = 1) -> None:
+        self.room = bytearray(chunks * lib.SEALED_CHUNK)
+        self.view = memoryview(self.room)
+        self._base = ctypes.addressof((ctypes.c_char * len(self.room)).from_buffer(self.room))
+
+    def address(self, at: int) -> int:
+        """The address of a byte. It is valid as long as this object lives."""
+        return self._base + at
+
+
+class _Step:
+    """What is done with each chunk: its length before and after, and the library's functions."""
+
+    def __init__(self, take: int, give: int, one: str, of_part: str) -> None:
+        self.take, self.give, self.one, self.of_part = take, give, one, of_part
+
+
+OPENING = _Step(lib.SEALED_CHUNK, lib.TEXT_CHUNK, "open_next", "part_open_next")
+SEALING = _Step(lib.TEXT_CHUNK, lib.SEALED_CHUNK, "seal_next", "part_seal_next")
+
+
+def _last_chunk(step: _Step, payload: lib.Payload, chunk: Chunk, length: int) -> memoryview:
+    """The last chunk, in place, of which so many bytes were read."""
+    sealed = length if step is OPENING else length + lib.TAG
+    report = lib.check(step.one, ctypes.byref(payload), chunk.address(0), sealed, True)
+    return chunk.view[: report.len]
+
+
+def one_by_one(step: _Step, payload: lib.Payload, source: BinaryIO, sink: Any) -> int:
+    """Seals or opens a source to its end, chunk by chunk. Returns the bytes of the result."""
+    chunk, ahead = Chunk(), Chunk()
+    length, total = read_into(source, chunk.view[: step.take]), 0
+    while length == step.take:
+        more = read_into(source, ahead.view[: step.take])
+        if more == 0:
+            break
+        lib.check(step.one, ctypes.byref(payload), chunk.address(0), lib.SEALED_CHUNK, False)
+        write_all(sink, chunk.view[: step.give])
+        total += step.give
+        chunk, ahead, length = ahead, chunk, more
+    text = _last_chunk(step, payload, chunk, length)
+    write_all(sink, text)
+    return total + len(text)
+
+
+class _Batch:
+    """Some chunks in a row, none of them the last, that one thread seals or opens."""
+
+    def __init__(self, step: _Step, payload: lib.Payload, room: Chunk) -> None:
+        self.step, self.room, self.part = step, room, lib.Part()
+        lib.check("take_part", ctypes.byref(payload), PART, ctypes.byref(self.part))
+
+    def run(self) -> tuple[int, AgeError | None]:
+        """How many chunks are done, and the error of the one after them."""
+        for index in range(PART):
+            at = self.room.address(index * lib.SEALED_CHUNK)
+            try:
+                lib.check(self.step.of_part, ctypes.byref(self.part), at, lib.SEALED_CHUNK)
+            except AgeError as error:
+                return index, error
+        return PART, None
+
+    def pieces(self, count: int) -> Iterator[memoryview]:
+        for at in range(0, count * lib.SEALED_CHUNK, lib.SEALED_CHUNK):
+            yield self.room.view[at : at + self.step.give]
+
+
+def _read_batch(step: _Step, source: BinaryIO, room: Chunk) -> int:
+    """Reads the chunks of a batch, each to where it is sealed or opened. Returns the bytes."""
+    if step is OPENING:
+        return read_into(source, room.view)
+    total = 0
+    for at in range(0, len(room.room), lib.SEALED_CHUNK):
+        count = read_into(source, room.view[at : at + step.take])
+        total += count
+        if count < step.take:
+            break
+    return total
+
+
+class _Joined:
+    """The chunks of a batch that was read last, and then what the source still gives."""
+
+    def __init__(self, step: _Step, room: Chunk, length: int) -> None:
+        whole = [room.view[at : at + step.take] for at in range(0, len(room.room), lib.SEALED_CHUNK)]
+        self._pieces = collections.deque(whole[: length // step.take])
+        if length % step.take:
+            self._pieces.append(whole[length // step.take][: length % step.take])
+
+    def readinto(self, out: memoryview) -> int:
+        if not self._pieces:
+            return 0
+        piece = self._pieces[0][: len(out)]
+        out[: len(piece)] = piece
+        self._pieces[0] = self._pieces[0][len(piece) :]
+        if not self._pieces[0]:
+            self._pieces.popleft()
+        return len(piece)
+
+
+def on_threads(step: _Step, payload: lib.Payload, source: BinaryIO, sink: Any, threads: int) -> int:
+    """The same on several threads, in order, with two batches of chunks in memory for each."""
+    total, waiting = 0, collections.deque[tuple[_Batch, Any]]()
+    spare = [Chunk(PART) for _ in range(2 * threads + 2)]
+
+    def finish_first() -> int:
+        batch, future = waiting.popleft()
+        count, error = future.result()
+        written = 0
+        for piece in batch.pieces(count):
+            write_all(sink, piece)
+            written += len(piece)
+        spare.append(batch.room)
+        if error is not None:
+            raise error
+        return written
+
+    with concurrent.futures.ThreadPoolExecutor(threads) as pool:
+        try:
+            room = spare.pop()
+            length = _read_batch(step, source, room)
+            while length == PART * step.take:
+                ahead = spare.pop()
+                more = _read_batch(step, source, ahead)
+                if more == 0:
+                    break
+                batch = _Batch(step, payload, room)
+                waiting.append((batch, pool.submit(batch.run)))
+                room, length = ahead, more
+                if len(waiting) == 2 * threads:
+                    total += finish_first()
+            while waiting:
+                total += finish_first()
+        finally:
+            for _, future in waiting:
+                future.cancel()
+    rest: Any = _Joined(step, room, length)
+    return total + one_by_one(step, payload, rest, sink)
+
+
+def run(step: _Step, payload: lib.Payload, source: BinaryIO, sink: Any, threads: int) -> int:
+    if threads < 1:
+        raise ValueError("threads is at least 1")
+    if threads == 1:
+        return one_by_one(step, payload, source, sink)
+    return on_threads(step, payload, source, sink, threads)
+
+
+class Behind:
+    """A source behind bytes that were read of it."""
+
+    def __init__(self, first: bytes, source: BinaryIO) -> None:
+        self._first, self._source = memoryview(first), source
+
+    def readinto(self, out: memoryview) -> int:
+        if not self._first:
+            return read_into(self._source, out)
+        count = min(len(out), len(self._first))
+        out[:count] = self._first[:count]
+        self._first = self._first[count:]
+        return count
+
+
+def rewrapped(front: Front, identities: Identities, recipients: Recipients) -> tuple[bytes, int]:
+    """A new header for the file key of an old one, and the length of the old one."""
+    header = front.header()
+    file_key = unlock(bytes(front.bytes[: header.length]), identities)
+    verify(bytes(front.bytes[: header.length]), file_key)
+    return new_header(recipients, file_key), header.length
+
+
+def verify(header: bytes, file_key: bytes) -> None:
+    """Raises the error of a header whose MAC is not right under a file key."""
+    open_payload(header + bytes(lib.NONCE), file_key)
+
+
+Opener = Callable[[], BinaryIO]

@@ -1,0 +1,205 @@
+"""Recipients and identities, and how a header is made for the first and opened by the second."""
+
+from __future__ import annotations
+
+import ctypes
+import os
+from collections.abc import Iterable, Sequence
+from typing import Any, NamedTuple, Protocol, Union, runtime_checkable
+
+from . import _library as lib
+from ._errors import AgeError, Code
+
+
+class Stanza(NamedTuple):
+    """One entry of a header, which holds the file key for one recipient (C2SP age.md, "Recipient
+    stanza"): its type and arguments, and its body."""
+
+    args: tuple[str, ...]
+    body: bytes
+
+
+class Header(NamedTuple):
+    """What stands in a header. Its MAC is not verified. `length` is in bytes, with the last LF."""
+
+    stanzas: tuple[Stanza, ...]
+    mac: bytes
+    length: int
+
+
+@runtime_checkable
+class Recipient(Protocol):
+    """Wraps the file key of a new file, 16 bytes, into stanzas."""
+
+    def wrap(self, file_key: bytes) -> Sequence[Stanza]: ...
+
+
+@runtime_checkable
+class Identity(Protocol):
+    """Finds the file key, 16 bytes, in the stanzas of a header. None: no stanza is for it."""
+
+    def unwrap(self, stanzas: Sequence[Stanza]) -> bytes | None: ...
+
+
+class _Secret:
+    """What the library itself wraps and unwraps. Never printed."""
+
+    def __init__(self, secret: bytes) -> None:
+        self._secret = secret
+
+    def __repr__(self) -> str:
+        return f"{type(self).__name__}(..)"
+
+    def wrap(self, file_key: bytes) -> list[Stanza]:
+        """The stanza that holds this file key."""
+        return list(read_header(_sealed_header(self._text(file_key), file_key)).stanzas)
+
+    def _text(self, file_key: bytes) -> bytes:
+        raise NotImplementedError
+
+    def _unlock(self, front: bytes) -> tuple[int, lib.Report, bytes]:
+        raise NotImplementedError
+
+
+class Passphrase(_Secret):
+    """A passphrase, for new files and for old ones: text, which is encoded as UTF-8, or any bytes.
+    `work` is the work factor of a new file: each try to open it takes 2^work KiB of memory.
+    `max_work` is the greatest that is accepted of a file. Both are 1 to 30."""
+
+    def __init__(self, passphrase: str | bytes, *, work: int = 18, max_work: int = 22) -> None:
+        if isinstance(passphrase, str):
+            passphrase = passphrase.encode()
+        if not (1 <= work <= 30 and 1 <= max_work <= 30):
+            raise AgeError(Code.WORK_FACTOR)
+        super().__init__(bytes(memoryview(passphrase)))
+        self._work, self._max_work = work, max_work
+
+    def _text(self, file_key: bytes) -> bytes:
+        salt = os.urandom(lib.SALT)
+        with lib.Bytes(self._secret) as secret, lib.Bytes(file_key) as key, lib.Bytes(salt) as fresh:
+            return _text_of("wrap_passphrase", key.address, *secret.pair, self._work, fresh.address)
+
+    def _unlock(self, front: bytes) -> tuple[int, lib.Report, bytes]:
+        file_key = bytearray(lib.FILE_KEY)
+        with lib.Bytes(front) as text, lib.Bytes(self._secret) as secret, lib.Bytes(file_key, True) as key:
+            code, report = lib.call(
+                "unlock_passphrase", *text.pair, *secret.pair, self._max_work, key.address
+            )
+        return code, report, bytes(file_key)
+
+
+class Key(_Secret):
+    """A key of 32 bytes that both sides hold. Only agep and libagefile open files made for it."""
+
+    def __init__(self, key: bytes) -> None:
+        super().__init__(bytes(memoryview(key)))
+        if len(self._secret) != 32:
+            raise ValueError(f"a key has 32 bytes, not {len(self._secret)}")
+
+    def _text(self, file_key: bytes) -> bytes:
+        salt = os.urandom(lib.SALT)
+        with lib.Bytes(self._secret) as secret, lib.Bytes(file_key) as key, lib.Bytes(salt) as fresh:
+            return _text_of("wrap_key", key.address, secret.address, fresh.address)
+
+    def _unlock(self, front: bytes) -> tuple[int, lib.Report, bytes]:
+        file_key = bytearray(lib.FILE_KEY)
+        with lib.Bytes(front) as text, lib.Bytes(self._secret) as secret, lib.Bytes(file_key, True) as key:
+            code, report = lib.call("unlock_key", *text.pair, secret.address, key.address)
+        return code, report, bytes(file_key)
+
+
+Recipients = Union[Recipient, Iterable[Recipient]]
+Identities = Union[_Secret, Identity, Iterable[Union[_Secret, Identity]]]
+
+
+def _text_of(function: str, *arguments: Any, room: int = lib.STANZA_ROOM) -> bytes:
+    """What a function writes to a buffer of its own, which has this room or what it needs."""
+    while True:
+        out = bytearray(room)
+        with lib.Bytes(out, True) as memory:
+            code, report = lib.call(function, *arguments, *memory.pair)
+        if code == Code.OK:
+            return bytes(out[: report.len])
+        if code != Code.TOO_SMALL:
+            raise AgeError.of(code, report.place, report.detail)
+        room = report.len
+
+
+def _stanza_text(stanza: Stanza) -> bytes:
+    """The text of a stanza in a header."""
+    args, body = " ".join(stanza.args).encode(), bytes(stanza.body)
+    if any(not arg or " " in arg for arg in stanza.args):
+        raise AgeError(Code.BAD_ARGUMENTS)
+    with lib.Bytes(args) as words, lib.Bytes(body) as data:
+        return _text_of("wrap", *words.pair, *data.pair)
+
+
+def as_list(secrets: Any, method: str) -> list[Any]:
+    """One recipient or identity, or several, as a list."""
+    is_one = isinstance(secrets, _Secret) or hasattr(secrets, method)
+    found = [secrets] if is_one else list(secrets)
+    for secret in found:
+        if not (isinstance(secret, _Secret) or hasattr(secret, method)):
+            raise TypeError(f"{type(secret).__name__} has no method {method}")
+    return found
+
+
+def stanzas_text(recipients: Recipients, file_key: bytes) -> bytes:
+    """The text of the stanzas into which the recipients wrap a file key, in order."""
+    texts = []
+    for recipient in as_list(recipients, "wrap"):
+        if isinstance(recipient, _Secret):
+            texts.append(recipient._text(file_key))
+        else:
+            texts += [_stanza_text(Stanza(*stanza)) for stanza in recipient.wrap(file_key)]
+    return b"".join(texts)
+
+
+def _sealed_header(text: bytes, file_key: bytes) -> bytes:
+    with lib.Bytes(text) as stanzas, lib.Bytes(file_key) as key:
+        return _text_of("header", *stanzas.pair, key.address, room=len(text) + 128)
+
+
+def new_header(recipients: Recipients, file_key: bytes) -> bytes:
+    """The header that wraps this file key for the recipients."""
+    return _sealed_header(stanzas_text(recipients, file_key), file_key)
+
+
+def read_header(front: bytes) -> Header:
+    """The header at the start of these bytes."""
+    summary = lib.Summary()
+    with lib.Bytes(front) as text:
+        lib.check("inspect", *text.pair, ctypes.byref(summary))
+        sizes, room = (lib.StanzaSummary * summary.stanzas)(), bytearray(summary.header_len)
+        with lib.Bytes(room, True) as memory:
+            lib.check("stanzas", *text.pair, sizes, summary.stanzas, *memory.pair)
+    stanzas, at = [], 0
+    for each in sizes:
+        args = room[at : at + each.args_len].decode().split(" ")
+        at += each.args_len
+        stanzas.append(Stanza(tuple(args), bytes(room[at : at + each.body_len])))
+        at += each.body_len
+    return Header(tuple(stanzas), bytes(summary.mac), summary.header_len)
+
+
+def unlock(front: bytes, identities: Identities) -> bytes:
+    """The file key that the first identity finds whose key fits. Its MAC is not verified yet if the
+    identity is a caller's own: opening the payload does that."""
+    header, missed = read_header(front), Code.NO_MATCH
+    if len(header.stanzas) > 1 and any(stanza.args[0] == "scrypt" for stanza in header.stanzas):
+        raise AgeError(Code.MIXED_PASSPHRASE)
+    for identity in as_list(identities, "unwrap"):
+        if isinstance(identity, _Secret):
+            code, report, file_key = identity._unlock(front)
+            if code == Code.OK:
+                return file_key
+            if code not in (Code.NO_MATCH, Code.WRONG_KEY):
+                raise AgeError.of(code, report.place, report.detail)
+            missed = max(missed, Code(code))
+            continue
+        found = identity.unwrap(header.stanzas)
+        if found is not None:
+            if len(found) != lib.FILE_KEY:
+                raise ValueError(f"a file key has 16 bytes, not {len(found)}")
+            return bytes(found)
+    raise AgeError(missed)

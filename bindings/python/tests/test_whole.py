@@ -1,0 +1,281 @@
+"""Files in memory and from source to sink: what comes back, and how what goes wrong arrives."""
+
+import array
+import copy
+import functools
+import io
+import mmap
+import multiprocessing
+import os
+import pickle
+import tempfile
+import threading
+import unittest
+
+import agefile
+from agefile import AgeError, Code, Key, Passphrase, Stanza
+
+KEY = Key(bytes(range(32)))
+# around the edges of chunks, and of what one thread takes at a time
+SIZES = (0, 1, 65535, 65536, 65537, 131072, 200000, 16 * 65536, 16 * 65536 + 1, 50 * 65536 + 7)
+DATA = os.path.join(os.path.dirname(__file__), "../../../tests/data")
+
+
+@functools.lru_cache
+def text(length):
+    return bytes(i * 7 + i // 251 & 255 for i in range(length))
+
+
+def of_age(name):
+    with open(os.path.join(DATA, name), "rb") as file:
+        return file.read()
+
+
+class Round(unittest.TestCase):
+    def test_files_come_back(self):
+        for plain in map(text, SIZES):
+            for threads in (1, 3):
+                file = agefile.encrypt(plain, recipients=KEY, threads=threads)
+                for back in (1, 2):
+                    self.assertEqual(agefile.decrypt(file, identities=KEY, threads=back), plain)
+
+    def test_copy(self):
+        for plain in map(text, SIZES):
+            for threads in (1, 3):
+                sealed, opened = io.BytesIO(), io.BytesIO()
+                done = agefile.copy(io.BytesIO(plain), sealed, recipients=KEY, threads=threads)
+                self.assertEqual(done, len(plain))
+                self.assertEqual(agefile.decrypt(sealed.getvalue(), identities=KEY), plain)
+                sealed.seek(0)
+                done = agefile.copy(sealed, opened, identities=KEY, threads=threads)
+                self.assertEqual((done, opened.getvalue()), (len(plain), plain))
+
+    def test_no_two_files_are_equal(self):
+        first, second = (agefile.encrypt(b"same", recipients=KEY) for _ in range(2))
+        self.assertNotEqual(first[-20:], second[-20:])
+        self.assertNotEqual(agefile.inspect(first).stanzas, agefile.inspect(second).stanzas)
+
+    def test_files_of_age(self):
+        secret = Passphrase("correct horse")
+        self.assertEqual(agefile.decrypt(of_age("passphrase.age"), identities=secret), b"hello\n")
+        header = agefile.inspect(of_age("recipients_668.age"))
+        self.assertEqual((len(header.stanzas), header.length), (668, 65534))
+        self.assertEqual({stanza.args[0] for stanza in header.stanzas}, {"X25519"})
+        kinds = {stanza.args[0]: len(stanza.body) for stanza in agefile.inspect(of_age("ssh_recipients.age")).stanzas}
+        self.assertEqual(kinds, {"ssh-rsa": 256, "ssh-ed25519": 32, "X25519": 32})
+
+    def test_passphrases_are_any_bytes(self):
+        for passphrase in ("über", b"\x00\xff\n", "x" * 70000):
+            secret = Passphrase(passphrase, work=1)
+            self.assertEqual(agefile.decrypt(agefile.encrypt(b"text", recipients=secret), identities=secret), b"text")
+
+    def test_the_work_factor_is_in_the_header(self):
+        for work in (1, 10):
+            file = agefile.encrypt(b"", recipients=Passphrase("x", work=work))
+            self.assertEqual(agefile.inspect(file).stanzas[0].args[2], str(work))
+
+    def test_rewrap(self):
+        plain, other = text(200000), Passphrase("x", work=2)
+        file = agefile.encrypt(plain, recipients=other)
+        new = agefile.rewrap(file, identities=other, recipients=[KEY, Key(bytes(32))])
+        self.assertEqual(agefile.decrypt(new, identities=Key(bytes(32))), plain)
+        self.assertEqual(new[agefile.inspect(new).length :], file[agefile.inspect(file).length :])
+        with self.assertRaisesRegex(AgeError, "^wrong passphrase or key$"):
+            agefile.rewrap(file, identities=Passphrase("y"), recipients=KEY)
+
+    def test_what_is_bytes_like(self):
+        file = agefile.encrypt(b"text" * 100, recipients=KEY)
+        with tempfile.TemporaryFile() as place:
+            place.write(file)
+            place.flush()
+            with mmap.mmap(place.fileno(), 0, access=mmap.ACCESS_READ) as mapped:
+                self.assertEqual(agefile.decrypt(mapped, identities=KEY), b"text" * 100)
+        for kind in (bytearray, memoryview, lambda data: array.array("B", data)):
+            self.assertEqual(agefile.decrypt(kind(file), identities=KEY), b"text" * 100)
+        numbers = array.array("I", range(1000))
+        self.assertEqual(agefile.decrypt(agefile.encrypt(numbers, recipients=KEY), identities=KEY), numbers.tobytes())
+        for wrong in ("text", 5, None, memoryview(file)[::2]):
+            with self.assertRaises((TypeError, BufferError)):
+                agefile.decrypt(wrong, identities=KEY)
+
+    def test_a_length_that_lies(self):
+        class Liar(bytes):
+            def __len__(self):
+                return 1 << 40
+
+        file = agefile.encrypt(Liar(b"text"), recipients=KEY)
+        self.assertEqual(agefile.decrypt(Liar(file), identities=KEY), b"text")
+
+
+class Wrong(unittest.TestCase):
+    def test_codes(self):
+        file = agefile.encrypt(text(200000), recipients=KEY)
+        length = agefile.inspect(file).length
+        damaged = bytearray(file)
+        damaged[length + 16 + 65552] ^= 1
+        for data, secret, code, place, message in (
+            (b"hello", KEY, Code.NOT_AGE, 0, "not an age file"),
+            (b"age-encryption.org/v1\nbad\n", KEY, Code.BAD_LINE, 2, "bad header line 2"),
+            (file[:30], KEY, Code.HEADER_TRUNCATED, 0, "header is cut short"),
+            (file, Key(bytes(32)), Code.WRONG_KEY, 0, "wrong passphrase or key"),
+            (file, Passphrase("x"), Code.NO_MATCH, 0, "no key fits this file"),
+            (file, [], Code.NO_MATCH, 0, "no key fits this file"),
+            (file[: length + 15], KEY, Code.NONCE_TRUNCATED, 0, "payload nonce is cut short"),
+            (file[: length + 16], KEY, Code.CHUNK_SHORT, 0, "chunk 0 is cut short"),
+            (file[: length + 16 + 65552], KEY, Code.BAD_CHUNK, 0, "chunk 0 is damaged"),
+            (file[:-1], KEY, Code.BAD_CHUNK, 3, "chunk 3 is damaged"),
+            (bytes(damaged), KEY, Code.BAD_CHUNK, 1, "chunk 1 is damaged"),
+        ):
+            for threads in (1, 2):
+                with self.assertRaises(AgeError) as caught:
+                    agefile.decrypt(data, identities=secret, threads=threads)
+                error = caught.exception
+                self.assertEqual((error.code, error.place, str(error)), (code, place, message))
+                self.assertIsInstance(error, ValueError)
+
+    def test_front_of_a_damaged_file(self):
+        plain = text(50 * 65536)
+        file = bytearray(agefile.encrypt(plain, recipients=KEY))
+        file[agefile.inspect(file).length + 16 + 37 * 65552] ^= 1
+        for threads in (1, 2, 4):
+            out = io.BytesIO()
+            with self.assertRaisesRegex(AgeError, "^chunk 37 is damaged$"):
+                agefile.copy(io.BytesIO(file), out, identities=KEY, threads=threads)
+            self.assertEqual(out.getvalue(), plain[: 37 * 65536])
+
+    def test_a_malformed_stanza(self):
+        file = agefile.encrypt(b"", recipients=Passphrase("x", work=3))
+        with self.assertRaisesRegex(AgeError, "^malformed stanza: work factor is too high$") as caught:
+            agefile.decrypt(file, identities=Passphrase("x", max_work=2))
+        self.assertEqual((caught.exception.code, caught.exception.detail), (Code.MALFORMED, 4))
+
+    def test_recipients_that_are_refused(self):
+        both = [Passphrase("x", work=1), KEY]
+        for recipients, code in ((both, Code.MIXED_PASSPHRASE), ([], Code.NO_RECIPIENTS)):
+            with self.assertRaises(AgeError) as caught:
+                agefile.encrypt(b"", recipients=recipients)
+            self.assertEqual(caught.exception.code, code)
+
+    def test_words_that_are_refused(self):
+        self.assertRaises(TypeError, agefile.encrypt, b"")
+        self.assertRaises(TypeError, agefile.encrypt, b"", KEY)
+        self.assertRaises(TypeError, agefile.encrypt, b"", recipients=[5])
+        self.assertRaises(TypeError, agefile.copy, io.BytesIO(), io.BytesIO())
+        self.assertRaises(ValueError, Key, bytes(31))
+        self.assertRaises(ValueError, agefile.copy, io.BytesIO(), io.BytesIO(), recipients=KEY, threads=0)
+        for work in (0, 31):
+            self.assertRaises(AgeError, Passphrase, "x", work=work)
+            self.assertRaises(AgeError, Passphrase, "x", max_work=work)
+
+    def test_errors_are_pickled_and_copied(self):
+        for error in (AgeError(13, 7), AgeError(8, 0, 4), agefile.AgeMemoryError(17), agefile.AgeChangedError(11, 3)):
+            for other in (pickle.loads(pickle.dumps(error)), copy.copy(error), copy.deepcopy(error)):
+                self.assertEqual((type(other), str(other), other.code), (type(error), str(error), error.code))
+                self.assertEqual((other.place, other.detail), (error.place, error.detail))
+        self.assertIsInstance(AgeError.of(17), MemoryError)
+        self.assertIsInstance(agefile.AgeChangedError(11, 3), OSError)
+
+    def test_secrets_are_not_printed(self):
+        for secret in (KEY, Passphrase("correct horse")):
+            self.assertEqual(repr(secret), f"{type(secret).__name__}(..)")
+
+
+class Callers(unittest.TestCase):
+    """Recipients and identities of a caller's own."""
+
+    def test_the_same_key_for_all(self):
+        class Plain:
+            asked = 0
+
+            def wrap(self, file_key):
+                return [Stanza(("plain", "x"), file_key), Stanza(("grease",), bytes(100))]
+
+            def unwrap(self, stanzas):
+                self.asked += 1
+                return next((body for args, body in stanzas if args[0] == "plain"), None)
+
+        plain = Plain()
+        file = agefile.encrypt(b"text", recipients=[KEY, plain])
+        self.assertEqual(agefile.decrypt(file, identities=plain), b"text")
+        self.assertEqual(agefile.decrypt(file, identities=[Key(bytes(32)), KEY]), b"text")
+        self.assertEqual(agefile.decrypt(file, identities=[Key(bytes(32)), plain, KEY]), b"text")
+        self.assertEqual(plain.asked, 2)
+        kinds = [stanza.args[0] for stanza in agefile.inspect(file).stanzas]
+        self.assertEqual(kinds[1:], ["plain", "grease"])
+
+    def test_a_wrong_file_key_is_found_by_the_mac(self):
+        class Wrong:
+            def unwrap(self, stanzas):
+                return bytes(16)
+
+        class Short:
+            def unwrap(self, stanzas):
+                return bytes(15)
+
+        file = agefile.encrypt(b"text", recipients=KEY)
+        with self.assertRaises(AgeError) as caught:
+            agefile.decrypt(file, identities=Wrong())
+        self.assertEqual(caught.exception.code, Code.BAD_MAC)
+        self.assertRaises(ValueError, agefile.decrypt, file, identities=Short())
+
+    def test_stanzas_that_are_refused(self):
+        for args in ((), ("",), ("a b",), ("a", ""), ("ü",), ("a\n",)):
+            class Bad:
+                def wrap(self, file_key):
+                    return [Stanza(args, b"")]
+
+            with self.assertRaises(AgeError) as caught:
+                agefile.encrypt(b"", recipients=Bad())
+            self.assertEqual(caught.exception.code, Code.BAD_ARGUMENTS)
+
+
+class Processes(unittest.TestCase):
+    def test_a_pipe_that_waits(self):
+        """A wrong key is told though the other end neither writes nor closes."""
+        file = agefile.encrypt(text(1000), recipients=KEY)
+        read, write = os.pipe()
+        os.write(write, file[:300])
+        errors = []
+
+        def run():
+            try:
+                with open(read, "rb") as source:
+                    agefile.copy(source, io.BytesIO(), identities=Key(bytes(32)))
+            except AgeError as error:
+                errors.append(error.code)
+
+        thread = threading.Thread(target=run, daemon=True)
+        thread.start()
+        thread.join(20)
+        os.close(write)
+        self.assertEqual(errors, [Code.WRONG_KEY])
+
+    def test_threads(self):
+        wrong = []
+
+        def work():
+            for _ in range(5):
+                secret = Passphrase("x", work=4)
+                if agefile.decrypt(agefile.encrypt(text(1000), recipients=secret), identities=secret) != text(1000):
+                    wrong.append(True)
+
+        threads = [threading.Thread(target=work) for _ in range(4)]
+        for thread in threads:
+            thread.start()
+        for thread in threads:
+            thread.join()
+        self.assertEqual(wrong, [])
+
+    def test_errors_of_workers(self):
+        with multiprocessing.get_context("fork").Pool(2) as pool:
+            waiting = pool.map_async(fails, range(4))
+            with self.assertRaisesRegex(AgeError, "^not an age file$"):
+                waiting.get(timeout=20)
+
+
+def fails(_):
+    return agefile.decrypt(b"hello", identities=KEY)
+
+
+if __name__ == "__main__":
+    unittest.main()
