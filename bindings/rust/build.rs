@@ -1,8 +1,23 @@
-//! Links `libagefile.a` from the folder that the variable `AGEFILE_LIB_DIR` names, else from `/usr/local/lib`.
+//! Links `libagefile.a`: from the folder that the variable `AGEFILE_LIB_DIR` names, else from the one
+//! that pkg-config knows, else from `/usr/local/lib`.
+
+use std::env;
+use std::process::Command;
+
+fn by_pkg_config() -> Option<String> {
+    let found = Command::new("pkg-config").args(["--variable=libdir", "agefile"]).output().ok()?;
+    let folder = String::from_utf8(found.stdout).ok()?.trim().to_owned();
+    (found.status.success() && !folder.is_empty()).then_some(folder)
+}
 
 fn main() {
     println!("cargo:rerun-if-env-changed=AGEFILE_LIB_DIR");
-    let folder = std::env::var("AGEFILE_LIB_DIR").unwrap_or("/usr/local/lib".into());
+    println!("cargo:rerun-if-env-changed=PKG_CONFIG_PATH");
+    let target = |part: &str| env::var(format!("CARGO_CFG_TARGET_{part}")).unwrap_or_default();
+    if (target("OS"), target("ARCH"), target("ENV")) != ("linux".into(), "x86_64".into(), "gnu".into()) {
+        panic!("libagefile is for Linux on x86-64 with the GNU C library alone");
+    }
+    let folder = env::var("AGEFILE_LIB_DIR").ok().or_else(by_pkg_config).unwrap_or("/usr/local/lib".into());
     println!("cargo:rerun-if-changed={folder}/libagefile.a");
     println!("cargo:rustc-link-search=native={folder}");
     println!("cargo:rustc-link-lib=static=agefile");

@@ -1,51 +1,165 @@
+//! What goes wrong.
+
 use std::fmt;
 use std::io;
 
 use crate::ffi::Report;
 
-/// A fault that the library returned.
+/// Why a file or a call is refused.
 #[derive(Clone, Copy, Debug, PartialEq, Eq)]
-pub struct Error {
-    /// A code of `enum agefile_code` in `agefile.h`.
-    pub code: u32,
-    /// The line or the chunk of the fault, else 0.
-    pub place: u64,
-    /// The malformed part of a malformed stanza, from 1 up, else 0.
-    pub detail: u64,
+#[non_exhaustive]
+pub enum Error {
+    /// The bytes do not begin as an age file.
+    NotAge,
+    /// A line of the header is wrong; lines are counted from 1.
+    BadLine(u64),
+    /// The header ends too early.
+    HeaderTruncated,
+    /// The header has more than 65,536 bytes.
+    HeaderTooLarge,
+    /// A passphrase stanza stands beside another.
+    MixedPassphrase,
+    /// No stanza is for one of the identities.
+    NoMatch,
+    /// A stanza is for one of the identities, and the passphrase or key is wrong.
+    WrongKey,
+    /// A stanza for one of the identities is malformed in this part.
+    Malformed(Part),
+    /// The header's MAC is not the one under its file key.
+    BadMac,
+    /// The payload's nonce ends too early.
+    NonceTruncated,
+    /// This chunk ends too early; chunks are counted from 0.
+    ChunkShort(u64),
+    /// This chunk is the last, is empty, and is not the only one.
+    EmptyFinal(u64),
+    /// The tag of this chunk is wrong.
+    BadChunk(u64),
+    /// The payload has more chunks than a file may have.
+    TooManyChunks,
+    /// An allocation was refused.
+    OutOfMemory,
+    /// A new file has no stanza.
+    NoRecipients,
+    /// A work factor is not 1 to 30.
+    WorkFactor,
+    /// An argument of a stanza is empty, or is not made of the characters `!` to `~`.
+    BadArguments,
+    /// A caller's own recipient or identity refuses.
+    Refused,
+    /// An earlier write failed, so the file has no end.
+    Incomplete,
+    /// The library returned this code, which this crate does not know or does not expect.
+    Other(u32),
 }
 
-const DETAILS: [&str; 6] = ["other", "argument count", "salt", "work factor", "work factor is too high", "body length"];
+/// A part of a stanza.
+#[derive(Clone, Copy, Debug, PartialEq, Eq)]
+#[non_exhaustive]
+pub enum Part {
+    /// The number of arguments.
+    ArgumentCount,
+    /// The salt.
+    Salt,
+    /// The work factor.
+    WorkFactor,
+    /// The work factor, which is above the identity's maximum.
+    WorkFactorTooHigh,
+    /// The length of the body.
+    BodyLength,
+    /// Another part.
+    Other,
+}
+
+impl Error {
+    /// The error of a code of `agefile.h`.
+    pub(crate) fn of(code: u32, report: &Report) -> Error {
+        let place = report.place;
+        match code {
+            1 => Error::NotAge,
+            2 => Error::BadLine(place),
+            3 => Error::HeaderTruncated,
+            4 => Error::HeaderTooLarge,
+            5 => Error::MixedPassphrase,
+            6 => Error::NoMatch,
+            7 => Error::WrongKey,
+            8 => Error::Malformed(Part::of(report.detail)),
+            9 => Error::BadMac,
+            10 => Error::NonceTruncated,
+            11 => Error::ChunkShort(place),
+            12 => Error::EmptyFinal(place),
+            13 => Error::BadChunk(place),
+            14 => Error::TooManyChunks,
+            17 => Error::OutOfMemory,
+            18 => Error::NoRecipients,
+            22 => Error::WorkFactor,
+            25 => Error::BadArguments,
+            _ => Error::Other(code),
+        }
+    }
+
+    fn kind(self) -> io::ErrorKind {
+        match self {
+            Error::HeaderTruncated | Error::NonceTruncated | Error::ChunkShort(_) => io::ErrorKind::UnexpectedEof,
+            Error::NoMatch | Error::WrongKey | Error::Refused => io::ErrorKind::PermissionDenied,
+            Error::OutOfMemory => io::ErrorKind::OutOfMemory,
+            Error::NoRecipients | Error::WorkFactor | Error::BadArguments => io::ErrorKind::InvalidInput,
+            Error::Incomplete => io::ErrorKind::BrokenPipe,
+            _ => io::ErrorKind::InvalidData,
+        }
+    }
+}
+
+impl Part {
+    fn of(detail: u64) -> Part {
+        match detail {
+            1 => Part::ArgumentCount,
+            2 => Part::Salt,
+            3 => Part::WorkFactor,
+            4 => Part::WorkFactorTooHigh,
+            5 => Part::BodyLength,
+            _ => Part::Other,
+        }
+    }
+}
+
+impl fmt::Display for Part {
+    fn fmt(&self, f: &mut fmt::Formatter<'_>) -> fmt::Result {
+        f.write_str(match self {
+            Part::ArgumentCount => "argument count",
+            Part::Salt => "salt",
+            Part::WorkFactor => "work factor",
+            Part::WorkFactorTooHigh => "work factor is too high",
+            Part::BodyLength => "body length",
+            Part::Other => "other",
+        })
+    }
+}
 
 impl fmt::Display for Error {
     fn fmt(&self, f: &mut fmt::Formatter<'_>) -> fmt::Result {
-        let place = self.place;
-        match self.code {
-            0 => write!(f, "no fault"),
-            1 => write!(f, "not an age file"),
-            2 => write!(f, "bad header line {place}"),
-            3 => write!(f, "header is cut short"),
-            4 => write!(f, "header is too large"),
-            5 => write!(f, "a passphrase stanza must stand alone"),
-            6 => write!(f, "no key fits this file"),
-            7 => write!(f, "wrong passphrase or key"),
-            8 => write!(f, "malformed stanza: {}", DETAILS[self.detail as usize % 6]),
-            9 => write!(f, "header check failed"),
-            10 => write!(f, "payload nonce is cut short"),
-            11 => write!(f, "chunk {place} is cut short"),
-            12 => write!(f, "chunk {place} is empty"),
-            13 => write!(f, "chunk {place} is damaged"),
-            14 => write!(f, "too many chunks"),
-            15 => write!(f, "read failed"),
-            16 => write!(f, "write failed"),
-            17 => write!(f, "out of memory"),
-            18 => write!(f, "no recipients"),
-            19 => write!(f, "recipient refused"),
-            20 => write!(f, "recipient does not go with recipient 0"),
-            21 => write!(f, "buffer is too small"),
-            22 => write!(f, "work factor is not 1 to 30"),
-            23 => write!(f, "no such stanza or offset, or a call out of order"),
-            24 => write!(f, "null pointer with a length"),
-            _ => write!(f, "unknown code"),
+        match self {
+            Error::NotAge => write!(f, "not an age file"),
+            Error::BadLine(line) => write!(f, "bad header line {line}"),
+            Error::HeaderTruncated => write!(f, "header is cut short"),
+            Error::HeaderTooLarge => write!(f, "header is too large"),
+            Error::MixedPassphrase => write!(f, "a passphrase stanza must stand alone"),
+            Error::NoMatch => write!(f, "no key fits this file"),
+            Error::WrongKey => write!(f, "wrong passphrase or key"),
+            Error::Malformed(part) => write!(f, "malformed stanza: {part}"),
+            Error::BadMac => write!(f, "header check failed"),
+            Error::NonceTruncated => write!(f, "payload nonce is cut short"),
+            Error::ChunkShort(chunk) => write!(f, "chunk {chunk} is cut short"),
+            Error::EmptyFinal(chunk) => write!(f, "chunk {chunk} is empty"),
+            Error::BadChunk(chunk) => write!(f, "chunk {chunk} is damaged"),
+            Error::TooManyChunks => write!(f, "too many chunks"),
+            Error::OutOfMemory => write!(f, "out of memory"),
+            Error::NoRecipients => write!(f, "no recipients"),
+            Error::WorkFactor => write!(f, "work factor is not 1 to 30"),
+            Error::BadArguments => write!(f, "stanza arguments are not words"),
+            Error::Refused => write!(f, "recipient refused"),
+            Error::Incomplete => write!(f, "an earlier write failed"),
+            Error::Other(code) => write!(f, "code {code}"),
         }
     }
 }
@@ -54,14 +168,6 @@ impl std::error::Error for Error {}
 
 impl From<Error> for io::Error {
     fn from(error: Error) -> io::Error {
-        io::Error::new(io::ErrorKind::InvalidData, error)
-    }
-}
-
-/// The report of a call if its code is 0, otherwise the error.
-pub(crate) fn checked(code: u32, report: Report) -> Result<Report, Error> {
-    match code {
-        0 => Ok(report),
-        _ => Err(Error { code, place: report.place, detail: report.detail }),
+        io::Error::new(error.kind(), error)
     }
 }

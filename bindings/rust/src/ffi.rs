@@ -1,4 +1,14 @@
-//! The functions and structs of `agefile.h`.
+//! The functions and structs of `agefile.h`, and safe calls of them.
+
+use std::io;
+
+use crate::Error;
+
+pub const TEXT_CHUNK: usize = 65536;
+pub const SEALED_CHUNK: usize = 65552;
+pub const FRONT: usize = 65552;
+pub const TAG: usize = 16;
+pub const NONCE: usize = 16;
 
 #[repr(C)]
 #[derive(Default)]
@@ -17,36 +27,244 @@ pub struct Summary {
 }
 
 #[repr(C)]
-#[derive(Default)]
+#[derive(Clone, Copy, Default)]
 pub struct StanzaSummary {
     pub args: u64,
     pub args_len: u64,
     pub body_len: u64,
 }
 
-/// An `agefile_reader` and an `agefile_writer`, which have the same fields.
 #[repr(C)]
 #[derive(Default)]
-pub struct State {
+pub struct Payload {
     key: [u8; 32],
     number: u64,
+    state: u64,
+    spare: [u64; 2],
+}
+
+#[cfg_attr(not(feature = "parallel"), allow(dead_code))]
+#[repr(C)]
+#[derive(Default)]
+pub struct ChunkPart {
+    key: [u8; 32],
+    number: u64,
+    left: u64,
+    state: u64,
+    spare: u64,
+}
+
+#[repr(C)]
+#[derive(Default)]
+pub struct Ranges {
+    key: [u8; 32],
+    pub first: u64,
+    pub sealed_len: u64,
     state: u64,
 }
 
 #[rustfmt::skip]
 extern "C" {
-    pub fn agefile_decrypt_passphrase(file: *const u8, file_len: usize, pass: *const u8, pass_len: usize, max_work: u8, out: *mut u8, out_len: usize, report: *mut Report) -> u32;
-    pub fn agefile_decrypt_key(file: *const u8, file_len: usize, key: *const [u8; 32], out: *mut u8, out_len: usize, report: *mut Report) -> u32;
-    pub fn agefile_encrypt_passphrase(plain: *const u8, plain_len: usize, pass: *const u8, pass_len: usize, work: u8, seed: *const [u8; 48], out: *mut u8, out_len: usize, report: *mut Report) -> u32;
-    pub fn agefile_encrypt_key(plain: *const u8, plain_len: usize, key: *const [u8; 32], seed: *const [u8; 48], out: *mut u8, out_len: usize, report: *mut Report) -> u32;
-    pub fn agefile_sealed_len(plain_len: u64) -> u64;
-    pub fn agefile_plain_len_at_most(file_len: u64) -> u64;
-    pub fn agefile_inspect(front: *const u8, front_len: usize, summary: *mut Summary, report: *mut Report) -> u32;
-    pub fn agefile_stanza(front: *const u8, front_len: usize, index: u64, args: *mut u8, args_len: usize, stanza: *mut StanzaSummary, report: *mut Report) -> u32;
-    pub fn agefile_reader_open_passphrase(front: *const u8, front_len: usize, pass: *const u8, pass_len: usize, max_work: u8, reader: *mut State, report: *mut Report) -> u32;
-    pub fn agefile_reader_open_key(front: *const u8, front_len: usize, key: *const [u8; 32], reader: *mut State, report: *mut Report) -> u32;
-    pub fn agefile_reader_chunk(reader: *mut State, chunk: *mut u8, chunk_len: usize, last: bool, report: *mut Report) -> u32;
-    pub fn agefile_writer_open_passphrase(pass: *const u8, pass_len: usize, work: u8, seed: *const [u8; 48], out: *mut u8, out_len: usize, writer: *mut State, report: *mut Report) -> u32;
-    pub fn agefile_writer_open_key(key: *const [u8; 32], seed: *const [u8; 48], out: *mut u8, out_len: usize, writer: *mut State, report: *mut Report) -> u32;
-    pub fn agefile_writer_chunk(writer: *mut State, chunk: *mut u8, chunk_len: usize, last: bool, report: *mut Report) -> u32;
+    fn agefile_version() -> u32;
+    fn agefile_inspect(front: *const u8, front_len: usize, summary: *mut Summary, report: *mut Report) -> u32;
+    fn agefile_stanzas(front: *const u8, front_len: usize, stanzas: *mut StanzaSummary, stanzas_len: usize, text: *mut u8, text_len: usize, report: *mut Report) -> u32;
+    fn agefile_unlock_passphrase(front: *const u8, front_len: usize, pass: *const u8, pass_len: usize, max_work: u8, file_key: *mut [u8; 16], report: *mut Report) -> u32;
+    fn agefile_unlock_key(front: *const u8, front_len: usize, key: *const [u8; 32], file_key: *mut [u8; 16], report: *mut Report) -> u32;
+    fn agefile_wrap_passphrase(file_key: *const [u8; 16], pass: *const u8, pass_len: usize, work: u8, salt: *const [u8; 16], out: *mut u8, out_len: usize, report: *mut Report) -> u32;
+    fn agefile_wrap_key(file_key: *const [u8; 16], key: *const [u8; 32], salt: *const [u8; 16], out: *mut u8, out_len: usize, report: *mut Report) -> u32;
+    fn agefile_wrap(args: *const u8, args_len: usize, body: *const u8, body_len: usize, out: *mut u8, out_len: usize, report: *mut Report) -> u32;
+    fn agefile_header(stanzas: *const u8, stanzas_len: usize, file_key: *const [u8; 16], out: *mut u8, out_len: usize, report: *mut Report) -> u32;
+    fn agefile_begin(stanzas: *const u8, stanzas_len: usize, file_key: *const [u8; 16], nonce: *const [u8; 16], out: *mut u8, out_len: usize, payload: *mut Payload, report: *mut Report) -> u32;
+    fn agefile_open(front: *const u8, front_len: usize, file_key: *const [u8; 16], payload: *mut Payload, report: *mut Report) -> u32;
+    fn agefile_open_next(payload: *mut Payload, chunk: *mut u8, chunk_len: usize, last: bool, report: *mut Report) -> u32;
+    fn agefile_seal_next(payload: *mut Payload, chunk: *mut u8, chunk_len: usize, last: bool, report: *mut Report) -> u32;
+    #[cfg(feature = "parallel")]
+    fn agefile_take_part(payload: *mut Payload, chunks: u64, part: *mut ChunkPart, report: *mut Report) -> u32;
+    #[cfg(feature = "parallel")]
+    fn agefile_part_open_next(part: *mut ChunkPart, chunk: *mut u8, chunk_len: usize, report: *mut Report) -> u32;
+    #[cfg(feature = "parallel")]
+    fn agefile_part_seal_next(part: *mut ChunkPart, chunk: *mut u8, chunk_len: usize, report: *mut Report) -> u32;
+    fn agefile_ranges_open(front: *const u8, front_len: usize, file_len: u64, file_key: *const [u8; 16], ranges: *mut Ranges, report: *mut Report) -> u32;
+    fn agefile_ranges_last(ranges: *mut Ranges, chunk: *mut u8, chunk_len: usize, report: *mut Report) -> u32;
+    fn agefile_ranges_locate(ranges: *const Ranges, at: u64, report: *mut Report) -> u32;
+    fn agefile_ranges_chunk(ranges: *const Ranges, at: u64, chunk: *mut u8, chunk_len: usize, report: *mut Report) -> u32;
+    fn agefile_decrypt(file: *const u8, file_len: usize, file_key: *const [u8; 16], out: *mut u8, out_len: usize, report: *mut Report) -> u32;
+    fn agefile_encrypt(plain: *const u8, plain_len: usize, stanzas: *const u8, stanzas_len: usize, file_key: *const [u8; 16], nonce: *const [u8; 16], out: *mut u8, out_len: usize, report: *mut Report) -> u32;
+    fn agefile_file_len(header_len: u64, plain_len: u64) -> u64;
+    fn getrandom(buf: *mut u8, len: usize, flags: u32) -> isize;
+}
+
+/// Calls a function of the library with a report behind its other arguments, and returns the report
+/// if the code is 0.
+macro_rules! call {
+    ($function:ident($($argument:expr),* $(,)?)) => {{
+        let mut report = Report::default();
+        // SAFETY: each pointer and length are those of one slice, array or struct, so none is null
+        // and each is valid for its length; what the call writes is borrowed alone.
+        let code = unsafe { $function($($argument,)* &mut report) };
+        match code {
+            0 => Ok(report),
+            _ => Err(Error::of(code, &report)),
+        }
+    }};
+}
+
+pub fn version() -> u32 {
+    // SAFETY: it takes nothing.
+    unsafe { agefile_version() }
+}
+
+pub fn file_len(header_len: u64, plain_len: u64) -> u64 {
+    // SAFETY: it takes two numbers.
+    unsafe { agefile_file_len(header_len, plain_len) }
+}
+
+/// So many fresh random bytes, from the system.
+pub fn random<const N: usize>() -> io::Result<[u8; N]> {
+    let mut bytes = [0; N];
+    let mut done = 0;
+    while done < N {
+        // SAFETY: the rest of the array is valid for its length.
+        let count = unsafe { getrandom(bytes[done..].as_mut_ptr(), N - done, 0) };
+        match usize::try_from(count) {
+            Ok(count) => done += count,
+            Err(_) => {
+                let error = io::Error::last_os_error();
+                if error.kind() != io::ErrorKind::Interrupted {
+                    return Err(error);
+                }
+            }
+        }
+    }
+    Ok(bytes)
+}
+
+pub fn inspect(front: &[u8]) -> Result<Summary, Error> {
+    let mut summary = Summary::default();
+    call!(agefile_inspect(front.as_ptr(), front.len(), &mut summary))?;
+    Ok(summary)
+}
+
+pub fn stanzas(front: &[u8], sizes: &mut [StanzaSummary], text: &mut [u8]) -> Result<Report, Error> {
+    call!(agefile_stanzas(front.as_ptr(), front.len(), sizes.as_mut_ptr(), sizes.len(), text.as_mut_ptr(), text.len()))
+}
+
+pub fn unlock_passphrase(front: &[u8], pass: &[u8], max_work: u8) -> Result<[u8; 16], Error> {
+    let mut file_key = [0; 16];
+    call!(agefile_unlock_passphrase(front.as_ptr(), front.len(), pass.as_ptr(), pass.len(), max_work, &mut file_key))?;
+    Ok(file_key)
+}
+
+pub fn unlock_key(front: &[u8], key: &[u8; 32]) -> Result<[u8; 16], Error> {
+    let mut file_key = [0; 16];
+    call!(agefile_unlock_key(front.as_ptr(), front.len(), key, &mut file_key))?;
+    Ok(file_key)
+}
+
+pub fn wrap_passphrase(
+    file_key: &[u8; 16],
+    pass: &[u8],
+    work: u8,
+    salt: &[u8; 16],
+    out: &mut [u8],
+) -> Result<Report, Error> {
+    call!(agefile_wrap_passphrase(file_key, pass.as_ptr(), pass.len(), work, salt, out.as_mut_ptr(), out.len()))
+}
+
+pub fn wrap_key(file_key: &[u8; 16], key: &[u8; 32], salt: &[u8; 16], out: &mut [u8]) -> Result<Report, Error> {
+    call!(agefile_wrap_key(file_key, key, salt, out.as_mut_ptr(), out.len()))
+}
+
+pub fn wrap(args: &[u8], body: &[u8], out: &mut [u8]) -> Result<Report, Error> {
+    call!(agefile_wrap(args.as_ptr(), args.len(), body.as_ptr(), body.len(), out.as_mut_ptr(), out.len()))
+}
+
+pub fn header(stanzas: &[u8], file_key: &[u8; 16], out: &mut [u8]) -> Result<Report, Error> {
+    call!(agefile_header(stanzas.as_ptr(), stanzas.len(), file_key, out.as_mut_ptr(), out.len()))
+}
+
+pub fn begin(stanzas: &[u8], file_key: &[u8; 16], nonce: &[u8; 16], out: &mut [u8]) -> Result<(Payload, usize), Error> {
+    let mut payload = Payload::default();
+    let report = call!(agefile_begin(
+        stanzas.as_ptr(),
+        stanzas.len(),
+        file_key,
+        nonce,
+        out.as_mut_ptr(),
+        out.len(),
+        &mut payload,
+    ))?;
+    Ok((payload, report.len as usize))
+}
+
+pub fn open(front: &[u8], file_key: &[u8; 16]) -> Result<(Payload, usize), Error> {
+    let mut payload = Payload::default();
+    let report = call!(agefile_open(front.as_ptr(), front.len(), file_key, &mut payload))?;
+    Ok((payload, report.len as usize))
+}
+
+pub fn open_next(payload: &mut Payload, chunk: &mut [u8], last: bool) -> Result<usize, Error> {
+    call!(agefile_open_next(payload, chunk.as_mut_ptr(), chunk.len(), last)).map(|report| report.len as usize)
+}
+
+pub fn seal_next(payload: &mut Payload, chunk: &mut [u8], last: bool) -> Result<usize, Error> {
+    call!(agefile_seal_next(payload, chunk.as_mut_ptr(), chunk.len(), last)).map(|report| report.len as usize)
+}
+
+#[cfg(feature = "parallel")]
+pub fn take_part(payload: &mut Payload, chunks: u64) -> Result<ChunkPart, Error> {
+    let mut part = ChunkPart::default();
+    call!(agefile_take_part(payload, chunks, &mut part))?;
+    Ok(part)
+}
+
+#[cfg(feature = "parallel")]
+pub fn part_open_next(part: &mut ChunkPart, chunk: &mut [u8]) -> Result<usize, Error> {
+    call!(agefile_part_open_next(part, chunk.as_mut_ptr(), chunk.len())).map(|report| report.len as usize)
+}
+
+#[cfg(feature = "parallel")]
+pub fn part_seal_next(part: &mut ChunkPart, chunk: &mut [u8]) -> Result<usize, Error> {
+    call!(agefile_part_seal_next(part, chunk.as_mut_ptr(), chunk.len())).map(|report| report.len as usize)
+}
+
+pub fn ranges_open(front: &[u8], file_len: u64, file_key: &[u8; 16]) -> Result<(Ranges, Report), Error> {
+    let mut ranges = Ranges::default();
+    let report = call!(agefile_ranges_open(front.as_ptr(), front.len(), file_len, file_key, &mut ranges))?;
+    Ok((ranges, report))
+}
+
+pub fn ranges_last(ranges: &mut Ranges, chunk: &mut [u8]) -> Result<Report, Error> {
+    call!(agefile_ranges_last(ranges, chunk.as_mut_ptr(), chunk.len()))
+}
+
+pub fn ranges_locate(ranges: &Ranges, at: u64) -> Result<Report, Error> {
+    call!(agefile_ranges_locate(ranges, at))
+}
+
+pub fn ranges_chunk(ranges: &Ranges, at: u64, chunk: &mut [u8]) -> Result<Report, Error> {
+    call!(agefile_ranges_chunk(ranges, at, chunk.as_mut_ptr(), chunk.len()))
+}
+
+pub fn decrypt(file: &[u8], file_key: &[u8; 16], out: &mut [u8]) -> Result<Report, Error> {
+    call!(agefile_decrypt(file.as_ptr(), file.len(), file_key, out.as_mut_ptr(), out.len()))
+}
+
+pub fn encrypt(
+    plain: &[u8],
+    stanzas: &[u8],
+    file_key: &[u8; 16],
+    nonce: &[u8; 16],
+    out: &mut [u8],
+) -> Result<Report, Error> {
+    call!(agefile_encrypt(
+        plain.as_ptr(),
+        plain.len(),
+        stanzas.as_ptr(),
+        stanzas.len(),
+        file_key,
+        nonce,
+        out.as_mut_ptr(),
+        out.len(),
+    ))
 }

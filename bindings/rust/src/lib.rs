@@ -1,44 +1,49 @@
-//! Encrypts and decrypts age v1 files (`age-encryption.org/v1`) with the proved library
-//! `libagefile`.
+//! Age v1 encrypted files (`age-encryption.org/v1`) by the library `libagefile`, whose code is
+//! proved. This crate is ordinary Rust over it, which is tested.
 //!
-//! [`encrypt`], [`decrypt`] and [`inspect`] work on bytes; a [`Reader`] and a [`Writer`] on streams
-//! of any size, in constant memory. There are no X25519 recipients and no ASCII armor.
+//! - [`encrypt`], [`decrypt`], [`rewrap`] and [`inspect`] work on bytes in memory.
+//! - A [`Reader`] and a [`Writer`] work on streams of any size, in constant memory.
+//! - A [`RangeReader`] reads any part of a plaintext, and opens only the chunks that it needs.
+//! - With the feature `parallel`, the module `parallel` does whole files on several threads.
 //!
-//! ```no_run
+//! A file is for one or more recipients: a [`Passphrase`], a [`Key`] of 32 bytes, or a caller's own
+//! [`Recipient`]. To read it takes one or more identities: the same, or a caller's own [`Identity`].
+//!
+//! ```
+//! use std::io::{Read, Write};
+//!
 //! # fn main() -> std::io::Result<()> {
-//! let key = agefile::Secret::Key(&[7; 32]);
-//! let mut writer = agefile::Writer::new(std::fs::File::create("notes.age")?, key)?;
-//! std::io::copy(&mut std::io::stdin(), &mut writer)?;
-//! writer.finish()?;
+//! let key = agefile::Key::new([7; 32]);
+//! let mut writer = agefile::Writer::new(Vec::new(), &[&key])?;
+//! writer.write_all(b"one\ntwo\n")?;
+//! let file = writer.finish()?;
+//!
+//! let mut plaintext = String::new();
+//! agefile::Reader::new(&file[..], &[&key])?.read_to_string(&mut plaintext)?;
+//! assert_eq!(plaintext, "one\ntwo\n");
 //! # Ok(())
 //! # }
 //! ```
 //!
-//! The repository's `docs/C.md` says what is proved of the library. This crate is ordinary Rust: it
-//! is tested, not proved.
+//! Memory is not wiped, and no operation takes constant time.
+#![warn(missing_docs, missing_debug_implementations)]
 
 mod error;
 mod ffi;
-mod stream;
+mod front;
+mod header;
+#[cfg(feature = "parallel")]
+pub mod parallel;
+mod range_reader;
+mod reader;
+mod secret;
 mod whole;
+mod writer;
 
-pub use error::Error;
-pub use stream::{Reader, Writer};
-pub use whole::{decrypt, encrypt, inspect, Stanza, Summary};
-
-/// The secret of a file.
-#[derive(Clone, Copy)]
-pub enum Secret<'a> {
-    /// 32 bytes that both sides hold.
-    Key(&'a [u8; 32]),
-    /// A passphrase, the work factor of a new file, and the greatest accepted work factor of a file
-    /// that is read; both are 1 to 30.
-    Passphrase { text: &'a [u8], work: u8, max_work: u8 },
-}
-
-impl<'a> Secret<'a> {
-    /// A passphrase with the usual work factors: 18, and at most 22.
-    pub fn passphrase(text: &'a [u8]) -> Secret<'a> {
-        Secret::Passphrase { text, work: 18, max_work: 22 }
-    }
-}
+pub use error::{Error, Part};
+pub use header::{inspect, Header, Stanza};
+pub use range_reader::RangeReader;
+pub use reader::Reader;
+pub use secret::{FileKey, Identity, Key, Passphrase, Recipient};
+pub use whole::{decrypt, encrypt, library_version, rewrap};
+pub use writer::{FinishError, Writer};

@@ -1,119 +1,51 @@
-use std::fs::File;
-use std::io::{self, Read};
+//! Whole files in memory.
 
-use crate::error::{checked, Error};
-use crate::ffi::*;
-use crate::Secret;
+use std::io;
 
-/// This many bytes from a file's start hold any header within the limit, and its payload's nonce.
-pub(crate) const FRONT: usize = 65552;
+use crate::ffi::{self, NONCE, SEALED_CHUNK, TAG};
+use crate::header::{header_of, inspect, stanzas_text, unlock};
+use crate::{Error, FileKey, Identity, Recipient};
 
-/// 48 fresh random bytes, which each new file needs.
-pub(crate) fn fresh_seed() -> io::Result<[u8; 48]> {
-    let mut seed = [0; 48];
-    File::open("/dev/urandom")?.read_exact(&mut seed)?;
-    Ok(seed)
+/// The version of the library, as `(0, 4, 0)`.
+pub fn library_version() -> (u32, u32, u32) {
+    let packed = ffi::version();
+    (packed >> 16, packed >> 8 & 255, packed & 255)
 }
 
-/// Encrypts these bytes to an age file. The error is the library's, an [`Error`] inside an
-/// [`std::io::Error`], or that of reading `/dev/urandom`.
-pub fn encrypt(plain: &[u8], secret: Secret) -> io::Result<Vec<u8>> {
-    let seed = fresh_seed()?;
-    let mut report = Report::default();
-    // SAFETY: it takes and returns numbers.
-    let room = unsafe { agefile_sealed_len(plain.len() as u64) };
-    let mut out = vec![0; room as usize];
-    // SAFETY: each pointer and length belong to one slice or struct, none is null, and `out` and
-    // `report` are borrowed alone.
-    let code = unsafe {
-        match secret {
-            Secret::Key(key) => {
-                agefile_encrypt_key(plain.as_ptr(), plain.len(), key, &seed, out.as_mut_ptr(), out.len(), &mut report)
-            }
-            Secret::Passphrase { text, work, .. } => agefile_encrypt_passphrase(
-                plain.as_ptr(),
-                plain.len(),
-                text.as_ptr(),
-                text.len(),
-                work,
-                &seed,
-                out.as_mut_ptr(),
-                out.len(),
-                &mut report,
-            ),
-        }
-    };
-    let report = checked(code, report)?;
+/// The age file of a plaintext, for one recipient or for several.
+pub fn encrypt(plain: &[u8], recipients: &[&dyn Recipient]) -> io::Result<Vec<u8>> {
+    let (file_key, nonce) = (FileKey(ffi::random()?), ffi::random()?);
+    let stanzas = stanzas_text(recipients, &file_key)?;
+    let header_len = header_of(&stanzas, &file_key)?.len() as u64;
+    let mut out = vec![0; ffi::file_len(header_len, plain.len() as u64) as usize];
+    ffi::encrypt(plain, &stanzas, &file_key.0, &nonce, &mut out)?;
+    Ok(out)
+}
+
+/// The length of the plaintext of sealed chunks, if they are those of a file.
+pub(crate) fn text_len(sealed: usize) -> usize {
+    sealed.saturating_sub(TAG * sealed.div_ceil(SEALED_CHUNK))
+}
+
+/// The plaintext of an age file. Of a file with a fault nothing is returned.
+pub fn decrypt(file: &[u8], identities: &[&dyn Identity]) -> Result<Vec<u8>, Error> {
+    let header = inspect(file)?;
+    let file_key = unlock(&header, identities)?;
+    let sealed = file.len().saturating_sub(header.text().len() + NONCE);
+    let mut out = vec![0; text_len(sealed)];
+    let report = ffi::decrypt(file, &file_key.0, &mut out)?;
     out.truncate(report.len as usize);
     Ok(out)
 }
 
-/// Decrypts an age file to its whole plaintext.
-pub fn decrypt(file: &[u8], secret: Secret) -> Result<Vec<u8>, Error> {
-    let mut report = Report::default();
-    // SAFETY: it takes and returns numbers.
-    let room = unsafe { agefile_plain_len_at_most(file.len() as u64) };
-    let mut out = vec![0; room as usize];
-    // SAFETY: as in `encrypt`.
-    let code = unsafe {
-        match secret {
-            Secret::Key(key) => {
-                agefile_decrypt_key(file.as_ptr(), file.len(), key, out.as_mut_ptr(), out.len(), &mut report)
-            }
-            Secret::Passphrase { text, max_work, .. } => agefile_decrypt_passphrase(
-                file.as_ptr(),
-                file.len(),
-                text.as_ptr(),
-                text.len(),
-                max_work,
-                out.as_mut_ptr(),
-                out.len(),
-                &mut report,
-            ),
-        }
-    };
-    let report = checked(code, report)?;
-    out.truncate(report.len as usize);
-    Ok(out)
-}
-
-/// A header. Its MAC is not verified.
-#[derive(Clone, Debug, PartialEq, Eq)]
-pub struct Summary {
-    pub header_len: u64,
-    pub stanzas: Vec<Stanza>,
-    pub mac: [u8; 32],
-}
-
-/// One stanza of a header.
-#[derive(Clone, Debug, PartialEq, Eq)]
-pub struct Stanza {
-    /// The arguments; the first is the type.
-    pub args: Vec<String>,
-    pub body_len: u64,
-}
-
-/// Reads the header of an age file, of which the first 65,552 bytes suffice. It needs no passphrase
-/// or key.
-pub fn inspect(file: &[u8]) -> Result<Summary, Error> {
-    let front = &file[..file.len().min(FRONT)];
-    let (mut summary, mut report) = (crate::ffi::Summary::default(), Report::default());
-    // SAFETY: as in `encrypt`.
-    let code = unsafe { agefile_inspect(front.as_ptr(), front.len(), &mut summary, &mut report) };
-    checked(code, report)?;
-    let stanzas = (0..summary.stanzas).map(|index| stanza(front, index)).collect::<Result<_, _>>()?;
-    Ok(Summary { header_len: summary.header_len, stanzas, mac: summary.mac })
-}
-
-fn stanza(front: &[u8], index: u64) -> Result<Stanza, Error> {
-    let (mut stanza, mut report) = (StanzaSummary::default(), Report::default());
-    let mut args = vec![0; front.len()];
-    // SAFETY: as in `encrypt`.
-    let code = unsafe {
-        agefile_stanza(front.as_ptr(), front.len(), index, args.as_mut_ptr(), args.len(), &mut stanza, &mut report)
-    };
-    checked(code, report)?;
-    args.truncate(stanza.args_len as usize);
-    let args = String::from_utf8_lossy(&args).split(' ').map(String::from).collect();
-    Ok(Stanza { args, body_len: stanza.body_len })
+/// The same file with a header for other recipients. File key and payload stay, so whoever kept the
+/// old header can still open the file. The payload is not verified.
+pub fn rewrap(file: &[u8], identities: &[&dyn Identity], recipients: &[&dyn Recipient]) -> Result<Vec<u8>, Error> {
+    let old = inspect(file)?;
+    let file_key = unlock(&old, identities)?;
+    // Compares the old header's MAC, for which a nonce has to follow.
+    ffi::open(&[old.text(), &[0; NONCE]].concat(), &file_key.0)?;
+    let mut new = header_of(&stanzas_text(recipients, &file_key)?, &file_key)?;
+    new.extend_from_slice(&file[old.text().len()..]);
+    Ok(new)
 }

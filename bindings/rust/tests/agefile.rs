@@ -1,34 +1,65 @@
 //! Tests of the safe functions, and of how the library's errors arrive.
 
-use std::io::{Read, Write};
+use std::io::{self, Cursor, ErrorKind, Read, Seek, SeekFrom, Write};
 
-use agefile::{decrypt, encrypt, inspect, Error, Reader, Secret, Writer};
+use agefile::{
+    decrypt, encrypt, inspect, rewrap, Error, FileKey, Header, Identity, Key, Part, Passphrase, RangeReader, Reader,
+    Recipient, Stanza, Writer,
+};
 
-const KEY: Secret = Secret::Key(&[7; 32]);
-const PASSPHRASE: Secret = Secret::Passphrase { text: b"correct horse", work: 10, max_work: 12 };
 /// Around the edges of chunks.
 const SIZES: [usize; 8] = [0, 1, 16, 65535, 65536, 65537, 131072, 200000];
 
-fn text(len: usize) -> Vec<u8> {
-    (0..len).map(|i| (i * 7 + i / 256) as u8).collect()
+fn key() -> Key {
+    Key::new([7; 32])
 }
 
-fn code(error: std::io::Error) -> u32 {
-    error.get_ref().and_then(|it| it.downcast_ref::<Error>()).expect("an error of the library").code
+fn passphrase() -> Passphrase {
+    Passphrase::new("correct horse").with_work(3).with_max_work(12)
+}
+
+fn text(len: usize) -> Vec<u8> {
+    (0..len).map(|i| (i * 7 + i / 251) as u8).collect()
+}
+
+fn fault(error: io::Error) -> Error {
+    *error.get_ref().and_then(|it| it.downcast_ref::<Error>()).expect("an error of the library")
 }
 
 /// A source that gives at most so many bytes at once.
 struct Few<'a>(&'a [u8], usize);
 
 impl Read for Few<'_> {
-    fn read(&mut self, out: &mut [u8]) -> std::io::Result<usize> {
+    fn read(&mut self, out: &mut [u8]) -> io::Result<usize> {
         let n = out.len().min(self.1);
         self.0.read(&mut out[..n])
     }
 }
 
-fn streamed(plain: &[u8], secret: Secret, piece: usize) -> Vec<u8> {
-    let mut writer = Writer::new(Vec::new(), secret).unwrap();
+/// A source that would block before each read that succeeds, once the front was read.
+struct Slow<'a> {
+    bytes: &'a [u8],
+    waits: bool,
+    quick: usize,
+}
+
+impl Read for Slow<'_> {
+    fn read(&mut self, out: &mut [u8]) -> io::Result<usize> {
+        let n = out.len().min(20000);
+        if self.quick > 0 {
+            self.quick -= 1;
+            return self.bytes.read(&mut out[..n]);
+        }
+        self.waits = !self.waits;
+        if self.waits {
+            return Err(ErrorKind::WouldBlock.into());
+        }
+        self.bytes.read(&mut out[..n])
+    }
+}
+
+fn streamed(plain: &[u8], recipient: &dyn Recipient, piece: usize) -> Vec<u8> {
+    let mut writer = Writer::new(Vec::new(), &[recipient]).unwrap();
     for piece in plain.chunks(piece) {
         writer.write_all(piece).unwrap();
     }
@@ -37,10 +68,9 @@ fn streamed(plain: &[u8], secret: Secret, piece: usize) -> Vec<u8> {
 
 #[test]
 fn whole_files_come_back() {
-    for secret in [KEY, PASSPHRASE] {
-        for plain in SIZES.map(text) {
-            assert_eq!(decrypt(&encrypt(&plain, secret).unwrap(), secret).unwrap(), plain);
-        }
+    for plain in SIZES.map(text) {
+        assert_eq!(decrypt(&encrypt(&plain, &[&key()]).unwrap(), &[&key()]).unwrap(), plain);
+        assert_eq!(decrypt(&encrypt(&plain, &[&passphrase()]).unwrap(), &[&passphrase()]).unwrap(), plain);
     }
 }
 
@@ -48,102 +78,262 @@ fn whole_files_come_back() {
 fn streams_and_whole_files_are_the_same_format() {
     for plain in SIZES.map(text) {
         for piece in [999, 65536, 1 << 20] {
-            let file = streamed(&plain, KEY, piece);
-            assert_eq!(decrypt(&file, KEY).unwrap(), plain);
+            let file = streamed(&plain, &key(), piece);
+            assert_eq!(decrypt(&file, &[&key()]).unwrap(), plain);
             let mut back = Vec::new();
-            Reader::new(Few(&file, piece), KEY).unwrap().read_to_end(&mut back).unwrap();
+            Reader::new(Few(&file, piece), &[&key()]).unwrap().read_to_end(&mut back).unwrap();
             assert_eq!(back, plain);
         }
     }
-    let mut back = Vec::new();
-    let file = encrypt(&text(70000), PASSPHRASE).unwrap();
-    Reader::new(&file[..], PASSPHRASE).unwrap().read_to_end(&mut back).unwrap();
-    assert_eq!(back, text(70000));
-    assert_eq!(decrypt(&streamed(&text(70000), PASSPHRASE, 4096), PASSPHRASE).unwrap(), text(70000));
 }
 
+#[cfg(feature = "parallel")]
 #[test]
-fn no_two_files_are_equal() {
-    assert_ne!(encrypt(b"same", KEY).unwrap(), encrypt(b"same", KEY).unwrap());
-}
-
-#[test]
-fn damage_is_an_error_at_its_chunk() {
-    let mut file = encrypt(&text(200000), KEY).unwrap();
-    *file.last_mut().unwrap() ^= 1;
-    let error = decrypt(&file, KEY).unwrap_err();
-    assert_eq!((error.code, error.place, error.to_string()), (13, 3, "chunk 3 is damaged".to_string()));
-    let mut reader = Reader::new(&file[..], KEY).unwrap();
-    let mut back = Vec::new();
-    assert_eq!(code(reader.read_to_end(&mut back).unwrap_err()), 13);
-    assert_eq!(back, text(3 * 65536));
-    assert!(reader.read(&mut [0; 1]).is_err());
-}
-
-#[test]
-fn cut_files_are_errors() {
-    let file = encrypt(&text(131072), KEY).unwrap();
-    for len in [0, 10, 100, 160, 172, 187, 188, 65723, 65724, 65725, 65740, file.len() - 1] {
-        assert!(decrypt(&file[..len], KEY).is_err());
-        let read = Reader::new(&file[..len], KEY).and_then(|mut it| it.read_to_end(&mut Vec::new()));
-        assert_eq!(code(read.unwrap_err()), decrypt(&file[..len], KEY).unwrap_err().code, "{len} bytes");
-    }
-}
-
-#[test]
-fn other_secrets_are_errors() {
-    let file = encrypt(b"text", KEY).unwrap();
-    assert_eq!(decrypt(&file, Secret::Key(&[8; 32])).unwrap_err().code, 7);
-    assert_eq!(decrypt(&file, PASSPHRASE).unwrap_err().code, 6);
-    assert_eq!(code(Reader::new(&file[..], PASSPHRASE).err().unwrap()), 6);
-    let steep = Secret::Passphrase { text: b"correct horse", work: 10, max_work: 9 };
-    let error = decrypt(&encrypt(b"text", PASSPHRASE).unwrap(), steep).unwrap_err();
-    assert_eq!(error.to_string(), "malformed stanza: work factor is too high");
-    let none = Secret::Passphrase { text: b"", work: 0, max_work: 31 };
-    assert_eq!(code(encrypt(b"text", none).unwrap_err()), 22);
-    assert_eq!(decrypt(&file, none).unwrap_err().code, 22);
-    assert_eq!(decrypt(b"hello", KEY).unwrap_err().to_string(), "not an age file");
-}
-
-#[test]
-fn headers_are_inspected() {
-    let summary = inspect(&encrypt(b"text", PASSPHRASE).unwrap()).unwrap();
-    assert_eq!((summary.header_len, summary.stanzas.len()), (150, 1));
-    assert_eq!((summary.stanzas[0].args[0].as_str(), summary.stanzas[0].body_len), ("scrypt", 32));
-    assert_eq!(summary.stanzas[0].args[2], "10");
-    assert_eq!(inspect(b"age-encryption.org/v1\nbad\n").unwrap_err().to_string(), "bad header line 2");
-}
-
-/// The texts that the header returns, in their order.
-fn texts_of(header: &str) -> Vec<&str> {
-    header.lines().filter_map(|line| line.split_once(": return \"")?.1.strip_suffix("\";")).collect()
-}
-
-/// The texts of `agefile_message`, which have no numbers, and of `agefile_detail` in the header.
-#[test]
-fn messages_are_those_of_the_header() {
-    let header = include_str!("../../include/agefile.h");
-    let (messages, details) = header.split_once("char *agefile_detail").unwrap();
-    assert_eq!(texts_of(messages).len(), 26);
-    for (code, text) in texts_of(messages).iter().enumerate() {
-        let message = Error { code: code as u32, place: 7, detail: 2 }.to_string();
-        let message = message.strip_suffix(": salt").unwrap_or(&message).replace("chunk 7 ", "chunk ");
-        assert_eq!(message.strip_suffix(" 7").unwrap_or(&message), *text);
-    }
-    assert_eq!(texts_of(details).len(), 6);
-    for (text, detail) in texts_of(details).iter().zip([1, 2, 3, 4, 5, 0]) {
-        let message = Error { code: 8, place: 0, detail }.to_string();
-        assert_eq!(message.strip_prefix("malformed stanza: "), Some(*text));
-    }
-}
-
-#[test]
-fn threads_share_nothing() {
-    std::thread::scope(|scope| {
-        for _ in 0..4 {
-            scope.spawn(|| {
-                assert_eq!(decrypt(&encrypt(&text(70000), PASSPHRASE).unwrap(), PASSPHRASE).unwrap(), text(70000))
-            });
+fn threads_make_the_same_files() {
+    for plain in SIZES.map(text).into_iter().chain([text(40 * 65536 + 3)]) {
+        for threads in [1, 2, 3, 8] {
+            let file = agefile::parallel::encrypt(&plain, &[&key()], threads).unwrap();
+            assert_eq!(decrypt(&file, &[&key()]).unwrap(), plain);
+            assert_eq!(agefile::parallel::decrypt(&file, &[&key()], threads).unwrap(), plain);
         }
-    });
+    }
+    let mut file = encrypt(&text(40 * 65536), &[&key()]).unwrap();
+    let front = inspect(&file).unwrap().text().len() + 16;
+    for chunk in [31, 17] {
+        file[front + chunk * 65552] ^= 1;
+        assert_eq!(agefile::parallel::decrypt(&file, &[&key()], 4), Err(Error::BadChunk(chunk as u64)));
+    }
+}
+
+#[test]
+fn ranges_are_slices() {
+    for plain in SIZES.map(text) {
+        let file = Cursor::new(encrypt(&plain, &[&key()]).unwrap());
+        let mut reader = RangeReader::new(file, &[&key()]).unwrap();
+        assert_eq!((reader.len(), reader.is_empty()), (plain.len() as u64, plain.is_empty()));
+        for at in [0, 1, 65535, 65536, 131071, 199999, 300000] {
+            let mut back = Vec::new();
+            reader.seek(SeekFrom::Start(at as u64)).unwrap();
+            (&mut reader).take(70000).read_to_end(&mut back).unwrap();
+            assert_eq!(back, plain[at.min(plain.len())..(at + 70000).min(plain.len())]);
+        }
+        assert_eq!(reader.seek(SeekFrom::End(0)).unwrap(), plain.len() as u64);
+        assert_eq!(reader.seek(SeekFrom::End(-1 - plain.len() as i64)).unwrap_err().kind(), ErrorKind::InvalidInput);
+        assert_eq!(reader.seek(SeekFrom::Current(5)).unwrap(), plain.len() as u64 + 5);
+        assert_eq!(reader.read(&mut [0; 10]).unwrap(), 0);
+    }
+}
+
+#[test]
+fn damage_in_another_chunk_is_not_noticed_by_ranges() {
+    let (plain, mut file) = (text(200000), encrypt(&text(200000), &[&key()]).unwrap());
+    let front = inspect(&file).unwrap().text().len() + 16;
+    file[front + 65552] ^= 1;
+    let mut reader = RangeReader::new(Cursor::new(&file), &[&key()]).unwrap();
+    let mut first = vec![0; 65536];
+    reader.read_exact(&mut first).unwrap();
+    assert_eq!(first, plain[..65536]);
+    for _ in 0..2 {
+        assert_eq!(fault(reader.read(&mut first).unwrap_err()), Error::BadChunk(1));
+    }
+    reader.seek(SeekFrom::Start(131072)).unwrap();
+    let mut rest = Vec::new();
+    reader.read_to_end(&mut rest).unwrap();
+    assert_eq!(rest, plain[131072..]);
+    file.truncate(front + 65552);
+    assert_eq!(fault(RangeReader::new(Cursor::new(&file), &[&key()]).unwrap_err()), Error::BadChunk(0));
+}
+
+#[test]
+fn faults_have_their_place_and_their_kind() {
+    let file = encrypt(&text(200000), &[&key()]).unwrap();
+    let front = inspect(&file).unwrap().text().len() + 16;
+    let other = Key::new([8; 32]);
+    type Case<'a> = (&'a [u8], &'a dyn Identity, Error, ErrorKind, &'a str);
+    let cases: [Case; 8] = [
+        (b"hello", &key(), Error::NotAge, ErrorKind::InvalidData, "not an age file"),
+        (b"age-encryption.org/v1\nbad\n", &key(), Error::BadLine(2), ErrorKind::InvalidData, "bad header line 2"),
+        (&file[..30], &key(), Error::HeaderTruncated, ErrorKind::UnexpectedEof, "header is cut short"),
+        (&file, &other, Error::WrongKey, ErrorKind::PermissionDenied, "wrong passphrase or key"),
+        (&file, &passphrase(), Error::NoMatch, ErrorKind::PermissionDenied, "no key fits this file"),
+        (&file[..front - 1], &key(), Error::NonceTruncated, ErrorKind::UnexpectedEof, "payload nonce is cut short"),
+        (&file[..front], &key(), Error::ChunkShort(0), ErrorKind::UnexpectedEof, "chunk 0 is cut short"),
+        (&file[..file.len() - 1], &key(), Error::BadChunk(3), ErrorKind::InvalidData, "chunk 3 is damaged"),
+    ];
+    for (bytes, identity, error, kind, message) in cases {
+        assert_eq!(decrypt(bytes, &[identity]).unwrap_err(), error);
+        let failed =
+            Reader::new(bytes, &[identity]).and_then(|mut reader| reader.read_to_end(&mut Vec::new())).unwrap_err();
+        assert_eq!((failed.kind(), failed.to_string().as_str()), (kind, message));
+        assert_eq!(fault(failed), error);
+    }
+    let file = encrypt(b"", &[&passphrase()]).unwrap();
+    let weak = Passphrase::new("correct horse").with_max_work(2);
+    assert_eq!(decrypt(&file, &[&weak]), Err(Error::Malformed(Part::WorkFactorTooHigh)));
+    assert_eq!(fault(encrypt(b"", &[]).unwrap_err()), Error::NoRecipients);
+    assert_eq!(fault(encrypt(b"", &[&key(), &passphrase()]).unwrap_err()), Error::MixedPassphrase);
+    assert_eq!(fault(encrypt(b"", &[&passphrase().with_work(31)]).unwrap_err()), Error::WorkFactor);
+}
+
+#[test]
+fn failed_reader_returns_its_fault_again() {
+    let mut file = encrypt(&text(200000), &[&key()]).unwrap();
+    let front = inspect(&file).unwrap().text().len() + 16;
+    file[front + 2 * 65552] ^= 1;
+    let mut reader = Reader::new(&file[..], &[&key()]).unwrap();
+    let mut back = vec![0; 131072];
+    reader.read_exact(&mut back).unwrap();
+    assert_eq!(back, text(200000)[..131072]);
+    for _ in 0..3 {
+        assert_eq!(fault(reader.read(&mut back).unwrap_err()), Error::BadChunk(2));
+    }
+    assert_eq!(reader.read(&mut []).unwrap(), 0);
+}
+
+#[test]
+fn source_that_would_block_can_go_on() {
+    let plain = text(300000);
+    let file = encrypt(&plain, &[&key()]).unwrap();
+    for quick in [1, 2, 5] {
+        let mut reader = Reader::new(Slow { bytes: &file, waits: false, quick }, &[&key()]).unwrap();
+        let (mut back, mut buf, mut blocked) = (Vec::new(), [0; 7000], 0);
+        loop {
+            match reader.read(&mut buf) {
+                Ok(0) => break,
+                Ok(n) => back.extend_from_slice(&buf[..n]),
+                Err(error) => {
+                    assert_eq!(error.kind(), ErrorKind::WouldBlock);
+                    blocked += 1;
+                }
+            }
+        }
+        assert!(back == plain && blocked > 5, "{quick}");
+    }
+}
+
+/// A source that ends the process where it is read behind the bytes that it has.
+struct Waits<'a>(&'a [u8]);
+
+impl Read for Waits<'_> {
+    fn read(&mut self, out: &mut [u8]) -> io::Result<usize> {
+        assert!(!self.0.is_empty(), "more is read than a wrong key needs");
+        self.0.read(out)
+    }
+}
+
+#[test]
+fn wrong_key_is_told_before_the_payload_has_come() {
+    let file = encrypt(&text(200000), &[&key()]).unwrap();
+    let front = inspect(&file).unwrap().text().len();
+    assert_eq!(fault(Reader::new(Waits(&file[..front]), &[&Key::new([8; 32])]).unwrap_err()), Error::WrongKey);
+    assert_eq!(fault(Reader::new(Waits(&file[..front]), &[]).unwrap_err()), Error::NoMatch);
+}
+
+#[test]
+fn unfinished_files_are_refused() {
+    for len in [0, 10, 65536, 200000] {
+        let mut file = Vec::new();
+        let mut writer = Writer::new(&mut file, &[&key()]).unwrap();
+        writer.write_all(&text(len)).unwrap();
+        drop(writer);
+        assert!(decrypt(&file, &[&key()]).is_err());
+    }
+}
+
+#[test]
+fn failed_write_gives_the_sink_back_without_an_end() {
+    let mut room = [0; 100000];
+    let mut writer = Writer::new(&mut room[..], &[&key()]).unwrap();
+    assert!(writer.write_all(&text(300000)).is_err());
+    assert_eq!(fault(writer.write(b"more").unwrap_err()), Error::Incomplete);
+    let (error, sink) = writer.finish().unwrap_err().into_parts();
+    assert_eq!((fault(error), sink.len()), (Error::Incomplete, 0));
+    assert!(decrypt(&room, &[&key()]).is_err());
+}
+
+#[test]
+fn rewrapped_file_is_for_the_new_recipients() {
+    let (plain, other) = (text(100000), Key::new([8; 32]));
+    let old = encrypt(&plain, &[&passphrase()]).unwrap();
+    let new = rewrap(&old, &[&passphrase()], &[&key(), &other]).unwrap();
+    assert_eq!(decrypt(&new, &[&other]).unwrap(), plain);
+    assert_eq!(decrypt(&new, &[&passphrase()]), Err(Error::NoMatch));
+    assert_eq!(rewrap(&old, &[&Passphrase::new("x")], &[&key()]), Err(Error::WrongKey));
+}
+
+#[test]
+fn headers_are_shown() {
+    let file = encrypt(b"text", &[&passphrase().with_work(10)]).unwrap();
+    let header = inspect(&file).unwrap();
+    assert_eq!((header.text().len(), header.stanzas().len()), (150, 1));
+    assert_eq!((header.stanzas()[0].args[0].as_str(), header.stanzas()[0].args[2].as_str()), ("scrypt", "10"));
+    assert_eq!(header.stanzas()[0].body.len(), 32);
+}
+
+/// A caller's own: the file key stands in the stanza as it is.
+#[derive(Debug)]
+struct Plain;
+
+impl Recipient for Plain {
+    fn wrap(&self, file_key: &FileKey) -> Result<Vec<Stanza>, Error> {
+        let stanza = |name: &str, body: &[u8]| Stanza { args: vec![name.into(), "x".into()], body: body.into() };
+        Ok(vec![stanza("plain", &file_key.0), stanza("grease", &[0; 100])])
+    }
+}
+
+impl Identity for Plain {
+    fn unlock(&self, header: &Header) -> Result<Option<FileKey>, Error> {
+        let mine = header.stanzas().iter().find(|stanza| stanza.args[0] == "plain");
+        Ok(mine.map(|stanza| FileKey(stanza.body[..].try_into().unwrap())))
+    }
+}
+
+/// An identity that finds another file key.
+struct Wrong;
+
+impl Identity for Wrong {
+    fn unlock(&self, _: &Header) -> Result<Option<FileKey>, Error> {
+        Ok(Some(FileKey([0; 16])))
+    }
+}
+
+#[test]
+fn callers_own_recipients_and_identities() {
+    let file = encrypt(b"text", &[&key(), &Plain]).unwrap();
+    assert_eq!(decrypt(&file, &[&Plain]).unwrap(), b"text");
+    assert_eq!(decrypt(&file, &[&Key::new([8; 32]), &Plain]).unwrap(), b"text");
+    assert_eq!(decrypt(&file, &[&key()]).unwrap(), b"text");
+    assert_eq!(decrypt(&file, &[&Wrong]), Err(Error::BadMac));
+    for name in ["", "a b", "ü", "a\n"] {
+        struct Named<'a>(&'a str);
+        impl Recipient for Named<'_> {
+            fn wrap(&self, _: &FileKey) -> Result<Vec<Stanza>, Error> {
+                Ok(vec![Stanza { args: vec![self.0.into()], body: vec![] }])
+            }
+        }
+        assert_eq!(fault(encrypt(b"", &[&Named(name)]).unwrap_err()), Error::BadArguments);
+    }
+}
+
+#[test]
+fn no_secret_is_printed() {
+    let file = encrypt(b"text", &[&key()]).unwrap();
+    let shown = [
+        format!("{:?}", key()),
+        format!("{:?}", passphrase()),
+        format!("{:?}", FileKey([7; 16])),
+        format!("{:?}", Reader::new(&file[..], &[&key()]).unwrap()),
+        format!("{:?}", RangeReader::new(Cursor::new(&file), &[&key()]).unwrap()),
+        format!("{:?}", Writer::new(Vec::new(), &[&key()]).unwrap()),
+    ];
+    for text in shown {
+        assert!(!text.contains('7') && !text.contains("horse"), "{text}");
+    }
+}
+
+#[test]
+fn all_types_go_to_other_threads() {
+    fn both<T: Send + Sync>() {}
+    both::<(Error, Part, Header, Stanza, FileKey, Key, Passphrase)>();
+    both::<(Reader<io::Empty>, RangeReader<Cursor<Vec<u8>>>, Writer<Vec<u8>>)>();
 }

@@ -1,0 +1,72 @@
+//! The beginning of a source: its header and nonce.
+
+use std::io::{self, Read};
+
+use crate::ffi::{self, FRONT, NONCE};
+use crate::header::{inspect, unlock};
+use crate::{Error, Identity};
+
+/// One read, again where it was interrupted.
+pub fn read_some(source: &mut impl Read, buf: &mut [u8]) -> io::Result<usize> {
+    loop {
+        match source.read(buf) {
+            Err(error) if error.kind() == io::ErrorKind::Interrupted => {}
+            result => return result,
+        }
+    }
+}
+
+/// Reads until the buffer is full from `have` on, or the source ends. Adds the bytes to `have`,
+/// also if a read fails.
+pub fn fill(source: &mut impl Read, buf: &mut [u8], have: &mut usize) -> io::Result<()> {
+    while *have < buf.len() {
+        match read_some(source, &mut buf[*have..])? {
+            0 => break,
+            count => *have += count,
+        }
+    }
+    Ok(())
+}
+
+/// What was read of a source up to its nonce, and its file key.
+pub struct Front {
+    pub bytes: Vec<u8>,
+    pub file_key: [u8; 16],
+}
+
+impl Front {
+    /// Reads no more than it needs to find the file key, so that a wrong key is found while the
+    /// source still waits.
+    pub fn read(source: &mut impl Read, identities: &[&dyn Identity]) -> io::Result<Front> {
+        let mut front = Front { bytes: Vec::new(), file_key: [0; 16] };
+        let mut tried = 0;
+        let header = loop {
+            let has_more = front.read_more(source)?;
+            // A header is tried once its last line may be there, or after twice as much as before.
+            let is_due = front.bytes[tried..].windows(4).any(|four| four == b"\n---");
+            if has_more && !is_due && front.bytes.len() < 2 * tried {
+                continue;
+            }
+            tried = front.bytes.len();
+            match inspect(&front.bytes) {
+                Err(Error::HeaderTruncated) if has_more => {}
+                result => break result?,
+            }
+        };
+        front.file_key = unlock(&header, identities)?.0;
+        while front.bytes.len() < header.text().len() + NONCE && front.read_more(source)? {}
+        Ok(front)
+    }
+
+    fn read_more(&mut self, source: &mut impl Read) -> io::Result<bool> {
+        let had = self.bytes.len();
+        self.bytes.resize(had + FRONT, 0);
+        let result = read_some(source, &mut self.bytes[had..]);
+        self.bytes.truncate(had + *result.as_ref().unwrap_or(&0));
+        Ok(result? > 0)
+    }
+
+    pub fn open(&self) -> Result<(ffi::Payload, usize), Error> {
+        ffi::open(&self.bytes, &self.file_key)
+    }
+}

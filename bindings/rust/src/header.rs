@@ -1,0 +1,112 @@
+//! Headers and their stanzas.
+
+use crate::ffi::{self, StanzaSummary};
+use crate::{Error, FileKey, Identity, Recipient};
+
+/// One entry of a header, which holds the file key for one recipient.
+#[derive(Clone, Debug, PartialEq, Eq)]
+pub struct Stanza {
+    /// The type, and the arguments after it.
+    pub args: Vec<String>,
+    /// The body's bytes.
+    pub body: Vec<u8>,
+}
+
+/// What stands in a header. Its MAC is not verified.
+#[derive(Clone, Debug, PartialEq, Eq)]
+pub struct Header {
+    text: Vec<u8>,
+    stanzas: Vec<Stanza>,
+    mac: [u8; 32],
+}
+
+impl Header {
+    /// The stanzas, in order.
+    pub fn stanzas(&self) -> &[Stanza] {
+        &self.stanzas
+    }
+
+    /// The MAC that stands in the header.
+    pub fn mac(&self) -> &[u8; 32] {
+        &self.mac
+    }
+
+    /// The header's own text, up to the LF after its MAC.
+    pub fn text(&self) -> &[u8] {
+        &self.text
+    }
+}
+
+/// The header of a file, of which `front` is any beginning that holds it.
+pub fn inspect(front: &[u8]) -> Result<Header, Error> {
+    let summary = ffi::inspect(front)?;
+    let text = front[..summary.header_len as usize].to_vec();
+    let mut sizes = vec![StanzaSummary::default(); summary.stanzas as usize];
+    let mut room = vec![0; text.len()];
+    ffi::stanzas(&text, &mut sizes, &mut room)?;
+    let mut rest = &room[..];
+    let stanzas = sizes
+        .iter()
+        .map(|size| {
+            let (args, behind) = rest.split_at(size.args_len as usize);
+            let (body, behind) = behind.split_at(size.body_len as usize);
+            rest = behind;
+            let args = String::from_utf8_lossy(args).split(' ').map(String::from).collect();
+            Stanza { args, body: body.to_vec() }
+        })
+        .collect();
+    Ok(Header { text, stanzas, mac: summary.mac })
+}
+
+/// What a call writes to a buffer of this size.
+pub(crate) fn written(room: usize, call: impl FnOnce(&mut [u8]) -> Result<usize, Error>) -> Result<Vec<u8>, Error> {
+    let mut out = vec![0; room];
+    let len = call(&mut out)?;
+    out.truncate(len);
+    Ok(out)
+}
+
+/// The text of a stanza in a header.
+fn stanza_text(stanza: &Stanza) -> Result<Vec<u8>, Error> {
+    if stanza.args.iter().any(|arg| arg.is_empty() || arg.contains(' ')) {
+        return Err(Error::BadArguments);
+    }
+    let args = stanza.args.join(" ");
+    // Each 48 bytes of a body are a line of 65.
+    let room = args.len() + stanza.body.len() / 48 * 65 + 80;
+    written(room, |out| Ok(ffi::wrap(args.as_bytes(), &stanza.body, out)?.len as usize))
+}
+
+/// The text of the stanzas into which recipients wrap a file key, in order.
+pub(crate) fn stanzas_text(recipients: &[&dyn Recipient], file_key: &FileKey) -> Result<Vec<u8>, Error> {
+    let mut text = Vec::new();
+    for recipient in recipients {
+        for stanza in recipient.wrap(file_key)? {
+            text.extend(stanza_text(&stanza)?);
+        }
+    }
+    Ok(text)
+}
+
+/// The header of a text of stanzas under a file key.
+pub(crate) fn header_of(stanzas: &[u8], file_key: &FileKey) -> Result<Vec<u8>, Error> {
+    written(stanzas.len() + 128, |out| Ok(ffi::header(stanzas, &file_key.0, out)?.len as usize))
+}
+
+/// The file key that the first identity finds whose key fits.
+pub(crate) fn unlock(header: &Header, identities: &[&dyn Identity]) -> Result<FileKey, Error> {
+    let is_passphrase = |stanza: &Stanza| stanza.args[0] == "scrypt";
+    if header.stanzas.len() > 1 && header.stanzas.iter().any(is_passphrase) {
+        return Err(Error::MixedPassphrase);
+    }
+    let mut missed = Error::NoMatch;
+    for identity in identities {
+        match identity.unlock(header) {
+            Ok(Some(file_key)) => return Ok(file_key),
+            Ok(None) | Err(Error::NoMatch) => {}
+            Err(Error::WrongKey) => missed = Error::WrongKey,
+            Err(error) => return Err(error),
+        }
+    }
+    Err(missed)
+}

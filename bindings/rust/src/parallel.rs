@@ -1,0 +1,87 @@
+//! Whole files in memory, on several threads. Each thread seals or opens a part of the payload, which
+//! no other one does.
+
+use std::io;
+use std::thread;
+
+use crate::ffi::{self, ChunkPart, Payload, NONCE, SEALED_CHUNK, TAG, TEXT_CHUNK};
+use crate::header::{header_of, inspect, stanzas_text, unlock};
+use crate::whole::text_len;
+use crate::{Error, FileKey, Identity, Recipient};
+
+/// What a thread does with its part: with each of its chunks, and where it is in the output.
+type Step = fn(&mut ChunkPart, &[u8], &mut [u8]) -> Result<(), Error>;
+
+/// The same file as [`crate::encrypt`] makes, sealed on so many threads.
+pub fn encrypt(plain: &[u8], recipients: &[&dyn Recipient], threads: usize) -> io::Result<Vec<u8>> {
+    let (file_key, nonce) = (FileKey(ffi::random()?), ffi::random()?);
+    let stanzas = stanzas_text(recipients, &file_key)?;
+    let header_len = header_of(&stanzas, &file_key)?.len() as u64;
+    let mut out = vec![0; ffi::file_len(header_len, plain.len() as u64) as usize];
+    let (mut payload, front) = ffi::begin(&stanzas, &file_key.0, &nonce, &mut out)?;
+    let sealed = &mut out[front..];
+    let (plain, sealed) =
+        in_parts(&mut payload, plain, TEXT_CHUNK, sealed, SEALED_CHUNK, threads, |part, text, chunk| {
+            chunk[..TEXT_CHUNK].copy_from_slice(text);
+            ffi::part_seal_next(part, chunk).map(|_| ())
+        })?;
+    sealed[..plain.len()].copy_from_slice(plain);
+    ffi::seal_next(&mut payload, sealed, true)?;
+    Ok(out)
+}
+
+/// The same plaintext as [`crate::decrypt`] returns, opened on so many threads.
+pub fn decrypt(file: &[u8], identities: &[&dyn Identity], threads: usize) -> Result<Vec<u8>, Error> {
+    let header = inspect(file)?;
+    let file_key = unlock(&header, identities)?;
+    let (mut payload, front) = ffi::open(file, &file_key.0)?;
+    debug_assert_eq!(front, header.text().len() + NONCE);
+    let mut out = vec![0; text_len(file.len() - front)];
+    let (sealed, text) =
+        in_parts(&mut payload, &file[front..], SEALED_CHUNK, &mut out, TEXT_CHUNK, threads, |part, chunk, text| {
+            let mut buf = chunk.to_vec();
+            ffi::part_open_next(part, &mut buf)?;
+            text.copy_from_slice(&buf[..TEXT_CHUNK]);
+            Ok(())
+        })?;
+    let mut last = sealed.to_vec();
+    let len = ffi::open_next(&mut payload, &mut last, true)?;
+    text[..len].copy_from_slice(&last[..len]);
+    Ok(out)
+}
+
+/// Does all chunks but the last, and returns what is left of the input and of the output. The error
+/// is that of the first chunk that has one.
+fn in_parts<'a, 'b>(
+    payload: &mut Payload,
+    input: &'a [u8],
+    take: usize,
+    output: &'b mut [u8],
+    give: usize,
+    threads: usize,
+    step: Step,
+) -> Result<(&'a [u8], &'b mut [u8]), Error> {
+    let chunks = input.len().div_ceil(take).max(1) - 1;
+    let (input, last) = input.split_at(chunks * take);
+    let (output, rest) = output.split_at_mut(chunks * give);
+    let each = chunks.div_ceil(threads.max(1)).max(1);
+    let mut parts = Vec::new();
+    for (input, output) in input.chunks(each * take).zip(output.chunks_mut(each * give)) {
+        parts.push((ffi::take_part(payload, (input.len() / take) as u64)?, input, output));
+    }
+    thread::scope(|scope| {
+        let running: Vec<_> = parts
+            .into_iter()
+            .map(|(mut part, input, output)| {
+                scope.spawn(move || {
+                    let mut pairs = input.chunks(take).zip(output.chunks_mut(give));
+                    pairs.try_for_each(|(from, to)| step(&mut part, from, to))
+                })
+            })
+            .collect();
+        let done: Vec<_> = running.into_iter().map(|thread| thread.join().expect("no panic")).collect();
+        done.into_iter().collect::<Result<(), Error>>()
+    })?;
+    debug_assert!(last.len() + TAG <= take + TAG);
+    Ok((last, rest))
+}

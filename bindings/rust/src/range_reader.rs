@@ -1,0 +1,124 @@
+//! Reading any part.
+
+use std::fmt;
+use std::io::{self, Read, Seek, SeekFrom};
+use std::ops::Range;
+
+use crate::ffi::{self, Ranges, SEALED_CHUNK, TEXT_CHUNK};
+use crate::front::{fill, Front};
+use crate::{Error, Identity};
+
+/// The plaintext of an age file, any part of it. Only the chunks that are read are opened, so damage
+/// in others is not noticed; the last chunk is opened at first, since it proves where the plaintext
+/// ends. Each byte that it returns was verified.
+pub struct RangeReader<R> {
+    source: R,
+    ranges: Ranges,
+    /// The chunk that was opened last, its number, and its text.
+    buf: Box<[u8]>,
+    number: Option<u64>,
+    text: Range<usize>,
+    len: u64,
+    position: u64,
+}
+
+impl<R: Read + Seek> RangeReader<R> {
+    /// Reads the header, finds the file key by the first identity whose key fits, and opens the last
+    /// chunk. The source is the whole file, which does not change.
+    pub fn new(mut source: R, identities: &[&dyn Identity]) -> io::Result<RangeReader<R>> {
+        let file_len = source.seek(SeekFrom::End(0))?;
+        source.rewind()?;
+        let front = Front::read(&mut source, identities)?;
+        let (ranges, last) = ffi::ranges_open(&front.bytes, file_len, &front.file_key)?;
+        let buf = vec![0; SEALED_CHUNK].into_boxed_slice();
+        let mut reader = RangeReader { source, ranges, buf, number: None, text: 0..0, len: 0, position: 0 };
+        let number = (last.place - reader.ranges.first) / SEALED_CHUNK as u64;
+        reader.read_sealed(number, last.place, last.len as usize)?;
+        let opened = ffi::ranges_last(&mut reader.ranges, &mut reader.buf[..last.len as usize])?;
+        reader.keep(number, opened.len as usize);
+        reader.len = number * TEXT_CHUNK as u64 + opened.len;
+        Ok(reader)
+    }
+
+    fn keep(&mut self, number: u64, len: usize) {
+        self.number = Some(number);
+        self.text = 0..len;
+    }
+
+    /// Reads a sealed chunk. Whatever was kept is lost.
+    fn read_sealed(&mut self, number: u64, place: u64, len: usize) -> io::Result<()> {
+        self.number = None;
+        self.source.seek(SeekFrom::Start(place))?;
+        let mut have = 0;
+        fill(&mut self.source, &mut self.buf[..len], &mut have)?;
+        if have < len {
+            return Err(Error::ChunkShort(number).into());
+        }
+        Ok(())
+    }
+
+    /// Opens a chunk, unless it is the one that is kept.
+    fn load(&mut self, number: u64) -> io::Result<()> {
+        if self.number == Some(number) {
+            return Ok(());
+        }
+        let at = number * TEXT_CHUNK as u64;
+        let place = ffi::ranges_locate(&self.ranges, at)?;
+        self.read_sealed(number, place.place, place.len as usize)?;
+        let opened = ffi::ranges_chunk(&self.ranges, at, &mut self.buf[..place.len as usize])?;
+        self.keep(number, opened.len as usize);
+        Ok(())
+    }
+}
+
+impl<R> RangeReader<R> {
+    /// The length of the plaintext in bytes.
+    pub fn len(&self) -> u64 {
+        self.len
+    }
+
+    /// Whether the plaintext is empty.
+    pub fn is_empty(&self) -> bool {
+        self.len == 0
+    }
+
+    /// Takes the source back.
+    pub fn into_inner(self) -> R {
+        self.source
+    }
+}
+
+impl<R: Read + Seek> Read for RangeReader<R> {
+    fn read(&mut self, out: &mut [u8]) -> io::Result<usize> {
+        if out.is_empty() || self.position >= self.len {
+            return Ok(0);
+        }
+        self.load(self.position / TEXT_CHUNK as u64)?;
+        let start = (self.position % TEXT_CHUNK as u64) as usize;
+        let count = out.len().min(self.text.end - start);
+        out[..count].copy_from_slice(&self.buf[start..start + count]);
+        self.position += count as u64;
+        Ok(count)
+    }
+}
+
+impl<R: Read + Seek> Seek for RangeReader<R> {
+    fn seek(&mut self, to: SeekFrom) -> io::Result<u64> {
+        let position = match to {
+            SeekFrom::Start(at) => Some(at),
+            SeekFrom::End(by) => self.len.checked_add_signed(by),
+            SeekFrom::Current(by) => self.position.checked_add_signed(by),
+        };
+        match position {
+            Some(position) => self.position = position,
+            None => return Err(io::Error::new(io::ErrorKind::InvalidInput, "seek before the beginning")),
+        }
+        Ok(self.position)
+    }
+}
+
+impl<R> fmt::Debug for RangeReader<R> {
+    fn fmt(&self, f: &mut fmt::Formatter<'_>) -> fmt::Result {
+        f.debug_struct("RangeReader").field("len", &self.len).field("position", &self.position).finish_non_exhaustive()
+    }
+}

@@ -1,0 +1,96 @@
+//! Reading a stream.
+
+use std::fmt;
+use std::io::{self, Read};
+use std::ops::Range;
+
+use crate::ffi::{self, Payload, SEALED_CHUNK};
+use crate::front::{fill, Front};
+use crate::{Error, Identity};
+
+/// The plaintext of an age file, chunk by chunk, in constant memory. Each byte that it returns was
+/// verified. The plaintext is complete only after a read into a nonempty buffer returned `Ok(0)`.
+///
+/// After an [`Error`] each such read returns it again. After a failed read of the source, as one
+/// that would block, reading can go on.
+pub struct Reader<R> {
+    source: R,
+    payload: Payload,
+    /// What was read behind the nonce, and not used yet.
+    ahead: io::Cursor<Vec<u8>>,
+    /// A chunk, sealed or opened, and the byte after it, which tells whether it is the last.
+    buf: Box<[u8]>,
+    /// The number of bytes of the next sealed chunk that were read, and the first of them, which
+    /// stands behind the chunk that was opened.
+    sealed: usize,
+    first: u8,
+    /// The text in `buf` that was not returned yet.
+    text: Range<usize>,
+    has_ended: bool,
+    fault: Option<Error>,
+}
+
+impl<R: Read> Reader<R> {
+    /// Reads the header, and finds the file key by the first identity whose key fits. No more of the
+    /// source is read than is there, so a wrong key is told before the payload has come.
+    pub fn new(mut source: R, identities: &[&dyn Identity]) -> io::Result<Reader<R>> {
+        let front = Front::read(&mut source, identities)?;
+        let (payload, begin) = front.open()?;
+        let mut ahead = io::Cursor::new(front.bytes);
+        ahead.set_position(begin as u64);
+        let buf = vec![0; SEALED_CHUNK + 1].into_boxed_slice();
+        let (text, fault) = (0..0, None);
+        Ok(Reader { source, payload, ahead, buf, sealed: 0, first: 0, text, has_ended: false, fault })
+    }
+
+    /// Takes the source back. What was read ahead of it is lost.
+    pub fn into_inner(self) -> R {
+        self.source
+    }
+
+    /// Reads and opens the next chunk.
+    fn advance(&mut self) -> io::Result<()> {
+        if let Some(fault) = self.fault {
+            return Err(fault.into());
+        }
+        if self.sealed > 0 {
+            self.buf[0] = self.first;
+        }
+        let filled = fill(&mut (&mut self.ahead).chain(&mut self.source), &mut self.buf, &mut self.sealed);
+        if filled.is_err() && self.sealed > 0 {
+            self.first = self.buf[0];
+        }
+        filled?;
+        let len = self.sealed.min(SEALED_CHUNK);
+        let is_last = self.sealed == len;
+        match ffi::open_next(&mut self.payload, &mut self.buf[..len], is_last) {
+            Ok(text) => self.text = 0..text,
+            Err(fault) => {
+                self.fault = Some(fault);
+                return Err(fault.into());
+            }
+        }
+        self.has_ended = is_last;
+        self.first = self.buf[SEALED_CHUNK];
+        self.sealed = 1;
+        Ok(())
+    }
+}
+
+impl<R: Read> Read for Reader<R> {
+    fn read(&mut self, out: &mut [u8]) -> io::Result<usize> {
+        if self.text.is_empty() && !self.has_ended && !out.is_empty() {
+            self.advance()?;
+        }
+        let count = out.len().min(self.text.len());
+        out[..count].copy_from_slice(&self.buf[self.text.start..][..count]);
+        self.text.start += count;
+        Ok(count)
+    }
+}
+
+impl<R> fmt::Debug for Reader<R> {
+    fn fmt(&self, f: &mut fmt::Formatter<'_>) -> fmt::Result {
+        f.debug_struct("Reader").field("fault", &self.fault).finish_non_exhaustive()
+    }
+}

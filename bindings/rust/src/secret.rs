@@ -1,0 +1,127 @@
+//! Recipients and identities.
+
+use std::fmt;
+
+use crate::ffi;
+use crate::header::{header_of, inspect, written, Header, Stanza};
+use crate::Error;
+
+/// The room for the stanza of a passphrase or a key.
+const STANZA_ROOM: usize = 128;
+
+/// The 16 bytes from which a file's keys are derived.
+#[derive(Clone, Copy, PartialEq, Eq)]
+pub struct FileKey(pub [u8; 16]);
+
+/// Wraps the file key of a new file into stanzas.
+pub trait Recipient {
+    /// The stanzas that hold this file key, in order.
+    fn wrap(&self, file_key: &FileKey) -> Result<Vec<Stanza>, Error>;
+}
+
+/// Finds the file key of a file.
+pub trait Identity {
+    /// The file key that one of the header's stanzas holds. `None`: no stanza is for this identity.
+    /// [`Error::WrongKey`]: one is, and another identity may fit. Another error ends the search.
+    /// The header's MAC is compared under this key afterwards.
+    fn unlock(&self, header: &Header) -> Result<Option<FileKey>, Error>;
+}
+
+/// A passphrase, for new files and for old ones: any bytes.
+#[derive(Clone)]
+pub struct Passphrase {
+    text: Vec<u8>,
+    work: u8,
+    max_work: u8,
+}
+
+/// A key of 32 bytes that both sides hold. Only `agep` and `libagefile` open files made for it.
+#[derive(Clone)]
+pub struct Key([u8; 32]);
+
+impl Passphrase {
+    /// A passphrase with the usual work factors: 18, and at most 22.
+    pub fn new(text: impl Into<Vec<u8>>) -> Passphrase {
+        Passphrase { text: text.into(), work: 18, max_work: 22 }
+    }
+
+    /// The work factor of a new file, 1 to 30: each try to open it takes 2^work KiB of memory.
+    pub fn with_work(mut self, work: u8) -> Passphrase {
+        self.work = work;
+        self
+    }
+
+    /// The greatest work factor that is accepted of a file, 1 to 30.
+    pub fn with_max_work(mut self, max_work: u8) -> Passphrase {
+        self.max_work = max_work;
+        self
+    }
+}
+
+impl Key {
+    /// A key of these bytes.
+    pub fn new(key: [u8; 32]) -> Key {
+        Key(key)
+    }
+}
+
+/// The one stanza of a text, which the library reads as it reads a header.
+fn stanza_of(text: &[u8], file_key: &FileKey) -> Result<Vec<Stanza>, Error> {
+    Ok(inspect(&header_of(text, file_key)?)?.stanzas().to_vec())
+}
+
+fn fresh_salt() -> Result<[u8; 16], Error> {
+    ffi::random().map_err(|_| Error::Refused)
+}
+
+/// What unlocking found, where no match is no error.
+fn found(result: Result<[u8; 16], Error>) -> Result<Option<FileKey>, Error> {
+    match result {
+        Ok(file_key) => Ok(Some(FileKey(file_key))),
+        Err(Error::NoMatch) => Ok(None),
+        Err(error) => Err(error),
+    }
+}
+
+impl Recipient for Passphrase {
+    fn wrap(&self, file_key: &FileKey) -> Result<Vec<Stanza>, Error> {
+        let salt = fresh_salt()?;
+        let text = written(STANZA_ROOM, |out| {
+            Ok(ffi::wrap_passphrase(&file_key.0, &self.text, self.work, &salt, out)?.len as usize)
+        })?;
+        stanza_of(&text, file_key)
+    }
+}
+
+impl Identity for Passphrase {
+    fn unlock(&self, header: &Header) -> Result<Option<FileKey>, Error> {
+        found(ffi::unlock_passphrase(header.text(), &self.text, self.max_work))
+    }
+}
+
+impl Recipient for Key {
+    fn wrap(&self, file_key: &FileKey) -> Result<Vec<Stanza>, Error> {
+        let salt = fresh_salt()?;
+        let text = written(STANZA_ROOM, |out| Ok(ffi::wrap_key(&file_key.0, &self.0, &salt, out)?.len as usize))?;
+        stanza_of(&text, file_key)
+    }
+}
+
+impl Identity for Key {
+    fn unlock(&self, header: &Header) -> Result<Option<FileKey>, Error> {
+        found(ffi::unlock_key(header.text(), &self.0))
+    }
+}
+
+/// Prints the type's name alone.
+macro_rules! hide {
+    ($($name:ident),*) => {$(
+        impl fmt::Debug for $name {
+            fn fmt(&self, f: &mut fmt::Formatter<'_>) -> fmt::Result {
+                f.debug_struct(stringify!($name)).finish_non_exhaustive()
+            }
+        }
+    )*};
+}
+
+hide!(FileKey, Passphrase, Key);

@@ -1,0 +1,119 @@
+//! Writing a stream.
+
+use std::fmt;
+use std::io::{self, Write};
+
+use crate::ffi::{self, Payload, SEALED_CHUNK, TAG, TEXT_CHUNK};
+use crate::header::stanzas_text;
+use crate::{Error, FileKey, Recipient};
+
+/// Encrypts what is written to it, chunk by chunk, in constant memory. Only [`Writer::finish`] makes
+/// the file whole: without it, or after a failed write, each reader refuses the file.
+#[must_use = "a file is whole only after `finish`"]
+pub struct Writer<W> {
+    sink: W,
+    payload: Payload,
+    /// The text of the next chunk, and room for its tag.
+    buf: Box<[u8]>,
+    len: usize,
+    has_failed: bool,
+}
+
+impl<W: Write> Writer<W> {
+    /// Writes the header and the nonce of a new file for these recipients.
+    pub fn new(mut sink: W, recipients: &[&dyn Recipient]) -> io::Result<Writer<W>> {
+        let (file_key, nonce) = (FileKey(ffi::random()?), ffi::random()?);
+        let stanzas = stanzas_text(recipients, &file_key)?;
+        let mut front = vec![0; stanzas.len() + 256];
+        let (payload, len) = ffi::begin(&stanzas, &file_key.0, &nonce, &mut front)?;
+        sink.write_all(&front[..len])?;
+        let buf = vec![0; SEALED_CHUNK].into_boxed_slice();
+        Ok(Writer { sink, payload, buf, len: 0, has_failed: false })
+    }
+
+    /// Seals the text as a chunk and writes it.
+    fn put_chunk(&mut self, is_last: bool) -> io::Result<()> {
+        if self.has_failed {
+            return Err(Error::Incomplete.into());
+        }
+        self.has_failed = true;
+        let sealed = ffi::seal_next(&mut self.payload, &mut self.buf[..self.len + TAG], is_last)?;
+        self.sink.write_all(&self.buf[..sealed])?;
+        self.len = 0;
+        self.has_failed = false;
+        Ok(())
+    }
+
+    /// Writes the last chunk, flushes the sink, and returns it, also beside an error.
+    pub fn finish(mut self) -> Result<W, FinishError<W>> {
+        match self.put_chunk(true).and_then(|()| self.sink.flush()) {
+            Ok(()) => Ok(self.sink),
+            Err(error) => Err(FinishError { error, sink: self.sink }),
+        }
+    }
+}
+
+impl<W: Write> Write for Writer<W> {
+    fn write(&mut self, text: &[u8]) -> io::Result<usize> {
+        if text.is_empty() {
+            return Ok(0);
+        }
+        // A full chunk waits for the byte after it: it may be the last one.
+        if self.len == TEXT_CHUNK || self.has_failed {
+            self.put_chunk(false)?;
+        }
+        let count = text.len().min(TEXT_CHUNK - self.len);
+        self.buf[self.len..self.len + count].copy_from_slice(&text[..count]);
+        self.len += count;
+        Ok(count)
+    }
+
+    /// Flushes the sink. The bytes of a chunk that is not full stay here.
+    fn flush(&mut self) -> io::Result<()> {
+        self.sink.flush()
+    }
+}
+
+impl<W> fmt::Debug for Writer<W> {
+    fn fmt(&self, f: &mut fmt::Formatter<'_>) -> fmt::Result {
+        f.debug_struct("Writer").field("has_failed", &self.has_failed).finish_non_exhaustive()
+    }
+}
+
+/// A file that could not be finished: why, and its sink.
+pub struct FinishError<W> {
+    error: io::Error,
+    sink: W,
+}
+
+impl<W> FinishError<W> {
+    /// Why the file is not whole.
+    pub fn error(&self) -> &io::Error {
+        &self.error
+    }
+
+    /// The error, and the sink.
+    pub fn into_parts(self) -> (io::Error, W) {
+        (self.error, self.sink)
+    }
+}
+
+impl<W> fmt::Debug for FinishError<W> {
+    fn fmt(&self, f: &mut fmt::Formatter<'_>) -> fmt::Result {
+        f.debug_struct("FinishError").field("error", &self.error).finish_non_exhaustive()
+    }
+}
+
+impl<W> fmt::Display for FinishError<W> {
+    fn fmt(&self, f: &mut fmt::Formatter<'_>) -> fmt::Result {
+        self.error.fmt(f)
+    }
+}
+
+impl<W> std::error::Error for FinishError<W> {}
+
+impl<W> From<FinishError<W>> for io::Error {
+    fn from(error: FinishError<W>) -> io::Error {
+        error.error
+    }
+}
