@@ -1,4 +1,4 @@
-// BlockMix (RFC 7914, section 4).
+//! BlockMix (RFC 7914, section 4).
 
 ghost use Rattle.std.specs.Prelude.{◌≡◌, ◌+◌, ◌*◌, ◌≤◌, ◌<◌, length, take, drop, bit_xor};
 ghost use Rattle.std.specs.Simd.Lanes.{zip2};

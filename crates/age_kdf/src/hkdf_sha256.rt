@@ -1,4 +1,4 @@
-// HKDF (RFC 5869).
+//! HKDF (RFC 5869).
 
 ghost use Rattle.std.specs.Prelude.{◌≡◌, ◌≤◌, length};
 ghost use Rattle.age_kdf.specs.Hkdf.{hkdf, longest_output};

@@ -1,5 +1,5 @@
-// The state of an HMAC-SHA-256 computation (RFC 2104), which can be copied between two pieces of
-// the text.
+//! The state of an HMAC-SHA-256 computation (RFC 2104), which can be copied between two pieces of
+//! the text.
 
 ghost use Rattle.std.specs.Prelude.{◌≡◌, ◌≤◌, ◌++◌, [], map, length, drop, bit_xor};
 ghost use Rattle.std.specs.List.{flat_map};

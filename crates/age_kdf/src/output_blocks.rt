@@ -1,4 +1,4 @@
-// Outputs that are a prefix of a sequence of blocks of 32 bytes.
+//! Outputs that are a prefix of a sequence of blocks of 32 bytes.
 
 ghost use Rattle.std.specs.Prelude.{◌≡◌, ◌+◌, ◌*◌, ◌<◌, ◌++◌, length, take};
 ghost use Rattle.age_kdf.specs.Bytes.{Bytes};

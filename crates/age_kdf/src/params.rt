@@ -1,4 +1,4 @@
-// The parameters of scrypt.
+//! The parameters of scrypt.
 
 ghost use Rattle.std.specs.Prelude.{◌≡◌, ◌↔◌, ◌+◌, ◌^◌, ◌≤◌, ◌<◌, ◌*◌, IfSome, IsSome};
 ghost use Rattle.age_kdf.specs.Params.{Costs, InRange, work_words};

@@ -1,4 +1,4 @@
-// PBKDF2 (RFC 8018, section 5.2).
+//! PBKDF2 (RFC 8018, section 5.2).
 
 ghost use Rattle.std.specs.Prelude.{◌≡◌, ◌≤◌, ◌++◌, [], length, bit_xor};
 ghost use Rattle.std.specs.Simd.Lanes.{zip2};

@@ -1,4 +1,4 @@
-// ROMix (RFC 7914, section 5), with the table of the V[i], which the definition does not have.
+//! ROMix (RFC 7914, section 5), with the table of the V[i], which the definition does not have.
 
 ghost use Rattle.std.specs.Prelude.{◌≡◌, ℕ, ◌+◌, ◌*◌, ◌^◌, ◌≤◌, ◌<◌, length, take, drop, bit_xor};
 ghost use Rattle.std.specs.Simd.Lanes.{zip2};

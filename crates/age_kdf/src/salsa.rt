@@ -1,6 +1,6 @@
-// The Salsa20/8 core (RFC 7914, section 3), four steps at a time: vector k holds four of the
-// sixteen words, one of each column and one of each row, so that the four columns, and after
-// rotations the four rows, are lanes.
+//! The Salsa20/8 core (RFC 7914, section 3), four steps at a time: vector k holds four of the
+//! sixteen words, one of each column and one of each row, so that the four columns, and after
+//! rotations the four rows, are lanes.
 
 ghost use Rattle.std.specs.Prelude.{◌≡◌, ℕ, ◌<◌, slice_index, bit_xor};
 ghost use Rattle.std.specs.Int.{w32, rotate_left};

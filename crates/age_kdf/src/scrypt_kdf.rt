@@ -1,4 +1,4 @@
-// scrypt (RFC 7914, section 6), in a work space that is passed, or that it allocates.
+//! scrypt (RFC 7914, section 6), in a work space that is passed, or that it allocates.
 
 ghost use Rattle.std.specs.Prelude.{◌≡◌, ◌+◌, ◌*◌, ◌^◌, ◌≤◌, ◌++◌, [], length, OnErr, OnOk};
 ghost use Rattle.age_kdf.specs.Bytes.{Bytes};

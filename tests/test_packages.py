@@ -1,0 +1,181 @@
+"""Makes the packages twice, unpacks each, and uses what is inside."""
+
+import functools
+import os
+import re
+import shutil
+import subprocess
+import sys
+import tempfile
+import unittest
+from pathlib import Path
+
+ROOT = Path(__file__).resolve().parent.parent
+SECRET = ROOT / "tests/data/passphrase.age"
+# The oldest glibc that the binaries need: docs/PACKAGES.md says so.
+GLIBC = (2, 34)
+
+
+def run(*words, **options):
+    done = subprocess.run([str(word) for word in words], capture_output=True, text=True, **options)
+    if done.returncode != 0:
+        raise AssertionError(f"{words}: status {done.returncode}\n{done.stdout}{done.stderr}")
+    return done.stdout
+
+
+def needs(*tools):
+    missing = [tool for tool in tools if shutil.which(tool) is None]
+    return unittest.skipIf(missing, f"{' and '.join(missing)} missing")
+
+
+@needs("dpkg-buildpackage", "dh", "dh_python3", "cargo", "xz")
+class Packages(unittest.TestCase):
+    @classmethod
+    def setUpClass(cls):
+        cls.work = Path(tempfile.mkdtemp())
+        cls.addClassCleanup(shutil.rmtree, cls.work)
+        (cls.work / "other folder").mkdir()
+        cls.dist = cls.work / "dist"
+        run(ROOT / "package", cls.dist, umask=0o022)
+        os.environ.pop("SOURCE_DATE_EPOCH", None)
+        other = os.environ | {"LC_ALL": "C", "TZ": "Asia/Tokyo", "TMPDIR": str(cls.work / "other folder")}
+        run(ROOT / "package", cls.work / "other folder/again", umask=0o077, env=other)
+
+    @functools.cached_property
+    def version(self):
+        return re.search(r"^## (\d[\d.]*) ", (ROOT / "CHANGELOG.md").read_text(), re.M).group(1)
+
+    def one(self, pattern):
+        (found,) = self.dist.glob(pattern)
+        return found
+
+    def unpacked(self, *patterns):
+        """A folder with what the packages of these names hold."""
+        root = Path(tempfile.mkdtemp(dir=self.work))
+        for pattern in patterns:
+            run("dpkg-deb", "-x", self.one(pattern), root)
+        return root
+
+    def test_the_same_bytes_again(self):
+        sums = [(folder / "SHA256SUMS").read_text() for folder in (self.dist, self.work / "other folder/again")]
+        self.assertEqual(sums[0], sums[1])
+        self.assertEqual(len(sums[0].splitlines()), 7)
+        run("sha256sum", "-c", "SHA256SUMS", cwd=self.dist)
+
+    @needs("lintian")
+    def test_lintian(self):
+        debs = sorted(self.dist.glob("*.deb"))
+        said = run("lintian", "--fail-on", "error,warning", "--tag-display-limit", "0", *debs)
+        self.assertEqual(said, "")
+
+    @needs("dpkg")
+    def test_installed_and_removed(self):
+        root = Path(tempfile.mkdtemp(dir=self.work))
+        for folder in ("var/lib/dpkg/info", "var/lib/dpkg/updates", "var/log"):
+            (root / folder).mkdir(parents=True)
+        for name in ("status", "available"):
+            (root / "var/lib/dpkg" / name).touch()
+        before = sorted(path for path in root.rglob("*") if "var" not in path.parts)
+        dpkg = ("dpkg", "--root", root, "--log", root / "log", "--force-depends", "--force-not-root", "--force-script-chrootless")
+        run(*dpkg, "-i", *self.dist.glob("*.deb"))
+        self.assertTrue((root / "usr/bin/agep").exists())
+        names = [path.name.partition("_")[0] for path in self.dist.glob("*.deb")]
+        run(*dpkg, "--purge", *names)
+        (root / "log").unlink()
+        after = sorted(path for path in root.rglob("*") if "var" not in path.parts and path.name not in ("usr", "etc"))
+        self.assertEqual([path for path in after if path.is_file()], [])
+        self.assertEqual(before, [])
+
+    def test_program(self):
+        root = self.unpacked("agep_*.deb")
+        agep = root / "usr/bin/agep"
+        self.assertEqual(run(agep, "--version"), f"agep {self.version}\n")
+        (self.work / "pass").write_text("correct horse\n")
+        self.assertEqual(run(agep, "decrypt", "-p", self.work / "pass", SECRET), "hello\n")
+        for build in ("agep-x86-64", "agep-x86-64-v3"):
+            self.assertIn(b"\x7fELF", (root / "usr/lib/agep" / build).read_bytes()[:4])
+        self.assertEqual(run(root / "usr/lib/agep/agep-x86-64", "--version"), f"agep {self.version}\n")
+        refused = subprocess.run([agep, "decrypt"], input=b"hello", capture_output=True)
+        self.assertEqual(refused.returncode, 1)
+        for name in ("bash-completion/completions/agep", "zsh/vendor-completions/_agep", "fish/vendor_completions.d/agep.fish"):
+            self.assertIn("agep", (root / "usr/share" / name).read_text())
+
+    @needs("man")
+    def test_manual_page(self):
+        page = self.unpacked("agep_*.deb") / "usr/share/man/man1/agep.1.gz"
+        self.assertIn("agep", run("man", "-l", page, env=os.environ | {"LC_ALL": "C.UTF-8"}))
+
+    def test_libraries_that_are_needed(self):
+        root = self.unpacked("*.deb")
+        for path in root.rglob("*"):
+            if path.is_symlink() or not path.is_file() or path.read_bytes()[:4] != b"\x7fELF":
+                continue
+            needed = re.findall(r"GLIBC_(\d+)\.(\d+)", run("objdump", "-T", path))
+            self.assertLessEqual(max((int(major), int(minor)) for major, minor in needed), GLIBC, path)
+            names = re.findall(r"NEEDED +(\S+)", run("objdump", "-p", path))
+            self.assertLessEqual(set(names), {"libc.so.6", "ld-linux-x86-64.so.2"}, path)
+
+    @needs("cc", "pkg-config")
+    def test_a_program_in_c(self):
+        root = self.unpacked("libagefile*.deb")
+        library = root / "usr/lib/x86_64-linux-gnu"
+        config = os.environ | {"PKG_CONFIG_PATH": str(library / "pkgconfig")}
+        self.assertEqual(run("pkg-config", "--modversion", "agefile", env=config), f"{self.version}\n")
+        flags = run("pkg-config", "--cflags", "--libs", "agefile", env=config).split()
+        source = root / "usr/share/doc/libagefile-dev/examples/stream.c"
+        run("cc", "-O2", "-o", self.work / "stream", source, *flags, f"-Wl,-rpath,{library}")
+        (self.work / "key").write_bytes(bytes(32))
+        key = ("stream", self.work / "key")
+        sealed = subprocess.run([self.work / "stream", "-e", key[1]], input=b"text", capture_output=True, check=True)
+        opened = subprocess.run([self.work / "stream", key[1]], input=sealed.stdout, capture_output=True, check=True)
+        self.assertEqual(opened.stdout, b"text")
+        self.assertIn("libagefile.so", run("ldd", self.work / "stream"))
+
+    def test_the_wheel(self):
+        place = self.work / "venv"
+        run(sys.executable, "-m", "venv", place)
+        run(place / "bin/pip", "install", "--no-index", "--no-deps", self.one("*.whl"))
+        said = run(place / "bin/python", "-c", "import agefile; print(agefile.__version__, agefile.library_version())")
+        self.assertEqual(said, f"{self.version} {self.version}\n")
+        run(place / "bin/pip", "uninstall", "-y", "agefile")
+        self.assertEqual(list(place.rglob("agefile*")), [])
+
+    def test_the_package_for_python(self):
+        root = self.unpacked("python3-agefile*.deb", "libagefile[0-9]*.deb")
+        environment = os.environ | {
+            "PYTHONPATH": str(root / "usr/lib/python3/dist-packages"),
+            "LD_LIBRARY_PATH": str(root / "usr/lib/x86_64-linux-gnu"),
+        }
+        said = run("/usr/bin/python3", "-c", "import agefile; print(agefile.__version__)", env=environment)
+        self.assertEqual(said, f"{self.version}\n")
+
+    def test_the_crate(self):
+        root = self.unpacked("libagefile-dev*.deb", "libagefile[0-9]*.deb")
+        tree = Path(tempfile.mkdtemp(dir=self.work))
+        run("tar", "-xf", self.one("*.crate"), "-C", tree)
+        (tree / "user/src").mkdir(parents=True)
+        (tree / "user/Cargo.toml").write_text(
+            '[package]\nname = "user"\nversion = "0.1.0"\nedition = "2021"\n'
+            f'[dependencies]\nagefile = {{ path = "../agefile-{self.version}" }}\n'
+        )
+        (tree / "user/src/main.rs").write_text(
+            "fn main() {\n    let key = agefile::Key::new([7; 32]);\n"
+            '    let file = agefile::encrypt(b"text", &[&key]).unwrap();\n'
+            '    assert_eq!(agefile::decrypt(&file, &[&key]).unwrap(), b"text");\n}\n'
+        )
+        environment = os.environ | {
+            "AGEFILE_LIB_DIR": str(root / "usr/lib/x86_64-linux-gnu"),
+            "CARGO_TARGET_DIR": str(tree / "target"),
+        }
+        run("cargo", "run", "--offline", "--quiet", cwd=tree / "user", env=environment)
+
+    def test_the_tarball(self):
+        root = self.work / "anywhere"
+        root.mkdir()
+        run("tar", "-xf", self.one("*.tar.xz"), "-C", root, "--strip-components=1")
+        self.assertEqual(run(root / "bin/agep", "--version"), f"agep {self.version}\n")
+        self.assertTrue((root / "lib/pkgconfig/agefile.pc").exists())
+
+
+if __name__ == "__main__":
+    unittest.main()
