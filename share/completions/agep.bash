@@ -1,8 +1,7 @@
-# Completions of agep for bash: commands, options and files.
+# Completions of agep for bash: commands, options and files. ./generate writes this file.
 _agep() {
     local word=${COMP_WORDS[COMP_CWORD]} options= i
     local commands="encrypt decrypt inspect range rewrap help"
-    local opening="-p --passphrase -k --key -m --max-work" usual="-H --max-header -v --verbose -h --help -V --version"
     COMPREPLY=()
     if [[ $COMP_CWORD -eq 1 ]]; then
         mapfile -t COMPREPLY < <(compgen -W "$commands -h --help -V --version" -- "$word")
@@ -13,21 +12,22 @@ _agep() {
         [[ ${COMP_WORDS[i]} != -- ]] || return
     done
     case ${COMP_WORDS[COMP_CWORD - 1]} in
-        -w | --work | -m | --max-work | -H | --max-header)
+        -w | --work | -H | --max-header | -m | --max-work)
             # a number
             compopt +o default 2>/dev/null
             return
             ;;
-        -p | --passphrase | -k | --key | -P | --new-pass | -K | --new-key | -s | --seed | -f | --file-key | -o | --output)
+        -p | --passphrase | -k | --key | -s | --seed | -o | --output | -f | --file-key | -P | --new-pass | -K | --new-key)
             # a file, by default
             return
             ;;
     esac
     case ${COMP_WORDS[1]} in
-        encrypt) options="-p --passphrase -k --key -w --work -s --seed -o --output $usual" ;;
-        decrypt | range) options="$opening -o --output $usual" ;;
-        inspect) options="-r --raw -f --file-key $usual" ;;
-        rewrap) options="$opening -P --new-pass -K --new-key -w --work -s --seed -o --output $usual" ;;
+        encrypt) options="-p --passphrase -k --key -w --work -s --seed -H --max-header -o --output -v --verbose -h --help -V --version" ;;
+        decrypt) options="-p --passphrase -k --key -m --max-work -H --max-header -o --output -v --verbose -h --help -V --version" ;;
+        inspect) options="-r --raw -f --file-key -H --max-header -v --verbose -h --help -V --version" ;;
+        range) options="-p --passphrase -k --key -m --max-work -H --max-header -o --output -v --verbose -h --help -V --version" ;;
+        rewrap) options="-p --passphrase -k --key -m --max-work -H --max-header -o --output -v --verbose -P --new-pass -K --new-key -w --work -s --seed -h --help -V --version" ;;
         help) mapfile -t COMPREPLY < <(compgen -W "$commands" -- "$word") ;;
     esac
     if [[ $word == -* ]]; then

@@ -77,3 +77,123 @@ def _arms(path, function):
         if at > 0 and tokens[at].text == "fn" and found:
             break
     return found, constants
+
+
+# What the library itself returns, which is no fault of a file: in code.rt they are constants.
+OWN = {
+    "OK": "no fault",
+    "TOO_SMALL": "buffer is too small",
+    "WORK_FACTOR": "work factor is not 1 to 30",
+    "OUT_OF_ORDER": "no such stanza or offset, or a call out of order",
+    "NULL_POINTER": "null pointer with a length",
+    "BAD_ARGUMENTS": "stanza arguments are not words",
+}
+# The header's functions return this one; the library's own never do.
+NULL_POINTER = 24
+
+
+def _camel(constant):
+    return "".join(word.capitalize() for word in constant.split("_"))
+
+
+def faults(root):
+    """All codes in order, those of files and those of the library."""
+    texts = _texts(root / "crates/age_file/src/fault.rt", "Fault")
+    numbers, constants = _arms(root / "crates/agefile/src/code.rt", "fault_code")
+    found = [Fault(numbers[name], name, text) for name, text in texts.items()]
+    constants = constants | {"NULL_POINTER": NULL_POINTER}
+    found += [Fault(constants[name], _camel(name), text) for name, text in OWN.items() if name in constants]
+    return sorted(found)
+
+
+def parts(root):
+    """The parts of a stanza that may be malformed, by the detail of a report."""
+    texts = _texts(root / "crates/age_recipient/src/unwrapped.rt", "StanzaFault")
+    numbers, _ = _arms(root / "crates/agefile/src/code.rt", "fault_detail")
+    return {number: texts[name] for name, number in numbers.items() if number}
+
+
+def _c(all_codes, details):
+    enum = ",\n".join(f"    AGEFILE_{fault.constant} = {fault.code}" for fault in all_codes)
+    cases = "".join(f'    case AGEFILE_{f.constant}: return "{f.message}";\n' for f in all_codes)
+    named = "".join(f'    case {number}: return "{text}";\n' for number, text in details.items())
+    return {
+        "codes": f"enum agefile_code {{\n{enum}\n}};\n",
+        "messages": f'    switch (code) {{\n{cases}    default: return "unknown code";\n    }}\n',
+        "details": f'    switch (detail) {{\n{named}    default: return "other";\n    }}\n',
+    }
+
+
+def _python(all_codes, details):
+    members = "".join(f"    {fault.constant} = {fault.code}\n" for fault in all_codes)
+    messages = "".join(f'    Code.{fault.constant}: "{fault.message}",\n' for fault in all_codes)
+    named = "".join(f'    {number}: "{text}",\n' for number, text in details.items())
+    return {
+        "code members": members,
+        "code messages": f"_MESSAGES = {{\n{messages}}}\n",
+        "code details": f"_DETAILS = {{\n{named}}}\n",
+    }
+
+
+# The codes that no call of the crate for Rust returns as a fault of its own.
+NOT_IN_RUST = {"OK", "READ", "WRITE", "REFUSED", "INCOMPATIBLE_RECIPIENTS", "TOO_SMALL", "OUT_OF_ORDER", "NULL_POINTER"}
+
+
+def _rust(all_codes):
+    """Which code is which variant of the crate's enum, and its text."""
+    of, shown = "", ""
+    for fault in all_codes:
+        if fault.constant in NOT_IN_RUST:
+            continue
+        held = {"Malformed": "Part::of(report.detail)"}.get(fault.name, "place" if "{0}" in fault.text else None)
+        name = f"Error::{fault.name}"
+        of += f"            {fault.code} => {name + f'({held})' if held else name},\n"
+        word = {"Malformed": "part", "BadLine": "line"}.get(fault.name, "chunk")
+        bound = f"{name}({word})" if held else name
+        shown += f'            {bound} => write!(f, "{fault.text.replace("{0}", "{" + word + "}")}"),\n'
+    return {"codes of errors": of, "texts of errors": shown}
+
+
+# What a fault is called in docs/FORMAT.md, where that is not its text.
+TERMS = {
+    "BadLine": "bad line",
+    "HeaderTruncated": "cut short (the header)",
+    "HeaderTooLarge": "too large",
+    "MixedPassphrase": "a `scrypt` stanza is not alone",
+    "NoMatch": "no match",
+    "WrongKey": "wrong key",
+    "Malformed": "malformed",
+    "BadMac": "the header's MAC does not match",
+    "NonceTruncated": "fewer than 16 bytes follow the header",
+    "ChunkShort": "cut short (a piece)",
+    "EmptyFinal": "empty",
+    "BadChunk": "damaged",
+    "Read": "a failed read",
+    "Write": "a failed write",
+    "OutOfMemory": "a refused allocation",
+    "NoRecipients": "there is no stanza",
+    "Refused": "a recipient refused",
+    "IncompatibleRecipients": "a recipient does not go together with recipient 0",
+}
+
+
+def _printed(fault):
+    """What agep prints: N stands for a number, PART for a part of a stanza, CODE for a code."""
+    words = {"Malformed": ["PART"], "Refused": ["N", "CODE"]}.get(fault.name, ["N"])
+    return fault.text.format(*words)
+
+
+def _table(all_codes):
+    rows = [
+        f"| {f.code} | `{f.name}` | {TERMS.get(f.name, f.text)} | `{_printed(f)}` |\n"
+        for f in all_codes
+        if f.constant not in OWN
+    ]
+    return "| Code in C | `Fault` | In this document | What `agep` prints |\n|---|---|---|---|\n" + "".join(rows)
+
+
+def texts(root):
+    """Each generated text by its name."""
+    all_codes, details = faults(root), parts(root)
+    generated = _c(all_codes, details) | _python(all_codes, details) | _rust(all_codes)
+    return generated | {"faults": _table(all_codes)}

@@ -16,7 +16,7 @@ class Option(NamedTuple):
     @property
     def brief(self):
         """The text up to its first stop, with a small letter in front."""
-        brief = re.split(r"[.;:,] |\.$| \[", self.text)[0]
+        brief = re.split(r"[.;:] |\.$| \[", self.text)[0]
         return brief[0].lower() + brief[1:]
 
     @property

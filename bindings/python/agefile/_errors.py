@@ -9,6 +9,7 @@ from typing import Any
 class Code(enum.IntEnum):
     """The codes of the library for C; none is ever reused."""
 
+    # generated: code members
     OK = 0
     NOT_AGE = 1
     BAD_LINE = 2
@@ -34,9 +35,10 @@ class Code(enum.IntEnum):
     WORK_FACTOR = 22
     OUT_OF_ORDER = 23
     NULL_POINTER = 24
-    BAD_ARGUMENTS = 25
+    # end of code members
 
 
+# generated: code messages
 _MESSAGES = {
     Code.OK: "no fault",
     Code.NOT_AGE: "not an age file",
@@ -63,9 +65,10 @@ _MESSAGES = {
     Code.WORK_FACTOR: "work factor is not 1 to 30",
     Code.OUT_OF_ORDER: "no such stanza or offset, or a call out of order",
     Code.NULL_POINTER: "null pointer with a length",
-    Code.BAD_ARGUMENTS: "stanza arguments are not words",
 }
+# end of code messages
 
+# generated: code details
 _DETAILS = {
     1: "argument count",
     2: "salt",
@@ -73,6 +76,7 @@ _DETAILS = {
     4: "work factor is too high",
     5: "body length",
 }
+# end of code details
 
 _LINES = {Code.BAD_LINE}
 _CHUNKS = {Code.CHUNK_SHORT, Code.EMPTY_FINAL, Code.BAD_CHUNK}

@@ -1,1 +1,2 @@
+# generated: version of the package, one line
 __version__ = "0.3.0"

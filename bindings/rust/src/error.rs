@@ -76,6 +76,7 @@ impl Error {
     pub(crate) fn of(code: u32, report: &Report) -> Error {
         let place = report.place;
         match code {
+            // generated: codes of errors
             1 => Error::NotAge,
             2 => Error::BadLine(place),
             3 => Error::HeaderTruncated,
@@ -93,7 +94,7 @@ impl Error {
             17 => Error::OutOfMemory,
             18 => Error::NoRecipients,
             22 => Error::WorkFactor,
-            25 => Error::BadArguments,
+            // end of codes of errors
             _ => Error::Other(code),
         }
     }
@@ -139,6 +140,7 @@ impl fmt::Display for Part {
 impl fmt::Display for Error {
     fn fmt(&self, f: &mut fmt::Formatter<'_>) -> fmt::Result {
         match self {
+            // generated: texts of errors
             Error::NotAge => write!(f, "not an age file"),
             Error::BadLine(line) => write!(f, "bad header line {line}"),
             Error::HeaderTruncated => write!(f, "header is cut short"),
@@ -156,7 +158,7 @@ impl fmt::Display for Error {
             Error::OutOfMemory => write!(f, "out of memory"),
             Error::NoRecipients => write!(f, "no recipients"),
             Error::WorkFactor => write!(f, "work factor is not 1 to 30"),
-            Error::BadArguments => write!(f, "stanza arguments are not words"),
+            // end of texts of errors
             Error::Refused => write!(f, "recipient refused"),
             Error::Incomplete => write!(f, "an earlier write failed"),
             Error::Other(code) => write!(f, "code {code}"),

@@ -74,6 +74,7 @@ pub const DEFAULT_SEED: &str = "/dev/urandom";
 const ABOUT: &str = "Encrypt and decrypt files in the age v1 format";
 
 /// The newest version in `CHANGELOG.md`.
+// generated: version of the program, one line
 const VERSION: &str = "0.3.0";
 
 /// The whole command line.
