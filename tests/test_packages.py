@@ -1,4 +1,5 @@
-"""Makes the packages twice, unpacks each, and uses what is inside."""
+"""Makes the packages twice, unpacks each, and uses what is inside; runs the tests of the packages for
+Python and Rust over the wheel and the tarball."""
 
 import functools
 import os
@@ -35,9 +36,7 @@ class Packages(unittest.TestCase):
         cls.work = Path(tempfile.mkdtemp())
         cls.addClassCleanup(shutil.rmtree, cls.work)
         (cls.work / "other folder").mkdir()
-        cls.dist = cls.work / "dist"
-        run(ROOT / "package", cls.dist, umask=0o022)
-        os.environ.pop("SOURCE_DATE_EPOCH", None)
+        cls.dist = made()
         other = os.environ | {"LC_ALL": "C", "TZ": "Asia/Tokyo", "TMPDIR": str(cls.work / "other folder")}
         run(ROOT / "package", cls.work / "other folder/again", umask=0o077, env=other)
 
@@ -175,6 +174,84 @@ class Packages(unittest.TestCase):
         run("tar", "-xf", self.one("*.tar.xz"), "-C", root, "--strip-components=1")
         self.assertEqual(run(root / "bin/agep", "--version"), f"agep {self.version}\n")
         self.assertTrue((root / "lib/pkgconfig/agefile.pc").exists())
+
+
+@functools.cache
+def made():
+    """The folder of the packages, which are made once."""
+    folder = Path(tempfile.mkdtemp())
+    unittest.addModuleCleanup(shutil.rmtree, folder)
+    run(ROOT / "package", folder / "dist", umask=0o022)
+    return folder / "dist"
+
+
+class ForPython(unittest.TestCase):
+    @classmethod
+    def setUpClass(cls):
+        (wheel,) = made().glob("*.whl") or [None]
+        cls.place = Path(tempfile.mkdtemp())
+        cls.addClassCleanup(shutil.rmtree, cls.place)
+        run("/usr/bin/python3", "-m", "venv", "--system-site-packages", cls.place)
+        run(cls.place / "bin/pip", "install", "--no-index", "--no-deps", wheel)
+        cls.environment = {k: v for k, v in os.environ.items() if k not in ("AGEFILE_LIBRARY", "PYTHONPATH")}
+
+    def run_tests(self, name):
+        tests = ROOT / "bindings/python/tests"
+        words = [self.place / "bin/python", "-W", "ignore::DeprecationWarning", "-m", "unittest", "-v", tests / name]
+        done = subprocess.run(words, capture_output=True, text=True, env=self.environment, cwd=self.place)
+        self.assertEqual(done.returncode, 0, done.stdout + done.stderr)
+        skipped = re.findall(r"skipped '(.*)'|SkipTest: (.*)", done.stderr)
+        if skipped:
+            self.skipTest(f"{name}: {skipped[0]}")
+
+    def test_files_and_errors(self):
+        self.run_tests("test_whole.py")
+
+    def test_opened_files(self):
+        self.run_tests("test_files.py")
+
+    def test_x25519(self):
+        self.run_tests("test_x25519.py")
+
+    def test_dask(self):
+        self.run_tests("test_dask.py")
+
+    @needs("mypy")
+    def test_annotations(self):
+        run("mypy", "--strict", "--config-file", ROOT / "bindings/python/pyproject.toml", ROOT / "bindings/python/agefile",
+            "--cache-dir", self.place / "cache")
+
+
+@needs("cargo")
+class ForRust(unittest.TestCase):
+    @classmethod
+    def setUpClass(cls):
+        cls.tree = Path(tempfile.mkdtemp())
+        cls.addClassCleanup(shutil.rmtree, cls.tree)
+        run("tar", "-xf", *made().glob("*.tar.xz"), "-C", cls.tree, "--strip-components=1")
+        cls.environment = os.environ | {
+            "AGEFILE_LIB_DIR": str(cls.tree / "lib"),
+            "CARGO_TARGET_DIR": str(cls.tree / "target"),
+            "RUSTDOCFLAGS": "-D warnings",
+        }
+
+    def cargo(self, *words):
+        run("cargo", *words, "--offline", "--all-features", cwd=ROOT / "bindings/rust", env=self.environment)
+
+    def test_tests(self):
+        self.cargo("test")
+
+    @needs("cargo-clippy")
+    def test_clippy(self):
+        run("cargo", "clippy", "--offline", "--all-features", "--all-targets", "--", "-D", "warnings",
+            cwd=ROOT / "bindings/rust", env=self.environment)
+
+    def test_documentation(self):
+        self.cargo("doc")
+
+    @needs("rustfmt")
+    def test_layout(self):
+        run("cargo", "fmt", "--check", cwd=ROOT / "bindings/rust", env=self.environment)
 
 
 if __name__ == "__main__":
