@@ -121,7 +121,7 @@ released_version() {
 
 # The name that programs which link the library look for. A release that changes what an earlier one
 # promised has another number.
-soname=libagefile.so.0
+soname=libagefile.so.1
 
 # Prints the pkg-config file, which finds PREFIX from its own folder: pkg_config_file LIBDIR.
 pkg_config_file() {

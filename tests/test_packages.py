@@ -51,8 +51,8 @@ class Packages(unittest.TestCase):
     def unpacked(self, *patterns):
         """A folder with what the packages of these names hold."""
         root = Path(tempfile.mkdtemp(dir=self.work))
-        for pattern in patterns:
-            run("dpkg-deb", "-x", self.one(pattern), root)
+        for deb in {deb for pattern in patterns for deb in self.dist.glob(pattern)}:
+            run("dpkg-deb", "-x", deb, root)
         return root
 
     def test_the_same_bytes_again(self):
@@ -76,9 +76,11 @@ class Packages(unittest.TestCase):
             (root / "var/lib/dpkg" / name).touch()
         before = sorted(path for path in root.rglob("*") if "var" not in path.parts)
         dpkg = ("dpkg", "--root", root, "--log", root / "log", "--force-depends", "--force-not-root", "--force-script-chrootless")
-        run(*dpkg, "-i", *self.dist.glob("*.deb"))
+        # The scripts of the package for Python work on the system's own root.
+        debs = [deb for deb in self.dist.glob("*.deb") if not deb.name.startswith("python3-")]
+        run(*dpkg, "-i", *debs)
         self.assertTrue((root / "usr/bin/agep").exists())
-        names = [path.name.partition("_")[0] for path in self.dist.glob("*.deb")]
+        names = [deb.name.partition("_")[0] for deb in debs]
         run(*dpkg, "--purge", *names)
         (root / "log").unlink()
         after = sorted(path for path in root.rglob("*") if "var" not in path.parts and path.name not in ("usr", "etc"))
@@ -197,7 +199,7 @@ class ForPython(unittest.TestCase):
 
     def run_tests(self, name):
         tests = ROOT / "bindings/python/tests"
-        words = [self.place / "bin/python", "-W", "ignore::DeprecationWarning", "-m", "unittest", "-v", tests / name]
+        words = [self.place / "bin/python", "-m", "unittest", "discover", "-v", "-s", tests, "-p", name]
         done = subprocess.run(words, capture_output=True, text=True, env=self.environment, cwd=self.place)
         self.assertEqual(done.returncode, 0, done.stdout + done.stderr)
         skipped = re.findall(r"skipped '(.*)'|SkipTest: (.*)", done.stderr)
