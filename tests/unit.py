@@ -28,7 +28,7 @@ class Result(unittest.TestResult):
         self.with_subtests = set()
 
     def count(self, test, error):
-        title = f"{type(test).__module__}.{type(test).__name__}: {title_of(test)}"
+        title = f"{name_of(test)}: {title_of(test)}"
         if error is None:
             self.passed += 1
             print(f"ok: {title}", flush=True)
@@ -63,6 +63,12 @@ class Result(unittest.TestResult):
         print(f"skipped: {title_of(test)}: {reason}", flush=True)
 
 
+def name_of(test):
+    """The file and the class of a test."""
+    test = getattr(test, "test_case", test)
+    return f"{type(test).__module__}.{type(test).__name__}"
+
+
 def title_of(test):
     if isinstance(test, unittest.case._SubTest):
         shown = ", ".join(f"{key} {value!r}" if key == "at" else str(value) for key, value in test.params.items())
@@ -80,7 +86,7 @@ def classes(suite):
         if isinstance(test, unittest.TestSuite):
             yield from classes(test)
         else:
-            yield f"{type(test).__module__}.{type(test).__name__}"
+            yield name_of(test)
 
 
 def main():
