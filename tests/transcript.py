@@ -1,7 +1,7 @@
 #!/usr/bin/env python3
 """Runs the commands of transcripts, and compares what each prints with what stands below it.
 
-usage: tests/transcript.py [NAME..]     tests/cli/NAME.console, or README; all of them without a name
+usage: tests/transcript.py [NAME..]     tests/cli/NAME.console, README or USE; or all of them
        tests/transcript.py --list       the names
 
 A transcript is text with blocks that begin with ```console and end with ```. In a block a line that
@@ -12,9 +12,9 @@ Below it stand the lines of its standard output, those of its standard error, ea
 The commands of a transcript run one after another in one shell with `pipefail`, in a copy of the
 folder that fixture.py makes, with nothing on standard input.
 
-README.md is one too: its commands run in a folder like a clone, standard error stands among the
-standard output, and no status is shown. The gate itself is not run, and what a build says is left
-out.
+README.md and docs/USE.md are transcripts too: their commands run in a folder like a clone, standard
+error stands among the standard output, and no status is shown. The gate itself is not run, and what
+a build says is left out.
 
 The last line is 'N passed, M failed', over all commands.
 """
@@ -30,7 +30,7 @@ sys.dont_write_bytecode = True
 import program
 
 CLI = program.TESTS + "/cli"
-README = "README"
+DOCUMENTS = {"README": "README.md", "USE": "docs/USE.md"}
 # Seconds for a whole transcript.
 PATIENCE = 300
 GOES_ON = ("&&", "|", "\\")
@@ -127,18 +127,18 @@ def run_transcript(name):
     """The results of a transcript's commands."""
     room = program.scratch()
     folder = room + "/work"
-    if name == README:
+    if name in DOCUMENTS:
         os.mkdir(folder)
         for entry in os.listdir(program.ROOT):
             if not entry.startswith("."):
                 os.symlink(f"{program.ROOT}/{entry}", f"{folder}/{entry}")
-        commands = [it for it in commands_of(program.ROOT + "/README.md") if it.lines[0] != ".ci/run"]
+        commands = [it for it in commands_of(f"{program.ROOT}/{DOCUMENTS[name]}") if it.lines[0] != ".ci/run"]
         for command in commands:
             command.expected = [line for line in command.expected if not re.match("agep: buil(ding|t) ", line)]
     else:
         program.copy_fixture(folder)
         commands = commands_of(f"{CLI}/{name}.console")
-    session = Session(commands, folder, room + "/room", name == README)
+    session = Session(commands, folder, room + "/room", name in DOCUMENTS)
     if not commands:
         print(f"FAILED: {name} has no command")
         return [False]
@@ -146,7 +146,7 @@ def run_transcript(name):
 
 
 def main():
-    names = sorted(name[: -len(".console")] for name in os.listdir(CLI) if name.endswith(".console")) + [README]
+    names = sorted(name[: -len(".console")] for name in os.listdir(CLI) if name.endswith(".console")) + [*DOCUMENTS]
     if sys.argv[1:] == ["--list"]:
         print(*names, sep="\n")
         return 0

@@ -17,7 +17,7 @@ sys.dont_write_bytecode = True
 import program
 
 # They build something first, which takes long: each has a script of its own.
-ALONE = {"test_avx2"}
+ALONE = {"test_avx2", "test_packages"}
 
 
 class Result(unittest.TestResult):
@@ -70,9 +70,8 @@ def name_of(test):
 
 
 def title_of(test):
-    if isinstance(test, unittest.case._SubTest):
-        shown = ", ".join(f"{key} {value!r}" if key == "at" else str(value) for key, value in test.params.items())
-        return f"{title_of(test.test_case)}: {shown}"
+    if hasattr(test, "test_case"):
+        return f"{title_of(test.test_case)}: {test._message}"
     return (getattr(test, "shortDescription", lambda: None)() or test.id().split(".")[-1]).rstrip(".")
 
 
