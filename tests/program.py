@@ -1,0 +1,189 @@
+"""What the tests of the built program share: the program, how it runs, the scratch folder."""
+
+import atexit
+import os
+import re
+import resource
+import shutil
+import subprocess
+import sys
+import tempfile
+import unittest
+
+sys.dont_write_bytecode = True
+
+import fixture
+
+TESTS = os.path.dirname(os.path.abspath(__file__))
+ROOT = os.path.dirname(TESTS)
+AGEP = os.path.join(ROOT, "crates", "agep", "out", "agep")
+IO_ERROR, NO_SPACE, INTERRUPTED = "5", "28", "4"
+
+
+def build():
+    """Builds the program where it is not current; ends the process where that fails."""
+    if subprocess.run([ROOT + "/agep", "--version"], stdout=subprocess.DEVNULL).returncode != 0:
+        print("0 passed, 1 failed")
+        sys.exit(1)
+
+
+def scratch():
+    """A folder that is removed when the process ends."""
+    folder = tempfile.mkdtemp()
+    atexit.register(shutil.rmtree, folder, ignore_errors=True)
+    return folder
+
+
+def made_once(make):
+    """The function, whose first result is kept."""
+    kept = []
+    return lambda: kept[0] if kept else kept.append(make()) or kept[0]
+
+
+@made_once
+def fixture_folder():
+    folder = scratch() + "/fixture"
+    fixture.make(folder)
+    return folder
+
+
+def copy_fixture(folder):
+    shutil.copytree(fixture_folder(), folder, symlinks=True)
+
+
+@made_once
+def version():
+    """The newest version in the change log."""
+    return re.search(r"^## (\d[\d.]*)", read(ROOT + "/CHANGELOG.md").decode(), re.MULTILINE)[1]
+
+
+def read(name):
+    with open(name, "rb") as file:
+        return file.read()
+
+
+def write(name, text):
+    with open(name, "wb") as file:
+        file.write(text)
+
+
+libraries = {}
+
+
+def preload(name):
+    """The library of tests/NAME.c, to be loaded before the C library."""
+    if name not in libraries:
+        made = f"{scratch()}/{name}.so"
+        words = ["cc", "-shared", "-fPIC", "-o", made, f"{TESTS}/{name}.c", "-ldl"]
+        try:
+            subprocess.run(words, check=True)
+        except FileNotFoundError:
+            raise unittest.SkipTest("there is no C compiler") from None
+        libraries[name] = made
+    return libraries[name]
+
+
+class Ran:
+    """How a run of the program ended, and what it wrote."""
+
+    def __init__(self, words, done):
+        self.words = words
+        self.status = done.returncode
+        self.out = done.stdout if done.stdout is not None else b""
+        self.err = done.stderr if done.stderr is not None else b""
+
+
+def fault(line, more=None):
+    """What standard error has after a fault."""
+    return f"agep: {line}\n" + (f"agep: {more}\n" if more else "")
+
+
+def usage_error(text, usage=None):
+    """What standard error has after a refused command line."""
+    usage = f"Usage: agep {usage}\n\n" if usage else ""
+    return f"error: {text}\n\n{usage}For more information, try '--help'.\n"
+
+
+def shown(data):
+    """Bytes as a message shows them."""
+    text = data.decode("utf-8", "backslashreplace")
+    return text if len(text) <= 2000 else f"{text[:1000]!r} .. {text[-200:]!r} ({len(data)} bytes)"
+
+
+class ProgramCase(unittest.TestCase):
+    """Tests that run the program in a folder of their class: a copy of the fixture."""
+
+    longMessage = True
+
+    @classmethod
+    def setUpClass(cls):
+        cls.folder = scratch() + "/work"
+        copy_fixture(cls.folder)
+
+    @classmethod
+    def tearDownClass(cls):
+        shutil.rmtree(cls.folder)
+
+    def setUp(self):
+        os.chdir(self.folder)
+        self.addCleanup(os.chdir, "/")
+
+    def run_agep(self, *words, input=b"", env=None, memory=None, program=AGEP, **more):
+        """Runs the program. `input` is its bytes, or an open file."""
+        if isinstance(input, bytes) and "stdin" not in more:
+            more["input"] = input
+        elif "stdin" not in more:
+            more["stdin"] = input
+        more.setdefault("stdout", subprocess.PIPE)
+        more.setdefault("stderr", subprocess.PIPE)
+        if memory is not None:
+            more["preexec_fn"] = lambda: resource.setrlimit(resource.RLIMIT_AS, (memory, memory))
+        environment = {**os.environ, **(env or {})}
+        done = subprocess.run([program, *words], env=environment, timeout=600, **more)
+        return Ran(words, done)
+
+    def piped(self, name):
+        """The content of a file, through a pipe, as the input of a run."""
+        return read(name)
+
+    def assert_bytes(self, got, expected, what="standard output"):
+        """Compares bytes, and shows how they differ."""
+        if got == expected:
+            return
+        if len(got) + len(expected) <= 4000:
+            self.assertEqual(shown(got), shown(expected), what)
+        at = next((i for i, (a, b) in enumerate(zip(got, expected)) if a != b), min(len(got), len(expected)))
+        self.fail(
+            f"{what}: {len(got)} bytes came and {len(expected)} were expected; they differ from byte {at} on:"
+            f" {got[at : at + 16]!r}, not {expected[at : at + 16]!r}"
+        )
+
+    def assert_ended(self, ran, status=0, err="", out=b""):
+        """Compares all that a run left: its status, standard error and standard output."""
+        expected = err if isinstance(err, bytes) else err.encode()
+        words = " ".join(map(str, ran.words))
+        came = f"status {ran.status}\n{shown(ran.err)}"
+        self.assertEqual(came, f"status {status}\n{shown(expected)}", f"agep {words}")
+        self.assert_bytes(ran.err, expected, "standard error")
+        if out is not None:
+            self.assert_bytes(ran.out, out, f"standard output of agep {words}")
+
+    def says(self, line, *words, more=None, out=b"", **how):
+        """Runs the program, which ends with this fault, and wrote just this."""
+        self.assert_ended(self.run_agep(*words, **how), 1, fault(line, more), out)
+
+    def writes(self, out, *words, **how):
+        """Runs the program, which ends well, and wrote just this."""
+        self.assert_ended(self.run_agep(*words, **how), 0, "", out)
+
+    def refuses(self, text, usage, *words):
+        """Runs the program, which refuses these words."""
+        self.assert_ended(self.run_agep(*words), 2, usage_error(text, usage))
+
+    def assert_file(self, name, expected):
+        self.assert_bytes(read(name), expected, name)
+
+
+def case(words):
+    """Words of a command line."""
+    return words.split()

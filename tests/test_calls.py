@@ -1,0 +1,343 @@
+"""Each command with each of its reads, writes, truncations, syncs and seeks cut short or failing in
+turn. A short call changes nothing. A failing one ends in its line and the status 1, with a front of
+the right output: never in the status 0 over a file that is not whole."""
+
+import os
+
+import fixture
+import reference
+from fixture import KEY, PLAIN, SALT, SEED
+from program import INTERRUPTED, IO_ERROR, NO_SPACE, ProgramCase, fault, preload, read, write
+
+# More than one piece, when it is read.
+LONG_PASSPHRASE = b"".join(b"%d\n" % i for i in range(1, 1001))
+LONG_PLAIN = PLAIN[:131173]
+PART = PLAIN[65530 : 65530 + 65550]
+YESTERDAY = b"".join(b"%d\n" % i for i in range(1, 50001))
+
+
+class Job:
+    """A command line without -o and IN, the file that it reads, and what it is to write."""
+
+    def __init__(self, words, name, expected, reads, writes):
+        self.words = words.split()
+        self.name = name
+        self.expected = expected
+        # how many calls it has at least
+        self.least = {"read": reads, "write": writes, "lseek": 3}
+        self.has_out = self.words[0] != "inspect"
+
+    def __str__(self):
+        return " ".join(self.words)
+
+    def forms(self):
+        return ("-o", "") if self.has_out else ("",)
+
+
+def jobs():
+    key_age = fixture.for_keys(LONG_PLAIN, KEY)
+    # one LF at the end of its file is no part of it
+    pass_age = reference.age_file(SEED, [reference.passphrase_stanza(LONG_PASSPHRASE[:-1], 4, SALT)], LONG_PLAIN)
+    header = key_age[:156]
+    _, stanza, _, mac, _ = header.decode().split("\n")
+    table = (
+        f"version age-encryption.org/v1\nstanzas 1\n   0       32 {stanza[3:]}\nmac {mac[4:]}\nheader 156 bytes\ncheck good\n"
+    )
+    return [
+        Job("encrypt -p pass -w 4 -s seed", "plain", pass_age, 8, 3),
+        Job("decrypt -k other.key -k key", "key.age", LONG_PLAIN, 7, 3),
+        Job("rewrap -k key -P pass -w 4 -s seed", "key.age", pass_age, 8, 3),
+        Job("range -k key 65530 65550", "key.age", PART, 5, 2),
+        Job("inspect -f file.key", "key.age", table.encode(), 3, 1),
+        Job("inspect -r", "key.age", header, 1, 1),
+    ]
+
+
+class CallCase(ProgramCase):
+    @classmethod
+    def setUpClass(cls):
+        super().setUpClass()
+        os.chdir(cls.folder)
+        cls.jobs = jobs()
+        write("plain", LONG_PLAIN)
+        write("pass", LONG_PASSPHRASE)
+        write("key.age", fixture.for_keys(LONG_PLAIN, KEY))
+
+    def run_job(self, job, form, **call):
+        """Runs a job with one of its calls changed; what it wrote is then `self.made`, and whether
+        there was such a call `self.met`."""
+        for name in ("met", "trace"):
+            if os.path.exists(name):
+                os.remove(name)
+        env = {"LD_PRELOAD": preload("calls"), "TRACE": "trace", **{key.upper(): str(value) for key, value in call.items()}}
+        if form == "-o":
+            write("made", YESTERDAY)
+            ran = self.run_agep(*job.words, "-o", "made", job.name, env=env)
+            self.assert_bytes(ran.out, b"")
+            self.made = read("made")
+        elif job.words[0] == "range":
+            ran = self.run_agep(*job.words, job.name, env=env)
+            self.made = ran.out
+        else:
+            with open(job.name, "rb") as stdin:
+                ran = self.run_agep(*job.words, env=env, input=stdin)
+            self.made = ran.out
+        self.met = os.path.exists("met")
+        return ran
+
+    def is_whole(self, ran, job, form):
+        self.assert_ended(ran, 0, "", None)
+        self.assert_bytes(self.made, job.expected, "the output")
+
+    def has_failed(self, line):
+        """A judge: this line, with a front of what is expected, or with -o what was there before."""
+        def judge(ran, job, form):
+            self.assert_ended(ran, 1, fault(line), None)
+            if form == "-o" and self.made == YESTERDAY:
+                return
+            self.assert_bytes(self.made, job.expected[: len(self.made)], "the front of the output")
+        return judge
+
+    def each_call(self, kind, what, job, form, judge):
+        """Runs a job with each call of a kind in turn, until a run meets none; that one is whole."""
+        with self.subTest(f"{job} {form}, each {kind} in turn, DO={what}"):
+            for number in range(1, 1000):
+                ran = self.run_job(job, form, call=kind, number=number, do=what)
+                if not self.met:
+                    break
+                try:
+                    judge(ran, job, form)
+                except AssertionError as error:
+                    raise AssertionError(f"{kind} {number}: {error}") from None
+            self.is_whole(ran, job, form)
+            self.assertGreaterEqual(number - 1, job.least.get(kind, 1), f"calls of {kind}")
+
+
+class Order(CallCase):
+    def calls(self):
+        """The calls that are about OUT."""
+        rows = [line.split() for line in read("trace").decode().splitlines()]
+        return [(kind, int(result)) for kind, name, result in rows if name == "made"]
+
+    def test_order(self):
+        """OUT is truncated, then written, then synced; the sizes of the writes make up the whole."""
+        for job in self.jobs:
+            if job.has_out:
+                with self.subTest(str(job)):
+                    self.is_whole(self.run_job(job, "-o"), job, "-o")
+                    first, *middle, last = self.calls()
+                    self.assertEqual((first, last[0]), (("ftruncate", 0), "fsync"))
+                    self.assertEqual({kind for kind, _ in middle}, {"write"})
+                    self.assertEqual(sum(size for _, size in middle), len(job.expected))
+
+    def test_no_byte(self):
+        """An OUT without a byte is truncated and synced, and after a fault left alone."""
+        job = Job("decrypt -k key", "empty.age", b"", 5, 0)
+        self.is_whole(self.run_job(job, "-o"), job, "-o")
+        self.assertEqual([kind for kind, _ in self.calls()], ["ftruncate", "fsync"])
+        job = Job("decrypt -k other.key", "key.age", b"", 4, 0)
+        self.assert_ended(self.run_job(job, "-o"), 1, fault("wrong passphrase or key"))
+        self.assertEqual((self.calls(), self.made), ([], YESTERDAY))
+
+
+class ShortCalls(CallCase):
+    def test_in_turn(self):
+        """A read or a write that moves less is followed by another one."""
+        for job in self.jobs:
+            for form in job.forms():
+                for kind in ("read", "write"):
+                    for what in ("one", "half"):
+                        self.each_call(kind, what, job, form, self.is_whole)
+
+    def test_all(self):
+        """Each read, or each write, moves less."""
+        for job in self.jobs:
+            for form in job.forms():
+                for kind in ("read", "write"):
+                    for what in ("one", "half"):
+                        with self.subTest(f"{job} {form}, {kind} {what}"):
+                            self.is_whole(self.run_job(job, form, call=kind, number=0, do=what), job, form)
+                            self.assertTrue(self.met)
+
+    def test_interrupted(self):
+        """What an interrupted call did not move is moved later, or the work ends with a fault."""
+        def whole_or(line):
+            def judge(ran, job, form):
+                (self.is_whole if ran.status == 0 else self.has_failed(line))(ran, job, form)
+            return judge
+
+        for job in self.jobs:
+            for form in job.forms():
+                self.each_call("read", INTERRUPTED, job, form, whole_or("read failed"))
+                self.each_call("write", INTERRUPTED, job, form, whole_or("write failed"))
+            if job.words[:2] != ["inspect", "-r"]:
+                with self.subTest(f"{job}, the first read, of a small file, is tried again"):
+                    self.is_whole(self.run_job(job, "", call="read", number=1, do=INTERRUPTED), job, "")
+                    self.assertTrue(self.met)
+
+
+class FailingCalls(CallCase):
+    def test_reads(self):
+        """A read that fails is no end of a file, and no OUT that was there is emptied for nothing."""
+        def judge(ran, job, form):
+            self.has_failed("read failed")(ran, job, form)
+            self.assertTrue(form != "-o" or self.made, "OUT is empty")
+
+        for job in self.jobs:
+            for form in job.forms():
+                self.each_call("read", IO_ERROR, job, form, judge)
+
+    def test_writes(self):
+        """A write that fails, or that moves nothing."""
+        for job in self.jobs:
+            for form in job.forms():
+                for what in (IO_ERROR, NO_SPACE, "none"):
+                    self.each_call("write", what, job, form, self.has_failed("write failed"))
+
+    def test_files(self):
+        """An OUT that can't be truncated stays as it was. One that can't be synced is no success."""
+        def is_untouched(ran, job, form):
+            self.assert_ended(ran, 1, fault("write failed"))
+            self.assert_bytes(self.made, YESTERDAY, "OUT")
+
+        def is_unsynced(ran, job, form):
+            self.assert_ended(ran, 1, fault("write failed"))
+            self.assert_bytes(self.made, job.expected, "OUT")
+
+        for job in self.jobs:
+            if job.has_out:
+                self.each_call("ftruncate", IO_ERROR, job, "-o", is_untouched)
+                self.each_call("fsync", IO_ERROR, job, "-o", is_unsynced)
+                self.each_call("fsync", NO_SPACE, job, "-o", is_unsynced)
+
+    def test_seeks(self):
+        """Of the commands range alone seeks."""
+        job = self.jobs[3]
+
+        def judge(ran, job, form):
+            opens = ran.err.startswith(b"agep: cannot")
+            self.has_failed("cannot open key.age" if opens else "read failed")(ran, job, form)
+
+        for form in job.forms():
+            self.each_call("lseek", IO_ERROR, job, form, judge)
+            with self.subTest(f"the first seek shows whether IN can be read at offsets {form}"):
+                ran = self.run_job(job, form, call="lseek", number=1, do=IO_ERROR)
+                self.assert_ended(ran, 1, fault("cannot open key.age"), None)
+
+    def test_explained(self):
+        """With -v the second line says which file can't be synced, truncated or read."""
+        rows = [
+            ("fsync", "key.age", "syncing made"), ("ftruncate", "key.age", "writing made"), ("ftruncate", "empty.age", "truncating made"),
+        ]
+        for kind, name, more in rows:
+            with self.subTest(more):
+                write("made", YESTERDAY)
+                env = {"LD_PRELOAD": preload("calls"), "CALL": kind, "NUMBER": "1", "DO": IO_ERROR}
+                self.says("write failed", "decrypt", "-v", "-k", "key", "-o", "made", name, more=f"{more}: Input/output error", env=env)
+
+
+class Messages(CallCase):
+    def test_messages(self):
+        """Each message comes whole, in one write; where it can't come the status is the same."""
+        write("cut", read("key.age")[:131300])
+        for row in ("1 2 decrypt -v -k key cut", "1 2 inspect -v nowhere", "1 1 inspect nowhere", "2 1 inspect a b", "2 1 frob"):
+            status, count, *words = row.split()
+            status, count = int(status), int(count)
+            said = self.run_agep(*words).err
+            env = {"LD_PRELOAD": preload("calls"), "CALL": "message"}
+
+            def run(number, what):
+                return self.run_agep(*words, env={**env, "NUMBER": str(number), "DO": what})
+
+            with self.subTest(" ".join(words)):
+                self.assertTrue(said)
+                self.assert_ended(run(0, "one"), status, said, None)
+                for number in range(1, count + 1):
+                    ran = run(number, IO_ERROR)
+                    self.assertEqual(ran.status, status)
+                    self.assertNotEqual(ran.err, said)
+                self.assert_ended(run(count + 1, IO_ERROR), status, said, None)
+
+
+class Devices(ProgramCase):
+    """Standard output that takes one byte at a time and then none, standard input that gives one
+    byte at a time and then fails."""
+
+    def test_room(self):
+        """A device without room for the whole output."""
+        header = b"age-encryption.org/v1\n-> a\n\n--- " + b"A" * 43 + b"\n"
+        self.assertEqual(len(header), 76)
+        write("header", header)
+        write("sealed", fixture.for_keys(header, KEY))
+        rows = [("encrypt -k key", "header", 264), ("inspect -r", "header", 76), ("decrypt -k key", "sealed", 76)]
+        for words, name in (("inspect", "header"), ("--help", "header")):
+            with open(name, "rb") as stdin:
+                rows.append((words, name, len(self.run_agep(*words.split(), input=stdin).out)))
+        for words, name, size in rows:
+            for room in (0, 1, size // 2, size - 1, size):
+                with self.subTest(f"{words}: room for {room} of {size} bytes"), open(name, "rb") as stdin:
+                    ran = self.run_agep(*words.split(), input=stdin, env={"ROOM": str(room), "LD_PRELOAD": preload("devices")})
+                    self.assert_ended(ran, int(room < size), fault("write failed") if room < size else "", None)
+                    self.assertEqual(len(ran.out), room)
+
+    def test_breaks(self):
+        """An input that fails after some bytes."""
+        env = {"BREAKS": "1", "LD_PRELOAD": preload("devices")}
+        for words in ("encrypt -k key", "decrypt -k key", "inspect"):
+            with self.subTest(words):
+                write("front", read("key.age")[:50])
+                with open("front", "rb") as stdin:
+                    self.says("read failed", *words.split(), input=stdin, env=env)
+                command, *rest = words.split()
+                with open("front", "rb") as stdin:
+                    more = "reading standard input: Input/output error"
+                    self.says("read failed", command, "-v", *rest, more=more, input=stdin, env=env)
+        for size in (0, 65535):
+            with self.subTest(f"an OUT that was there stays, after {size} bytes"):
+                write("front", PLAIN[:size])
+                write("made", YESTERDAY)
+                os.utime("made", (10**9, 10**9))
+                with open("front", "rb") as stdin:
+                    self.says("read failed", "encrypt", "-k", "key", "-o", "made", input=stdin, env=env)
+                self.assertEqual((read("made"), os.stat("made").st_mtime), (YESTERDAY, 10**9))
+        with self.subTest("after a chunk OUT holds the front of the new file"):
+            write("made", YESTERDAY)
+            with open("two_chunks", "rb") as stdin:
+                self.says("read failed", "encrypt", "-k", "key", "-s", "seed", "-o", "made", input=stdin, env=env)
+            made = read("made")
+            self.assertTrue(made)
+            self.assert_bytes(made, read("two.age")[: len(made)], "OUT")
+
+
+class Syncs(ProgramCase):
+    def counted(self, *words, **env):
+        """Runs the program, and counts its calls that sync."""
+        if os.path.exists("synced"):
+            os.remove("synced")
+        ran = self.run_agep(*words, env={"LD_PRELOAD": preload("sync"), **env})
+        return ran, os.path.getsize("synced") if os.path.exists("synced") else 0
+
+    def test_syncs(self):
+        """OUT is synced once before status 0; a device and standard output are not."""
+        for words in (
+            "encrypt -k key hello", "decrypt -k key key.age", "decrypt -k key empty.age", "range -k key 0 5 key.age",
+            "rewrap -p pass -K new.key pass.age",
+        ):
+            with self.subTest(words):
+                if os.path.exists("made"):
+                    os.remove("made")
+                ran, count = self.counted(*words.split(), "-o", "made")
+                self.assert_ended(ran, 0)
+                self.assertEqual(count, 1)
+                ran, _ = self.counted(*words.split(), "-o", "made", UNSYNCED="1")
+                self.assert_ended(ran, 1, fault("write failed"))
+                ran, count = self.counted(*words.split(), "-o", "/dev/null", UNSYNCED="1")
+                self.assert_ended(ran, 0)
+                self.assertEqual(count, 0)
+                ran, count = self.counted(*words.split(), UNSYNCED="1")
+                self.assert_ended(ran, 0, "", None)
+                self.assertEqual(count, 0)
+        with self.subTest("not after a fault"):
+            ran, count = self.counted("decrypt", "-k", "key", "-o", "made", "damaged.age")
+            self.assert_ended(ran, 1, fault("chunk 0 is damaged"))
+            self.assertEqual(count, 0)

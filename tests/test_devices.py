@@ -1,0 +1,155 @@
+"""Terminals, pipes whose reader is gone, signals, another /dev/urandom, and what the system is asked."""
+
+import os
+import re
+import shutil
+import signal
+import subprocess
+import time
+import unittest
+
+import fixture
+from fixture import HELLO, KEY
+from program import AGEP, ProgramCase, fault, read, write
+
+
+def tool(name):
+    """The path of a tool; the test is skipped where it is missing."""
+    found = shutil.which(name)
+    if found is None:
+        raise unittest.SkipTest(f"the command {name} is missing")
+    return found
+
+
+class Terminals(ProgramCase):
+    def on_terminal(self, *words):
+        """Runs the program with standard output at a terminal; returns its status, what it said
+        there, and on standard error."""
+        line = " ".join(map(subprocess.list2cmdline, [[AGEP], words]))
+        script = [tool("script"), "-qec", f"{line} 2>err; echo $? >status", "/dev/null"]
+        done = subprocess.run(script, stdin=subprocess.DEVNULL, stdout=subprocess.PIPE, timeout=60)
+        return int(read("status")), done.stdout.replace(b"\r", b""), read("err").decode()
+
+    def test_refused(self):
+        """Nobody wants an encrypted file on the screen."""
+        line = "agep: standard output is a terminal\n"
+        for words in (
+            "encrypt -k key hello", "rewrap -k key -K other.key key.age", "encrypt -k absent -s absent nowhere",
+            "rewrap -p absent -P absent nowhere",
+        ):
+            with self.subTest(words):
+                self.assertEqual(self.on_terminal(*words.split()), (1, b"", line))
+
+    def test_taken(self):
+        """encrypt on a terminal to a file, and decrypt to a terminal."""
+        self.assertEqual(self.on_terminal("encrypt", "-k", "key", "-s", "seed", "-o", "made", "hello"), (0, b"", ""))
+        self.assert_file("made", read("key.age"))
+        self.assertEqual(self.on_terminal("decrypt", "-k", "key", "key.age"), (0, HELLO, ""))
+
+
+class ClosedPipes(ProgramCase):
+    def test_before(self):
+        """A pipe whose reader is gone before the program begins."""
+        for words in (
+            "encrypt -k key two_chunks", "decrypt -k key two.age", "rewrap -p pass -K new.key two_pass.age", "range -k key 0 140000 plain.age",
+            "inspect data/three_recipients.age", "inspect -r data/three_recipients.age",
+        ):
+            command, *rest = words.split()
+            for options, more in ((), None), (("-v",), "writing standard output: Broken pipe"):
+                with self.subTest(f"{words} {' '.join(options)}"):
+                    reader, writer = os.pipe()
+                    os.close(reader)
+                    ran = self.run_agep(command, *options, *rest, stdout=writer)
+                    os.close(writer)
+                    self.assert_ended(ran, 1, fault("write failed", more))
+
+
+class Interrupted(ProgramCase):
+    def test_signal(self):
+        """A signal in the midst of scrypt: an OUT that was there stays as it was."""
+        write("slow.age", fixture.for_passphrase(HELLO, work=18))
+        for words in ("encrypt -p pass -w 18 -o made hello", "decrypt -p pass -o made slow.age"):
+            with self.subTest(words):
+                shutil.copy("yesterday", "made")
+                os.utime("made", (10**9, 10**9))
+                with subprocess.Popen([AGEP, *words.split()], stdin=subprocess.DEVNULL) as process:
+                    place = os.path.realpath("made")
+                    folder = f"/proc/{process.pid}/fd"
+                    for _ in range(10000):
+                        opened = [os.path.realpath(f"{folder}/{name}") for name in os.listdir(folder)]
+                        if place in opened:
+                            break
+                        time.sleep(0.001)
+                    process.terminate()
+                    self.assertEqual(process.wait(), -signal.SIGTERM)
+                self.assert_file("made", read("yesterday"))
+                self.assertEqual(os.stat("made").st_mtime, 10**9)
+
+
+class DefaultSeed(ProgramCase):
+    """The seed is read from /dev/urandom only where that is a character device. It is replaced for
+    processes of these tests alone."""
+
+    def with_device(self, device, *words):
+        done = subprocess.run(
+            ["unshare", "-m", "bash", "-c", f'mount --bind {device} /dev/urandom && exec "$@"', "bash", AGEP, *words],
+            stdin=subprocess.DEVNULL, capture_output=True, timeout=60,
+        )
+        return done.returncode, done.stderr.decode(), len(done.stdout) > 0
+
+    def test_devices(self):
+        """A file there is not used, a character device is, and a file that -s names is."""
+        tool("unshare")
+        allowed = subprocess.run(["unshare", "-m", "mount", "--bind", "/dev/null", "/dev/urandom"], stderr=subprocess.DEVNULL)
+        if allowed.returncode != 0:
+            self.skipTest("it takes rights to mount")
+        for words in ("encrypt -k key hello", "rewrap -k key -K other.key key.age"):
+            with self.subTest(words):
+                self.assertEqual(self.with_device("seed", *words.split()), (1, "agep: cannot open /dev/urandom\n", False))
+                self.assertEqual(self.with_device("/dev/zero", *words.split()), (0, "", True))
+                self.assertEqual(self.with_device("seed", *words.split(), "-s", "seed"), (0, "", True))
+
+
+class SystemCalls(ProgramCase):
+    def trace(self, *words, input=b"", calls="read,write"):
+        """The sizes that reads and writes moved, by kind and descriptor, of a run."""
+        tool("strace")
+        done = subprocess.run(
+            ["strace", "-o", "trace", "-e", f"trace={calls}", AGEP, *words], stdin=input, capture_output=True, timeout=60
+        )
+        if done.returncode != 0:
+            self.skipTest("strace may not trace")
+        rows = re.findall(r"^(\w+)\((\d+), .* = (\d+)$", read("trace").decode("latin1"), re.MULTILINE)
+        sizes = {}
+        for kind, descriptor, size in rows:
+            sizes.setdefault(kind + descriptor, []).append(int(size))
+        return sizes
+
+    def test_inspect(self):
+        """A header of 65,534 bytes takes at most two reads and two writes."""
+        for options in ((), ("-r",)):
+            with self.subTest(f"inspect {' '.join(options)}"), open("data/recipients_668.age", "rb") as stdin:
+                sizes = self.trace("inspect", *options, input=stdin)
+                self.assertTrue(1 <= len(sizes["read0"]) <= 2 and 1 <= len(sizes["write1"]) <= 2, sizes)
+
+    def test_range(self):
+        """range reads the chunks that it touches and the last, once."""
+        for at, size, whole in ((65530, 12, 2), (139990, 5, 0), (0, 0, 0)):
+            with self.subTest(f"{size} bytes from {at} on"):
+                sizes = self.trace("range", "-k", "key", str(at), str(size), "plain.age", input=subprocess.DEVNULL)
+                read_sizes = [it for kind, row in sizes.items() if kind.startswith("read") for it in row]
+                self.assertEqual((read_sizes.count(65552), read_sizes.count(8944)), (whole, 1), read_sizes)
+
+    def test_whole_chunks(self):
+        """encrypt and decrypt move no less than 64 KiB in a call, but at the ends: the first two
+        reads and the last two, the header's write and the last one."""
+        many = b"".join(b"%d\n" % i for i in range(1, 100001))[:450000]
+        for words, text in (("encrypt -k key -s seed", many), ("decrypt -k key", fixture.for_keys(many, KEY))):
+            with self.subTest(words):
+                write("in", text)
+                with open("in", "rb") as stdin:
+                    sizes = self.trace(*words.split(), input=stdin)
+                self.assertGreater(len(sizes["read0"]), 6)
+                self.assertGreater(len(sizes["write1"]), 6)
+                self.assertGreaterEqual(min(sizes["read0"][2:-2]), 65536, sizes)
+                self.assertGreaterEqual(min(sizes["write1"][1:-1]), 65536, sizes)

@@ -1,0 +1,71 @@
+"""Each allocation refused in turn. A run that is refused one says that memory is out and shows
+nothing, or got on with less and answers as ever; so does the last run, which meets no refusal."""
+
+import os
+
+from program import ProgramCase, fault, preload
+
+COMMANDS = [
+    "encrypt -p pass -w 1 -s seed hello", "decrypt -p pass pass_1.age", "encrypt -k key -s seed hello",
+    "encrypt -k key -k other.key -s seed hello", "decrypt -k key key.age",
+    "rewrap -p pass -P pass -w 1 -s seed pass_1.age", "rewrap -k key -K new.key -s seed key.age",
+    "rewrap -k new.key -k key -K new.key -K key -s seed key.age",
+    "range -p pass 65530 12 plain_pass.age", "range -k key 65530 12 plain.age",
+    "inspect data/three_recipients.age", "inspect -r data/ssh_recipients.age",
+    "inspect -f data/passphrase.key data/passphrase.age", "inspect -H 12", "help inspect",
+]
+
+
+class Allocations(ProgramCase):
+    def refusals(self, *words):
+        """The runs with an allocation refused, up to the first that meets none; that one is last."""
+        for number in range(1, 10000):
+            if os.path.exists("refused"):
+                os.remove("refused")
+            ran = self.run_agep(*words, env={"REFUSE": str(number), "LD_PRELOAD": preload("refuse")})
+            yield ran
+            if not os.path.exists("refused"):
+                return
+        self.fail("no end of allocations")
+
+    def test_each_command(self):
+        """Out of memory, or the usual answer."""
+        for words in COMMANDS:
+            with self.subTest(words):
+                usual = self.run_agep(*words.split())
+                *refused, last = self.refusals(*words.split())
+                out_of_memory = 0
+                for ran in refused:
+                    if (ran.status, ran.err, ran.out) == (1, fault("out of memory").encode(), b""):
+                        out_of_memory += 1
+                    else:
+                        self.assert_ended(ran, usual.status, usual.err, usual.out)
+                self.assertGreater(out_of_memory, 0)
+                self.assert_ended(last, usual.status, usual.err, usual.out)
+
+    def test_explained(self):
+        """With -v memory is out, or the second line says less, or all is as ever."""
+        line = "no key fits this file"
+        full = fault(line, "pass.age: its stanzas are of type scrypt; -p opens it").encode()
+        said = [fault("out of memory").encode(), fault(line, "reading pass.age").encode(), full]
+        *refused, last = self.refusals("decrypt", "-v", "-k", "key", "pass.age")
+        self.assertTrue(refused)
+        for ran in refused:
+            self.assertIn(ran.err, said)
+            self.assert_ended(ran, 1, ran.err)
+        self.assert_ended(last, 1, full)
+
+    def test_equal_counts(self):
+        """A run makes as many allocations for a small file as for a great one."""
+        rows = [
+            ("encrypt -k key -s seed two_chunks", "encrypt -k key -s seed great"),
+            ("decrypt -k key two.age", "decrypt -k key great.age"),
+        ]
+        with open("great", "wb") as file:
+            file.write(b"%0999999d\n" % 0)
+        self.writes(b"", "encrypt", "-k", "key", "-o", "great.age", "great")
+        for small, great in rows:
+            with self.subTest(small):
+                count = len(list(self.refusals(*small.split())))
+                self.assertGreater(count, 1)
+                self.assertEqual(len(list(self.refusals(*great.split()))), count)

@@ -1,0 +1,111 @@
+"""Control characters of names and words: each is shown as an escape, in every message. The rule is in
+docs/DECISIONS.md."""
+
+import os
+import re
+
+import fixture
+from fixture import HELLO
+from program import ProgramCase, read, write
+
+CONTROLS = [*range(1, 32), 127, *range(128, 160)]
+
+
+def escaped(code):
+    return {10: "\\n", 13: "\\r", 9: "\\t"}.get(code, f"\\x{code:02x}")
+
+
+NAME = "".join(map(chr, CONTROLS))
+SHOWN = "".join(map(escaped, CONTROLS))
+ABSENT = "No such file or directory"
+
+
+class Names(ProgramCase):
+    def tearDown(self):
+        if os.path.islink(NAME) or os.path.isfile(NAME):
+            os.remove(NAME)
+        elif os.path.isdir(NAME):
+            os.rmdir(NAME)
+
+    def test_each(self):
+        """A control character alone, and all of them, in a name that can't be opened."""
+        rows = [(NAME, SHOWN), (NAME[::-1], "".join(map(escaped, CONTROLS[::-1])))]
+        rows += [(f"a{chr(code)}", f"a{escaped(code)}") for code in CONTROLS]
+        plain = [code for code in range(32, 127) if chr(code) != "/"] + [160, 161, 255, 0x2192, 0x1F986]
+        rows.append(("".join(map(chr, plain)),) * 2)
+        for name, shown in rows:
+            with self.subTest(ascii(shown)):
+                self.says(f"cannot open {shown}", "inspect", name)
+
+    def test_opening(self):
+        """All of them in a name that can't be opened or created."""
+        for words in ("decrypt -k key", "encrypt -k key", "rewrap -k key -K key", "range -k key 0 1"):
+            with self.subTest(words):
+                self.says(f"cannot open {SHOWN}", *words.split(), "-v", NAME, more=f"opening {SHOWN}: {ABSENT}")
+        for words in (
+            "encrypt -k", "encrypt -p", "encrypt -k key -s", "decrypt -k", "decrypt -p", "inspect -f", "rewrap -k key -K", "rewrap -k key -P",
+        ):
+            with self.subTest(words):
+                self.says(f"cannot open {SHOWN}", *words.split(), NAME, "-v", "hello", more=f"opening {SHOWN}: {ABSENT}")
+        for words in ("encrypt -k key hello", "decrypt -k key key.age", "rewrap -k key -K key key.age", "range -k key 0 1 key.age"):
+            command, *rest = words.split()
+            with self.subTest(f"{words} -o"):
+                line, more = f"cannot create nowhere/{SHOWN}", f"creating nowhere/{SHOWN}: {ABSENT}"
+                self.says(line, command, "-v", "-o", f"nowhere/{NAME}", *rest, more=more)
+
+    def test_small_files(self):
+        """All of them in the name of a secret or seed of a wrong size."""
+        write(NAME, HELLO)
+        with self.subTest("OUT is IN"):
+            self.says(f"OUT is also IN: {SHOWN}", "encrypt", "-k", "key", "-o", NAME, NAME)
+        rows = [
+            ("encrypt -k", "key file must hold 32 bytes", "key file", "6 bytes; a key file holds 32 raw bytes, no hexadecimal"),
+            ("decrypt -k", "key file must hold 32 bytes", "key file", "6 bytes; a key file holds 32 raw bytes, no hexadecimal"),
+            ("rewrap -k key -K", "key file must hold 32 bytes", "new key file", "6 bytes; a key file holds 32 raw bytes, no hexadecimal"),
+            ("encrypt -k key -s", "seed file must hold 48 bytes", "seed file", "6 bytes; a seed file holds at least 48 bytes"),
+            ("inspect -f", "file key file must hold 16 bytes", "file key file", "6 bytes; a file key file holds 16 raw bytes, no hexadecimal"),
+        ]
+        for words, line, role, why in rows:
+            with self.subTest(words):
+                self.says(line, *words.split(), NAME, "-v", "hello", more=f"{role} {SHOWN}: {why}")
+        for text, line, why in (
+            (bytes(65537), "passphrase file is too long", "more than 65536 bytes"), (b"", "passphrase file is empty", "no byte, or one LF alone"),
+        ):
+            with self.subTest(line):
+                write(NAME, text)
+                self.says(line, "encrypt", "-p", NAME, "-v", "hello", more=f"passphrase file {SHOWN}: {why}")
+
+    def test_in(self):
+        """All of them in the name of IN."""
+        end = "chunk 0 holds the plaintext from byte 0 to 5; it is the last chunk, so the file may be cut short"
+        rows = [
+            (b"", "key", "header is cut short", f"{SHOWN}: the file is empty"),
+            (fixture.changed(read("key.age"), -1), "key", "chunk 0 is damaged", f"{SHOWN}: {end}"),
+            (read("key.age"), "other.key", "wrong passphrase or key", f"reading {SHOWN}"),
+        ]
+        for text, key, line, more in rows:
+            with self.subTest(line):
+                write(NAME, text)
+                self.says(line, "decrypt", "-k", key, "-v", NAME, more=more)
+
+    def test_folder(self):
+        """All of them in the name of a folder."""
+        os.mkdir(NAME)
+        self.says("read failed", "decrypt", "-k", "key", "-v", NAME, more=f"reading {SHOWN}: Is a directory")
+        more = f"creating {SHOWN}: Is a directory"
+        self.says(f"cannot create {SHOWN}", "decrypt", "-k", "key", "-v", "-o", NAME, "key.age", more=more)
+
+    def test_device(self):
+        """All of them in the name of a full device."""
+        os.symlink("/dev/full", NAME)
+        more = f"writing {SHOWN}: No space left on device"
+        self.says("write failed", "decrypt", "-k", "key", "-v", "-o", NAME, "key.age", more=more)
+
+    def test_words(self):
+        """No control character but LF is in what is said of a refused word."""
+        for words in ("", "frob", "inspect a", "inspect -H", "range -k key", "encrypt -w"):
+            with self.subTest(words or "a command"):
+                ran = self.run_agep(*words.split(), NAME)
+                self.assert_ended(ran, 2, ran.err)
+                self.assertTrue(ran.err)
+                self.assertIsNone(re.search("[\x01-\x09\x0b-\x1f\x7f\x80-\x9f]", ran.err.decode()), ran.err)

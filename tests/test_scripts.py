@@ -1,0 +1,47 @@
+"""./agep where the toolchain is another one, or none: when the program is built anew."""
+
+import os
+import shutil
+import subprocess
+import unittest
+
+from program import AGEP, ROOT, read, scratch, version, write
+
+
+class Toolchains(unittest.TestCase):
+    TOOLS = ["cat", "date", "dirname", "find", "head", "mktemp", "readlink", "rm", "sed", "sh", "touch"]
+
+    def setUp(self):
+        """A tree with this program, and a toolchain whose rt makes nothing."""
+        self.folder = scratch()
+        os.chdir(self.folder)
+        self.addCleanup(os.chdir, "/")
+        for name in ("tree/crates/agep/src", "tree/crates/agep/specs", "tree/crates/agep/proofs", "tree/crates/agep/out", "tree/share", "kit/bin", "tools"):
+            os.makedirs(name)
+        for name in ("agep", "crates.txt", "share/build.sh", "CHANGELOG.md"):
+            shutil.copy(f"{ROOT}/{name}", f"tree/{name}")
+        shutil.copy(AGEP, "tree/crates/agep/out/agep")
+        write("kit/bin/rt", f'#!/bin/sh\necho "$@" >>"{self.folder}/built"\n'.encode())
+        os.chmod("kit/bin/rt", 0o755)
+        for name in self.TOOLS:
+            os.symlink(shutil.which(name), f"tools/{name}")
+
+    def builds(self, *folders):
+        """Runs ./agep with the tools of these folders; returns whether it had rt build the program."""
+        write("built", b"")
+        path = ":".join(f"{self.folder}/{folder}" for folder in folders)
+        done = subprocess.run(["tree/agep", "--version"], env={**os.environ, "PATH": path}, stdin=subprocess.DEVNULL, capture_output=True)
+        self.assertEqual((done.returncode, done.stdout.decode()), (0, f"agep {version()}\n"), done.stderr.decode())
+        is_built = b"run " in read("built")
+        if not is_built:
+            self.assertEqual((done.stderr, read("built")), (b"", b""))
+        return is_built
+
+    def test_toolchains(self):
+        """It is built where it isn't known to be current, and runs without a toolchain."""
+        write("kit/KIT-ID", b"kit one\n")
+        self.assertTrue(self.builds("kit/bin", "tools"), "no toolchain is known to have built it")
+        self.assertFalse(self.builds("kit/bin", "tools"), "it is current")
+        write("kit/KIT-ID", b"kit two\n")
+        self.assertFalse(self.builds("tools"), "there is no toolchain")
+        self.assertTrue(self.builds("kit/bin", "tools"), "the toolchain is another one")

@@ -1,0 +1,133 @@
+"""What the repository's texts hold themselves to: lines of at most 100 columns, the README's blocks of
+code, the planted bugs that docs/PROMISES.md names, programs that the compiler has to refuse."""
+
+import concurrent.futures
+import glob
+import os
+import re
+import shutil
+import subprocess
+import unittest
+
+from program import ROOT, TESTS, read, scratch
+
+
+def text_of(name):
+    return read(name).decode("utf-8")
+
+
+def wide_lines(name, text):
+    """The numbers of the lines of more than 100 columns, but for those that may be wider: imports,
+    long literals, tables, blocks of code; of scripts all but the comments."""
+    found, is_code = [], False
+    for number, line in enumerate(text.split("\n"), 1):
+        if name.endswith(".md"):
+            if re.match(" *```", line):
+                is_code = not is_code
+            may_be_wide = is_code or re.match(" *[|]", line)
+        elif name.endswith((".rt", ".antt")):
+            may_be_wide = re.match(r" *((pub|ghost|unfoldable) )*use |.*\".{60}", line)
+        else:
+            may_be_wide = not re.match(" *#", line)
+        if not may_be_wide and len(line) > 100:
+            found.append(number)
+    return found
+
+
+class Columns(unittest.TestCase):
+    def assert_narrow(self, names):
+        self.assertTrue(names)
+        wide = {os.path.relpath(name, ROOT): wide_lines(name, text_of(name)) for name in names}
+        self.assertEqual({name: lines for name, lines in wide.items() if lines}, {})
+
+    def test_crates(self):
+        """Code, clauses, definitions and comments have at most 100 columns."""
+        for crate in sorted(glob.glob(ROOT + "/crates/*")):
+            with self.subTest(os.path.basename(crate)):
+                found = glob.glob(crate + "/src/**/*.rt", recursive=True)
+                self.assert_narrow(found + glob.glob(crate + "/specs/**/*.antt", recursive=True))
+
+    def test_documents(self):
+        """Documents have at most 100 columns."""
+        self.assert_narrow(glob.glob(ROOT + "/*.md") + glob.glob(ROOT + "/*/*.md"))
+
+    def test_scripts(self):
+        """Comments of scripts have at most 100 columns."""
+        names = [f"{ROOT}/{name}" for name in ("agep", "install", "share/build.sh")]
+        for kind in ("sh", "bash", "py"):
+            names += glob.glob(f"{ROOT}/tests/*.{kind}") + glob.glob(f"{ROOT}/bench/*.{kind}")
+        self.assert_narrow(names)
+
+    def test_itself(self):
+        """A line of 101 columns is found, and not in a block of code or a table."""
+        wide = "0" * 101
+        self.assertEqual(wide_lines("wide.md", wide), [1])
+        self.assertEqual(wide_lines("block.md", f"```\n{wide}\n```\n| {wide}"), [])
+
+
+class Documents(unittest.TestCase):
+    def test_code(self):
+        """Each block of Rust in the README stands in a source."""
+        sources = "".join(text_of(name) for name in sorted(glob.glob(ROOT + "/crates/*/src/**/*.rt", recursive=True)))
+        blocks = re.findall(r"^```rust\n(.*?)^```$", text_of(ROOT + "/README.md"), re.MULTILINE | re.DOTALL)
+        self.assertTrue(blocks)
+        for block in blocks:
+            with self.subTest(block.split("\n")[0]):
+                self.assertTrue("\n" + block in "\n" + sources, f"not in a source:\n{block}")
+
+    def test_planted_bugs(self):
+        """docs/PROMISES.md names just the planted bugs that are there."""
+        edits = {os.path.basename(name)[:-5] for name in glob.glob(ROOT + "/crates/**/must-fail/*.edit", recursive=True)}
+        promises, named = text_of(ROOT + "/docs/PROMISES.md"), []
+        for line in promises.split("\n"):
+            cells = line.split(" | ")
+            if line.startswith("| ") and len(cells) > 2:
+                named.append(cells[2])
+        named += re.findall(r"^More planted bugs.*?^$", promises, re.MULTILINE | re.DOTALL)
+        found = {word for text in named for word in text.split("`") if re.fullmatch("[a-z0-9_]+", word)}
+        self.assertTrue(edits and found)
+        with self.subTest("each that is named is there"):
+            self.assertEqual(found - edits, set())
+        with self.subTest("each that is there is named"):
+            self.assertEqual(edits - found, set())
+
+
+LIBRARIES = ["age_cipher", "age_kdf", "age_header", "age_recipient", "age_stream", "age_file"]
+
+
+@unittest.skipUnless(shutil.which("rt"), "the command rt is missing")
+class MustNotCompile(unittest.TestCase):
+    """The compiler refuses each program of tests/must_not_compile/ before any proof: the first line of
+    its file is `// ` and the error's name."""
+
+    def compile(self, name, folder):
+        """What the compiler says of the program, a crate of its own over a copy of the libraries'
+        sources: it stops at an error in them."""
+        for library in LIBRARIES:
+            for part in ("src", "specs", "proofs"):
+                if os.path.isdir(f"{ROOT}/crates/{library}/{part}"):
+                    shutil.copytree(f"{ROOT}/crates/{library}/{part}", f"{folder}/crates/{library}/{part}")
+        os.makedirs(folder + "/crates/refused/src")
+        lines = [line for line in text_of(ROOT + "/crates.txt").split("\n") if line.split(":")[0] in LIBRARIES]
+        with open(folder + "/crates.txt", "w", encoding="utf-8") as crates:
+            crates.write("\n".join([*lines, "refused: age_header age_recipient age_stream age_file", ""]))
+        shutil.copy(f"{TESTS}/must_not_compile/{name}.txt", folder + "/crates/refused/src/lib.rt")
+        done = subprocess.run(
+            ["rt", "check"], cwd=folder + "/crates/refused", stdin=subprocess.DEVNULL,
+            stdout=subprocess.PIPE, stderr=subprocess.STDOUT, timeout=300,
+        )
+        return done.returncode, done.stdout.decode("utf-8", "replace")
+
+    def test_refused(self):
+        """The compiler refuses it, with this error alone."""
+        names = sorted(os.path.basename(name)[:-4] for name in glob.glob(TESTS + "/must_not_compile/*.txt"))
+        room = scratch()
+        self.assertTrue(names)
+        with concurrent.futures.ThreadPoolExecutor() as pool:
+            said = list(pool.map(lambda name: self.compile(name, f"{room}/{name}"), names))
+        for name, (status, text) in zip(names, said):
+            with self.subTest(name):
+                error = text_of(f"{TESTS}/must_not_compile/{name}.txt").split("\n")[0].removeprefix("// ")
+                self.assertEqual(set(re.findall(r"error\[[a-z0-9-]+\]", text)), {error}, text)
+                self.assertNotIn("proved", text)
+                self.assertNotEqual(status, 0)

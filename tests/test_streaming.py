@@ -1,0 +1,103 @@
+"""A program that works chunk by chunk: what comes out while the input is still fed, and its memory."""
+
+import os
+import subprocess
+import sys
+
+import fixture
+import reference
+from fixture import KEY, NEW_KEY, SALT, SEED
+from program import AGEP, TESTS, ProgramCase, fault, write
+from test_options import skip_unless_holes
+
+# A key's header with the nonce, and without it.
+KEY_FRONT, KEY_HEADER, PASSPHRASE_HEADER = 172, 156, 150
+CHUNK, SEALED = 65536, 65552
+MANY = b"".join(b"%d\n" % i for i in range(1, 100001))[:450000]
+
+
+class FeedCase(ProgramCase):
+    def feed(self, *words):
+        """Runs feed.py on these words, of which the last are a command line of the program."""
+        words = [sys.executable, TESTS + "/feed.py", *map(str, words)]
+        return subprocess.run(words, capture_output=True, timeout=600)
+
+    def assert_small(self, most, *words):
+        """Whether a run ends well with at most so many KiB resident."""
+        done = self.feed(*words)
+        self.assertEqual((done.returncode, done.stderr), (0, b""))
+        self.assertTrue(0 < int(done.stdout) <= most, f"{int(done.stdout)} KiB resident, and not {most}")
+
+
+class Lockstep(FeedCase):
+    def setUp(self):
+        super().setUp()
+        write("many", MANY)
+        write("many.age", fixture.for_keys(MANY, KEY))
+        write("new.age", fixture.for_keys(MANY, NEW_KEY))
+
+    def assert_lockstep(self, *words):
+        done = self.feed("lockstep", *words)
+        self.assertEqual((done.returncode, done.stdout, done.stderr), (0, b"", b""))
+
+    def test_decrypt(self):
+        """decrypt: chunk i is out before chunk i + 2 is fed."""
+        self.assert_lockstep(KEY_FRONT, SEALED, 0, CHUNK, "many.age", "many", AGEP, "decrypt", "-k", "key")
+
+    def test_encrypt(self):
+        """encrypt: sealed chunk i is out before chunk i + 2 is fed."""
+        self.assert_lockstep(0, CHUNK, KEY_FRONT, SEALED, "many", "many.age", AGEP, "encrypt", "-k", "key", "-s", "seed")
+
+    def test_rewrap(self):
+        """rewrap: all but the newest 128 KiB are out before more are fed."""
+        words = [AGEP, "rewrap", "-k", "key", "-K", "new.key", "-s", "seed"]
+        self.assert_lockstep(KEY_HEADER + CHUNK, CHUNK, KEY_HEADER, CHUNK, "many.age", "new.age", *words)
+
+    def test_leaving(self):
+        """A reader that leaves after a chunk and a half."""
+        for name, words in (("many.age", "decrypt -k key"), ("many", "encrypt -k key -s seed")):
+            with self.subTest(words):
+                done = self.feed("leave", 100000, name, AGEP, *words.split())
+                self.assertEqual((done.returncode, done.stderr), (1, fault("write failed").encode()))
+
+
+class Memory(FeedCase):
+    def test_peak(self):
+        """256 MiB with at most 4 MiB resident."""
+        os.truncate("empty", 2**28)
+        with self.subTest("encrypt through pipes"):
+            self.assert_small(4096, "peak-piped", "empty", AGEP, "encrypt", "-k", "key", "-s", "seed")
+        with self.subTest("encrypt from file to file"):
+            self.assert_small(4096, "peak", AGEP, "encrypt", "-k", "key", "-s", "seed", "-o", "great.age", "empty")
+        with self.subTest("decrypt through pipes"):
+            self.assert_small(4096, "peak-piped", "great.age", AGEP, "decrypt", "-k", "key")
+        with self.subTest("decrypt from file to file"):
+            self.assert_small(4096, "peak", AGEP, "decrypt", "-k", "key", "-o", "back", "great.age")
+            subprocess.run(["cmp", "empty", "back"], check=True)
+
+    def test_rewrap(self):
+        """rewrap: 1 GiB through pipes, with at most 8 MiB resident; what follows the header stays."""
+        with open("great.age", "wb") as out:
+            out.write(reference.header(SEED[:16], [reference.key_stanza(KEY, SALT)]))
+            reference.write_payload(out, SEED[:16], SEED[16:32], [b"hello\n"], 16384)
+        skip_unless_holes("great.age")
+        with self.subTest("memory"):
+            self.assert_small(8192, "peak-piped", "great.age", AGEP, "rewrap", "-k", "key", "-K", "new.key")
+        with self.subTest("the payload"):
+            script = f"""
+                set -o pipefail
+                cat great.age | {AGEP} rewrap -k key -P new.pass -w 10 | tail -c +{PASSPHRASE_HEADER + 1} |
+                    cmp - <(tail -c +{KEY_HEADER + 1} great.age)"""
+            done = subprocess.run(["bash", "-c", script], stdin=subprocess.DEVNULL, capture_output=True, timeout=600)
+            self.assertEqual((done.returncode, done.stdout, done.stderr), (0, b"", b""))
+
+
+class DamagedFile(ProgramCase):
+    def test_unread(self):
+        """Of a file whose first chunk is damaged no more is read than that chunk and one byte."""
+        file = fixture.changed(fixture.for_passphrase(fixture.PLAIN[:131073]), 166)
+        write("damaged", file)
+        with open("damaged", "rb") as stdin:
+            self.says("chunk 0 is damaged", "decrypt", "-p", "pass", input=stdin)
+            at = os.lseek(stdin.fileno(), 0, os.SEEK_CUR)
+        self.assertGreaterEqual(len(file) - at, 65568)

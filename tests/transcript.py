@@ -1,0 +1,163 @@
+#!/usr/bin/env python3
+"""Runs the commands of transcripts, and compares what each prints with what stands below it.
+
+usage: tests/transcript.py [NAME..]     tests/cli/NAME.console, README or USE; or all of them
+       tests/transcript.py --list       the names
+
+A transcript is text with blocks that begin with ```console and end with ```. In a block a line that
+begins with `$ ` is a command for bash; where it ends with &&, | or \\ the next line goes on with it.
+Below it stand the lines of its standard output, those of its standard error, each after `2> `, and
+[status N] where it does not end with 0. [no line end] follows a last line of output without one.
+
+The commands of a transcript run one after another in one shell with `pipefail`, in a copy of the
+folder that fixture.py makes, with nothing on standard input.
+
+README.md and docs/USE.md are transcripts too: their commands run in a folder like a clone, standard
+error stands among the standard output, and no status is shown. The gate itself is not run, and what
+a build says is left out.
+
+The last line is 'N passed, M failed', over all commands.
+"""
+
+import difflib
+import os
+import re
+import subprocess
+import sys
+
+sys.dont_write_bytecode = True
+
+import program
+
+CLI = program.TESTS + "/cli"
+DOCUMENTS = {"README": "README.md", "USE": "docs/USE.md"}
+# Seconds for a whole transcript.
+PATIENCE = 300
+GOES_ON = ("&&", "|", "\\")
+
+
+class Command:
+    def __init__(self, place, line):
+        self.place = place
+        self.lines = [line]
+        self.expected = []
+
+    def goes_on(self):
+        return self.lines[-1].endswith(GOES_ON) and not self.expected
+
+
+def read_text(name):
+    with open(name, encoding="utf-8", errors="surrogateescape", newline="") as file:
+        return file.read()
+
+
+def commands_of(name):
+    """The commands of a transcript, with what each is to print."""
+    commands, inside = [], False
+    for number, line in enumerate(read_text(name).split("\n"), 1):
+        if line.startswith("```"):
+            inside = line == "```console"
+        elif inside and line.startswith("$ "):
+            commands.append(Command(f"{os.path.relpath(name, program.ROOT)}:{number}", line[2:]))
+        elif inside and not commands:
+            sys.exit(f"{name}:{number}: a block begins without a command")
+        elif inside and commands[-1].goes_on():
+            commands[-1].lines.append(line)
+        elif inside:
+            commands[-1].expected.append(line)
+    return commands
+
+
+def lines_of(text, mark=""):
+    """Lines as a transcript shows them."""
+    if not text:
+        return []
+    *lines, rest = text.split("\n")
+    lines = [(mark + line).rstrip(" ") if mark and not line else mark + line for line in lines]
+    return lines + ([mark + rest, "[no line end]"] if rest else [])
+
+
+class Session:
+    """A shell that has run some commands, and what they left."""
+
+    def __init__(self, commands, folder, room, is_merged):
+        self.room = room
+        self.is_merged = is_merged
+        os.mkdir(room)
+        with open(room + "/run", "w", encoding="utf-8", errors="surrogateescape") as script:
+            script.write("umask 022\n" if is_merged else "umask 022\nset -o pipefail\n")
+            for number, command in enumerate(commands):
+                with open(f"{room}/command.{number}", "w", encoding="utf-8", errors="surrogateescape") as file:
+                    file.write("\n".join(command.lines) + "\n")
+                err = "&1" if is_merged else f"'{room}/err.{number}'"
+                script.write(
+                    f"eval \"$(<'{room}/command.{number}')\" >'{room}/out.{number}' 2>{err} </dev/null\n"
+                    f"echo $? >'{room}/status.{number}'\n"
+                )
+        environment = {**os.environ, "PATH": f"{room}/bin:{os.environ['PATH']}", "TMPDIR": room, "ROOT": program.ROOT}
+        os.mkdir(room + "/bin")
+        os.symlink(program.AGEP, room + "/bin/agep")
+        words = ["timeout", str(PATIENCE), "bash", room + "/run"]
+        subprocess.run(words, cwd=folder, env=environment, stdin=subprocess.DEVNULL)
+
+    def printed(self, number):
+        """What a command printed, or nothing where the shell was gone before it ended."""
+        if not os.path.exists(f"{self.room}/status.{number}"):
+            return ["[not run]"]
+        lines = lines_of(read_text(f"{self.room}/out.{number}"))
+        if self.is_merged:
+            return lines
+        lines += lines_of(read_text(f"{self.room}/err.{number}"), "2> ")
+        status = read_text(f"{self.room}/status.{number}").strip()
+        return lines + ([f"[status {status}]"] if status != "0" else [])
+
+
+def compare(command, printed):
+    """Prints the line of a check, and where it fails a diff; returns whether it passes."""
+    title = f"{command.place}: {command.lines[0]}"
+    passes = command.expected == printed
+    lines = [f"{'ok' if passes else 'FAILED'}: {title}"]
+    if not passes:
+        lines += difflib.unified_diff(command.expected, printed, "expected", "printed", lineterm="", n=100)
+    print("\n".join(lines).encode("utf-8", "backslashreplace").decode(), flush=True)
+    return passes
+
+
+def run_transcript(name):
+    """The results of a transcript's commands."""
+    room = program.scratch()
+    folder = room + "/work"
+    if name in DOCUMENTS:
+        os.mkdir(folder)
+        for entry in os.listdir(program.ROOT):
+            if not entry.startswith("."):
+                os.symlink(f"{program.ROOT}/{entry}", f"{folder}/{entry}")
+        commands = [it for it in commands_of(f"{program.ROOT}/{DOCUMENTS[name]}") if it.lines[0] != ".ci/run"]
+        for command in commands:
+            command.expected = [line for line in command.expected if not re.match("agep: buil(ding|t) ", line)]
+    else:
+        program.copy_fixture(folder)
+        commands = commands_of(f"{CLI}/{name}.console")
+    session = Session(commands, folder, room + "/room", name in DOCUMENTS)
+    if not commands:
+        print(f"FAILED: {name} has no command")
+        return [False]
+    return [compare(command, session.printed(number)) for number, command in enumerate(commands)]
+
+
+def main():
+    names = sorted(name[: -len(".console")] for name in os.listdir(CLI) if name.endswith(".console")) + [*DOCUMENTS]
+    if sys.argv[1:] == ["--list"]:
+        print(*names, sep="\n")
+        return 0
+    for name in sys.argv[1:]:
+        if name not in names:
+            sys.exit(f"{sys.argv[0]}: no transcript is named {name}: {' '.join(names)}")
+    program.build()
+    results = [result for name in sys.argv[1:] or names for result in run_transcript(name)]
+    print(f"{sum(results)} passed, {results.count(False)} failed")
+    return not all(results)
+
+
+if __name__ == "__main__":
+    sys.exit(main())

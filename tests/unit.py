@@ -1,0 +1,107 @@
+#!/usr/bin/env python3
+"""Runs the tests of tests/test_*.py, and prints a line for each check.
+
+usage: tests/unit.py [NAME..]     test_FILE, test_FILE.Class or test_FILE.Class.test_name; or all
+       tests/unit.py --list       the names of all classes
+
+A subtest counts as a check, and a test that has none as one. The last line is 'N passed, M failed'.
+"""
+
+import os
+import sys
+import traceback
+import unittest
+
+sys.dont_write_bytecode = True
+
+import program
+
+# They build something first, which takes long: each has a script of its own.
+ALONE = {"test_avx2", "test_packages"}
+
+
+class Result(unittest.TestResult):
+    def __init__(self):
+        super().__init__()
+        self.passed = 0
+        self.failed = 0
+        self.with_subtests = set()
+
+    def count(self, test, error):
+        title = f"{name_of(test)}: {title_of(test)}"
+        if error is None:
+            self.passed += 1
+            print(f"ok: {title}", flush=True)
+            return
+        self.failed += 1
+        kind, value, where = error
+        if issubclass(kind, AssertionError):
+            text = f"{value}\n"
+        else:
+            text = "".join(traceback.format_exception(kind, value, where))
+        print(f"FAILED: {title}\n{text}".encode("utf-8", "backslashreplace").decode(), flush=True)
+
+    def addSuccess(self, test):
+        if test.id() not in self.with_subtests:
+            self.count(test, None)
+
+    def addFailure(self, test, error):
+        self.count(test, error)
+
+    def addError(self, test, error):
+        self.count(test, error)
+
+    def addSubTest(self, test, subtest, error):
+        self.with_subtests.add(test.id())
+        if error is not None and issubclass(error[0], unittest.SkipTest):
+            self.addSkip(subtest, str(error[1]))
+            return
+        self.count(subtest, error)
+
+    def addSkip(self, test, reason):
+        self.with_subtests.add(test.id())
+        print(f"skipped: {title_of(test)}: {reason}", flush=True)
+
+
+def name_of(test):
+    """The file and the class of a test."""
+    test = getattr(test, "test_case", test)
+    return f"{type(test).__module__}.{type(test).__name__}"
+
+
+def title_of(test):
+    if hasattr(test, "test_case"):
+        return f"{title_of(test.test_case)}: {test._message}"
+    return (getattr(test, "shortDescription", lambda: None)() or test.id().split(".")[-1]).rstrip(".")
+
+
+def modules():
+    names = sorted(name[:-3] for name in os.listdir(program.TESTS) if name.startswith("test_") and name.endswith(".py"))
+    return [name for name in names if name not in ALONE]
+
+
+def classes(suite):
+    for test in suite:
+        if isinstance(test, unittest.TestSuite):
+            yield from classes(test)
+        else:
+            yield name_of(test)
+
+
+def main():
+    os.chdir(program.TESTS)
+    sys.path.insert(0, program.TESTS)
+    loader = unittest.TestLoader()
+    suite = loader.loadTestsFromNames([name for name in sys.argv[1:] if name != "--list"] or modules())
+    if "--list" in sys.argv[1:]:
+        print(*dict.fromkeys(classes(suite)), sep="\n")
+        return 0
+    program.build()
+    result = Result()
+    suite.run(result)
+    print(f"{result.passed} passed, {result.failed} failed")
+    return result.failed > 0 or result.passed == 0
+
+
+if __name__ == "__main__":
+    sys.exit(main())
