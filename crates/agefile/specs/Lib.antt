@@ -1,8 +1,12 @@
+pub mod Chunk
 pub mod Codes
 pub mod Giving
 pub mod Inspect
 pub mod Limits
 pub mod Listing
+pub mod Part
+pub mod Payload
+pub mod Phase
 pub mod Ranges
 pub mod Reader
 pub mod Report

@@ -18,6 +18,7 @@
 //! what is proved, are in docs/C.md.
 #![tactic(auto)]
 
+mod chunk;
 mod code;
 mod decrypting;
 mod encrypting;
@@ -26,6 +27,9 @@ mod inspecting;
 pub mod laws;
 mod limits;
 mod listing;
+mod part;
+mod payload;
+mod phase;
 mod ranges;
 mod reader;
 mod report;
