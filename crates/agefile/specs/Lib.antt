@@ -4,6 +4,7 @@ pub mod Giving
 pub mod Inspect
 pub mod Limits
 pub mod Listing
+pub mod Opening
 pub mod Part
 pub mod Payload
 pub mod Phase
