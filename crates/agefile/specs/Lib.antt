@@ -1,6 +1,8 @@
 pub mod Chunk
 pub mod Codes
+pub mod Encrypting
 pub mod Giving
+pub mod Heading
 pub mod Inspect
 pub mod Limits
 pub mod Listing
@@ -17,4 +19,5 @@ pub mod Start
 pub mod State
 pub mod Steps
 pub mod Unlock
+pub mod Wrapping
 pub mod Writer

@@ -1,11 +1,14 @@
 //! Opening a file by its file key.
 
 ghost use Rattle.std.specs.Prelude.{◌≡◌};
+ghost use Rattle.agefile.specs.Giving.{GivesPlain};
 ghost use Rattle.agefile.specs.Opening.{Opens, StartsAt, by_file_key};
 ghost use Rattle.agefile.specs.Ranges.{OpensRanges};
 ghost use Rattle.agefile.specs.Start.{FindsStart};
 
-use crate::code::{OK, fault_code};
+use crate::code::{OK, OUT_OF_MEMORY, fault_code};
+use crate::decrypting::open_with;
+use crate::giving::give_up;
 use crate::payload::Payload;
 use crate::phase::READING;
 use crate::ranges::{Ranges, open_at};
@@ -111,6 +114,29 @@ pub extern "C" fn agefile_ranges_open(
         ranges,
         report,
     )
+}
+
+/// Decrypts a whole file by its file key. On a chunk's fault `out` has the plaintext of the chunks
+/// before it.
+///
+/// # Errors
+/// 21 if `out` is too small for the plaintext, 17 if an allocation was refused; then `out` is
+/// unchanged. Otherwise those of `agefile_open`, and those of the chunks, as `age_file::decrypt`
+/// says.
+#[unsafe(no_mangle)]
+pub extern "C" fn agefile_decrypt(
+    alloc: Global,
+    file: &[u8],
+    file_key: &[u8; 16],
+    out: &mut [u8],
+    report: &mut Report,
+) -> u32
+    ensures { GivesPlain (by_file_key file_key.now) file.now out.old out.new report.new result }
+{
+    match Box::new(alloc, GivenKey::new(FileKey(*file_key))) {
+        Ok(identity) => open_with(alloc, file, identity, out, report),
+        Err(_) => give_up(OUT_OF_MEMORY, out, report),
+    }
 }
 
 /// Finds the start of a file with this front by its file key.
