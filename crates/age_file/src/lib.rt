@@ -70,4 +70,4 @@ pub use limits::{Fresh, Limits};
 pub use new_header::header_for;
 pub use ranges::open_ranges;
 pub use rewrapping::rewrap;
-pub use unlocking::unlock_header;
+pub use unlocking::{is_mixed, unlock_header};

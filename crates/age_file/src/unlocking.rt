@@ -58,7 +58,7 @@ fn checked(
 }
 
 /// Whether there is a `scrypt` stanza and another stanza.
-pub(crate) fn is_mixed(stanzas: &[Stanza]) -> bool
+pub fn is_mixed(stanzas: &[Stanza]) -> bool
     ensures { result ≡ is_mixed stanzas.now }
 {
     stanzas.len() > 1 && has_scrypt(stanzas)

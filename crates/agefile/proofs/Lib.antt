@@ -14,3 +14,5 @@ mod StepsReadLemmas
 mod UnlockLemmas
 mod WriterLemmas
 mod WritesRunLemmas
+mod HeadingLemmas
+mod WrapLemmas

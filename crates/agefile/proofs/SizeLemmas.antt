@@ -24,7 +24,7 @@ use Rattle.age_stream.specs.Payload.{chunks, is_end, payload, payload_key, chunk
 
 -- ---- headers
 
-b64_size : (bytes characters : List ℕ) → IsBase64 bytes characters → length characters ≡ (4 * length bytes + 2) / 3
+pub b64_size : (bytes characters : List ℕ) → IsBase64 bytes characters → length characters ≡ (4 * length bytes + 2) / 3
 unfolding IsBase64
 b64_size [] [] h = refl
 b64_size (a ∷ []) (p ∷ q ∷ []) h = refl

@@ -29,6 +29,10 @@ bad_work_factor = 22
 abbrev pub out_of_order : ℕ
 out_of_order = 23
 
+-- the arguments of a stanza are not words of visible characters, joined by single spaces
+abbrev pub bad_arguments : ℕ
+bad_arguments = 25
+
 -- a fault's code
 abbrev pub fault_code : Fault → ℕ
 fault_code NotAge = 1

@@ -1,8 +1,15 @@
+pub mod Chunk
 pub mod Codes
+pub mod Encrypting
 pub mod Giving
+pub mod Heading
 pub mod Inspect
 pub mod Limits
 pub mod Listing
+pub mod Opening
+pub mod Part
+pub mod Payload
+pub mod Phase
 pub mod Ranges
 pub mod Reader
 pub mod Report
@@ -12,4 +19,5 @@ pub mod Start
 pub mod State
 pub mod Steps
 pub mod Unlock
+pub mod Wrapping
 pub mod Writer

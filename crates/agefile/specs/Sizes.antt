@@ -15,6 +15,11 @@ longest_header = 156
 abbrev pub shortest_header : ℕ
 shortest_header = 70
 
+-- the length of the file of a plaintext of n bytes whose header has `header` bytes: the header, a
+-- nonce, and a tag for each chunk
+abbrev pub file_len : (header n : ℕ) → ℕ
+file_len header n = header + nonce_size + n + tag_size * chunk_count n
+
 -- the length of the file of a plaintext of n bytes under a key: a header, a nonce, and a tag for
 -- each chunk
 abbrev pub sealed_len : ℕ → ℕ

@@ -20,6 +20,9 @@ pub(crate) const WORK_FACTOR: u32 = 22;
 /// There is no such stanza or offset, or the call does not fit the state.
 pub(crate) const OUT_OF_ORDER: u32 = 23;
 
+/// The arguments of a stanza are not words of visible characters, joined by single spaces.
+pub(crate) const BAD_ARGUMENTS: u32 = 25;
+
 /// The code of a fault.
 pub(crate) fn fault_code(fault: Fault) -> u32
     ensures { result ≡ fault_code fault }

@@ -68,7 +68,7 @@ pub extern "C" fn agefile_decrypt_key(
 }
 
 /// Decrypts a file for one identity.
-fn open_with(
+pub(crate) fn open_with(
     alloc: Global,
     file: &[u8],
     identity: Box<dyn Identity>,

@@ -18,17 +18,24 @@
 //! what is proved, are in docs/C.md.
 #![tactic(auto)]
 
+mod chunk;
 mod code;
 mod decrypting;
 mod encrypting;
 mod giving;
+mod heading;
 mod inspecting;
 pub mod laws;
 mod limits;
 mod listing;
+mod opening;
+mod part;
+mod payload;
+mod phase;
 mod ranges;
 mod reader;
 mod report;
+mod sealing;
 mod sizes;
 mod start;
 mod state;
@@ -36,4 +43,6 @@ mod state;
 mod tests;
 pub mod there_and_back;
 mod unlocking;
+mod version;
+mod wrapping;
 mod writer;

@@ -114,7 +114,7 @@ fn stay_closed(code: u32, ranges: &mut Ranges, report: &mut Report) -> u32
 }
 
 /// The payload from this start to the end of a file of this many bytes, or none.
-fn open_at(
+pub(crate) fn open_at(
     start: Result<Start, Fault>,
     file_len: u64,
     ranges: &mut Ranges,

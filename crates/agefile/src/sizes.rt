@@ -10,9 +10,9 @@ ghost use Rattle.age_file.specs.declared.fault.Fault.{Fault};
 ghost use Rattle.age_file.specs.Verdict.{Answering, IsVerdict};
 ghost use Rattle.agefile.specs.Giving.{IsFileUnder, salt_of, seed_size};
 ghost use Rattle.agefile.specs.Limits.{limits};
-ghost use Rattle.agefile.specs.Sizes.{plain_len_at_most, sealed_len};
+ghost use Rattle.agefile.specs.Sizes.{file_len, plain_len_at_most, sealed_len};
 
-use age_stream::{CHUNK_SIZE, SEALED_CHUNK_SIZE, TAG_SIZE};
+use age_stream::{CHUNK_SIZE, NONCE_SIZE, SEALED_CHUNK_SIZE, TAG_SIZE};
 
 /// The header of a file under a key, 156 bytes, and its payload's nonce. Under a passphrase the
 /// header is six or seven bytes shorter.
@@ -52,4 +52,17 @@ pub extern "C" fn agefile_plain_len_at_most(file_len: u64) -> u64
     let sealed = file_len.saturating_sub(LEAST_FRONT);
     CHUNK_SIZE as u64 * (sealed / SEALED_CHUNK_SIZE as u64)
         + (sealed % SEALED_CHUNK_SIZE as u64).saturating_sub(TAG_SIZE as u64)
+}
+
+/// The length of the file of a plaintext of this many bytes with a header of this many bytes,
+/// saturating at the largest `u64`.
+#[unsafe(no_mangle)]
+pub extern "C" fn agefile_file_len(header_len: u64, plain_len: u64) -> u64
+    ensures { result ≡ min (file_len header_len plain_len) (2 ^ 64 - 1) }
+{
+    let chunks = plain_len.saturating_sub(1) / CHUNK_SIZE as u64 + 1;
+    header_len
+        .saturating_add(NONCE_SIZE as u64)
+        .saturating_add(plain_len)
+        .saturating_add(TAG_SIZE as u64 * chunks)
 }

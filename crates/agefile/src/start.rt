@@ -55,7 +55,11 @@ pub(crate) fn start_for_key(alloc: Global, front: &[u8], key: &[u8; 32]) -> Resu
 }
 
 /// Finds the start of a file with this front for one identity.
-fn start_for(alloc: Global, front: &[u8], identity: Box<dyn Identity>) -> Result<Start, Fault>
+pub(crate) fn start_for(
+    alloc: Global,
+    front: &[u8],
+    identity: Box<dyn Identity>,
+) -> Result<Start, Fault>
     ensures { FindsStart (alone (meaning identity)) front.now result }
 {
     match vec![in alloc; identity] {

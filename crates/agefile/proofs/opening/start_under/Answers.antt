@@ -1,0 +1,11 @@
+use Rattle.std.proofs.Common.{◌∙◌, ap}
+use denote.Param.Object.{read_made}
+use Rattle.agefile.specs.Opening.{gives_key}
+use Rattle.agefile.proofs.StartLemmas.{start_meant}
+use Rattle.agefile.proofs.opening.start_under.Goals as goal
+use Rattle.agefile.proofs.opening.start_under.OwnLists.{own-1, entry-1-1, at-1-1, same-1-1}
+
+pub returns-in-Ok : goal.returns-in-Ok
+returns-in-Ok c =
+    let same = read_made own-1 entry-1-1 at-1-1 same-1-1 _ (λ j y. j.1.meaning y) _ _ _ c.into_dyn_box.ensures.1 ∙ ap gives_key (c.in-Ok.ensures.ok ∙ c.new.ensures) in
+    start_meant _ _ _ _ same c.start_for.ensures

@@ -1,0 +1,138 @@
+-- What a text of stanzas is, and what calls give that make a header of it.
+use Rattle.std.specs.Prelude.{◌≡◌, ◌≢◌, ◌⊎◌, ◌==◌, ℕ, ◌+◌, ◌-◌, ◌++◌, List, [], length, replicate, codes, nat_lt, Some, None, Result, Ok, Err, if◌then◌else◌, Vec}
+use Rattle.std.specs.Global.{Global}
+use Rattle.std.specs.List.{count_by}
+use Rattle.age_kdf.specs.Bytes.{Bytes}
+use Rattle.age_header.specs.declared.fault.HeaderFault.{HeaderFault}
+use Rattle.age_header.specs.Header.{StanzaParts, line, version_line}
+use Rattle.age_header.specs.Mac.{header_mac}
+use Rattle.age_header.specs.Verdict.{Found, HeaderVerdict}
+use Rattle.age_recipient.specs.declared.key.FileKey.{FileKey}
+use Rattle.age_file.specs.declared.fault.Fault.{Fault}
+use Rattle.age_file.specs.declared.fault.Fault.TheVariants.{BadLine, MixedPassphrase, NoRecipients, OutOfMemory}
+use Rattle.age_file.specs.AgeFile.{is_mixed}
+use Rattle.age_file.specs.NewFile.{Gathering, IsHeading}
+use Rattle.age_file.specs.Verdict.{header_fault}
+use Rattle.age_stream.specs.Payload.{payload_key}
+use Rattle.agefile.specs.declared.payload.Payload.{Payload}
+use Rattle.agefile.specs.declared.report.Report.{Report}
+use Rattle.agefile.specs.Codes.{fault_code, out_of_memory}
+use Rattle.agefile.specs.Giving.{Exceeds, Fits, Gives, GivesUp}
+use Rattle.agefile.specs.Limits.{limits}
+use Rattle.agefile.specs.Payload.{before_first, closed}
+use Rattle.agefile.specs.Phase.{phase_writing}
+use Rattle.agefile.specs.Report.{report_of}
+
+-- a text between the version line and an end line with these characters
+abbrev pub framed : (text characters : Bytes) → Bytes
+framed text characters = version_line ++ text ++ line (codes "--- " ++ characters)
+
+-- how many characters of base64 a MAC has
+abbrev pub mac_characters : ℕ
+mac_characters = 43
+
+-- the same with an end line that has some MAC, whose characters are all `A`
+abbrev pub probe : Bytes → Bytes
+probe text = framed text (replicate mac_characters 65)
+
+-- how many lines end in a text
+abbrev pub lines_in : Bytes → ℕ
+lines_in text = count_by (λ c. c == 10) text
+
+-- a header's fault as one of its text of stanzas, which begins with the header's second line
+abbrev pub in_text : Fault → Fault
+in_text (BadLine n) = BadLine (n - 1)
+in_text fault = fault
+
+-- The stanzas of a text, by the header verdict on its probe; or its first bad line, counted in the
+-- text. A line that ends the header early is a bad one.
+abbrev pub stanzas_in : (text : Bytes) (verdict : Result Found HeaderFault)
+    → Result (List StanzaParts) Fault
+stanzas_in text (Ok found) =
+    if nat_lt (length found.text) (length (probe text)) then Err (BadLine (lines_in found.text - 1))
+    else Ok found.stanzas
+stanzas_in text (Err reason) = Err (in_text (header_fault reason))
+
+-- stanzas of which none is a `scrypt` stanza beside another
+abbrev pub unless_mixed : Result (List StanzaParts) Fault → Result (List StanzaParts) Fault
+unless_mixed (Err fault) = Err fault
+unless_mixed (Ok stanzas) = if is_mixed stanzas then Err MixedPassphrase else Ok stanzas
+
+-- the stanzas that a text is, or the first fault for which no header is made of it
+abbrev pub HasStanzas : (text : Bytes) (stanzas : Result (List StanzaParts) Fault) → Type 0
+HasStanzas text stanzas =
+    ((text ≡ []) × (stanzas ≡ Err NoRecipients))
+    ⊎ ((text ≢ []) × ((verdict : Result Found HeaderFault)
+    × HeaderVerdict (probe text) limits.max_header verdict
+    × (stanzas ≡ unless_mixed (stanzas_in text verdict))))
+
+-- these stanzas are given
+abbrev pub given : List StanzaParts → Gathering
+given stanzas = λ gathered. gathered ≡ Ok stanzas
+
+-- the header of stanzas under a file key, with its MAC; or the fault for which there is none
+abbrev pub Signs : (k : FileKey) (stanzas : Result (List StanzaParts) Fault)
+    (result : Result (Vec ℕ Global) Fault) → Type 0
+Signs k (Ok stanzas) (Ok text) = IsHeading limits k (given stanzas) stanzas text.items
+Signs k (Ok stanzas) (Err fault) = ⊥
+Signs k (Err fault) result = result ≡ Err fault
+
+-- the MAC of a header of these stanzas under a file key, or the fault
+abbrev pub IsMac : (k : FileKey) (stanzas : Result (List StanzaParts) Fault)
+    (mac : Result Bytes Fault) → Type 0
+IsMac k (Ok stanzas) mac = mac ≡ Ok (header_mac k.0 stanzas)
+IsMac k (Err fault) mac = mac ≡ Err fault
+
+-- the MAC of the header that a text's probe is, under a file key; its fault; or out of memory
+abbrev pub FindsMac : (text : Bytes) (k : FileKey) (mac : Result Bytes Fault) → Type 0
+FindsMac text k mac =
+    (mac ≡ Err OutOfMemory)
+    ⊎ ((verdict : Result Found HeaderFault)
+    × HeaderVerdict (probe text) limits.max_header verdict
+    × IsMac k (unless_mixed (stanzas_in text verdict)) mac)
+
+-- the header of a text of stanzas, its fault, or out of memory
+abbrev pub MakesHeader : (text : Bytes) (k : FileKey) (result : Result (Vec ℕ Global) Fault)
+    → Type 0
+MakesHeader text k result =
+    (result ≡ Err OutOfMemory)
+    ⊎ ((stanzas : Result (List StanzaParts) Fault) × HasStanzas text stanzas
+    × Signs k stanzas result)
+
+-- the fault is returned, and the buffer is as it was
+pub record Refuses (fault : Fault) (old new : Bytes) (report : Report) (code : ℕ) : Type 0 where
+  pub returned : code ≡ fault_code fault
+  pub reported : report ≡ report_of 0 (Some fault)
+  pub buffer : new ≡ old
+
+-- a header is given, if it fits the buffer; or its fault
+abbrev pub GivesMade : (made : Result (Vec ℕ Global) Fault) (old new : Bytes) (report : Report)
+    (code : ℕ) → Type 0
+GivesMade (Ok header) old new report code = Gives header.items None old new report code
+GivesMade (Err fault) old new report code = Refuses fault old new report code
+
+-- what making a header of a text of stanzas gives
+abbrev pub GivesHeader : (stanzas file_key old new : Bytes) (report : Report) (code : ℕ) → Type 0
+GivesHeader stanzas file_key old new report code =
+    (made : Result (Vec ℕ Global) Fault) × MakesHeader stanzas (record { 0 = file_key }) made
+    × GivesMade made old new report code
+
+-- a header and its nonce are given, if they fit the buffer, and chunk 0 is the payload's next; or
+-- the header's fault, and the payload is not open
+abbrev pub BeginsMade : (made : Result (Vec ℕ Global) Fault) (k : FileKey) (nonce old new : Bytes)
+    (payload : Payload) (report : Report) (code : ℕ) → Type 0
+BeginsMade (Ok header) k nonce old new payload report code =
+    (Fits (header.items ++ nonce) None old new report code
+    × (payload ≡ before_first (payload_key k nonce) phase_writing))
+    ⊎ (Exceeds (header.items ++ nonce) old new report code × (payload ≡ closed))
+BeginsMade (Err fault) k nonce old new payload report code =
+    Refuses fault old new report code × (payload ≡ closed)
+
+-- what beginning a file of a text of stanzas gives; or out of memory
+abbrev pub BeginsFile : (stanzas file_key nonce old new : Bytes) (payload : Payload)
+    (report : Report) (code : ℕ) → Type 0
+BeginsFile stanzas file_key nonce old new payload report code =
+    let k : FileKey = record { 0 = file_key } in
+    (GivesUp out_of_memory old new report code × (payload ≡ closed))
+    ⊎ ((made : Result (Vec ℕ Global) Fault) × MakesHeader stanzas k made
+    × BeginsMade made k nonce old new payload report code)

@@ -1,0 +1,38 @@
+-- What calls give that write a stanza.
+use Rattle.std.specs.Prelude.{◌≡◌, ◌⊎◌, ◌==◌, ℕ, List, None}
+use Rattle.std.specs.List.{slice_split}
+use Rattle.std.specs.Str.{IsUtf8}
+use Rattle.age_kdf.specs.Bytes.{Bytes}
+use Rattle.age_header.specs.declared.stanza.StanzaError.{StanzaError}
+use Rattle.age_header.specs.declared.stanza.StanzaError.TheVariants.{Memory}
+use Rattle.age_header.specs.Header.{AreArguments, IsStanza, StanzaParts}
+use Rattle.agefile.specs.declared.report.Report.{Report}
+use Rattle.agefile.specs.Codes.{bad_arguments, out_of_memory}
+use Rattle.agefile.specs.Giving.{Gives, GivesUp}
+
+-- the stanza's text is given, if it fits the buffer; or out of memory
+abbrev pub GivesText : (stanza : StanzaParts) (old new : Bytes) (report : Report) (code : ℕ)
+    → Type 0
+GivesText stanza old new report code =
+    GivesUp out_of_memory old new report code
+    ⊎ ((text : Bytes) × IsStanza stanza text × Gives text None old new report code)
+
+-- what stands between spaces
+abbrev pub words : Bytes → List Bytes
+words text = slice_split (λ c. c == 32) text
+
+-- the code of a caller's arguments that were refused
+abbrev pub refusal_code : StanzaError → ℕ
+refusal_code Memory = out_of_memory
+refusal_code _ = bad_arguments
+
+-- UTF-8 whose words between spaces are arguments, which are visible characters of ASCII
+abbrev pub AreWords : Bytes → Type 0
+AreWords args = IsUtf8 args × AreArguments (words args)
+
+-- the same of a stanza whose arguments are joined by single spaces; or these are no arguments
+abbrev pub GivesOwn : (args body old new : Bytes) (report : Report) (code : ℕ) → Type 0
+GivesOwn args body old new report code =
+    GivesUp out_of_memory old new report code
+    ⊎ (((AreWords args → ⊥) × GivesUp bad_arguments old new report code)
+    ⊎ (AreWords args × GivesText (record { args = words args; body = body }) old new report code))

@@ -1,0 +1,123 @@
+//! A payload in order: one sealed chunk after another, opened or sealed.
+
+ghost use Rattle.std.specs.Prelude.{◌≡◌};
+ghost use Rattle.agefile.specs.Payload.{OpensNext, SealsNext, before_first, closed, may_open, may_seal};
+
+use crate::chunk::{has_text, is_chunk_len, open_as, seal_as};
+use crate::code::{OK, OUT_OF_ORDER};
+use crate::phase::{CLOSED, ENDED, FAILED, READING, WRITING};
+use crate::report::Report;
+
+/// The chunks of a file from the next one on, in their caller's memory. It may hold any bytes.
+#[repr(C)]
+#[derive(Clone, Copy)]
+pub struct Payload {
+    /// The key of the chunks.
+    pub key: [u8; 32],
+    /// The number of the next chunk.
+    pub number: u64,
+    /// 0 not open, 1 reading, 2 writing, 3 after the last chunk, 4 after a fault.
+    pub state: u64,
+    /// 0, for later versions.
+    pub spare: [u64; 2],
+}
+
+impl Payload {
+    /// Nothing is open.
+    pub(crate) fn closed() -> Payload
+        ensures { result ≡ closed }
+    {
+        Payload {
+            key: [0; 32],
+            number: 0,
+            state: CLOSED,
+            spare: [0; 2],
+        }
+    }
+
+    /// Before chunk 0, for reading or writing.
+    pub(crate) fn before_first(key: [u8; 32], phase: u64) -> Payload
+        ensures { result ≡ before_first key phase }
+    {
+        Payload {
+            key,
+            number: 0,
+            state: phase,
+            spare: [0; 2],
+        }
+    }
+
+    /// Whether it opens a chunk of this many bytes.
+    fn may_open(&self, len: usize, last: bool) -> bool
+        ensures { result ≡ may_open self.now len last }
+    {
+        self.state == READING && is_chunk_len(len, last)
+    }
+
+    /// Whether it seals a chunk of this many bytes.
+    fn may_seal(&self, len: usize, last: bool) -> bool
+        ensures { result ≡ may_seal self.now len last }
+    {
+        self.state == WRITING && is_chunk_len(len, last) && has_text(self.number, len)
+    }
+}
+
+/// Opens the next sealed chunk in place: 65,552 bytes, or what is left if it is the last. On 0 its
+/// text is at the start of the buffer, and the report has its length. It allocates nothing.
+///
+/// # Errors
+/// 23 if the payload is not being read, or the chunk has another length: only the report changes.
+/// Otherwise the first that applies of 14, 11, 12 and 13, as `age_stream::open_chunk` says: the
+/// chunk is unchanged, and the payload accepts no other.
+#[unsafe(no_mangle)]
+pub extern "C" fn agefile_open_next(
+    payload: &mut Payload,
+    chunk: &mut [u8],
+    last: bool,
+    report: &mut Report,
+) -> u32
+    ensures { OpensNext payload.old payload.new chunk.old chunk.new last report.new result }
+{
+    if !payload.may_open(chunk.len(), last) {
+        *report = Report::default();
+        return OUT_OF_ORDER;
+    }
+    let code = open_as(&payload.key, payload.number, last, chunk, report);
+    if code == OK {
+        payload.number += 1;
+        payload.state = if last { ENDED } else { READING };
+    } else {
+        payload.state = FAILED;
+    }
+    code
+}
+
+/// Seals the next chunk in place: its text, 65,536 bytes or what is left if it is the last, and
+/// then 16 bytes for the tag. Only the last chunk of an empty plaintext has no text. On 0 all of it
+/// is the sealed chunk. It allocates nothing.
+///
+/// # Errors
+/// 23 if the payload is not being written, or the chunk has another length; 14 if there are
+/// 2^64 - 1 chunks already, after which the payload accepts no other. The chunk is unchanged.
+#[unsafe(no_mangle)]
+pub extern "C" fn agefile_seal_next(
+    payload: &mut Payload,
+    chunk: &mut [u8],
+    last: bool,
+    report: &mut Report,
+) -> u32
+    ensures { SealsNext payload.old payload.new chunk.old chunk.new last report.new result }
+{
+    if !payload.may_seal(chunk.len(), last) {
+        *report = Report::default();
+        return OUT_OF_ORDER;
+    }
+    let code = seal_as(&payload.key, payload.number, last, chunk, report);
+    if code == OK {
+        payload.number += 1;
+        payload.state = if last { ENDED } else { WRITING };
+    } else {
+        payload.state = FAILED;
+    }
+    code
+}
