@@ -110,6 +110,37 @@ class DefaultSeed(ProgramCase):
                 self.assertEqual(self.with_device("seed", *words.split(), "-s", "seed"), (0, "", True))
 
 
+class SameInode(ProgramCase):
+    """Two names lead to one file if device and inode are the same: one of them is not enough."""
+
+    def mounted(self, script):
+        """What a script prints that may mount, in a namespace of its own, and its status."""
+        tool("unshare")
+        words = ["unshare", "-m", "bash", "-ec", script, "bash", AGEP]
+        done = subprocess.run(words, stdin=subprocess.DEVNULL, capture_output=True, timeout=60)
+        if b"mount: " in done.stderr or b"unshare: " in done.stderr:
+            self.skipTest("it takes rights to mount")
+        return done.returncode, done.stdout.decode(), done.stderr.decode()
+
+    def test_two_devices(self):
+        """Files of the same inode on two devices are two files."""
+        status, out, err = self.mounted("""
+            mkdir one two && mount -t tmpfs none one && mount -t tmpfs none two
+            cp hello one/in && cp yesterday two/out && stat -c %i one/in two/out | sort -u | wc -l
+            "$1" encrypt -k key -s seed -o two/out one/in && cmp two/out key.age""")
+        if out.split() != ["1"]:
+            self.skipTest("the first files of two devices have other inodes")
+        self.assertEqual((status, err), (0, ""))
+
+    def test_one_file(self):
+        """A file that is mounted at another name is the same file."""
+        os.link("hello", "first")
+        write("second", b"")
+        status, out, err = self.mounted('mount --bind first second && "$1" encrypt -k key -o second first')
+        self.assertEqual((status, out, err), (1, "", fault("OUT is also IN: second")))
+        self.assert_file("first", HELLO)
+
+
 class SystemCalls(ProgramCase):
     def trace(self, *words, input=b"", calls="read,write"):
         """The sizes that reads and writes moved, by kind and descriptor, of a run."""
