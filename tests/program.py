@@ -18,6 +18,8 @@ TESTS = os.path.dirname(os.path.abspath(__file__))
 ROOT = os.path.dirname(TESTS)
 AGEP = os.path.join(ROOT, "crates", "agep", "out", "agep")
 IO_ERROR, NO_SPACE, INTERRUPTED = "5", "28", "4"
+# How much is run at a time: other scripts run beside these.
+AT_A_TIME = max(1, (os.cpu_count() or 1) // 2)
 
 
 def build():
@@ -89,8 +91,8 @@ class Ran:
     def __init__(self, words, done):
         self.words = words
         self.status = done.returncode
-        self.out = done.stdout if done.stdout is not None else b""
-        self.err = done.stderr if done.stderr is not None else b""
+        self.out = done.stdout or b""
+        self.err = done.stderr or b""
 
 
 def fault(line, more=None):
@@ -142,10 +144,6 @@ class ProgramCase(unittest.TestCase):
         done = subprocess.run([program, *words], env=environment, timeout=600, **more)
         return Ran(words, done)
 
-    def piped(self, name):
-        """The content of a file, through a pipe, as the input of a run."""
-        return read(name)
-
     def assert_bytes(self, got, expected, what="standard output"):
         """Compares bytes, and shows how they differ."""
         if got == expected:
@@ -182,8 +180,3 @@ class ProgramCase(unittest.TestCase):
 
     def assert_file(self, name, expected):
         self.assert_bytes(read(name), expected, name)
-
-
-def case(words):
-    """Words of a command line."""
-    return words.split()

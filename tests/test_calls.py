@@ -310,12 +310,17 @@ class Devices(ProgramCase):
 
 
 class Syncs(ProgramCase):
-    def counted(self, *words, **env):
-        """Runs the program, and counts its calls that sync."""
-        if os.path.exists("synced"):
-            os.remove("synced")
-        ran = self.run_agep(*words, env={"LD_PRELOAD": preload("sync"), **env})
-        return ran, os.path.getsize("synced") if os.path.exists("synced") else 0
+    """Whether the program syncs what it writes to."""
+
+    def counted(self, *words, fails=False):
+        """Runs the program, where each call that syncs may fail, and counts these calls."""
+        if os.path.exists("trace"):
+            os.remove("trace")
+        env = {"LD_PRELOAD": preload("calls"), "TRACE": "trace"}
+        if fails:
+            env.update(CALL="fsync", NUMBER="0", DO=IO_ERROR)
+        ran = self.run_agep(*words, env=env)
+        return ran, sum(line.startswith(b"fsync ") for line in read("trace").splitlines())
 
     def test_syncs(self):
         """OUT is synced once before status 0; a device and standard output are not."""
@@ -324,19 +329,16 @@ class Syncs(ProgramCase):
             "rewrap -p pass -K new.key pass.age",
         ):
             with self.subTest(words):
-                if os.path.exists("made"):
-                    os.remove("made")
                 ran, count = self.counted(*words.split(), "-o", "made")
                 self.assert_ended(ran, 0)
                 self.assertEqual(count, 1)
-                ran, _ = self.counted(*words.split(), "-o", "made", UNSYNCED="1")
+                ran, _ = self.counted(*words.split(), "-o", "made", fails=True)
                 self.assert_ended(ran, 1, fault("write failed"))
-                ran, count = self.counted(*words.split(), "-o", "/dev/null", UNSYNCED="1")
-                self.assert_ended(ran, 0)
-                self.assertEqual(count, 0)
-                ran, count = self.counted(*words.split(), UNSYNCED="1")
-                self.assert_ended(ran, 0, "", None)
-                self.assertEqual(count, 0)
+            for title, options in ("a device", ("-o", "/dev/null")), ("standard output", ()):
+                with self.subTest(f"{words}, {title}"):
+                    ran, count = self.counted(*words.split(), *options, fails=True)
+                    self.assert_ended(ran, 0, "", None)
+                    self.assertEqual(count, 0)
         with self.subTest("not after a fault"):
             ran, count = self.counted("decrypt", "-k", "key", "-o", "made", "damaged.age")
             self.assert_ended(ran, 1, fault("chunk 0 is damaged"))

@@ -10,7 +10,7 @@ Below it stand the lines of its standard output, those of its standard error, ea
 [status N] where it does not end with 0. [no line end] follows a last line of output without one.
 
 The commands of a transcript run one after another in one shell with `pipefail`, in a copy of the
-folder that fixture.py makes, with nothing on standard input.
+folder that fixture.py makes, with nothing on standard input. ROOT is the repository's folder.
 
 README.md and docs/USE.md are transcripts too: their commands run in a folder like a clone, standard
 error stands among the standard output, and no status is shown. The gate itself is not run, and what
@@ -19,6 +19,7 @@ a build says is left out.
 The last line is 'N passed, M failed', over all commands.
 """
 
+import concurrent.futures
 import difflib
 import os
 import re
@@ -124,7 +125,7 @@ def compare(command, printed):
 
 
 def run_transcript(name):
-    """The results of a transcript's commands."""
+    """The commands of a transcript, and what each printed."""
     room = program.scratch()
     folder = room + "/work"
     if name in DOCUMENTS:
@@ -139,10 +140,7 @@ def run_transcript(name):
         program.copy_fixture(folder)
         commands = commands_of(f"{CLI}/{name}.console")
     session = Session(commands, folder, room + "/room", name in DOCUMENTS)
-    if not commands:
-        print(f"FAILED: {name} has no command")
-        return [False]
-    return [compare(command, session.printed(number)) for number, command in enumerate(commands)]
+    return [(command, session.printed(number)) for number, command in enumerate(commands)]
 
 
 def main():
@@ -154,7 +152,11 @@ def main():
         if name not in names:
             sys.exit(f"{sys.argv[0]}: no transcript is named {name}: {' '.join(names)}")
     program.build()
-    results = [result for name in sys.argv[1:] or names for result in run_transcript(name)]
+    program.fixture_folder()
+    results = []
+    with concurrent.futures.ThreadPoolExecutor(program.AT_A_TIME) as pool:
+        for rows in pool.map(run_transcript, sys.argv[1:] or names):
+            results += [compare(*row) for row in rows] or [False]
     print(f"{sum(results)} passed, {results.count(False)} failed")
     return not all(results)
 

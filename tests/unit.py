@@ -4,10 +4,14 @@
 usage: tests/unit.py [NAME..]     test_FILE, test_FILE.Class or test_FILE.Class.test_name; or all
        tests/unit.py --list       the names of all classes
 
-A subtest counts as a check, and a test that has none as one. The last line is 'N passed, M failed'.
+A subtest counts as a check, and a test that has none as one. Without a name the files run some at a
+time, each in a process of its own. The last line is 'N passed, M failed'.
 """
 
+import concurrent.futures
 import os
+import re
+import subprocess
 import sys
 import traceback
 import unittest
@@ -88,6 +92,26 @@ def classes(suite):
             yield name_of(test)
 
 
+def run_apart(name):
+    """What the tests of a file print, in a process of their own."""
+    done = subprocess.run([sys.executable, __file__, name], stdin=subprocess.DEVNULL, stdout=subprocess.PIPE, stderr=subprocess.STDOUT)
+    return done.stdout.decode("utf-8", "backslashreplace")
+
+
+def run_all():
+    """Runs the files, some at a time, and adds up what their last lines say."""
+    passed = failed = 0
+    with concurrent.futures.ThreadPoolExecutor(program.AT_A_TIME) as pool:
+        for name, text in zip(modules(), pool.map(run_apart, modules())):
+            *lines, last = text.rstrip("\n").split("\n")
+            counts = re.fullmatch(r"(\d+) passed, (\d+) failed", last)
+            print(*lines, sep="\n", flush=True)
+            if counts is None:
+                print(f"FAILED: {name} ended early: {last}", flush=True)
+            passed, failed = passed + int(counts[1] if counts else 0), failed + int(counts[2] if counts else 1)
+    return passed, failed
+
+
 def main():
     os.chdir(program.TESTS)
     sys.path.insert(0, program.TESTS)
@@ -97,10 +121,14 @@ def main():
         print(*dict.fromkeys(classes(suite)), sep="\n")
         return 0
     program.build()
-    result = Result()
-    suite.run(result)
-    print(f"{result.passed} passed, {result.failed} failed")
-    return result.failed > 0 or result.passed == 0
+    if len(sys.argv) > 1:
+        result = Result()
+        suite.run(result)
+        passed, failed = result.passed, result.failed
+    else:
+        passed, failed = run_all()
+    print(f"{passed} passed, {failed} failed")
+    return failed > 0
 
 
 if __name__ == "__main__":
