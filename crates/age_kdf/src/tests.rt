@@ -410,7 +410,7 @@ fn scrypt_overwrites_its_work_space(rt: HostRuntime) -> Result<(), AllocError> {
 }
 
 /// The output is written, or is unchanged where the work space is refused.
-/// tests/refused_allocations.sh refuses it.
+/// tests/test_libraries.py refuses it.
 #[test]
 fn scrypt_whole_or_out_of_memory(rt: HostRuntime) {
     let Some(params) = ScryptParams::new(4, 1, 1) else {

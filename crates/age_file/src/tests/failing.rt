@@ -187,7 +187,7 @@ const FILE: &[u8] =
     b"age-encryption.org/v1\n-> example.org/key ICEiIyQlJicoKSorLC0uLw\nV4z9dcExmsj4rOYyl6enYhk5Msw0sZuovpzKf+BEY6Y\n--- vTjtX063xQZt7OcXF0O+SrfCT1OR+JXStLMiFO1M3/E\n\x10\x11\x12\x13\x14\x15\x16\x17\x18\x19\x1a\x1b\x1c\x1d\x1e\x1f\x50\x15\x09\x65\x52\xfe\x30\x35\x66\x48\x70\x85\x54\xcb\x9c\x28";
 
 /// The calls in steps are Ok or out of memory, and nothing else; their set-up may be out of memory
-/// too. tests/refused_allocations.sh refuses each in turn.
+/// too. tests/test_libraries.py refuses each in turn.
 #[test]
 fn whole_or_out_of_memory(rt: HostRuntime) -> Result<(), Fail> {
     let alloc = rt.alloc();
