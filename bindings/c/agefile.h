@@ -56,9 +56,11 @@ extern "C" {
 #define AGEFILE_TEXT_CHUNK 65536   /* bytes of a full chunk of the plaintext */
 #define AGEFILE_SEALED_CHUNK 65552 /* the same with its tag */
 #define AGEFILE_FRONT 65552        /* bytes from a file's start that hold its header and nonce */
+#define AGEFILE_VERSION 0x000400   /* 0.4.0: major, minor and patch, a byte each */
+#define AGEFILE_STANZA_ROOM 128    /* bytes that hold a stanza of agefile_wrap_passphrase or _key */
 #define AGEFILE_HEADER_ROOM 256    /* bytes that hold a new file's header and nonce */
 
-/* A code is never reused. 15, 16 and 18 to 20 are faults of files and of other recipients; no
+/* A code is never reused. 15, 16, 19 and 20 are faults of files and of other recipients; no
  * call here returns them. AGEFILE_NULL_POINTER comes before every other code: a reader, writer
  * or ranges that was to be opened is not open, and otherwise only the report is written. */
 enum agefile_code {
@@ -86,7 +88,8 @@ enum agefile_code {
     AGEFILE_TOO_SMALL = 21,
     AGEFILE_WORK_FACTOR = 22,
     AGEFILE_OUT_OF_ORDER = 23,
-    AGEFILE_NULL_POINTER = 24
+    AGEFILE_NULL_POINTER = 24,
+    AGEFILE_BAD_ARGUMENTS = 25
 };
 
 /* The message of a code: the text of the program `agep`, without its numbers. The report's
@@ -119,6 +122,7 @@ static inline const char *agefile_message(uint32_t code)
     case AGEFILE_WORK_FACTOR: return "work factor is not 1 to 30";
     case AGEFILE_OUT_OF_ORDER: return "no such stanza or offset, or a call out of order";
     case AGEFILE_NULL_POINTER: return "null pointer with a length";
+    case AGEFILE_BAD_ARGUMENTS: return "stanza arguments are not words";
     default: return "unknown code";
     }
 }
@@ -166,6 +170,10 @@ static inline uint32_t agefile_encrypt_key(
 /* The size of a buffer that suffices; UINT64_MAX if it exceeds 64 bits. */
 uint64_t agefile_sealed_len(uint64_t plain_len) AGEFILE_USED;
 uint64_t agefile_plain_len_at_most(uint64_t file_len) AGEFILE_USED;
+/* The length of a file with a header of header_len bytes; UINT64_MAX if it exceeds 64 bits. */
+uint64_t agefile_file_len(uint64_t header_len, uint64_t plain_len) AGEFILE_USED;
+/* The version of the library, as AGEFILE_VERSION of its header. */
+uint32_t agefile_version(void) AGEFILE_USED;
 
 /* ---- Headers. Reading a header needs no passphrase or key, so its MAC is not verified. `front` is
  * the file's first AGEFILE_FRONT bytes, or all of a shorter file. */
@@ -208,6 +216,114 @@ static inline uint32_t agefile_unlock_key(
     const uint8_t *front, size_t front_len, const uint8_t key[AGEFILE_LEAST 32],
     uint8_t file_key[AGEFILE_LEAST 16], agefile_report *report)
     AGEFILE_CALL("unlock_key", (3, 4, 5));
+
+/* ---- From a file key to the text of a stanza, at the start of `out`; report.len is its length.
+ * On AGEFILE_TOO_SMALL it is the length that is needed, and `out` is unchanged. Several stanzas are
+ * joined by writing one behind the other. A salt is 16 fresh random bytes for each stanza. */
+static inline uint32_t agefile_wrap_passphrase(
+    const uint8_t file_key[AGEFILE_LEAST 16], const uint8_t *pass, size_t pass_len, uint8_t work,
+    const uint8_t salt[AGEFILE_LEAST 16], uint8_t *out, size_t out_len, agefile_report *report)
+    AGEFILE_CALL("wrap_passphrase", (1, 5, 8));
+static inline uint32_t agefile_wrap_key(
+    const uint8_t file_key[AGEFILE_LEAST 16], const uint8_t key[AGEFILE_LEAST 32], const uint8_t
+    salt[AGEFILE_LEAST 16], uint8_t *out, size_t out_len, agefile_report *report)
+    AGEFILE_CALL("wrap_key", (1, 2, 3, 6));
+/* A stanza of the caller's own. `args` are its type and its arguments, joined by single spaces;
+ * AGEFILE_BAD_ARGUMENTS if they are not words of `!` to `~`. `body` is its body's bytes. */
+static inline uint32_t agefile_wrap(
+    const uint8_t *args, size_t args_len, const uint8_t *body, size_t body_len, uint8_t *out,
+    size_t out_len, agefile_report *report) AGEFILE_CALL("wrap", (7));
+
+/* ---- The header of a text of stanzas, with its MAC under a file key; report.len is its length.
+ * AGEFILE_NO_RECIPIENTS if the text is empty. AGEFILE_BAD_LINE if it is no text of stanzas, and
+ * report.place is its first bad line; AGEFILE_HEADER_TRUNCATED if only the end of its last line is
+ * missing. AGEFILE_HEADER_TOO_LARGE if the header would exceed 65,536 bytes,
+ * AGEFILE_MIXED_PASSPHRASE if a scrypt stanza is beside another one. With a fault `out` is
+ * unchanged. */
+static inline uint32_t agefile_header(
+    const uint8_t *stanzas, size_t stanzas_len, const uint8_t file_key[AGEFILE_LEAST 16], uint8_t
+    *out, size_t out_len, agefile_report *report) AGEFILE_CALL("header", (3, 6));
+
+/* ---- A payload. Only the calls change it, and it is never copied while it is in use: a copy
+ * would seal another chunk under a nonce that was used. */
+enum agefile_state {
+    AGEFILE_CLOSED = 0,
+    AGEFILE_READING = 1,
+    AGEFILE_WRITING = 2,
+    AGEFILE_ENDED = 3,
+    AGEFILE_FAILED = 4
+};
+
+typedef struct agefile_payload {
+    uint8_t key[32];
+    uint64_t number;   /* of the next chunk */
+    uint64_t state;    /* an agefile_state */
+    uint64_t spare[2]; /* 0 */
+} agefile_payload;
+
+/* Begins a file: writes its header, as agefile_header does, and its nonce to the start of `out`,
+ * and starts the payload for writing. report.len is the length of both. File key and nonce are 16
+ * fresh random bytes each, for each file. With a fault `out` is unchanged, and the payload is
+ * closed. */
+static inline uint32_t agefile_begin(
+    const uint8_t *stanzas, size_t stanzas_len, const uint8_t file_key[AGEFILE_LEAST 16], const
+    uint8_t nonce[AGEFILE_LEAST 16], uint8_t *out, size_t out_len, agefile_payload *payload,
+    agefile_report *report) AGEFILE_CALL("begin", (3, 4, 7, 8));
+/* Verifies the MAC of the header at the start of `front` under a file key, and starts the payload
+ * for reading. report.len is the offset of the first sealed chunk. With a fault the payload is
+ * closed. AGEFILE_HEADER_TRUNCATED and AGEFILE_NONCE_TRUNCATED say that more bytes of the file are
+ * needed, if it has more. */
+static inline uint32_t agefile_open(
+    const uint8_t *front, size_t front_len, const uint8_t file_key[AGEFILE_LEAST 16],
+    agefile_payload *payload, agefile_report *report) AGEFILE_CALL("open", (3, 4, 5));
+/* Opens the next sealed chunk in place: AGEFILE_SEALED_CHUNK bytes, or what is left if it is the
+ * last. On 0 its text is at the start of the chunk, report.len bytes; otherwise the chunk is
+ * unchanged. After a fault the payload accepts no other chunk. A plaintext is complete only after a
+ * 0 for its last chunk, so one call for a last chunk is needed even if no byte follows. */
+static inline uint32_t agefile_open_next(
+    agefile_payload *payload, uint8_t *chunk, size_t chunk_len, bool last, agefile_report *report)
+    AGEFILE_CALL("open_next", (1, 5));
+/* Seals the next chunk in place: its text, AGEFILE_TEXT_CHUNK bytes or what is left if it is the
+ * last, and then 16 bytes for the tag. On 0 all chunk_len bytes are the sealed chunk; otherwise
+ * they are unchanged. An empty plaintext has one chunk, which is empty; no other is empty. */
+static inline uint32_t agefile_seal_next(
+    agefile_payload *payload, uint8_t *chunk, size_t chunk_len, bool last, agefile_report *report)
+    AGEFILE_CALL("seal_next", (1, 5));
+
+/* ---- A part of a payload: its next chunks, one or more and none of them the last. A thread opens
+ * or seals a part while another has the payload, which goes on behind the part. */
+typedef struct agefile_part {
+    uint8_t key[32];
+    uint64_t number; /* of the next chunk in the file */
+    uint64_t left;   /* how many chunks it still has */
+    uint64_t state;  /* an agefile_state: AGEFILE_ENDED if none is left */
+    uint64_t spare;  /* 0 */
+} agefile_part;
+
+/* Takes the next `count` chunks out of a payload. With a fault the payload is unchanged, and the
+ * part closed. */
+uint32_t agefile_take_part(
+    agefile_payload *payload, uint64_t count, agefile_part *part, agefile_report *report)
+    AGEFILE_USED AGEFILE_NONNULL((1, 3, 4));
+/* Opens or seals the part's next chunk in place, AGEFILE_SEALED_CHUNK bytes, as the calls for a
+ * payload do. report.place is the chunk's number in the file. A file is complete only if the
+ * payload and each part is AGEFILE_ENDED. */
+static inline uint32_t agefile_part_open_next(
+    agefile_part *part, uint8_t *chunk, size_t chunk_len, agefile_report *report)
+    AGEFILE_CALL("part_open_next", (1, 4));
+static inline uint32_t agefile_part_seal_next(
+    agefile_part *part, uint8_t *chunk, size_t chunk_len, agefile_report *report)
+    AGEFILE_CALL("part_seal_next", (1, 4));
+
+/* ---- Whole buffers by a file key. What is said above of `front`, `out` and stanzas holds. After a
+ * fault of the payload the start of `out` has the plaintext of the verified chunks before it. */
+static inline uint32_t agefile_decrypt(
+    const uint8_t *file, size_t file_len, const uint8_t file_key[AGEFILE_LEAST 16], uint8_t *out,
+    size_t out_len, agefile_report *report) AGEFILE_CALL("decrypt", (3, 6));
+static inline uint32_t agefile_encrypt(
+    const uint8_t *plain, size_t plain_len, const uint8_t *stanzas, size_t stanzas_len, const
+    uint8_t file_key[AGEFILE_LEAST 16], const uint8_t nonce[AGEFILE_LEAST 16], uint8_t *out, size_t
+    out_len, agefile_report *report) AGEFILE_CALL("encrypt", (5, 6, 9));
 
 /* ---- Reading in steps: open, then one call for each sealed chunk. The caller keeps the struct,
  * only the calls change it, and it is never copied while it is in use. If an opening returns 0,
@@ -282,6 +398,9 @@ static inline uint32_t agefile_ranges_open_passphrase(
 static inline uint32_t agefile_ranges_open_key(
     const uint8_t *front, size_t front_len, uint64_t file_len, const uint8_t key[AGEFILE_LEAST 32],
     agefile_ranges *ranges, agefile_report *report) AGEFILE_CALL("ranges_open_key", (4, 5, 6));
+static inline uint32_t agefile_ranges_open(
+    const uint8_t *front, size_t front_len, uint64_t file_len, const uint8_t file_key[AGEFILE_LEAST
+    16], agefile_ranges *ranges, agefile_report *report) AGEFILE_CALL("ranges_open", (4, 5, 6));
 /* Verifies the last sealed chunk, which proves where the file ends, and must come first. On 0
  * its text is at the start of the chunk, and report.len is the plaintext's length. On a fault
  * the chunk is unchanged, and the payload counts as not verified. */
@@ -366,6 +485,49 @@ uint32_t agefile_export_ranges_last(
 uint32_t agefile_export_ranges_chunk(
     const agefile_ranges *ranges, uint64_t at, uint8_t *chunk, size_t chunk_len,
     agefile_report *report) __asm__("agefile_ranges_chunk");
+uint32_t agefile_export_wrap_passphrase(
+    const uint8_t file_key[AGEFILE_LEAST 16], const uint8_t *pass, size_t pass_len, uint8_t work,
+    const uint8_t salt[AGEFILE_LEAST 16], uint8_t *out, size_t out_len, agefile_report *report)
+    __asm__("agefile_wrap_passphrase");
+uint32_t agefile_export_wrap_key(
+    const uint8_t file_key[AGEFILE_LEAST 16], const uint8_t key[AGEFILE_LEAST 32], const uint8_t
+    salt[AGEFILE_LEAST 16], uint8_t *out, size_t out_len, agefile_report *report)
+    __asm__("agefile_wrap_key");
+uint32_t agefile_export_wrap(
+    const uint8_t *args, size_t args_len, const uint8_t *body, size_t body_len, uint8_t *out,
+    size_t out_len, agefile_report *report) __asm__("agefile_wrap");
+uint32_t agefile_export_header(
+    const uint8_t *stanzas, size_t stanzas_len, const uint8_t file_key[AGEFILE_LEAST 16], uint8_t
+    *out, size_t out_len, agefile_report *report) __asm__("agefile_header");
+uint32_t agefile_export_begin(
+    const uint8_t *stanzas, size_t stanzas_len, const uint8_t file_key[AGEFILE_LEAST 16], const
+    uint8_t nonce[AGEFILE_LEAST 16], uint8_t *out, size_t out_len, agefile_payload *payload,
+    agefile_report *report) __asm__("agefile_begin");
+uint32_t agefile_export_open(
+    const uint8_t *front, size_t front_len, const uint8_t file_key[AGEFILE_LEAST 16],
+    agefile_payload *payload, agefile_report *report) __asm__("agefile_open");
+uint32_t agefile_export_open_next(
+    agefile_payload *payload, uint8_t *chunk, size_t chunk_len, bool last, agefile_report *report)
+    __asm__("agefile_open_next");
+uint32_t agefile_export_seal_next(
+    agefile_payload *payload, uint8_t *chunk, size_t chunk_len, bool last, agefile_report *report)
+    __asm__("agefile_seal_next");
+uint32_t agefile_export_part_open_next(
+    agefile_part *part, uint8_t *chunk, size_t chunk_len, agefile_report *report)
+    __asm__("agefile_part_open_next");
+uint32_t agefile_export_part_seal_next(
+    agefile_part *part, uint8_t *chunk, size_t chunk_len, agefile_report *report)
+    __asm__("agefile_part_seal_next");
+uint32_t agefile_export_ranges_open(
+    const uint8_t *front, size_t front_len, uint64_t file_len, const uint8_t file_key[AGEFILE_LEAST
+    16], agefile_ranges *ranges, agefile_report *report) __asm__("agefile_ranges_open");
+uint32_t agefile_export_decrypt(
+    const uint8_t *file, size_t file_len, const uint8_t file_key[AGEFILE_LEAST 16], uint8_t *out,
+    size_t out_len, agefile_report *report) __asm__("agefile_decrypt");
+uint32_t agefile_export_encrypt(
+    const uint8_t *plain, size_t plain_len, const uint8_t *stanzas, size_t stanzas_len, const
+    uint8_t file_key[AGEFILE_LEAST 16], const uint8_t nonce[AGEFILE_LEAST 16], uint8_t *out, size_t
+    out_len, agefile_report *report) __asm__("agefile_encrypt");
 
 static inline bool agefile_is_missing(const void *first, size_t len)
 {
@@ -593,6 +755,142 @@ static inline uint32_t agefile_ranges_chunk(
     if (agefile_is_missing(chunk, chunk_len))
         return agefile_null_pointer(report);
     return agefile_export_ranges_chunk(ranges, at, agefile_output(chunk), chunk_len, report);
+}
+
+static inline uint32_t agefile_wrap_passphrase(
+    const uint8_t file_key[AGEFILE_LEAST 16], const uint8_t *pass, size_t pass_len, uint8_t work,
+    const uint8_t salt[AGEFILE_LEAST 16], uint8_t *out, size_t out_len, agefile_report *report)
+{
+    if (agefile_is_missing(pass, pass_len) || agefile_is_missing(out, out_len))
+        return agefile_null_pointer(report);
+    return agefile_export_wrap_passphrase(
+        file_key, agefile_input(pass), pass_len, work, salt, agefile_output(out), out_len, report);
+}
+
+static inline uint32_t agefile_wrap_key(
+    const uint8_t file_key[AGEFILE_LEAST 16], const uint8_t key[AGEFILE_LEAST 32], const uint8_t
+    salt[AGEFILE_LEAST 16], uint8_t *out, size_t out_len, agefile_report *report)
+{
+    if (agefile_is_missing(out, out_len))
+        return agefile_null_pointer(report);
+    return agefile_export_wrap_key(file_key, key, salt, agefile_output(out), out_len, report);
+}
+
+static inline uint32_t agefile_wrap(
+    const uint8_t *args, size_t args_len, const uint8_t *body, size_t body_len, uint8_t *out,
+    size_t out_len, agefile_report *report)
+{
+    if (agefile_is_missing(args, args_len) || agefile_is_missing(body, body_len) ||
+        agefile_is_missing(out, out_len))
+        return agefile_null_pointer(report);
+    return agefile_export_wrap(
+        agefile_input(args), args_len, agefile_input(body), body_len, agefile_output(out),
+        out_len, report);
+}
+
+static inline uint32_t agefile_header(
+    const uint8_t *stanzas, size_t stanzas_len, const uint8_t file_key[AGEFILE_LEAST 16], uint8_t
+    *out, size_t out_len, agefile_report *report)
+{
+    if (agefile_is_missing(stanzas, stanzas_len) || agefile_is_missing(out, out_len))
+        return agefile_null_pointer(report);
+    return agefile_export_header(
+        agefile_input(stanzas), stanzas_len, file_key, agefile_output(out), out_len, report);
+}
+
+static inline uint32_t agefile_begin(
+    const uint8_t *stanzas, size_t stanzas_len, const uint8_t file_key[AGEFILE_LEAST 16], const
+    uint8_t nonce[AGEFILE_LEAST 16], uint8_t *out, size_t out_len, agefile_payload *payload,
+    agefile_report *report)
+{
+    static const agefile_payload closed = {{0}, 0, 0, {0}};
+    if (agefile_is_missing(stanzas, stanzas_len) || agefile_is_missing(out, out_len)) {
+        *payload = closed;
+        return agefile_null_pointer(report);
+    }
+    return agefile_export_begin(
+        agefile_input(stanzas), stanzas_len, file_key, nonce, agefile_output(out), out_len,
+        payload, report);
+}
+
+static inline uint32_t agefile_open(
+    const uint8_t *front, size_t front_len, const uint8_t file_key[AGEFILE_LEAST 16],
+    agefile_payload *payload, agefile_report *report)
+{
+    static const agefile_payload closed = {{0}, 0, 0, {0}};
+    if (agefile_is_missing(front, front_len)) {
+        *payload = closed;
+        return agefile_null_pointer(report);
+    }
+    return agefile_export_open(agefile_input(front), front_len, file_key, payload, report);
+}
+
+static inline uint32_t agefile_open_next(
+    agefile_payload *payload, uint8_t *chunk, size_t chunk_len, bool last, agefile_report *report)
+{
+    if (agefile_is_missing(chunk, chunk_len))
+        return agefile_null_pointer(report);
+    return agefile_export_open_next(payload, agefile_output(chunk), chunk_len, last, report);
+}
+
+static inline uint32_t agefile_seal_next(
+    agefile_payload *payload, uint8_t *chunk, size_t chunk_len, bool last, agefile_report *report)
+{
+    if (agefile_is_missing(chunk, chunk_len))
+        return agefile_null_pointer(report);
+    return agefile_export_seal_next(payload, agefile_output(chunk), chunk_len, last, report);
+}
+
+static inline uint32_t agefile_part_open_next(
+    agefile_part *part, uint8_t *chunk, size_t chunk_len, agefile_report *report)
+{
+    if (agefile_is_missing(chunk, chunk_len))
+        return agefile_null_pointer(report);
+    return agefile_export_part_open_next(part, agefile_output(chunk), chunk_len, report);
+}
+
+static inline uint32_t agefile_part_seal_next(
+    agefile_part *part, uint8_t *chunk, size_t chunk_len, agefile_report *report)
+{
+    if (agefile_is_missing(chunk, chunk_len))
+        return agefile_null_pointer(report);
+    return agefile_export_part_seal_next(part, agefile_output(chunk), chunk_len, report);
+}
+
+static inline uint32_t agefile_ranges_open(
+    const uint8_t *front, size_t front_len, uint64_t file_len, const uint8_t file_key[AGEFILE_LEAST
+    16], agefile_ranges *ranges, agefile_report *report)
+{
+    static const agefile_ranges closed = {{0}, 0, 0, 0};
+    if (agefile_is_missing(front, front_len)) {
+        *ranges = closed;
+        return agefile_null_pointer(report);
+    }
+    return agefile_export_ranges_open(
+        agefile_input(front), front_len, file_len, file_key, ranges, report);
+}
+
+static inline uint32_t agefile_decrypt(
+    const uint8_t *file, size_t file_len, const uint8_t file_key[AGEFILE_LEAST 16], uint8_t *out,
+    size_t out_len, agefile_report *report)
+{
+    if (agefile_is_missing(file, file_len) || agefile_is_missing(out, out_len))
+        return agefile_null_pointer(report);
+    return agefile_export_decrypt(
+        agefile_input(file), file_len, file_key, agefile_output(out), out_len, report);
+}
+
+static inline uint32_t agefile_encrypt(
+    const uint8_t *plain, size_t plain_len, const uint8_t *stanzas, size_t stanzas_len, const
+    uint8_t file_key[AGEFILE_LEAST 16], const uint8_t nonce[AGEFILE_LEAST 16], uint8_t *out, size_t
+    out_len, agefile_report *report)
+{
+    if (agefile_is_missing(plain, plain_len) || agefile_is_missing(stanzas, stanzas_len) ||
+        agefile_is_missing(out, out_len))
+        return agefile_null_pointer(report);
+    return agefile_export_encrypt(
+        agefile_input(plain), plain_len, agefile_input(stanzas), stanzas_len, file_key, nonce,
+        agefile_output(out), out_len, report);
 }
 
 #undef AGEFILE_CALL

@@ -209,7 +209,7 @@ def c_parameter(tokens):
 def c_function(tokens):
     """The name, parameters, result, label and attributes of a function."""
     result, name = WORDS[tokens.next()], tokens.next()
-    parameters = [c_parameter(part) for part in split(tokens.group())]
+    parameters = [c_parameter(part) for part in split(tokens.group()) if part != ["void"]]
     label, attributes = None, []
     while tokens.peek() in ("__asm__", "__attribute__"):
         if tokens.next() == "__asm__":

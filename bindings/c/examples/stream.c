@@ -32,20 +32,48 @@ static bool put(const uint8_t *bytes, size_t len)
     return fwrite(bytes, 1, len, stdout) == len;
 }
 
+/* Whether a front of the file is too short. */
+static bool wants_more(uint32_t code)
+{
+    return code == AGEFILE_HEADER_TRUNCATED || code == AGEFILE_NONCE_TRUNCATED;
+}
+
+/* Opens the payload with as little of the file as that takes, so that a wrong key is told while a
+ * pipe still waits. `buf` has then the bytes after the nonce. */
+static bool open_payload(const uint8_t key[32], agefile_payload *payload, size_t *have)
+{
+    agefile_report report;
+    uint8_t file_key[16];
+    uint32_t code = AGEFILE_HEADER_TRUNCATED;
+    for (size_t most = 256; wants_more(code); most = most < AGEFILE_FRONT / 2 ? 2 * most : AGEFILE_FRONT) {
+        size_t before = *have;
+        if (!fill(have, most))
+            return false;
+        code = agefile_unlock_key(buf, *have, key, file_key, &report);
+        if (code == AGEFILE_OK)
+            code = agefile_open(buf, *have, file_key, payload, &report);
+        if (*have == before)
+            break;
+    }
+    if (!is_ok(code, &report))
+        return false;
+    *have -= report.len;
+    memmove(buf, buf + report.len, *have);
+    return true;
+}
+
 static bool decrypt(const uint8_t key[32])
 {
-    agefile_reader reader;
+    agefile_payload payload;
     agefile_report report;
     size_t have = 0;
-    if (!fill(&have, AGEFILE_FRONT) || !is_ok(agefile_reader_open_key(buf, have, key, &reader, &report), &report))
+    if (!open_payload(key, &payload, &have))
         return false;
-    have -= report.len;
-    memmove(buf, buf + report.len, have);
     for (bool last = false; !last; have = 1) {
         if (!fill(&have, sizeof buf))
             return false;
         last = have < sizeof buf;
-        if (!is_ok(agefile_reader_chunk(&reader, buf, last ? have : AGEFILE_SEALED_CHUNK, last, &report), &report) || !put(buf, report.len))
+        if (!is_ok(agefile_open_next(&payload, buf, last ? have : AGEFILE_SEALED_CHUNK, last, &report), &report) || !put(buf, report.len))
             return false;
         buf[0] = buf[AGEFILE_SEALED_CHUNK];
     }
@@ -54,11 +82,12 @@ static bool decrypt(const uint8_t key[32])
 
 static bool encrypt(const uint8_t key[32])
 {
-    agefile_writer writer;
+    agefile_payload payload;
     agefile_report report;
-    uint8_t seed[48];
-    if (getrandom(seed, sizeof seed, 0) != sizeof seed ||
-        !is_ok(agefile_writer_open_key(key, seed, buf, sizeof buf, &writer, &report), &report) || !put(buf, report.len))
+    uint8_t fresh[48], stanza[AGEFILE_STANZA_ROOM]; /* a file key, a nonce and a salt */
+    if (getrandom(fresh, sizeof fresh, 0) != sizeof fresh ||
+        !is_ok(agefile_wrap_key(fresh, key, fresh + 32, stanza, sizeof stanza, &report), &report) ||
+        !is_ok(agefile_begin(stanza, report.len, fresh, fresh + 16, buf, sizeof buf, &payload, &report), &report) || !put(buf, report.len))
         return false;
     size_t have = 0;
     for (bool last = false; !last; have = 1) {
@@ -67,7 +96,7 @@ static bool encrypt(const uint8_t key[32])
         last = have <= AGEFILE_TEXT_CHUNK;
         size_t len = last ? have : AGEFILE_TEXT_CHUNK;
         uint8_t ahead = buf[AGEFILE_TEXT_CHUNK]; /* the tag goes there */
-        if (!is_ok(agefile_writer_chunk(&writer, buf, len + 16, last, &report), &report) || !put(buf, len + 16))
+        if (!is_ok(agefile_seal_next(&payload, buf, len + 16, last, &report), &report) || !put(buf, len + 16))
             return false;
         buf[0] = ahead;
     }

@@ -16,3 +16,5 @@ mod WriterLemmas
 mod WritesRunLemmas
 mod HeadingLemmas
 mod WrapLemmas
+mod GroupLemmas
+mod OpeningLaws

@@ -2,6 +2,7 @@ pub mod Chunk
 pub mod Codes
 pub mod Encrypting
 pub mod Giving
+pub mod Groups
 pub mod Heading
 pub mod Inspect
 pub mod Limits

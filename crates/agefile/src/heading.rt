@@ -18,14 +18,14 @@ use age_header::base64_no_pad;
 use age_stream::payload_key;
 use std::alloc::{AllocError, Global};
 
-/// Writes the header of a text of stanzas, with its MAC under a file key: version line, stanzas, and
+/// Writes the header of a text of stanzas, with its MAC under a file key: version line, stanzas,
 /// end line. The text is that of one or more stanzas, as the wrapping calls write them, one behind
 /// the other. On 0 the report's length is the header's.
 ///
 /// # Errors
 /// The first that applies of 18 if the text is empty; 2 with a line of the text, 3 and 4 as
-/// `age_file::inspect` says of a header with these lines; 5 if a `scrypt` stanza is not alone; 21 if
-/// `out` is too small. 17 if an allocation was refused. Then `out` is unchanged.
+/// `age_file::inspect` says of a header with these lines; 5 if a `scrypt` stanza is not alone; 21
+/// if `out` is too small. 17 if an allocation was refused. Then `out` is unchanged.
 #[unsafe(no_mangle)]
 pub extern "C" fn agefile_header(
     alloc: Global,
@@ -42,9 +42,9 @@ pub extern "C" fn agefile_header(
     }
 }
 
-/// Begins a file: writes its header, as `agefile_header`, and after it the nonce of its payload, and
-/// starts the payload for writing. File key and nonce are 16 random bytes each, never used twice. On
-/// 0 the report's length is that of header and nonce.
+/// Begins a file: writes its header, as `agefile_header`, and after it the nonce of its payload,
+/// and starts the payload for writing. File key and nonce are 16 random bytes each, never used
+/// twice. On 0 the report's length is that of header and nonce.
 ///
 /// # Errors
 /// Those of `agefile_header`. Then `out` is unchanged, and the payload is not open.
@@ -90,9 +90,10 @@ pub(crate) fn refuse(fault: Fault, out: &mut [u8], report: &mut Report) -> u32
 /// The header of a text of stanzas, with its MAC under a file key.
 ///
 /// # Errors
-/// The first that applies of `NoRecipients` if the text is empty; `BadLine` with a line of the text,
-/// `HeaderTruncated` and `HeaderTooLarge` as `age_file::inspect` says of a header of these lines;
-/// `MixedPassphrase` if a `scrypt` stanza is not alone. `OutOfMemory` if an allocation was refused.
+/// The first that applies of `NoRecipients` if the text is empty; `BadLine` with a line of the
+/// text, `HeaderTruncated` and `HeaderTooLarge` as `age_file::inspect` says of a header of these
+/// lines; `MixedPassphrase` if a `scrypt` stanza is not alone. `OutOfMemory` if an allocation was
+/// refused.
 pub(crate) fn make_header(alloc: Global, stanzas: &[u8], key: &FileKey) -> Result<Vec<u8>, Fault>
     ensures { MakesHeader stanzas.now key.now result }
 {

@@ -1,11 +1,11 @@
 //! Laws over the definitions alone: functions that do nothing, each with a law as its contract.
 
-ghost use Rattle.std.specs.Prelude.{None, Ok, [], drop, length, take, true, ℕ, ◌%◌, ◌++◌, ◌+◌, ◌/◌, ◌<◌, ◌≡◌, ◌≢◌, ◌⊎◌};
+ghost use Rattle.std.specs.Prelude.{None, Ok, List, Vec, [], ◌∷◌, drop, length, take, true, ℕ, ◌≤◌, ◌%◌, ◌++◌, ◌+◌, ◌/◌, ◌<◌, ◌≡◌, ◌≢◌, ◌⊎◌};
 ghost use Rattle.age_kdf.specs.Bytes.{Bytes};
 ghost use Rattle.age_header.specs.Header.{StanzaParts};
 ghost use Rattle.age_recipient.specs.declared.key.FileKey.{FileKey};
-ghost use Rattle.age_stream.specs.Payload.{chunks, pieces};
-ghost use Rattle.age_stream.specs.Reading.{Reading, outcome};
+ghost use Rattle.age_stream.specs.Payload.{chunks, payload, pieces, sealed_from};
+ghost use Rattle.age_stream.specs.Reading.{Reading, outcome, whole};
 ghost use Rattle.age_file.specs.declared.fault.Fault.{Fault};
 ghost use Rattle.age_file.specs.Verdict.{Answering, IsVerdict, read_under};
 ghost use Rattle.agefile.specs.declared.reader.Reader.{Reader};
@@ -23,7 +23,16 @@ ghost use Rattle.age_stream.specs.Slice.{IsSlice, last_outcome, plain_len};
 ghost use Rattle.agefile.specs.declared.ranges.Ranges.{Ranges};
 ghost use Rattle.agefile.specs.Ranges.{OpensRanges, gives, last_index, piece_at, plain_of};
 ghost use Rattle.agefile.specs.Start.{IsStart};
-ghost use Rattle.age_stream.specs.Sizes.{chunk_size};
+ghost use Rattle.age_stream.specs.Sizes.{chunk_size, nonce_size, tag_size};
+ghost use Rattle.std.specs.Global.{Global};
+ghost use Rattle.std.specs.List.{concat};
+ghost use Rattle.agefile.specs.declared.payload.Payload.{Payload};
+ghost use Rattle.agefile.specs.Groups.{SealsGroups, all_of, sealed_open};
+ghost use Rattle.agefile.specs.Heading.{MakesHeader};
+ghost use Rattle.agefile.specs.Opening.{by_file_key};
+ghost use Rattle.agefile.specs.Payload.{SealsNext};
+
+use age_file::laws;
 
 /// Reading a file in steps returns what decrypting it returns. The front of 65,552 bytes of a file
 /// b is enough to open it. A fault of the opening, except out of memory, is the verdict's, before
@@ -104,4 +113,39 @@ pub fn unlocked_reads()
     ensures read { (answers : Answering) (b old new : Bytes) (report : Report) (v : Reading Fault)
         → Unlocks answers b old new report ok → IsVerdict limits answers b v
         → v ≡ read_under limits (drop report.len b) (Ok (record { 0 = new })) }
+{}
+
+/// Chunks that a payload and its parts sealed are the payload's, in any order of the calls on
+/// different parts. Whatever is still to come, the groups of chunks that were sealed so far, joined
+/// in order, are sealed under the payload's next numbers, none twice and none as the last, and the
+/// payload goes on behind them. With a last chunk they are all of the payload.
+pub fn parts_seal()
+    ensures so_far { (old new : Payload) (groups : List (List Bytes)) (out : Bytes)
+        → SealsGroups old new groups out
+        → (out ≡ concat (sealed_open old.key old.number (all_of groups)))
+        × ((new.key ≡ old.key) × (new.number ≡ old.number + length (all_of groups))) }
+    ensures whole { (old mid new : Payload) (groups : List (List Bytes))
+        (out text room after : Bytes) (report : Report) → SealsGroups old mid groups out
+        → length room ≡ tag_size
+        → SealsNext mid new (text ++ room) after true report ok
+        → out ++ after ≡ concat (sealed_from old.key old.number (all_of groups ++ text ∷ [])) }
+{}
+
+/// A file whose header was made of a text of stanzas, with a plaintext's payload after it, has for
+/// its file key the verdict "this plaintext, no fault", whatever the stanzas.
+pub fn written_reads()
+    ensures { (stanzas file_key nonce plain : Bytes) (header : Vec ℕ Global)
+        → length nonce ≡ nonce_size → length (chunks plain) ≤ limits.max_chunks
+        → MakesHeader stanzas (record { 0 = file_key }) (Ok header)
+        → IsVerdict limits (by_file_key file_key)
+        (header.items ++ payload (record { 0 = file_key }) nonce plain) (whole plain) }
+{
+    laws::ok_is_age_file();
+}
+
+/// A file has for the file key that was unlocked the verdict that it has for the secret.
+pub fn unlocked_opens()
+    ensures { (answers : Answering) (b old new : Bytes) (report : Report) (v : Reading Fault)
+        → Unlocks answers b old new report ok → IsVerdict limits answers b v
+        → IsVerdict limits (by_file_key new) b v }
 {}

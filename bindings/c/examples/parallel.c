@@ -1,0 +1,148 @@
+/* Decrypts a file on N threads, or encrypts it with -e: parallel [-e] KEY_FILE N IN OUT. The 32 bytes
+ * of KEY_FILE are the key. Use OUT only after status 0.
+ * cc -O2 -pthread -o parallel parallel.c $(pkg-config --cflags --libs agefile) */
+#define _FILE_OFFSET_BITS 64
+#include <agefile.h>
+#include <fcntl.h>
+#include <pthread.h>
+#include <stdio.h>
+#include <stdlib.h>
+#include <string.h>
+#include <sys/random.h>
+#include <sys/stat.h>
+#include <unistd.h>
+#define MOST_THREADS 64
+
+/* One thread's chunks: a part of the payload, or the payload itself with what is left. `from` and
+ * `to` are the offsets of its next chunk in both files, `left` what IN has from there on. */
+struct work {
+    pthread_t thread;
+    bool is_sealing, is_part, is_done;
+    agefile_part part;
+    agefile_payload payload;
+    uint64_t from, to, left;
+};
+
+static int in, out;
+
+static bool fail(const char *text)
+{
+    return fprintf(stderr, "parallel: %s\n", text), false;
+}
+
+/* Whether a call succeeded; otherwise it prints why on standard error. */
+static bool is_ok(uint32_t code, const agefile_report *report)
+{
+    if (code != AGEFILE_OK)
+        fprintf(stderr, "parallel: %s (%llu)\n", agefile_message(code), (unsigned long long)report->place);
+    return code == AGEFILE_OK;
+}
+
+static bool read_at(uint8_t *bytes, size_t len, uint64_t at)
+{
+    for (ssize_t n; len > 0; bytes += n, at += n, len -= n)
+        if ((n = pread(in, bytes, len, (off_t)at)) <= 0)
+            return fail("read failed");
+    return true;
+}
+
+static bool write_at(const uint8_t *bytes, size_t len, uint64_t at)
+{
+    for (ssize_t n; len > 0; bytes += n, at += n, len -= n)
+        if ((n = pwrite(out, bytes, len, (off_t)at)) < 0)
+            return fail("write failed");
+    return true;
+}
+
+/* Seals or opens a chunk of `len` bytes of IN. */
+static bool convert(struct work *work, uint8_t *chunk, size_t len, bool is_last)
+{
+    agefile_report report;
+    uint32_t code;
+    if (work->is_sealing)
+        code = work->is_part ? agefile_part_seal_next(&work->part, chunk, len + 16, &report)
+                             : agefile_seal_next(&work->payload, chunk, len + 16, is_last, &report);
+    else
+        code = work->is_part ? agefile_part_open_next(&work->part, chunk, len, &report)
+                             : agefile_open_next(&work->payload, chunk, len, is_last, &report);
+    if (!is_ok(code, &report) || !write_at(chunk, report.len, work->to))
+        return false;
+    work->to += report.len;
+    return true;
+}
+
+static void *run(void *argument)
+{
+    struct work *work = argument;
+    size_t full = work->is_sealing ? AGEFILE_TEXT_CHUNK : AGEFILE_SEALED_CHUNK;
+    uint8_t *chunk = malloc(AGEFILE_SEALED_CHUNK);
+    bool is_well = chunk != NULL;
+    for (bool is_last = false; is_well && !is_last;) {
+        size_t len = work->left < full ? work->left : full;
+        is_last = work->is_part ? work->part.left == 1 : work->left <= full;
+        is_well = read_at(chunk, len, work->from) && convert(work, chunk, len, is_last);
+        work->from += len;
+        work->left -= len;
+    }
+    free(chunk);
+    work->is_done = is_well && (work->is_part ? work->part.state : work->payload.state) == AGEFILE_ENDED;
+    return NULL;
+}
+
+/* Begins OUT with a header, or reads the one of IN. */
+static bool start(struct work *all, const uint8_t key[32])
+{
+    static uint8_t front[AGEFILE_FRONT];
+    uint8_t fresh[48], stanza[AGEFILE_STANZA_ROOM]; /* a file key, a nonce and a salt */
+    agefile_report report;
+    if (all->is_sealing) {
+        if (getrandom(fresh, sizeof fresh, 0) != sizeof fresh ||
+            !is_ok(agefile_wrap_key(fresh, key, fresh + 32, stanza, sizeof stanza, &report), &report) ||
+            !is_ok(agefile_begin(stanza, report.len, fresh, fresh + 16, front, sizeof front, &all->payload, &report), &report))
+            return false;
+        all->to = report.len;
+        return write_at(front, report.len, 0);
+    }
+    size_t len = all->left < sizeof front ? all->left : sizeof front;
+    if (!read_at(front, len, 0) || !is_ok(agefile_unlock_key(front, len, key, fresh, &report), &report) ||
+        !is_ok(agefile_open(front, len, fresh, &all->payload, &report), &report))
+        return false;
+    all->from = report.len;
+    all->left -= report.len;
+    return true;
+}
+
+int main(int argc, char **argv)
+{
+    static struct work works[MOST_THREADS];
+    uint8_t key[33];
+    struct stat stat;
+    struct work rest = {.is_sealing = argc == 6 && strcmp(argv[1], "-e") == 0};
+    char **words = argv + 1 + rest.is_sealing;
+    FILE *file = argc == 5 + rest.is_sealing ? fopen(words[0], "rb") : NULL;
+    int count = file == NULL ? 0 : atoi(words[1]);
+    if (count < 1 || count > MOST_THREADS || fread(key, 1, sizeof key, file) != 32)
+        return fputs("usage: parallel [-e] KEY_FILE N IN OUT\n", stderr), 2;
+    in = open(words[2], O_RDONLY);
+    out = open(words[3], O_WRONLY | O_CREAT | O_TRUNC, 0666);
+    if (in < 0 || out < 0 || fstat(in, &stat) != 0)
+        return fail("a file cannot be opened"), 1;
+    rest.left = (uint64_t)stat.st_size;
+    bool is_well = start(&rest, key);
+    uint64_t full = rest.is_sealing ? AGEFILE_TEXT_CHUNK : AGEFILE_SEALED_CHUNK;
+    uint64_t gives = rest.is_sealing ? AGEFILE_SEALED_CHUNK : AGEFILE_TEXT_CHUNK;
+    uint64_t share = rest.left / full / (uint64_t)count; /* the last thread has what is left over too */
+    for (int i = 0; i < count; i++) {
+        agefile_report report;
+        works[i] = rest;
+        if ((works[i].is_part = i < count - 1 && share > 0)) {
+            is_well = is_well && is_ok(agefile_take_part(&rest.payload, share, &works[i].part, &report), &report);
+            rest.from += share * full, rest.to += share * gives, rest.left -= share * full;
+        } else
+            count = i + 1;
+        is_well = is_well && pthread_create(&works[i].thread, NULL, run, &works[i]) == 0;
+    }
+    for (int i = 0; is_well && i < count; i++)
+        is_well = pthread_join(works[i].thread, NULL) == 0 && works[i].is_done;
+    return is_well && close(out) == 0 ? 0 : 1;
+}

@@ -1,0 +1,49 @@
+-- What calls on a payload and on its parts give, in the order of the chunks. The calls share no
+-- struct, so those on different parts may come in any order, and at once.
+use Rattle.std.specs.Prelude.{◌≡◌, ◌⊎◌, ◌++◌, ◌+◌, ℕ, false, List, [], ◌∷◌, length, take}
+use Rattle.age_kdf.specs.Bytes.{Bytes}
+use Rattle.age_cipher.specs.Sealing.{sealed}
+use Rattle.age_stream.specs.Payload.{chunk_nonce}
+use Rattle.age_stream.specs.Sizes.{tag_size}
+use Rattle.agefile.specs.declared.part.Part.{Part}
+use Rattle.agefile.specs.declared.payload.Payload.{Payload}
+use Rattle.agefile.specs.declared.report.Report.{Report}
+use Rattle.agefile.specs.Codes.{ok}
+use Rattle.agefile.specs.Part as part
+use Rattle.agefile.specs.Payload.{SealsNext}
+
+-- chunks, each sealed under its number from number i on, none of them as the last
+abbrev pub sealed_open : (key : Bytes) (i : ℕ) (texts : List Bytes) → List Bytes
+sealed_open key i [] = []
+sealed_open key i (text ∷ more) =
+    sealed key (chunk_nonce i false) [] text ∷ sealed_open key (i + 1) more
+
+-- Calls of a part on these texts in order, each followed by 16 bytes, which all returned 0: the
+-- sealed chunks that they gave, joined.
+abbrev pub PartSeals : (p : Part) (texts : List Bytes) (out : Bytes) → Type 0
+PartSeals p [] out = out ≡ []
+PartSeals p (text ∷ more) out =
+    (new : Part) × (room : Bytes) × (length room ≡ tag_size) × (after : Bytes) × (report : Report)
+    × part.SealsNext p new (text ++ room) after report ok
+    × ((rest : Bytes) × (out ≡ after ++ rest) × PartSeals new more rest)
+
+-- Some chunks of a payload that goes on: a call on it sealed one, or it gave a part of so many, and
+-- the part's calls sealed them.
+abbrev pub SealsSome : (old new : Payload) (texts : List Bytes) (out : Bytes) → Type 0
+SealsSome old new texts out =
+    ((text : Bytes) × (room : Bytes) × (texts ≡ text ∷ []) × (length room ≡ tag_size)
+    × ((report : Report) × SealsNext old new (text ++ room) out false report ok))
+    ⊎ ((given : Part) × (report : Report) × part.TakesPart old new (length texts) given report ok
+    × PartSeals given texts out)
+
+-- the chunks of groups, in order
+abbrev pub all_of : List (List Bytes) → List Bytes
+all_of [] = []
+all_of (texts ∷ more) = texts ++ all_of more
+
+-- groups of chunks in order, each in one of these ways; what they gave, joined
+abbrev pub SealsGroups : (old new : Payload) (groups : List (List Bytes)) (out : Bytes) → Type 0
+SealsGroups old new [] out = (new ≡ old) × (out ≡ [])
+SealsGroups old new (texts ∷ more) out =
+    (mid : Payload) × (mine : Bytes) × (rest : Bytes) × (out ≡ mine ++ rest)
+    × SealsSome old mid texts mine × SealsGroups mid new more rest
