@@ -27,7 +27,7 @@ use Rattle.age_file.specs.AgeFile.{Bounds, AgeFile, is_mixed}
 use Rattle.age_file.specs.Verdict.{Answering, IsVerdict, checked, header_fault, judged, parts_of, read_under, stream_fault, unlocked, with_file_fault}
 
 -- what is read whole does not stop
-never_stops : (p : List ℕ) (f : Fault) → whole p ≡ stops f → ⊥
+pub never_stops : (p : List ℕ) (f : Fault) → whole p ≡ stops f → ⊥
 never_stops p f h = none-some f (ap (λ (r : Reading Fault). r.fault) h)
 
 pub no_stream_fault : (o : Option StreamFault) → option_map stream_fault o ≡ None → o ≡ None
@@ -35,7 +35,7 @@ no_stream_fault None h = refl
 no_stream_fault (Some f) h = absurd (none-some (stream_fault f) (sym h))
 
 -- what a payload was read from
-with_file_fault-whole : (p : List ℕ) (r : Reading StreamFault) → whole p ≡ with_file_fault r → r ≡ whole p
+pub with_file_fault-whole : (p : List ℕ) (r : Reading StreamFault) → whole p ≡ with_file_fault r → r ≡ whole p
 with_file_fault-whole p r h =
     ap (λ x. record { front = x; fault = r.fault }) (sym (ap (λ (z : Reading Fault). z.front) h))
     ∙ ap (λ x. record { front = p; fault = x }) (no_stream_fault r.fault (sym (ap (λ (z : Reading Fault). z.fault) h)))

@@ -9,3 +9,4 @@ pub mod OwnLabels
 mod PayloadLemmas
 mod RangeLemmas
 mod RewrapLemmas
+mod SlicedLemmas

@@ -8,6 +8,7 @@ use Rattle.age_header.specs.declared.fault.HeaderFault.{HeaderFault}
 use Rattle.age_header.specs.declared.fault.HeaderFault.TheVariants as header
 use Rattle.age_header.specs.Header.{HeaderParts}
 use Rattle.age_header.specs.Mac.{header_mac}
+use Rattle.age_header.proofs.MayGiveLemmas.{may-some}
 use Rattle.age_header.specs.Reader.{Refuses}
 use Rattle.age_header.specs.Verdict.{HeaderVerdict}
 use Rattle.age_recipient.specs.declared.key.FileKey.{FileKey}
@@ -16,6 +17,7 @@ use Rattle.age_recipient.specs.declared.choice.UnlockFault.TheVariants as unlock
 use Rattle.age_recipient.specs.Choice.{choice}
 use Rattle.age_stream.specs.declared.fault.StreamFault.{StreamFault}
 use Rattle.age_stream.specs.declared.fault.StreamFault.TheVariants as fault
+use Rattle.age_stream.specs.Counts.{CountsReadFault}
 use Rattle.age_stream.specs.Ranges as stream
 use Rattle.age_stream.specs.Ranges.{OpensRanges}
 use Rattle.age_stream.specs.Slice.{range_outcome}
@@ -23,9 +25,11 @@ use Rattle.age_file.specs.declared.fault.Fault.{Fault}
 use Rattle.age_file.specs.declared.fault.Fault.TheVariants.{BadMac, MixedPassphrase, OutOfMemory}
 use Rattle.age_file.specs.AgeFile.{Bounds, is_mixed}
 use Rattle.age_file.specs.Inspect.{Inspects}
-use Rattle.age_file.specs.Ranges.{HasHeader, IsOpenFault, IsWithin, MissesHeader, MissesRanges, ranges_under}
+use Rattle.age_file.specs.Device.{CountsRead, IsNoDeviceFault, IsNoDeviceStage, reads_after}
+use Rattle.age_file.specs.Ranges.{BeginsFile, HasHeader, IsOpenFault, IsSomeHeader, IsWithin, MissesHeader, MissesRanges, RefusesRanges, ranges_under}
+use Rattle.age_file.specs.Stage.{Stage, stage_of, at_header, at_key, at_nonce, at_chunk, at_read, at_write, at_memory, at_recipient}
 use Rattle.age_file.specs.Verdict.{Answering, checked, found_in, header_fault, stream_fault, unlock_fault, unlocked}
-use Rattle.age_file.proofs.DecryptLemmas.{err-err, headed}
+use Rattle.age_file.proofs.DecryptLemmas.{err-err, headed, reads-file}
 
 -- a header that was read from the first byte on
 pub header-found : (limits : Bounds) (told : Option (List ℕ)) (at : ℕ) (h : HeaderParts) → IsWithin told at
@@ -38,6 +42,13 @@ header-found limits (Some b) at h w i =
     let l : length b ≡ length is.text + length (drop at b) = ap length all ∙ length-append is.text (drop at b) in
     let inside : at ≤ length b = w in
     (is.text, omega arith, subst (λ x. HeaderVerdict x limits.max_header (Ok (found_in is.text h))) (sym all) (is.verdict (drop at b) refl))
+
+-- the header of some bytes
+pub header-some : (limits : Bounds) (from to : Option (List ℕ)) (h : HeaderParts) → Inspects limits from to (Ok h) → IsSomeHeader limits h
+header-some limits from to h i =
+    let is = headed limits from to h i in
+    let rest = may-some to in
+    (is.text ++ rest.0, is.text, is.verdict rest.0 rest.1)
 
 refused : (limits : Bounds) (b : List ℕ) (g : HeaderFault) → Refuses b limits.max_header g → MissesHeader limits (Some b) (header_fault g)
 refused limits b header.Read h = inl refl
@@ -125,3 +136,47 @@ payload-named fault.TooManyChunks h = tt
 payload-named fault.Read h = tt
 payload-named fault.Write h = absurd h
 payload-named fault.Memory h = tt
+
+-- ---- why a file was not opened
+
+pub header-refuses : (limits : Bounds) (answers : Answering) (told told2 : Option (List ℕ)) (failed failed2 : ℕ) (fault : Fault) → MissesHeader limits told fault → IsOpenFault fault
+    → told2 ≡ told → CountsRead {A = ℕ} failed failed2 (Err fault) → RefusesRanges limits answers told told2 failed failed2 fault
+header-refuses limits answers told told2 failed failed2 fault m early stay count = record { misses = missed-ranges limits answers told fault m; named = early; stay = stay; counted = count }
+
+none-counted : (stage : Stage) (old new : ℕ) → IsNoDeviceStage stage → new ≡ old → new ≡ reads_after stage old
+none-counted at_header old new h e = e
+none-counted at_key old new h e = e
+none-counted at_nonce old new h e = e
+none-counted at_chunk old new h e = e
+none-counted at_read old new h e = absurd h
+none-counted at_write old new h e = absurd h
+none-counted at_memory old new h e = e
+none-counted at_recipient old new h e = e
+
+pub locked-refuses : (limits : Bounds) (answers : Answering) (told mid told2 : Option (List ℕ)) (failed failed2 at : ℕ) (h : HeaderParts) (fault : Fault) → mid ≡ told → HasHeader limits told at h
+    → (◌≡◌ {A = Result FileKey Fault} (Err fault) (Err OutOfMemory)) ⊎ (Err fault ≡ unlocked answers h) → IsNoDeviceFault fault → told2 ≡ mid → failed2 ≡ failed
+    → RefusesRanges limits answers told told2 failed failed2 fault
+locked-refuses limits answers told mid told2 failed failed2 at h fault same found key none stay count = record {
+  misses = locked-ranges limits answers told at h fault found key;
+  named = locked-named answers h fault key;
+  stay = stay ∙ same;
+  counted = none-counted (stage_of fault) failed failed2 none count;
+}
+
+pub payload-refuses : (limits : Bounds) (answers : Answering) (told mid told2 : Option (List ℕ)) (failed failed1 failed2 at max : ℕ) (h : HeaderParts) (k : FileKey) (fault : StreamFault) → mid ≡ told
+    → failed1 ≡ failed → max ≡ limits.max_chunks → HasHeader limits told at h → (◌≡◌ {A = Result FileKey Fault} (Ok k) (Err OutOfMemory)) ⊎ (Ok k ≡ unlocked answers h)
+    → OpensRanges k max at mid (Err fault) → stream.IsOpenFault fault → told2 ≡ mid → CountsReadFault failed1 failed2 fault
+    → RefusesRanges limits answers told told2 failed failed2 (stream_fault fault)
+payload-refuses limits answers told mid told2 failed failed1 failed2 at max h k fault same before most found key opens early stay count = record {
+  misses = payload-missed limits answers told at h k fault found key (subst (λ m. OpensRanges k m at told (Err fault)) most (subst (λ t. OpensRanges k max at t (Err fault)) same opens));
+  named = payload-named fault early;
+  stay = stay ∙ same;
+  counted = subst (λ n. CountsRead {A = ℕ} n failed2 (Err (stream_fault fault))) before (reads-file failed1 failed2 fault count);
+}
+
+-- ---- a file that was opened
+
+pub file-begins : (limits : Bounds) (answers : Answering) (was_read : ℕ → ℕ → Type 0) (size : Option ℕ) (chunks : stream.RangeState) (at : ℕ) (h : HeaderParts) (k : FileKey) → IsSomeHeader limits h
+    → (◌≡◌ {A = Result FileKey Fault} (Ok k) (Err OutOfMemory)) ⊎ (Ok k ≡ unlocked answers h) → stream.BeginsAt k at was_read size chunks → BeginsFile limits answers was_read size chunks
+file-begins limits answers was_read size chunks at h k some (inl memory) b = absurd (cc)
+file-begins limits answers was_read size chunks at h k some (inr key) b = record { header = h; some = some; key = k; chosen = sym key; at = at; begins = b }

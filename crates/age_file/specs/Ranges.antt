@@ -1,16 +1,17 @@
 -- Opening a file for ranges of its plaintext.
-use Rattle.std.specs.Prelude.{◌≡◌, ◌⊎◌, ℕ, ◌+◌, ◌≤◌, length, drop, IfSome, ⊤, Some, Result, Ok, Err}
+use Rattle.std.specs.Prelude.{◌≡◌, ◌⊎◌, ℕ, ◌+◌, ◌≤◌, length, drop, IfSome, ⊤, Option, Some, Result, Ok, Err}
 use Rattle.std.specs.Result.{result_map_both}
 use Rattle.age_header.specs.Device.{Bytes, Known}
 use Rattle.age_header.specs.declared.fault.HeaderFault.{HeaderFault}
 use Rattle.age_header.specs.Header.{HeaderParts}
 use Rattle.age_header.specs.Verdict.{Found, HeaderVerdict}
 use Rattle.age_recipient.specs.declared.key.FileKey.{FileKey}
-use Rattle.age_stream.specs.Ranges.{IsOpened, RangeState}
+use Rattle.age_stream.specs.Ranges.{BeginsAt, IsOpened, RangeState}
 use Rattle.age_stream.specs.Slice.{last_piece, range_outcome}
 use Rattle.age_file.specs.declared.fault.Fault.{Fault}
 use Rattle.age_file.specs.declared.fault.Fault.TheVariants.{OutOfMemory, Read}
 use Rattle.age_file.specs.AgeFile.{Bounds}
+use Rattle.age_file.specs.Device.{CountsRead}
 use Rattle.age_file.specs.Stage.{Stage, stage_of, at_header, at_key, at_nonce, at_chunk, at_read, at_write, at_memory, at_recipient}
 use Rattle.age_file.specs.Verdict.{Answering, found_in, header_fault, parts_of, stream_fault, unlocked}
 use Rattle.age_stream.specs.Sizes.{nonce_size}
@@ -46,6 +47,11 @@ abbrev pub HasHeader : (limits : Bounds) (told : Known) (at : ℕ) (h : HeaderPa
 HasHeader limits told at h =
     IfSome told (λ b. (text : Bytes) × (length text ≡ at)
     × HeaderVerdict b limits.max_header (Ok (found_in text h)))
+
+-- some bytes begin with this header
+abbrev pub IsSomeHeader : (limits : Bounds) (h : HeaderParts) → Type 0
+IsSomeHeader limits h =
+    (b : Bytes) × (text : Bytes) × HeaderVerdict b limits.max_header (Ok (found_in text h))
 
 -- the known bytes begin with no header, and this is its fault; or a read failed, or memory was
 -- refused
@@ -89,3 +95,24 @@ pub record IsRangesOf (limits : Bounds) (answers : Answering) (b : Bytes) (chunk
   pub gave : given2
       ≤ given + length found.text
       + (nonce_size + length (last_piece (drop (length found.text + nonce_size) b)))
+
+-- A reader was opened, whether or not the source's contents are known: under the key that was
+-- chosen for a header of some bytes, and for a nonce that was read. Its pieces end where the source
+-- does.
+pub record BeginsFile (limits : Bounds) (answers : Answering) (was_read : (at byte : ℕ) → Type 0)
+    (size : Option ℕ) (chunks : RangeState) : Type 0 where
+  pub header : HeaderParts
+  pub some : IsSomeHeader limits header
+  pub key : FileKey
+  pub chosen : unlocked answers header ≡ Ok key
+  pub at : ℕ
+  pub begins : BeginsAt key at was_read size chunks
+
+-- Opening a file for ranges failed: with the first fault of the known bytes, a failed read or out
+-- of memory. The contents stayed, and a failed read was counted.
+pub record RefusesRanges (limits : Bounds) (answers : Answering) (told told2 : Known)
+    (failed failed2 : ℕ) (fault : Fault) : Type 0 where
+  pub misses : MissesRanges limits answers told fault
+  pub named : IsOpenFault fault
+  pub stay : told2 ≡ told
+  pub counted : CountsRead {A = ℕ} failed failed2 (Err fault)

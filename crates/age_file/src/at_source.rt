@@ -6,7 +6,8 @@ use age_header::{DeviceFault, Source};
 use age_stream::ReadAt;
 use std::marker::{Brand, Model, PhantomData};
 
-/// The contents of a `ReadAt`, and how many bytes had been read from it, when reading began.
+/// The contents of a `ReadAt`, how many bytes had been read from it, and the ghost name of the
+/// reference to it, when reading began.
 pub(crate) trait Origin {
     ghost use Rattle.std.specs.Prelude.{List, ℕ};
     ghost use Rattle.std.specs.declared.option.Option.{Option};
@@ -15,6 +16,8 @@ pub(crate) trait Origin {
     ghost bytes: { Known };
 
     ghost given: { ℕ };
+
+    ghost name: { ℕ };
 }
 
 impl Origin for Brand {
@@ -23,6 +26,8 @@ impl Origin for Brand {
     ghost bytes = { None };
 
     ghost given = { 0 };
+
+    ghost name = { 0 };
 }
 
 /// A `Source` that reads a `ReadAt` from its first byte on.
@@ -42,7 +47,7 @@ impl<'a, D: ReadAt, K: Origin> Model for AtSource<'a, D, K> {
         record { told = D.bytes s.dev.now; at = s.at; failed = D.failed s.dev.now } };
 
     ghost invariant = { λ s. (D.bytes s.dev.now ≡ K.bytes) × (D.given s.dev.now ≤ K.given + s.at)
-        × IsWithin (D.bytes s.dev.now) s.at };
+        × IsWithin (D.bytes s.dev.now) s.at × (s.dev.ghost_name ≡ K.name) };
 }
 
 impl<'a, D: ReadAt, K: Origin> AtSource<'a, D, K> {
@@ -50,6 +55,7 @@ impl<'a, D: ReadAt, K: Origin> AtSource<'a, D, K> {
     pub(crate) fn new(dev: &'a mut D) -> AtSource<'a, D, K>
         requires bytes { K.bytes ≡ D.bytes dev.old }
         requires given { K.given ≡ D.given dev.old }
+        requires name { K.name ≡ dev.ghost_name }
         ensures { result ≡ record { told = D.bytes dev.old; at = 0; failed = D.failed dev.old } }
     {
         AtSource {
@@ -61,6 +67,7 @@ impl<'a, D: ReadAt, K: Origin> AtSource<'a, D, K> {
 
     /// The `ReadAt`, and the offset after the last byte that was read.
     pub(crate) fn into_parts(self) -> (&'a mut D, u64)
+        ensures same_reference { result.0.ghost_name ≡ K.name }
         ensures at { result.1 ≡ self.entry.at }
         ensures bytes { D.bytes result.0.now ≡ K.bytes }
         ensures told { D.bytes result.0.now ≡ self.entry.told }

@@ -1,16 +1,19 @@
 //! Laws over the definitions alone: functions that do nothing, each with a law as its contract.
 
-ghost use Rattle.std.specs.Prelude.{◌≡◌, ◌↔◌, ℕ, ◌+◌, List, [], ◌∷◌, ◌++◌, replicate, Option, Some, None, Ok};
+ghost use Rattle.std.specs.Prelude.{◌≡◌, ◌↔◌, ◌⊎◌, ℕ, ◌+◌, List, [], ◌∷◌, ◌++◌, replicate, length, take, drop, Option, Some, None, Ok};
 ghost use Rattle.age_header.specs.Device.{Bytes};
 ghost use Rattle.age_header.specs.Header.{StanzaParts};
 ghost use Rattle.age_recipient.specs.declared.key.FileKey.{FileKey};
 ghost use Rattle.age_recipient.specs.Choice.{choice};
 ghost use Rattle.age_recipient.specs.Key.{IsFileKey};
 ghost use Rattle.age_recipient.specs.Labels.{incompatible};
+ghost use Rattle.age_stream.specs.Ranges.{HasPlain, RangeState};
 ghost use Rattle.age_stream.specs.Reading.{Reading, whole};
 ghost use Rattle.age_file.specs.declared.fault.Fault.{Fault};
+ghost use Rattle.age_file.specs.declared.fault.Fault.TheVariants.{OutOfMemory, Read};
 ghost use Rattle.age_file.specs.AgeFile.{AgeFile, Bounds};
 ghost use Rattle.age_file.specs.NewFile.{IsIncompatible};
+ghost use Rattle.age_file.specs.Ranges.{IsRangesOf, MissesRanges};
 ghost use Rattle.age_file.specs.Rewrap.{Rewrapped};
 ghost use Rattle.age_file.specs.Verdict.{Answering, IsVerdict};
 
@@ -35,6 +38,22 @@ pub fn pair_opens<M: Matched>(pair: &M)
         → IsFileKey k → M.R.wraps (M.the_recipient pair.now) k ≡ Ok stanzas
         → AgeFile limits k stanzas plain b
         → IsVerdict limits (λ s. M.I.meaning (M.the_identity pair.now) s ∷ []) b (whole plain) }
+{}
+
+/// Bytes whose verdict is this plaintext, which is to say, by `ok_is_age_file`, an age file of it
+/// for the key that the identities choose, open for ranges: no fault but a failed read or out of
+/// memory is returned. Their length for ranges is the plaintext's, and so is each slice.
+pub fn file_is_sliced()
+    ensures opens { (limits : Bounds) (answers : Answering) (b plain : Bytes) (fault : Fault)
+        → IsVerdict limits answers b (whole plain) → MissesRanges limits answers (Some b) fault
+        → (fault ≡ Read) ⊎ (fault ≡ OutOfMemory) }
+    ensures len { (limits : Bounds) (answers : Answering) (b plain : Bytes) (chunks : RangeState)
+        (before after : ℕ) → IsVerdict limits answers b (whole plain)
+        → IsRangesOf limits answers b chunks before after → chunks.layout.plain ≡ length plain }
+    ensures slice { (limits : Bounds) (answers : Answering) (b plain xs : Bytes)
+        (chunks : RangeState) (before after at : ℕ) → IsVerdict limits answers b (whole plain)
+        → IsRangesOf limits answers b chunks before after → HasPlain (Some b) chunks.layout at xs
+        → xs ≡ take (length xs) (drop at plain) }
 {}
 
 /// Which of this crate's own recipients go together. For one recipient, and for keyed ones, this

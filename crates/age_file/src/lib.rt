@@ -68,6 +68,6 @@ pub use fault::Fault;
 pub use inspecting::inspect;
 pub use limits::{Fresh, Limits};
 pub use new_header::header_for;
-pub use ranges::open_ranges;
+pub use ranges::{open_ranges, opened_ranges};
 pub use rewrapping::rewrap;
 pub use unlocking::{is_mixed, unlock_header};

@@ -3,7 +3,8 @@
 ghost use Rattle.std.specs.Prelude.{◌≡◌, ◌+◌, ◌-◌, ◌≤◌, ℕ, map, Err, Some, IfOk, IfErr, IfSome};
 ghost use Rattle.age_stream.specs.Ranges.{KeepsVerified, chunks_of, source_at_of};
 ghost use Rattle.age_file.specs.Device.{CountsRead};
-ghost use Rattle.age_file.specs.Ranges.{HasHeader, IsOpenFault, IsRangesOf, MissesHeader, MissesRanges};
+ghost use Rattle.age_stream.specs.Writer.{device_of, fault_of};
+ghost use Rattle.age_file.specs.Ranges.{BeginsFile, HasHeader, IsOpenFault, IsRangesOf, IsSomeHeader, MissesHeader, MissesRanges, RefusesRanges};
 ghost use Rattle.age_file.specs.Verdict.{Answering};
 
 use crate::at_source::{AtSource, Origin};
@@ -14,7 +15,7 @@ use crate::limits::Limits;
 use crate::unlocking::unlock_header;
 use age_header::Header;
 use age_recipient::Identity;
-use age_stream::{RangeReader, ReadAt};
+use age_stream::{RangeReader, ReadAt, Refused};
 use std::alloc::Global;
 use std::marker::Brand;
 
@@ -25,23 +26,30 @@ struct HeaderAt<'a, D> {
     at: u64,
 }
 
-/// Reads the header at the start of a source. `K` has the source's contents, and the number of
-/// bytes that had been read from it before.
+/// Reads the header at the start of a source. `K` has the source's contents, the number of bytes
+/// that had been read from it before, and the ghost name of the reference to it.
 fn header_at<'a, D: ReadAt, K: Origin>(
     alloc: Global,
     dev: &'a mut D,
     limits: &Limits,
-) -> Result<HeaderAt<'a, D>, Fault>
+) -> Result<HeaderAt<'a, D>, Refused<'a, D, Fault>>
     requires bytes { K.bytes ≡ D.bytes dev.old }
     requires given { K.given ≡ D.given dev.old }
+    requires name { K.name ≡ dev.ghost_name }
+    ensures same_reference { IfOk result (λ found. found.dev.ghost_name ≡ K.name) }
     ensures stay { IfOk result (λ found. D.bytes found.dev.now ≡ K.bytes) }
     ensures given { IfOk result (λ found. D.given found.dev.now ≤ K.given + found.at) }
     ensures uncounted { IfOk result (λ found. D.failed found.dev.now ≡ D.failed dev.old) }
     ensures header { IfOk result (λ found. HasHeader limits.now K.bytes found.at found.header) }
-    ensures misses { IfErr result (MissesHeader limits.now K.bytes) }
-    ensures named { IfErr result IsOpenFault }
-    ensures counted { IfErr result (λ fault. (last : D) × (D.bytes last ≡ K.bytes)
-        × CountsRead {A = ℕ} (D.failed dev.old) (D.failed last) (Err fault)) }
+    ensures some { IfOk result (λ found. IsSomeHeader limits.now found.header) }
+    ensures handed_back { IfErr result
+        (λ refused. (device_of refused).ghost_name ≡ K.name) }
+    ensures misses { IfErr result
+        (λ refused. MissesHeader limits.now K.bytes (fault_of refused)) }
+    ensures named { IfErr result (λ refused. IsOpenFault (fault_of refused)) }
+    ensures left { IfErr result (λ refused. D.bytes (device_of refused).now ≡ K.bytes) }
+    ensures counted { IfErr result (λ refused. CountsRead {A = ℕ} (D.failed dev.old)
+        (D.failed (device_of refused).now) (Err (fault_of refused))) }
 {
     let mut source: AtSource<'a, D, K> = AtSource::new(dev);
     match inspect(alloc, &mut source, limits) {
@@ -50,8 +58,8 @@ fn header_at<'a, D: ReadAt, K: Origin>(
             Ok(HeaderAt { header, dev, at })
         }
         Err(fault) => {
-            let _ = source.into_parts();
-            Err(fault)
+            let (dev, _) = source.into_parts();
+            Err(Refused::of(dev, fault))
         }
     }
 }
@@ -61,24 +69,84 @@ fn read_header_at<'a, D: ReadAt>(
     alloc: Global,
     dev: &'a mut D,
     limits: &Limits,
-) -> Result<HeaderAt<'a, D>, Fault>
+) -> Result<HeaderAt<'a, D>, Refused<'a, D, Fault>>
+    ensures same_reference { IfOk result (λ found. found.dev.ghost_name ≡ dev.entry.ghost_name) }
     ensures stay { IfOk result (λ found. D.bytes found.dev.now ≡ D.bytes dev.old) }
     ensures given { IfOk result (λ found. D.given found.dev.now ≤ D.given dev.old + found.at) }
     ensures uncounted { IfOk result (λ found. D.failed found.dev.now ≡ D.failed dev.old) }
     ensures header { IfOk result
         (λ found. HasHeader limits.now (D.bytes dev.old) found.at found.header) }
-    ensures misses { IfErr result (MissesHeader limits.now (D.bytes dev.old)) }
-    ensures named { IfErr result IsOpenFault }
-    ensures counted { IfErr result (λ fault. (last : D) × (D.bytes last ≡ D.bytes dev.old)
-        × CountsRead {A = ℕ} (D.failed dev.old) (D.failed last) (Err fault)) }
+    ensures some { IfOk result (λ found. IsSomeHeader limits.now found.header) }
+    ensures handed_back { IfErr result
+        (λ refused. (device_of refused).ghost_name ≡ dev.entry.ghost_name) }
+    ensures misses { IfErr result
+        (λ refused. MissesHeader limits.now (D.bytes dev.old) (fault_of refused)) }
+    ensures named { IfErr result (λ refused. IsOpenFault (fault_of refused)) }
+    ensures left { IfErr result (λ refused. D.bytes (device_of refused).now ≡ D.bytes dev.old) }
+    ensures counted { IfErr result (λ refused. CountsRead {A = ℕ} (D.failed dev.old)
+        (D.failed (device_of refused).now) (Err (fault_of refused))) }
 {
     header_at::<D, Brand>(alloc, dev, limits)
+}
+
+/// Like `open_ranges`, but returns the source with the fault.
+///
+/// # Errors
+/// Those of `open_ranges`.
+pub fn opened_ranges<'a, D: ReadAt>(
+    alloc: Global,
+    dev: &'a mut D,
+    identities: &[Box<dyn Identity>],
+    limits: &Limits,
+) -> Result<RangeReader<'a, D>, Refused<'a, D, Fault>>
+    ensures same_reference { IfOk result
+        (λ reader. (source_at_of reader).ghost_name ≡ dev.entry.ghost_name) }
+    ensures stay { IfOk result (λ reader. D.bytes (source_at_of reader).now ≡ D.bytes dev.old) }
+    ensures ranges { let answers : Answering =
+        λ stanzas. map (λ i. meaning i stanzas) identities.now in
+        IfOk result (λ reader. IfSome (D.bytes dev.old) (λ b. IsRangesOf limits.now answers b
+        (chunks_of reader) (D.given dev.old) (D.given (source_at_of reader).now))) }
+    ensures begins { let answers : Answering =
+        λ stanzas. map (λ i. meaning i stanzas) identities.now in
+        IfOk result (λ reader. BeginsFile limits.now answers
+        (D.was_read (source_at_of reader).now) (D.found (source_at_of reader).now)
+        (chunks_of reader)) }
+    ensures verified { IfOk result (λ reader.
+        KeepsVerified (D.was_read (source_at_of reader).now) (chunks_of reader)) }
+    ensures kept_chunk { IfOk result (λ reader. ((chunks_of reader).index
+        ≡ Some ((chunks_of reader).layout.count - 1))
+        × ((chunks_of reader).opened ≡ 1)) }
+    ensures uncounted { IfOk result
+        (λ reader. D.failed (source_at_of reader).now ≡ D.failed dev.old) }
+    ensures handed_back { IfErr result
+        (λ refused. (device_of refused).ghost_name ≡ dev.entry.ghost_name) }
+    ensures refuses { let answers : Answering =
+        λ stanzas. map (λ i. meaning i stanzas) identities.now in
+        IfErr result (λ refused. RefusesRanges limits.now answers (D.bytes dev.old)
+        (D.bytes (device_of refused).now) (D.failed dev.old) (D.failed (device_of refused).now)
+        (fault_of refused)) }
+{
+    let HeaderAt { header, dev, at } = match read_header_at(alloc, dev, limits) {
+        Ok(found) => found,
+        Err(refused) => return Err(refused),
+    };
+    let key = match unlock_header(alloc, identities, &header) {
+        Ok(key) => key,
+        Err(fault) => return Err(Refused::of(dev, fault)),
+    };
+    match RangeReader::started(alloc, &key, dev, at, limits.max_chunks()) {
+        Ok(reader) => Ok(reader),
+        Err(refused) => {
+            let (dev, fault) = refused.into_parts();
+            Err(Refused::of(dev, stream_fault(fault)))
+        }
+    }
 }
 
 /// Opens a file for reading any part of its plaintext (C2SP `age.md`): reads its header from the
 /// source's first byte on, finds the file key, verifies the header's MAC under it, and opens the
 /// payload like `RangeReader::open`. It reads the header, byte by byte, the nonce and the last
-/// piece.
+/// piece. `opened_ranges` says more about the source after an error.
 ///
 /// # Errors
 /// The first that applies of `NotAge`, `BadLine`, `HeaderTruncated`, `HeaderTooLarge` as `inspect`
@@ -92,11 +160,18 @@ pub fn open_ranges<'a, D: ReadAt>(
     identities: &[Box<dyn Identity>],
     limits: &Limits,
 ) -> Result<RangeReader<'a, D>, Fault>
+    ensures same_reference { IfOk result
+        (λ reader. (source_at_of reader).ghost_name ≡ dev.entry.ghost_name) }
     ensures stay { IfOk result (λ reader. D.bytes (source_at_of reader).now ≡ D.bytes dev.old) }
     ensures ranges { let answers : Answering =
         λ stanzas. map (λ i. meaning i stanzas) identities.now in
         IfOk result (λ reader. IfSome (D.bytes dev.old) (λ b. IsRangesOf limits.now answers b
         (chunks_of reader) (D.given dev.old) (D.given (source_at_of reader).now))) }
+    ensures begins { let answers : Answering =
+        λ stanzas. map (λ i. meaning i stanzas) identities.now in
+        IfOk result (λ reader. BeginsFile limits.now answers
+        (D.was_read (source_at_of reader).now) (D.found (source_at_of reader).now)
+        (chunks_of reader)) }
     ensures verified { IfOk result (λ reader.
         KeepsVerified (D.was_read (source_at_of reader).now) (chunks_of reader)) }
     ensures kept_chunk { IfOk result (λ reader. ((chunks_of reader).index
@@ -111,16 +186,8 @@ pub fn open_ranges<'a, D: ReadAt>(
     ensures counted { IfErr result (λ fault. (last : D) × (D.bytes last ≡ D.bytes dev.old)
         × CountsRead {A = ℕ} (D.failed dev.old) (D.failed last) (Err fault)) }
 {
-    let HeaderAt { header, dev, at } = match read_header_at(alloc, dev, limits) {
-        Ok(found) => found,
-        Err(fault) => return Err(fault),
-    };
-    let key = match unlock_header(alloc, identities, &header) {
-        Ok(key) => key,
-        Err(fault) => return Err(fault),
-    };
-    match RangeReader::open(alloc, &key, dev, at, limits.max_chunks()) {
+    match opened_ranges(alloc, dev, identities, limits) {
         Ok(reader) => Ok(reader),
-        Err(fault) => Err(stream_fault(fault)),
+        Err(refused) => Err(refused.fault()),
     }
 }

@@ -1,5 +1,5 @@
 //! The memory in which chunks are sealed and opened.
-ghost use Rattle.std.specs.Prelude.{◌≡◌, length, IfOk};
+ghost use Rattle.std.specs.Prelude.{◌≡◌, length, vec_capacity, IfOk};
 ghost use Rattle.age_stream.specs.Sizes.{chunk_buf_size};
 
 use crate::sizes::CHUNK_BUF_SIZE;
@@ -11,6 +11,7 @@ use std::alloc::{AllocError, Global};
 pub struct ChunkBuf {
     bytes: Vec<u8>,
     ghost size: { length bytes.items ≡ chunk_buf_size },
+    ghost capacity: { vec_capacity bytes ≡ chunk_buf_size },
 }
 
 impl ChunkBuf {
@@ -20,12 +21,17 @@ impl ChunkBuf {
     /// The allocation was refused.
     pub fn new(alloc: Global) -> Result<ChunkBuf, AllocError> {
         let bytes = vec![in alloc; 0u8; CHUNK_BUF_SIZE]?;
+        // It never is another capacity, but the contract of `vec!` does not say so.
+        if bytes.capacity() != CHUNK_BUF_SIZE {
+            return Err(AllocError);
+        }
         Ok(ChunkBuf { bytes })
     }
 
     /// The bytes.
     pub(crate) fn into_bytes(self) -> Vec<u8>
-        ensures { length result.items ≡ chunk_buf_size }
+        ensures size { length result.items ≡ chunk_buf_size }
+        ensures capacity { vec_capacity result ≡ chunk_buf_size }
     {
         let ChunkBuf { bytes } = self;
         bytes

@@ -27,7 +27,7 @@ pub struct Chunks {
 }
 
 impl Model for Chunks {
-    ghost use Rattle.std.specs.Prelude.{◌≡◌, length};
+    ghost use Rattle.std.specs.Prelude.{◌≡◌, length, vec_capacity};
     ghost use Rattle.age_stream.specs.Ranges.{RangeState};
     ghost use Rattle.age_stream.specs.Sizes.{chunk_buf_size};
 
@@ -36,7 +36,8 @@ impl Model for Chunks {
     ghost view = { λ c.
         record { layout = c.layout; index = c.index; buf = c.buf.items; opened = c.opened } };
 
-    ghost invariant = { λ c. length c.buf.items ≡ chunk_buf_size };
+    ghost invariant = { λ c. (length c.buf.items ≡ chunk_buf_size)
+        × (vec_capacity c.buf ≡ chunk_buf_size) };
 }
 
 /// The number of bytes of a range.

@@ -34,7 +34,7 @@ pub struct ChunkOpener {
 }
 
 impl Model for ChunkOpener {
-    ghost use Rattle.std.specs.Prelude.{◌≡◌, ◌≤◌, ◌^◌, length, take, drop};
+    ghost use Rattle.std.specs.Prelude.{◌≡◌, ◌≤◌, ◌^◌, length, take, drop, vec_capacity};
     ghost use Rattle.age_stream.specs.Opening.{OpenerState, held_of};
     ghost use Rattle.age_stream.specs.Sizes.{chunk_size, sealed_chunk_size, chunk_buf_size, most_chunks};
 
@@ -50,7 +50,8 @@ impl Model for ChunkOpener {
     } };
 
     ghost invariant = { λ o. (length o.buf.items ≡ chunk_buf_size) × (o.ahead ≤ 1)
-        × (o.len ≤ chunk_size) × (o.index ≤ o.max_chunks) × (o.max_chunks ≤ most_chunks) };
+        × (o.len ≤ chunk_size) × (o.index ≤ o.max_chunks) × (o.max_chunks ≤ most_chunks)
+        × (vec_capacity o.buf ≡ chunk_buf_size) };
 }
 
 impl ChunkOpener {

@@ -25,4 +25,14 @@ impl<'a, D, E> Refused<'a, D, E> {
         let Refused { device: _, fault } = self;
         fault
     }
+
+    /// The device and the fault.
+    pub fn into_parts(self) -> (&'a mut D, E)
+        ensures same_reference { result.0.ghost_name ≡ self.entry.device.ghost_name }
+        ensures unchanged { result.0.now ≡ self.entry.device.now }
+        ensures fault { result.1 ≡ self.entry.fault }
+    {
+        let Refused { device, fault } = self;
+        (device, fault)
+    }
 }

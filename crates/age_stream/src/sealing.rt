@@ -33,7 +33,7 @@ pub struct ChunkSealer {
 }
 
 impl Model for ChunkSealer {
-    ghost use Rattle.std.specs.Prelude.{◌≡◌, ◌≤◌, ◌<◌, ◌^◌, length, take};
+    ghost use Rattle.std.specs.Prelude.{◌≡◌, ◌≤◌, ◌<◌, ◌^◌, length, take, vec_capacity};
     ghost use Rattle.age_stream.specs.Sealing.{SealerState};
     ghost use Rattle.age_stream.specs.Sizes.{chunk_size, chunk_buf_size, most_chunks};
 
@@ -48,7 +48,8 @@ impl Model for ChunkSealer {
     } };
 
     ghost invariant = { λ s. (length s.buf.items ≡ chunk_buf_size) × (s.len ≤ chunk_size)
-        × (s.index < s.max_chunks) × (s.max_chunks ≤ most_chunks) };
+        × (s.index < s.max_chunks) × (s.max_chunks ≤ most_chunks)
+        × (vec_capacity s.buf ≡ chunk_buf_size) };
 }
 
 impl ChunkSealer {
