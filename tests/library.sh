@@ -1,12 +1,12 @@
 #!/bin/bash
-# Builds and installs the library for C, and runs it from C under sanitizers, from Python and from
-# Rust: its names, its codes, each of its calls, refused allocations, threads, memory, and files
-# that go to the program and to `age` and back. The arguments name the groups to run; without
+# Builds and installs the library for C, and runs it from C under sanitizers: its names, its codes,
+# its calls, refused allocations, threads, memory, and files that go to the program and to `age` and
+# back. tests/packages.sh runs the packages for Python and Rust over it. The arguments name the groups to run; without
 # arguments all groups run; what is installed and built for them is checked in any case. The last
 # line is 'N passed, M failed'.
 groups=(
     names folders languages declarations diagnoses constants nulls buffers steps headers refuse second_compiler threads programs faults with_age
-    memory document python rust
+    memory document
 )
 source "$(dirname "$0")/checks.bash"
 
@@ -16,7 +16,7 @@ fi
 prefix=$work/prefix
 header=$root/bindings/c/agefile.h
 archive=$prefix/lib/libagefile.a
-shared=$prefix/lib/libagefile.so.0
+shared=$prefix/lib/libagefile.so.1
 warnings=(-Wall -Wextra -Wpedantic -Werror "-I$prefix/include")
 sizes="0 1 65535 65536 65537 131072 131073 200000"
 
@@ -45,7 +45,7 @@ installs() {
     )
     { has_said 0 "" || has_said 0 "install: building the library; its proofs are checked first"; } && files_of prefix | cmp -s - <(
         printf '%s\n' '644 include/agefile.h' '644 include/other.h' '644 lib/libagefile.a' '644 lib/pkgconfig/agefile.pc' \
-            '755 lib/libagefile.so.0' 'lib/libagefile.so -> libagefile.so.0'
+            '755 lib/libagefile.so.1' 'lib/libagefile.so -> libagefile.so.1'
     )
     check "./install --library puts the library, its header and its pkg-config file under PREFIX"
     [[ $(stat -c %a prefix/lib prefix/lib/pkgconfig | xargs) == "755 755" ]]
@@ -81,21 +81,21 @@ names_of() {
 
 names() {
     grep -oE '^uint(32|64)_t agefile_[a-z_]+' "$header" | sed 's/.* agefile_\(export_\)\?/agefile_/' | sort >expected
-    [[ $(wc -l <expected) == 22 ]]
-    check "the header declares 22 functions"
+    [[ $(wc -l <expected) == 38 ]]
+    check "the header declares 38 functions"
     names_of -g --defined-only "$archive" | cmp -s - expected
     check "libagefile.a has just these names"
-    names_of -D --defined-only "$shared" | cmp -s - <({ sed 's/$/@@AGEFILE_0/' expected && echo AGEFILE_0; } | sort)
-    check "libagefile.so.0 has just these names, with the version AGEFILE_0"
-    nm -D stream | grep -q ' agefile_writer_open_key@AGEFILE_0$'
+    names_of -D --defined-only "$shared" | cmp -s - <({ sed 's/$/@@AGEFILE_1/' expected && echo AGEFILE_1; } | sort)
+    check "libagefile.so.1 has just these names, with the version AGEFILE_1"
+    nm -D stream | grep -q ' agefile_seal_next@AGEFILE_1$'
     check "a program that is linked with it asks for this version"
     names_of -u "$archive" | grep -vxE 'free|malloc|realloc|memcpy|memmove|memset|memcmp' >out
     [[ $? -eq 1 && ! -s out ]]
     check "libagefile.a needs nothing but malloc, realloc, free and functions on memory"
     readelf -Wdl "$shared" >out
-    grep -q 'SONAME.*\[libagefile.so.0\]' out && grep -q BIND_NOW out && grep -q GNU_RELRO out && ! grep -q TEXTREL out &&
+    grep -q 'SONAME.*\[libagefile.so.1\]' out && grep -q BIND_NOW out && grep -q GNU_RELRO out && ! grep -q TEXTREL out &&
         [[ $(grep -c NEEDED out) == 1 ]] && grep -q 'NEEDED.*\[libc.so.6\]' out
-    check "libagefile.so.0 has a soname, is bound and made read-only at the start, and needs libc.so.6 alone"
+    check "libagefile.so.1 has a soname, is bound and made read-only at the start, and needs libc.so.6 alone"
 }
 
 # The loader that a program names.
@@ -107,7 +107,7 @@ loader_of() {
 loaded() {
     local program=$1
     shift
-    "$(loader_of "$program")" "$@" --list "./$program" | sed -n 's/.*libagefile.so.0 => \(.*\) (.*/\1/p'
+    "$(loader_of "$program")" "$@" --list "./$program" | sed -n 's/.*libagefile.so.1 => \(.*\) (.*/\1/p'
 }
 
 # Which of the two libraries under this folder the loader takes.
@@ -116,14 +116,14 @@ loads() {
         echo "skipped: which library is loaded, since the loader knows no levels of processors"
         return
     fi
-    [[ $(loaded staged_stream --glibc-hwcaps-mask x86-64-v2) == "$1/libagefile.so.0" ]]
+    [[ $(loaded staged_stream --glibc-hwcaps-mask x86-64-v2) == "$1/libagefile.so.1" ]]
     check "the loader takes the first library where x86-64-v3 is masked"
     # shellcheck source=../build.sh
     if ! (source "$root/build.sh" && has_v3); then
         echo "skipped: the library for x86-64-v3 in use, which this processor lacks"
         return
     fi
-    [[ $(loaded staged_stream) == "$1/glibc-hwcaps/x86-64-v3/libagefile.so.0" ]] && seq 100000 >plain &&
+    [[ $(loaded staged_stream) == "$1/glibc-hwcaps/x86-64-v3/libagefile.so.1" ]] && seq 100000 >plain &&
         ./staged_stream -e key <plain | ./staged_stream key | cmp -s - plain && ./staged_stream -e key <plain | "$agep" decrypt -k key | cmp -s - plain
     check "the loader takes the library for x86-64-v3 on this processor, and it seals and opens"
 }
@@ -132,15 +132,15 @@ loads() {
 # x86-64-v3.
 folders() {
     local libraries=staged/usr/lib/x86_64-linux-gnu second
-    second=$libraries/glibc-hwcaps/x86-64-v3/libagefile.so.0
+    second=$libraries/glibc-hwcaps/x86-64-v3/libagefile.so.1
     DESTDIR=staged keep "$root/install" --library --v3 --libdir=lib/x86_64-linux-gnu /usr
     [[ $(cat status) == 0 ]] && files_of staged/usr | cmp -s - <(
         printf '%s\n' '644 include/agefile.h' '644 lib/x86_64-linux-gnu/libagefile.a' '644 lib/x86_64-linux-gnu/pkgconfig/agefile.pc' \
-            '755 lib/x86_64-linux-gnu/glibc-hwcaps/x86-64-v3/libagefile.so.0' '755 lib/x86_64-linux-gnu/libagefile.so.0' \
-            'lib/x86_64-linux-gnu/libagefile.so -> libagefile.so.0'
+            '755 lib/x86_64-linux-gnu/glibc-hwcaps/x86-64-v3/libagefile.so.1' '755 lib/x86_64-linux-gnu/libagefile.so.1' \
+            'lib/x86_64-linux-gnu/libagefile.so -> libagefile.so.1'
     )
     check "./install --library with DESTDIR, --libdir and --v3 puts each file into its folder"
-    cmp -s "$libraries/libagefile.so.0" "$shared" && objdump -d "$second" | grep -q '%ymm' && ! objdump -d "$shared" | grep -q '%ymm'
+    cmp -s "$libraries/libagefile.so.1" "$shared" && objdump -d "$second" | grep -q '%ymm' && ! objdump -d "$shared" | grep -q '%ymm'
     check "of the two libraries only that for x86-64-v3 uses AVX2"
     cmp -s <(names_of -D --defined-only "$second") <(names_of -D --defined-only "$shared")
     check "both libraries have the same names and versions"
@@ -179,7 +179,7 @@ compare_declarations() {
 # the file that is named last: finds FILE OLD NEW [FILE].
 finds() {
     rm -rf copy && mkdir -p copy/crates/agefile &&
-        cp -r "$root/crates/agefile/src" copy/crates/agefile && cp -r "$root/include" "$root/python" copy && cp -r "$root/bindings/rust/src" copy/rust &&
+        cp -r "$root/crates/agefile/src" copy/crates/agefile && cp -r "$root/bindings" copy &&
         python3 -c 'import pathlib, sys
 path, old, new = pathlib.Path(sys.argv[1]), *sys.argv[2:]
 text = path.read_text()
@@ -194,8 +194,8 @@ declarations() {
         return
     fi
     compare_declarations "$root"
-    has_said 0 "" && holds out "22 functions, 6 structs"
-    check_shown "the exports, agefile.h, agefile.py and ffi.rs declare the same functions and structs"
+    has_said 0 "" && holds out "38 functions, 8 structs"
+    check_shown "the exports, agefile.h, _library.py and ffi.rs declare the same functions and structs"
     finds crates/agefile/src/ranges.rt 'file_len: u64' 'file_len: u32' bindings/c/agefile.h
     check "another type of an export's parameter is found"
     finds crates/agefile/src/report.rt 'pub detail: u64' 'pub detail: u32' bindings/c/agefile.h
@@ -212,9 +212,9 @@ declarations() {
     check "a parameter that the header lets be null is found"
     finds bindings/c/agefile.h 'uint8_t mac[32]' 'uint8_t mac[24]'
     check "another size of a struct in the header is found"
-    finds bindings/python/agefile.py '"ranges_locate": [ranges, number, report]' '"ranges_locate": [ranges, byte, report]'
+    finds bindings/python/agefile/_library.py '"ranges_locate": (_pointer(Ranges), number, _report)' '"ranges_locate": (_pointer(Ranges), byte, _report)'
     check "another type in Python is found"
-    finds bindings/python/agefile.py '("first", ctypes.c_uint64)' '("first", ctypes.c_uint8)'
+    finds bindings/python/agefile/_library.py '("first", number)' '("first", byte)'
     check "another field in Python is found"
     finds bindings/rust/src/ffi.rs 'last: bool' 'last: u8'
     check "another type in Rust is found"
@@ -287,7 +287,7 @@ number_of() {
 
 constants() {
     sed -nE 's/^    AGEFILE_([A-Z_]+) = ([0-9]+),?$/\1 \2/p' "$header" | sort | cmp -s - <(sort codes <(echo NULL_POINTER 24)) &&
-        [[ $(wc -l <codes) == 24 ]]
+        [[ $(wc -l <codes) == 25 ]]
     check "the header's codes are the crate's, and its own for a null pointer"
     [[ $(sed -nE 's/^const MAX_HEADER: usize = ([0-9_]+);/\1/p' "$root/crates/agefile/src/limits.rt") == 65_536 ]] &&
         grep -q '^#define AGEFILE_FRONT 65552 ' "$header"
@@ -298,9 +298,10 @@ constants() {
     sealed=$((chunk + tag))
     [[ $chunk -gt 0 && $tag -gt 0 && $(number_of "$header" AGEFILE_SEALED_CHUNK) -eq $sealed && $(number_of "$header" AGEFILE_TEXT_CHUNK) -eq $chunk ]]
     check "the header's lengths of chunks are the crate's"
-    [[ $(number_of "$root/bindings/python/agefile.py" _SEALED_CHUNK) -eq $sealed && $(number_of "$root/bindings/rust/src/stream.rs" SEALED_CHUNK) -eq $sealed &&
-        $(number_of "$root/bindings/rust/src/stream.rs" TEXT_CHUNK) -eq $chunk && $(number_of "$root/bindings/rust/src/stream.rs" TAG) -eq $tag &&
-        $(number_of "$root/bindings/python/agefile.py" _FRONT) -eq 65552 && $(number_of "$root/bindings/rust/src/whole.rs" FRONT) -eq 65552 ]]
+    local rust=$root/bindings/rust/src/ffi.rs python=$root/bindings/python/agefile/_library.py
+    [[ $(number_of "$rust" SEALED_CHUNK) -eq $sealed && $(number_of "$rust" TEXT_CHUNK) -eq $chunk && $(number_of "$rust" TAG) -eq $tag &&
+        $(number_of "$rust" FRONT) -eq 65552 && $(number_of "$python" SEALED_CHUNK) -eq $sealed && $(number_of "$python" TEXT_CHUNK) -eq $chunk &&
+        $(number_of "$python" TAG) -eq $tag && $(number_of "$python" FRONT) -eq 65552 ]]
     check "the lengths in Python and Rust are the crate's"
     [[ $(number_of "$header" AGEFILE_HEADER_ROOM) -ge $(number_of "$root/crates/agefile/src/sizes.rt" FRONT) ]]
     check "AGEFILE_HEADER_ROOM holds a header that is written, and a nonce"
@@ -361,6 +362,8 @@ int main(void) { return *agefile_message(agefile_sealed_len(0) == 0); }' >header
         cc -O2 "-I$prefix/include" -o stream "$root/bindings/c/examples/stream.c" "-L$prefix/lib" -lagefile "-Wl,-rpath,$prefix/lib"
     fi
     check "the example builds over libagefile.so"
+    cc -O2 "${warnings[@]}" -pthread -o parallel "$root/bindings/c/examples/parallel.c" "$archive"
+    check "the example of threads builds without a warning"
 }
 
 # Null pointers, in C and in C++; also where the header's functions are inlined.
@@ -568,14 +571,9 @@ compiles() {
 
 # The programs of docs/C.md do what they are there for.
 document() {
-    local language
-    for language in c python; do
-        block $language docs/C.md >"document.$language"
-        block $language README.md >readme
-        [[ -s document.$language && (! -s readme || $(cat readme) == "$(cat "document.$language")") ]]
-        check "docs/C.md has a program in $language, and README.md no other"
-    done
-    cp document.python document.py
+    block c docs/C.md >document.c
+    [[ -s document.c ]]
+    check "docs/C.md has a program in C"
     cc -Wall -Wextra -Werror "-I$prefix/include" -o document document.c "$archive"
     check "docs/C.md: the program in C builds without a warning"
     echo 'some text' >plain
@@ -585,41 +583,6 @@ document() {
     has_ended 1 "payload nonce is cut short"
     check "docs/C.md: the program in C says what is wrong"
     compiles
-    command -v python3 >/dev/null || return
-    AGEFILE_LIBRARY=$shared PYTHONPATH=$root/bindings/python PYTHONDONTWRITEBYTECODE=1 python3 document.py >out 2>err
-    [[ $? -eq 0 && $(cat out) == "b'two\n'
-wrong passphrase or key 7" ]]
-    check_shown "docs/C.md: the program in Python prints a line and an error"
-}
-
-python() {
-    if ! command -v python3 >/dev/null; then
-        echo "skipped: Python, since python3 is missing"
-        return
-    fi
-    export AGEFILE_LIBRARY=$shared PYTHONPATH=$root/bindings/python PYTHONDONTWRITEBYTECODE=1
-    python3 "$root/tests/library/test_agefile.py" >out 2>err
-    check_shown "Python's tests"
-    python3 -c 'import agefile, sys
-for code in range(24): print(code, agefile.AgeError(code, 7, 2))' | sed -n '2,21p' |
-        cmp -s - <(sed -E '/^(19|20) /!{ s/malformed stanza: \{0\}/malformed stanza: salt/; s/\{0\}/7/ }
-            s/^19 .*/19 recipient refused/; s/^20 .*/20 recipient does not go with recipient 0/' faults)
-    check "Python's messages are the program's"
-    python3 -c 'import agefile
-for code in (0, 21, 22, 23, 24): print(code, agefile.AgeError(code))' | cmp -s - <(sed -n '1p;22,25p' all)
-    check "Python's other messages are the header's"
-    python3 -c 'import agefile
-for detail in range(1, 6): print(detail, str(agefile.AgeError(8, 0, detail))[len("malformed stanza: "):])' | cmp -s - details
-    check "Python's texts for the parts of a stanza are the program's"
-}
-
-rust() {
-    if ! command -v cargo >/dev/null; then
-        echo "skipped: Rust, since cargo is missing"
-        return
-    fi
-    AGEFILE_LIB_DIR=$prefix/lib CARGO_TARGET_DIR=$work/target cargo test --offline --locked --manifest-path "$root/bindings/rust/Cargo.toml" >out 2>err
-    check_shown "Rust's tests"
 }
 
 # The library, the C programs over it, and the files that the groups work with: `faults` has the

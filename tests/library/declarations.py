@@ -2,7 +2,7 @@
 
     declarations.py [ROOT]
 
-The exports and structs of the crate, those of agefile.h, of bindings/python/agefile.py and of
+The exports and structs of the crate, those of agefile.h, of bindings/python/agefile/_library.py and of
 bindings/rust/src/ffi.rs are brought into one form, a line for each function and each field, and compared.
 Where two differ the difference is printed, and the status is 1. ROOT is the repository.
 """
@@ -315,7 +315,7 @@ def compiled(root, structs):
 
 def python_kind(kind, names, ctypes):
     """What a type of ctypes says: bytes behind a pointer have no length there."""
-    if kind is ctypes.c_char_p:
+    if kind is ctypes.c_void_p:
         return "* u8"
     if hasattr(kind, "contents"):
         return f"* {names[kind._type_]}"
@@ -343,18 +343,17 @@ def read_python(root):
     import ctypes
 
     sys.path.insert(0, os.path.join(root, "bindings/python"))
-    import agefile
+    from agefile import _library
 
     structs = {
-        snake(name[1:]): kind
-        for name, kind in vars(agefile).items()
-        if isinstance(kind, type) and issubclass(kind, ctypes.Structure)
+        snake(name): kind
+        for name, kind in vars(_library).items()
+        if isinstance(kind, type) and issubclass(kind, ctypes.Structure) and not name.startswith("_")
     }
     names = {kind: name for name, kind in structs.items()}
     functions = {
-        name: ([python_kind(kind, names, ctypes) for kind in function.argtypes], python_kind(function.restype, names, ctypes))
-        for name, function in vars(agefile._library).items()
-        if name.startswith("agefile_")
+        "agefile_" + name: ([python_kind(kind, names, ctypes) for kind in parameters], "u32")
+        for name, parameters in _library._SIGNATURES.items()
     }
     return functions, {name: python_layout(kind, ctypes) for name, kind in structs.items()}
 
@@ -417,25 +416,18 @@ def compare_python(root, functions, layouts):
     found, structs = read_python(root)
     expected = {name: ([as_python(kind) for _, kind in parameters], result) for name, (parameters, result) in functions.items() if name in found}
     return [
-        is_same("functions that Python calls", [f"{name} {function}" for name, function in sorted(expected.items())], "bindings/python/agefile.py",
+        is_same("functions that Python calls", [f"{name} {function}" for name, function in sorted(expected.items())], "bindings/python/agefile/_library.py",
                 [f"{name} {function}" for name, function in sorted(found.items())]),
-        is_same("structs of Python", struct_lines({name: layouts[name] for name in layouts if name in structs}), "bindings/python/agefile.py", struct_lines(structs)),
+        is_same("structs of Python", struct_lines({name: layouts[name] for name in layouts if name in structs}), "bindings/python/agefile/_library.py", struct_lines(structs)),
     ]
 
 
 def compare_rust(root, functions, layouts):
-    """The struct State of the crate for Rust is a reader and a writer."""
     with open(os.path.join(root, "bindings/rust/src/ffi.rs"), encoding="utf-8") as file:
         found, structs = read_rust(file.read())
-    named = {
-        name: ([(parameter, kind.replace(" state", f" {parameter}") if parameter in ("reader", "writer") else kind) for parameter, kind in parameters], result)
-        for name, (parameters, result) in found.items()
-    }
-    state = structs.pop("state")
-    structs.update(reader=state, writer=state)
     return [
         is_same("functions that Rust calls", function_lines({name: function for name, function in functions.items() if name in found}), "bindings/rust/src/ffi.rs",
-                function_lines(named)),
+                function_lines({name: function for name, function in found.items() if name in functions})),
         is_same("structs of Rust", struct_lines({name: layouts[name] for name in layouts if name in structs}), "bindings/rust/src/ffi.rs",
                 struct_lines({name: laid_out(fields) for name, fields in structs.items()})),
     ]

@@ -35,6 +35,7 @@ class Code(enum.IntEnum):
     WORK_FACTOR = 22
     OUT_OF_ORDER = 23
     NULL_POINTER = 24
+    BAD_ARGUMENTS = 25
     # end of code members
 
 
@@ -65,6 +66,7 @@ _MESSAGES = {
     Code.WORK_FACTOR: "work factor is not 1 to 30",
     Code.OUT_OF_ORDER: "no such stanza or offset, or a call out of order",
     Code.NULL_POINTER: "null pointer with a length",
+    Code.BAD_ARGUMENTS: "stanza arguments are not words",
 }
 # end of code messages
 

@@ -76,8 +76,8 @@ class _Plaintext(io.RawIOBase):
         length = self._ranges.sealed_len - before * lib.SEALED_CHUNK
         self._read(before, length)
         report = lib.check("ranges_last", ctypes.byref(self._ranges), self._chunk.address(0), length)
-        self._number, self._len = before, report.len
-        self.length: int = before * lib.TEXT_CHUNK + report.len
+        self.length: int = report.len
+        self._number, self._len = before, self.length - before * lib.TEXT_CHUNK
 
     def _read(self, number: int, length: int, room: memoryview | None = None) -> None:
         offset = self._ranges.first + number * lib.SEALED_CHUNK

@@ -94,6 +94,7 @@ impl Error {
             17 => Error::OutOfMemory,
             18 => Error::NoRecipients,
             22 => Error::WorkFactor,
+            25 => Error::BadArguments,
             // end of codes of errors
             _ => Error::Other(code),
         }
@@ -158,6 +159,7 @@ impl fmt::Display for Error {
             Error::OutOfMemory => write!(f, "out of memory"),
             Error::NoRecipients => write!(f, "no recipients"),
             Error::WorkFactor => write!(f, "work factor is not 1 to 30"),
+            Error::BadArguments => write!(f, "stanza arguments are not words"),
             // end of texts of errors
             Error::Refused => write!(f, "recipient refused"),
             Error::Incomplete => write!(f, "an earlier write failed"),

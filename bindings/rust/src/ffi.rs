@@ -46,7 +46,7 @@ pub struct Payload {
 #[cfg_attr(not(feature = "parallel"), allow(dead_code))]
 #[repr(C)]
 #[derive(Default)]
-pub struct ChunkPart {
+pub struct Part {
     key: [u8; 32],
     number: u64,
     left: u64,
@@ -79,11 +79,11 @@ extern "C" {
     fn agefile_open_next(payload: *mut Payload, chunk: *mut u8, chunk_len: usize, last: bool, report: *mut Report) -> u32;
     fn agefile_seal_next(payload: *mut Payload, chunk: *mut u8, chunk_len: usize, last: bool, report: *mut Report) -> u32;
     #[cfg(feature = "parallel")]
-    fn agefile_take_part(payload: *mut Payload, chunks: u64, part: *mut ChunkPart, report: *mut Report) -> u32;
+    fn agefile_take_part(payload: *mut Payload, count: u64, part: *mut Part, report: *mut Report) -> u32;
     #[cfg(feature = "parallel")]
-    fn agefile_part_open_next(part: *mut ChunkPart, chunk: *mut u8, chunk_len: usize, report: *mut Report) -> u32;
+    fn agefile_part_open_next(part: *mut Part, chunk: *mut u8, chunk_len: usize, report: *mut Report) -> u32;
     #[cfg(feature = "parallel")]
-    fn agefile_part_seal_next(part: *mut ChunkPart, chunk: *mut u8, chunk_len: usize, report: *mut Report) -> u32;
+    fn agefile_part_seal_next(part: *mut Part, chunk: *mut u8, chunk_len: usize, report: *mut Report) -> u32;
     fn agefile_ranges_open(front: *const u8, front_len: usize, file_len: u64, file_key: *const [u8; 16], ranges: *mut Ranges, report: *mut Report) -> u32;
     fn agefile_ranges_last(ranges: *mut Ranges, chunk: *mut u8, chunk_len: usize, report: *mut Report) -> u32;
     fn agefile_ranges_locate(ranges: *const Ranges, at: u64, report: *mut Report) -> u32;
@@ -212,19 +212,19 @@ pub fn seal_next(payload: &mut Payload, chunk: &mut [u8], last: bool) -> Result<
 }
 
 #[cfg(feature = "parallel")]
-pub fn take_part(payload: &mut Payload, chunks: u64) -> Result<ChunkPart, Error> {
-    let mut part = ChunkPart::default();
+pub fn take_part(payload: &mut Payload, chunks: u64) -> Result<Part, Error> {
+    let mut part = Part::default();
     call!(agefile_take_part(payload, chunks, &mut part))?;
     Ok(part)
 }
 
 #[cfg(feature = "parallel")]
-pub fn part_open_next(part: &mut ChunkPart, chunk: &mut [u8]) -> Result<usize, Error> {
+pub fn part_open_next(part: &mut Part, chunk: &mut [u8]) -> Result<usize, Error> {
     call!(agefile_part_open_next(part, chunk.as_mut_ptr(), chunk.len())).map(|report| report.len as usize)
 }
 
 #[cfg(feature = "parallel")]
-pub fn part_seal_next(part: &mut ChunkPart, chunk: &mut [u8]) -> Result<usize, Error> {
+pub fn part_seal_next(part: &mut Part, chunk: &mut [u8]) -> Result<usize, Error> {
     call!(agefile_part_seal_next(part, chunk.as_mut_ptr(), chunk.len())).map(|report| report.len as usize)
 }
 

@@ -4,13 +4,13 @@
 use std::io;
 use std::thread;
 
-use crate::ffi::{self, ChunkPart, Payload, NONCE, SEALED_CHUNK, TAG, TEXT_CHUNK};
+use crate::ffi::{self, Part, Payload, NONCE, SEALED_CHUNK, TAG, TEXT_CHUNK};
 use crate::header::{header_of, inspect, stanzas_text, unlock};
 use crate::whole::text_len;
 use crate::{Error, FileKey, Identity, Recipient};
 
 /// What a thread does with its part: with each of its chunks, and where it is in the output.
-type Step = fn(&mut ChunkPart, &[u8], &mut [u8]) -> Result<(), Error>;
+type Step = fn(&mut Part, &[u8], &mut [u8]) -> Result<(), Error>;
 
 /// The same file as [`crate::encrypt`] makes, sealed on so many threads.
 pub fn encrypt(plain: &[u8], recipients: &[&dyn Recipient], threads: usize) -> io::Result<Vec<u8>> {

@@ -35,8 +35,8 @@ impl<R: Read + Seek> RangeReader<R> {
         let number = (last.place - reader.ranges.first) / SEALED_CHUNK as u64;
         reader.read_sealed(number, last.place, last.len as usize)?;
         let opened = ffi::ranges_last(&mut reader.ranges, &mut reader.buf[..last.len as usize])?;
-        reader.keep(number, opened.len as usize);
-        reader.len = number * TEXT_CHUNK as u64 + opened.len;
+        reader.len = opened.len;
+        reader.keep(number, (opened.len - number * TEXT_CHUNK as u64) as usize);
         Ok(reader)
     }
 
