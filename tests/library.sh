@@ -1,7 +1,8 @@
 #!/bin/bash
 # Builds and installs the library for C, and runs it from C under sanitizers: its names, its codes,
 # its calls, refused allocations, threads, memory, and files that go to the program and to `age` and
-# back. tests/packages.sh runs the packages for Python and Rust over it. The arguments name the groups to run; without
+# back. tests/packages.sh runs the packages for Python and Rust over it. The arguments name the
+# groups to run; without
 # arguments all groups run; what is installed and built for them is checked in any case. The last
 # line is 'N passed, M failed'.
 groups=(
