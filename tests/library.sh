@@ -287,7 +287,7 @@ number_of() {
 }
 
 constants() {
-    sed -nE 's/^    AGEFILE_([A-Z_]+) = ([0-9]+),?$/\1 \2/p' "$header" | sort | cmp -s - <(sort codes <(echo NULL_POINTER 24)) &&
+    sed -nE '/^enum agefile_code/,/^};/s/^    AGEFILE_([A-Z_]+) = ([0-9]+),?$/\1 \2/p' "$header" | sort | cmp -s - <(sort codes <(echo NULL_POINTER 24)) &&
         [[ $(wc -l <codes) == 25 ]]
     check "the header's codes are the crate's, and its own for a null pointer"
     [[ $(sed -nE 's/^const MAX_HEADER: usize = ([0-9_]+);/\1/p' "$root/crates/agefile/src/limits.rt") == 65_536 ]] &&
