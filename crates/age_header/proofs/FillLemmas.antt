@@ -1,14 +1,14 @@
 -- One read after another into a buffer.
-use Rattle.std.proofs.Common.{◌≡◌, ◌∙◌, ◌++◌, ◌+◌, ◌≤◌, ℕ, List, [], length, take, ap, sym, arith, append-nil, append_assoc, length-append, Result, Ok, Err, IfOk}
-use Rattle.std.specs.declared.option.Option.{Option}
+use Rattle.std.proofs.Common.{◌≡◌, ◌∙◌, ◌++◌, ◌+◌, ◌≤◌, ℕ, [], length, take, ap, sym, arith, append-nil, append_assoc, length-append, Result, Ok, Err, IfOk}
 use Rattle.std.proofs.KnownBytes.{Consumes-trans, Consumes-nil}
 use Rattle.std.proofs.Math.Seq.{take-append-add, take-append_seam}
 use Rattle.std.specs.Io.{ReadsAtMost}
+use Rattle.age_kdf.specs.Bytes.{Bytes}
 use Rattle.age_header.specs.declared.device.DeviceFault.{DeviceFault}
-use Rattle.age_header.specs.Device.{Gives}
+use Rattle.age_header.specs.Device.{Gives, Known}
 use Rattle.age_header.specs.Filling.{Filled, Got}
 
-pub filled-none : (start : ℕ) (buf : List ℕ) (a : Option (List ℕ)) → start ≤ length buf → Filled start start buf buf a a
+pub filled-none : (start : ℕ) (buf : Bytes) (a : Known) → start ≤ length buf → Filled start start buf buf a a
 filled-none start buf a le = record {
   piece = [];
   len = omega arith;
@@ -17,7 +17,7 @@ filled-none start buf a le = record {
   bytes = Consumes-nil a;
 }
 
-pub filled-more : (start at n : ℕ) (buf mid after : List ℕ) (a b c : Option (List ℕ)) → length mid ≡ length buf
+pub filled-more : (start at n : ℕ) (buf mid after : Bytes) (a b c : Known) → length mid ≡ length buf
     → Filled start at buf mid a b → Got at n mid after b c → Filled start (at + n) buf after a c
 filled-more start at n buf mid after a b c size f h = record {
   piece = f.piece ++ h.piece;
@@ -28,7 +28,8 @@ filled-more start at n buf mid after a b c size f h = record {
 }
 
 -- one read after a front
-pub got-read : (r : Result ℕ DeviceFault) (at : ℕ) (buf front rest after : List ℕ) (a b : Option (List ℕ)) → buf ≡ front ++ rest → length front ≡ at → length after ≡ length rest
+pub got-read : (r : Result ℕ DeviceFault) (at : ℕ) (buf front rest after : Bytes) (a b : Known) → buf ≡ front ++ rest
+    → length front ≡ at → length after ≡ length rest
     → ReadsAtMost r after → Gives a b r after → IfOk r (λ n. Got at n buf (front ++ after) a b)
 got-read (Err e) at buf front rest after a b is len size bound gives = tt
 got-read (Ok n) at buf front rest after a b is len size bound gives =
@@ -38,7 +39,8 @@ got-read (Ok n) at buf front rest after a b is len size bound gives =
       len = sym bound.1;
       room = omega (arith, all, len, size, bound.0);
       is = ap (λ k. take (k + n) (front ++ after)) (sym len) ∙ take-append-add front after n
-          ∙ ap (λ t. t ++ take n after) (sym (ap (take at) is ∙ ap (λ k. take k (front ++ rest)) (sym len) ∙ take-append_seam front rest));
+          ∙ ap (λ t. t ++ take n after)
+          (sym (ap (take at) is ∙ ap (λ k. take k (front ++ rest)) (sym len) ∙ take-append_seam front rest));
       bytes = gives.0;
       none = λ zero room. gives.1 zero (omega (arith, all, len, size, room));
     }

@@ -1,11 +1,12 @@
 -- What the first line of a text decides.
-use Rattle.std.proofs.Common.{inl, inr, ◌≡◌, ◌≢◌, ℕ, ◌+◌, ◌-◌, ◌<◌, ◌≤◌, List, [], ◌∷◌, ◌++◌, length, length-append, length-take, take, drop, refl, sym, ap, arith, append_assoc, ◌∙◌, subst, Some, min}
+use Rattle.std.proofs.Common.{inl, inr, ◌≡◌, ◌≢◌, ℕ, ◌+◌, ◌-◌, ◌<◌, ◌≤◌, [], ◌∷◌, ◌++◌, length, length-append, length-take, take, drop, refl, sym, ap, arith, append_assoc, ◌∙◌, subst, Some, min}
 use Rattle.std.proofs.lemmas.List.{append-nil, append_cancel_left, take_all, take-take, take_at}
 use Rattle.std.proofs.lemmas.Bool.{cases_lt}
 use Rattle.std.proofs.KnownBytes.{starts_with_rest}
 use Rattle.std.specs.Io.KnownBytes.{Consumes, IsAtEnd}
-use Rattle.std.specs.declared.option.Option.{Option}
 use Rattle.std.specs.declared.result.Result.TheVariants.{Err}
+use Rattle.age_kdf.specs.Bytes.{Bytes}
+use Rattle.age_header.specs.Device.{Known}
 use Rattle.age_header.specs.declared.fault.HeaderFault.TheVariants.{NotAge, Truncated, TooLarge}
 use Rattle.age_header.specs.declared.lines.LineEnd.{LineEnd}
 use Rattle.age_header.specs.declared.lines.LineEnd.TheVariants.{Lf, Input, Room}
@@ -19,14 +20,14 @@ use Rattle.age_header.proofs.VerdictPaths.{version_is_text, no_empty, no_lf, bot
 use Rattle.age_header.proofs.SourceVerdicts.{answered, answered_at_end}
 
 -- the first line: a text with no whole line decides nothing
-pub line_open : (cap : List ℕ) → IsLineText cap → IsUndecided cap
+pub line_open : (cap : Bytes) → IsLineText cap → IsUndecided cap
 line_open cap text [] d = both d.decided (inl refl) no_empty
 line_open cap text (k ∷ ks) d = absurd (here (no_lf (k ∷ ks) d.lines.rest cap text d.lines.front))
   where
     here : k ∷ ks ≡ [] → ⊥
     here e = cc
 
-pub front_text : (v f d : List ℕ) → IsLineText f → v ++ 10 ∷ [] ≡ f ++ d → (x : List ℕ) × (v ≡ f ++ x)
+pub front_text : (v f d : Bytes) → IsLineText f → v ++ 10 ∷ [] ≡ f ++ d → (x : Bytes) × (v ≡ f ++ x)
 front_text v [] d h e = (v, refl)
 front_text [] (c ∷ f) d h e = let same : c ≡ 10 = cc in absurd (h.0 same)
 front_text (a ∷ v) (c ∷ f) d h e =
@@ -41,7 +42,7 @@ unfolding version_line version_text
 version_is_line = refl
 
 -- the first 22 bytes under the limit, where a first line of these was taken
-pub cap_front : (b : List ℕ) (max : ℕ) → take 22 (take max b) ≡ take (min max 22) b
+pub cap_front : (b : Bytes) (max : ℕ) → take 22 (take max b) ≡ take (min max 22) b
 cap_front b max = elim (cases_lt max 22) [
   | inl low ↦
       let e : min max 22 ≡ max = omega arith in
@@ -52,43 +53,53 @@ cap_front b max = elim (cases_lt max 22) [
       rw (e, take-take 22 max b high) refl
 ]
 
-pub lf_front : (b n first : List ℕ) (max : ℕ) → b ≡ (first ++ 10 ∷ []) ++ n → length first < min max 22
+pub lf_front : (b n first : Bytes) (max : ℕ) → b ≡ (first ++ 10 ∷ []) ++ n → length first < min max 22
     → take (min max 22) b ≡ first ++ 10 ∷ take (min max 22 - length (first ++ 10 ∷ [])) n
 lf_front b n first max is end =
     let low : length (first ++ 10 ∷ []) ≤ min max 22 = omega (arith, length-append first (10 ∷ [])) in
-    ap (λ (z : List ℕ). take (min max 22) z) is ∙ take_past (first ++ 10 ∷ []) n (min max 22) low ∙ append_assoc first (10 ∷ []) _
+    ap (λ (z : Bytes). take (min max 22) z) is ∙ take_past (first ++ 10 ∷ []) n (min max 22) low
+        ∙ append_assoc first (10 ∷ []) _
 
-pub first_front : (b n first : List ℕ) (end : LineEnd) (max : ℕ) → b ≡ taken first end ++ n → IsEnd end (length first) (min max 22) (Some n)
-    → (d : List ℕ) × (take (min max 22) b ≡ first ++ d)
-first_front b n first Lf max is end = (10 ∷ take (min max 22 - length (first ++ 10 ∷ [])) n, lf_front b n first max is end)
+pub first_front : (b n first : Bytes) (end : LineEnd) (max : ℕ) → b ≡ taken first end ++ n
+    → IsEnd end (length first) (min max 22) (Some n)
+    → (d : Bytes) × (take (min max 22) b ≡ first ++ d)
+first_front b n first Lf max is end = (10 ∷ take (min max 22 - length (first ++ 10 ∷ [])) n,
+    lf_front b n first max is end)
 first_front b n first Input max is end =
     let low : length first ≤ min max 22 = omega arith in
-    (take (min max 22 - length first) n, ap (λ (z : List ℕ). take (min max 22) z) is ∙ take_past first n (min max 22) low)
+    (take (min max 22 - length first) n,
+        ap (λ (z : Bytes). take (min max 22) z) is ∙ take_past first n (min max 22) low)
 first_front b n first Room max is end =
     let low : length first ≤ min max 22 = omega arith in
-    (take (min max 22 - length first) n, ap (λ (z : List ℕ). take (min max 22) z) is ∙ take_past first n (min max 22) low)
+    (take (min max 22 - length first) n,
+        ap (λ (z : Bytes). take (min max 22) z) is ∙ take_past first n (min max 22) low)
 
-pub age_front : (b n first : List ℕ) (end : LineEnd) (max : ℕ) → b ≡ taken first end ++ n → IsEnd end (length first) (min max 22) (Some n)
-    → BeginsAsAge (take max b) → (d : List ℕ) × (version_text ++ 10 ∷ [] ≡ first ++ d)
+pub age_front : (b n first : Bytes) (end : LineEnd) (max : ℕ) → b ≡ taken first end ++ n
+    → IsEnd end (length first) (min max 22) (Some n)
+    → BeginsAsAge (take max b) → (d : Bytes) × (version_text ++ 10 ∷ [] ≡ first ++ d)
 age_front b n first end max is ends age =
-    let t : List ℕ = take 22 (take max b) in
+    let t : Bytes = take 22 (take max b) in
     let r = first_front b n first end max is ends in
     let whole : version_line ≡ t ++ drop (length t) version_line = starts_with_rest version_line t age in
     let front : t ≡ first ++ r.0 = cap_front b max ∙ r.1 in (
       r.0 ++ drop (length t) version_line,
-      sym version_is_line ∙ whole ∙ ap (λ (z : List ℕ). z ++ drop (length t) version_line) front ∙ append_assoc first r.0 (drop (length t) version_line),
+      sym version_is_line ∙ whole ∙ ap (λ (z : Bytes). z ++ drop (length t) version_line) front
+          ∙ append_assoc first r.0 (drop (length t) version_line),
     )
 
-pub no_front_told : (b n first : List ℕ) (end : LineEnd) (max : ℕ) → b ≡ taken first end ++ n → IsLineText first
-    → IsEnd end (length first) (min max 22) (Some n) → ((x : List ℕ) → version_text ≢ first ++ x) → BeginsAsAge (take max b) → ⊥
+pub no_front_told : (b n first : Bytes) (end : LineEnd) (max : ℕ) → b ≡ taken first end ++ n → IsLineText first
+    → IsEnd end (length first) (min max 22) (Some n) → ((x : Bytes) → version_text ≢ first ++ x)
+    → BeginsAsAge (take max b) → ⊥
 no_front_told b n first end max took text ends none age =
     let w = age_front b n first end max took ends age in
     let r = front_text version_text first w.0 text w.1 in
     none r.0 r.1
 
 -- not the front of the version line's text
-pub no_front : (a new : Option (List ℕ)) (first : List ℕ) (end : LineEnd) (max : ℕ) → Consumes a new (taken first end) → IsLineText first
-    → IsEnd end (length first) (min max 22) new → ((x : List ℕ) → version_text ≢ first ++ x) → ReadsHeader a new max (Err NotAge)
+pub no_front : (a new : Known) (first : Bytes) (end : LineEnd) (max : ℕ) → Consumes a new (taken first end)
+    → IsLineText first
+    → IsEnd end (length first) (min max 22) new → ((x : Bytes) → version_text ≢ first ++ x)
+    → ReadsHeader a new max (Err NotAge)
 no_front a new first Lf max took text ends none =
     answered a new (first ++ 10 ∷ []) max NotAge took (λ b n is. no_front_told b n first Lf max is text ends none)
 no_front a new first Input max took text ends none =
@@ -98,24 +109,26 @@ no_front a new first Room max took text ends none =
     answered a new first max NotAge took (λ b n is. no_front_told b n first Room max is text ends none)
 
 -- a line that ends too early
-pub short_line : (a new : Option (List ℕ)) (first rest : List ℕ) (max : ℕ) → Consumes a new (first ++ 10 ∷ []) → IsLineText first
+pub short_line : (a new : Known) (first rest : Bytes) (max : ℕ) → Consumes a new (first ++ 10 ∷ []) → IsLineText first
     → length first < min max 22 → version_text ≡ first ++ rest → rest ≢ [] → ReadsHeader a new max (Err NotAge)
 short_line a new first rest max took text ends is more = answered a new (first ++ 10 ∷ []) max NotAge took told
   where
-    told : (b n : List ℕ) → b ≡ (first ++ 10 ∷ []) ++ n → BeginsAsAge (take max b) → ⊥
+    told : (b n : Bytes) → b ≡ (first ++ 10 ∷ []) ++ n → BeginsAsAge (take max b) → ⊥
     told b n came age =
-        let t : List ℕ = take 22 (take max b) in
+        let t : Bytes = take 22 (take max b) in
         let whole : version_line ≡ t ++ drop (length t) version_line = starts_with_rest version_line t age in
-        let x : List ℕ = take (min max 22 - length (first ++ 10 ∷ [])) n in
+        let x : Bytes = take (min max 22 - length (first ++ 10 ∷ [])) n in
         let front : t ≡ first ++ 10 ∷ x = cap_front b max ∙ lf_front b n first max came ends in
         let e : version_text ++ 10 ∷ [] ≡ first ++ 10 ∷ (x ++ drop (length t) version_line) =
-        sym version_is_line ∙ whole ∙ ap (λ (z : List ℕ). z ++ drop (length t) version_line) front ∙ append_assoc first (10 ∷ x) (drop (length t) version_line) in
+        sym version_is_line ∙ whole ∙ ap (λ (z : Bytes). z ++ drop (length t) version_line) front
+            ∙ append_assoc first (10 ∷ x) (drop (length t) version_line) in
         let cut = line_split version_text first [] _ version_is_text text e in
         more (append_cancel_left first rest [] (sym is ∙ cut.0 ∙ sym (append-nil first)))
 
-pub front_age : (first rest : List ℕ) → version_text ≡ first ++ rest → length first ≤ 22 → BeginsAsAge first
+pub front_age : (first rest : Bytes) → version_text ≡ first ++ rest → length first ≤ 22 → BeginsAsAge first
 front_age first rest is low =
-    let whole : version_line ≡ first ++ (rest ++ 10 ∷ []) = version_is_line ∙ ap (λ (z : List ℕ). z ++ 10 ∷ []) is ∙ append_assoc first rest (10 ∷ []) in
+    let whole : version_line ≡ first ++ (rest ++ 10 ∷ []) = version_is_line ∙ ap (λ (z : Bytes). z ++ 10 ∷ []) is
+        ∙ append_assoc first rest (10 ∷ []) in
     let all : take 22 first ≡ first = take_all 22 first low in
     rw (all, whole) (take_at first (rest ++ 10 ∷ []) (length first) refl)
 
@@ -123,41 +136,46 @@ pub version_text_size : length version_text ≡ 21
 unfolding version_text
 version_text_size = refl
 
-pub front_size : (first rest : List ℕ) → version_text ≡ first ++ rest → length first + length rest ≡ 21
+pub front_size : (first rest : Bytes) → version_text ≡ first ++ rest → length first + length rest ≡ 21
 front_size first rest is = omega (arith, ap length is, version_text_size, length-append first rest)
 
 -- a first line that goes on, at the end of the input or under the limit
-pub short_input : (a new : Option (List ℕ)) (first rest : List ℕ) (max : ℕ) → Consumes a new first → IsLineText first
+pub short_input : (a new : Known) (first rest : Bytes) (max : ℕ) → Consumes a new first → IsLineText first
     → (length first < min max 22) × IsAtEnd new → version_text ≡ first ++ rest → ReadsHeader a new max (Err Truncated)
 short_input a new first rest max took text ends is = answered_at_end a new first max Truncated took ends.1 told
   where
-    told : (b : List ℕ) → b ≡ first → IsFault b max Truncated
+    told : (b : Bytes) → b ≡ first → IsFault b max Truncated
     told b all =
         let size : length first < min max 22 = ends.0 in
         let low : length first ≤ max = omega arith in
-        let cap : take max b ≡ first = ap (λ (z : List ℕ). take max z) all ∙ take_all max first low in
+        let cap : take max b ≡ first = ap (λ (z : Bytes). take max z) all ∙ take_all max first low in
         let age : BeginsAsAge first = front_age first rest is (omega arith) in
         let same : length b ≡ length first = ap length all in
-        (subst (λ (z : List ℕ). BeginsAsAge z) (sym cap) age, subst (λ (z : List ℕ). IsUndecided z) (sym cap) (line_open first text), omega arith)
+        (subst (λ (z : Bytes). BeginsAsAge z) (sym cap) age,
+            subst (λ (z : Bytes). IsUndecided z) (sym cap) (line_open first text), omega arith)
 
-pub short_room : (a new : Option (List ℕ)) (first rest : List ℕ) (max : ℕ) → Consumes a new first → IsLineText first
+pub short_room : (a new : Known) (first rest : Bytes) (max : ℕ) → Consumes a new first → IsLineText first
     → length first ≡ min max 22 → version_text ≡ first ++ rest → ReadsHeader a new max (Err TooLarge)
 short_room a new first rest max took text ends is = answered a new first max TooLarge took told
   where
-    told : (b n : List ℕ) → b ≡ first ++ n → IsFault b max TooLarge
+    told : (b n : Bytes) → b ≡ first ++ n → IsFault b max TooLarge
     told b n came =
         let sum = front_size first rest is in
         let size : length first ≡ max = omega arith in
-        let cap : take max b ≡ first = ap (λ (z : List ℕ). take max z) came ∙ take_at first n max size in
+        let cap : take max b ≡ first = ap (λ (z : Bytes). take max z) came ∙ take_at first n max size in
         let age : BeginsAsAge first = front_age first rest is (omega arith) in
         let whole : length b ≡ length first + length n = ap length came ∙ length-append first n in
-        (subst (λ (z : List ℕ). BeginsAsAge z) (sym cap) age, subst (λ (z : List ℕ). IsUndecided z) (sym cap) (line_open first text), omega arith)
+        (subst (λ (z : Bytes). BeginsAsAge z) (sym cap) age,
+            subst (λ (z : Bytes). IsUndecided z) (sym cap) (line_open first text), omega arith)
 
 -- the version line
-pub version_taken : (a new : Option (List ℕ)) (first rest : List ℕ) (max : ℕ) → Consumes a new (first ++ 10 ∷ []) → length first < min max 22
+pub version_taken : (a new : Known) (first rest : Bytes) (max : ℕ) → Consumes a new (first ++ 10 ∷ [])
+    → length first < min max 22
     → version_text ≡ first ++ rest → rest ≡ [] → (22 ≤ max) × Consumes a new version_line
 version_taken a new first rest max took ends is none =
     let sum = front_size first rest is in
     let zero : length rest ≡ 0 = ap length none in
-    let same : first ++ 10 ∷ [] ≡ version_line = sym (version_is_line ∙ ap (λ (z : List ℕ). z ++ 10 ∷ []) (is ∙ ap (λ (z : List ℕ). first ++ z) none ∙ append-nil first)) in
-    (omega arith, subst (λ (z : List ℕ). Consumes a new z) same took)
+    let same : first ++ 10 ∷ [] ≡ version_line =
+        sym (version_is_line ∙ ap (λ (z : Bytes). z ++ 10 ∷ [])
+        (is ∙ ap (λ (z : Bytes). first ++ z) none ∙ append-nil first)) in
+    (omega arith, subst (λ (z : Bytes). Consumes a new z) same took)

@@ -2,19 +2,21 @@
 use Rattle.std.proofs.Common.{◌≡◌, ℕ, zero, suc, ◌+◌, ◌-◌, ◌*◌, ◌/◌, ◌%◌, ◌<◌, ◌≤◌, List, [], ◌∷◌, ◌++◌, length, length-append, length-take, length-drop, take, drop, min, get_or, refl, sym, ap, arith, ◌∙◌, codes, flat_map}
 use Rattle.std.proofs.lemmas.List.{take_more, append-nil}
 use Rattle.std.proofs.lemmas.List.Concat.{flat_map-append}
+use Rattle.age_kdf.specs.Bytes.{Bytes}
 use Rattle.age_header.specs.Header.{StanzaParts, argument_line, line, version_line}
 use Rattle.age_header.specs.Base64.{base64_of}
 use Rattle.age_header.specs.Text.{body_lines, body_text, stanza_text, signed, mac_end}
 use Rattle.age_header.proofs.TextLemmas.{signs_size}
 
-pub line_size : (t : List ℕ) → length (line t) ≡ length t + 1
+pub line_size : (t : Bytes) → length (line t) ≡ length t + 1
 line_size t = length-append t (10 ∷ [])
 
-lines_size : (n : ℕ) (b : List ℕ) → 48 * n ≤ length b → length (body_lines n b) ≡ 65 * n + ((4 * (length b - 48 * n) + 2) / 3 + 1)
+lines_size : (n : ℕ) (b : Bytes) → 48 * n ≤ length b
+    → length (body_lines n b) ≡ 65 * n + ((4 * (length b - 48 * n) + 2) / 3 + 1)
 unfolding body_lines
 lines_size zero b low = omega (arith, line_size (base64_of b), signs_size b)
 lines_size (suc n) b low =
-    let back : List ℕ = drop 48 b in
+    let back : Bytes = drop 48 b in
     let m : length back ≡ length b - 48 = length-drop 48 b in
     let rest = lines_size n back (omega arith) in
     let left : length back - 48 * n ≡ length b - 48 * suc n = omega arith in
@@ -25,7 +27,7 @@ lines_size (suc n) b low =
     let characters = signs_size (take 48 b) in
     omega arith
 
-pub body_size : (b : List ℕ) → length (body_text b) ≡ 65 * (length b / 48) + ((length b % 48 * 4 + 2) / 3 + 1)
+pub body_size : (b : Bytes) → length (body_text b) ≡ 65 * (length b / 48) + ((length b % 48 * 4 + 2) / 3 + 1)
 unfolding body_text
 body_size b =
     let s = lines_size (length b / 48) b (omega arith) in
@@ -33,11 +35,14 @@ body_size b =
     omega arith
 
 -- a list of texts, one more
-pub flat_size : {X : Type 0} (f : X → List ℕ) (xs : List X) (i : ℕ) (x : X) → i < length xs → x ≡ get_or xs i x
+pub flat_size : {X : Type 0} (f : X → Bytes) (xs : List X) (i : ℕ) (x : X) → i < length xs → x ≡ get_or xs i x
     → length (flat_map f (take (i + 1) xs)) ≡ length (flat_map f (take i xs)) + length (f x)
 flat_size {X} f xs i x low is =
-    ap length (ap (λ (z : List X). flat_map f z) (take_more xs i x low) ∙ flat_map-append f (take i xs) (get_or xs i x ∷ []) ∙ ap (λ (z : List ℕ). flat_map f (take i xs) ++ z) (append-nil (f (get_or xs i x))))
-    ∙ length-append (flat_map f (take i xs)) (f (get_or xs i x)) ∙ ap (λ (z : X). length (flat_map f (take i xs)) + length (f z)) (sym is)
+    ap length (ap (λ (z : List X). flat_map f z) (take_more xs i x low)
+        ∙ flat_map-append f (take i xs) (get_or xs i x ∷ [])
+        ∙ ap (λ (z : Bytes). flat_map f (take i xs) ++ z) (append-nil (f (get_or xs i x))))
+    ∙ length-append (flat_map f (take i xs)) (f (get_or xs i x))
+    ∙ ap (λ (z : X). length (flat_map f (take i xs)) + length (f z)) (sym is)
 
 pub stanza_size : (s : StanzaParts) → length (stanza_text s) ≡ length (argument_line s.args) + length (body_text s.body)
 unfolding stanza_text
@@ -47,11 +52,12 @@ pub version_size : length version_line ≡ 22
 unfolding version_line
 version_size = refl
 
-pub mac_end_size : (mac : List ℕ) → length mac ≡ 32 → length (mac_end mac) ≡ 45
+pub mac_end_size : (mac : Bytes) → length mac ≡ 32 → length (mac_end mac) ≡ 45
 unfolding mac_end
 mac_end_size mac n = omega (arith, signs_size mac, length-append (base64_of mac) (10 ∷ []))
 
-pub header_size : (ss : List StanzaParts) (mac : List ℕ) → length mac ≡ 32 → length (signed ss ++ mac_end mac) ≡ 70 + length (flat_map stanza_text ss)
+pub header_size : (ss : List StanzaParts) (mac : Bytes) → length mac ≡ 32
+    → length (signed ss ++ mac_end mac) ≡ 70 + length (flat_map stanza_text ss)
 unfolding signed
 header_size ss mac n =
     let all = length-append (signed ss) (mac_end mac) in

@@ -4,6 +4,7 @@ use Rattle.std.proofs.lemmas.List.{append-nil}
 use Rattle.std.proofs.lemmas.Bool.{cases_lt}
 use Rattle.std.specs.List.{AllByRecursion}
 use Rattle.std.specs.declared.result.Result.{Result}
+use Rattle.age_kdf.specs.Bytes.{Bytes}
 use Rattle.age_header.specs.declared.fault.HeaderFault.{HeaderFault}
 use Rattle.age_header.specs.declared.fault.HeaderFault.TheVariants.{NotAge, BadLine, Truncated, TooLarge, Read, Memory}
 use Rattle.age_header.specs.Header.{StanzaParts, Head, line, version_line}
@@ -16,22 +17,22 @@ use Rattle.age_header.proofs.VerdictPaths.{path_first, begins, take_past, versio
 use Rattle.age_header.proofs.LaterLines.{lines_push}
 
 -- fewer lines don't decide where more do
-not_fewer : (b : List ℕ) (ks ls : List (List ℕ)) → Decides ks b → Decides ls b → length ks < length ls → ⊥
+not_fewer : (b : Bytes) (ks ls : List Bytes) → Decides ks b → Decides ls b → length ks < length ls → ⊥
 not_fewer b ks ls d e fewer = let f = e.first ks d.lines fewer in both d.decided f.0 f.1
 
 -- as many lines of one text are the same lines
-as_many : (b : List ℕ) (ks ls : List (List ℕ)) → AreLines ks b → AreLines ls b → length ks ≡ length ls → ks ≡ ls
+as_many : (b : Bytes) (ks ls : List Bytes) → AreLines ks b → AreLines ls b → length ks ≡ length ls → ks ≡ ls
 as_many b ks ls d e same =
     let r = lines_front ks ls d.rest e.rest d.each e.each (sym d.front ∙ e.front) (omega arith) in
     let size : length ls ≡ length ks + length r.0 = ap length r.1 ∙ length-append ks r.0 in
-    sym (r.1 ∙ ap (λ (z : List (List ℕ)). ks ++ z) (none r.0 (omega arith)) ∙ append-nil ks)
+    sym (r.1 ∙ ap (λ (z : List Bytes). ks ++ z) (none r.0 (omega arith)) ∙ append-nil ks)
   where
-    none : (more : List (List ℕ)) → length more ≡ 0 → more ≡ []
+    none : (more : List Bytes) → length more ≡ 0 → more ≡ []
     none [] e = refl
     none (l ∷ more) e = absurd (omega arith)
 
 -- one list of lines decides
-decides_once : (b : List ℕ) (ks ls : List (List ℕ)) → Decides ks b → Decides ls b → ks ≡ ls
+decides_once : (b : Bytes) (ks ls : List Bytes) → Decides ks b → Decides ls b → ks ≡ ls
 decides_once b ks ls d e = elim (cases_lt (length ks) (length ls)) [
   | inl fewer ↦ absurd (not_fewer b ks ls d e fewer)
   | inr enough ↦ elim (cases_lt (length ls) (length ks)) [
@@ -40,25 +41,26 @@ decides_once b ks ls d e = elim (cases_lt (length ks) (length ls)) [
   ]
 ]
 
-same_found : (b : List ℕ) (max : ℕ) (x y : Found) → Finds b max x → Finds b max y → x ≡ y
+same_found : (b : Bytes) (max : ℕ) (x y : Found) → Finds b max x → Finds b max y → x ≡ y
 same_found b max x y h k =
     let lines : h.lines ≡ k.lines = decides_once (take max b) h.lines k.lines h.decides k.decides in
     let text : x.text ≡ y.text = h.is ∙ ap lines_text lines ∙ sym k.is in
-    let there : Head y.stanzas y.mac (x.text ++ []) = subst (λ (z : List ℕ). Head y.stanzas y.mac z) (sym (append-nil x.text ∙ text)) k.head in
+    let there : Head y.stanzas y.mac (x.text ++ []) =
+        subst (λ (z : Bytes). Head y.stanzas y.mac z) (sym (append-nil x.text ∙ text)) k.head in
     let r = reading x.stanzas y.stanzas x.mac y.mac x.text [] h.head there in
     ap (λ (z : List StanzaParts). record { stanzas = z; mac = x.mac; text = x.text }) r.1
-    ∙ ap (λ (z : List ℕ). record { stanzas = y.stanzas; mac = z; text = x.text }) r.2
-    ∙ ap (λ (z : List ℕ). record { stanzas = y.stanzas; mac = y.mac; text = z }) text
+    ∙ ap (λ (z : Bytes). record { stanzas = y.stanzas; mac = z; text = x.text }) r.2
+    ∙ ap (λ (z : Bytes). record { stanzas = y.stanzas; mac = y.mac; text = z }) text
 
 -- lines that are a header are no bad line
-header_bad : (b : List ℕ) (max : ℕ) (x : Found) (n : ℕ) → Finds b max x → IsFault b max (BadLine n) → ⊥
+header_bad : (b : Bytes) (max : ℕ) (x : Found) (n : ℕ) → Finds b max x → IsFault b max (BadLine n) → ⊥
 header_bad b max x n h k =
-    let ls : List (List ℕ) = k.1.0 in
+    let ls : List Bytes = k.1.0 in
     let lines : h.lines ≡ ls = decides_once (take max b) h.lines ls h.decides k.1.2 in
     let text : x.text ≡ lines_text ls = h.is ∙ ap lines_text lines in
-    k.1.3 (x.stanzas, x.mac, subst (λ (z : List ℕ). Head x.stanzas x.mac z) text h.head)
+    k.1.3 (x.stanzas, x.mac, subst (λ (z : Bytes). Head x.stanzas x.mac z) text h.head)
 
-header_fault : (b : List ℕ) (max : ℕ) (x : Found) (f : HeaderFault) → Finds b max x → IsFault b max f → ⊥
+header_fault : (b : Bytes) (max : ℕ) (x : Found) (f : HeaderFault) → Finds b max x → IsFault b max f → ⊥
 header_fault b max x NotAge h k = k h.begun
 header_fault b max x (BadLine n) h k = header_bad b max x n h k
 header_fault b max x Truncated h k = k.1 h.lines h.decides
@@ -66,10 +68,10 @@ header_fault b max x TooLarge h k = k.1 h.lines h.decides
 header_fault b max x Read h k = k
 header_fault b max x Memory h k = k
 
-same_line : (b : List ℕ) (max n m : ℕ) → IsFault b max (BadLine n) → IsFault b max (BadLine m) → n ≡ m
+same_line : (b : Bytes) (max n m : ℕ) → IsFault b max (BadLine n) → IsFault b max (BadLine m) → n ≡ m
 same_line b max n m h k = sym h.1.1 ∙ ap length (decides_once (take max b) h.1.0 k.1.0 h.1.2 k.1.2) ∙ k.1.1
 
-same_fault : (b : List ℕ) (max : ℕ) (f g : HeaderFault) → IsFault b max f → IsFault b max g → f ≡ g
+same_fault : (b : Bytes) (max : ℕ) (f g : HeaderFault) → IsFault b max f → IsFault b max g → f ≡ g
 same_fault b max NotAge NotAge h k = refl
 same_fault b max NotAge (BadLine n) h k = absurd (h k.0)
 same_fault b max NotAge Truncated h k = absurd (h k.0)
@@ -81,73 +83,86 @@ same_fault b max (BadLine n) TooLarge h k = absurd (k.1 h.1.0 h.1.2)
 same_fault b max Truncated NotAge h k = absurd (k h.0)
 same_fault b max Truncated (BadLine n) h k = absurd (h.1 k.1.0 k.1.2)
 same_fault b max Truncated Truncated h k = refl
-same_fault b max Truncated TooLarge h k = let low : length b < max = h.2 in let high : max ≤ length b = k.2 in absurd (omega arith)
+same_fault b max Truncated TooLarge h k = let low : length b < max = h.2 in let high : max ≤ length b = k.2 in
+    absurd (omega arith)
 same_fault b max TooLarge NotAge h k = absurd (k h.0)
 same_fault b max TooLarge (BadLine n) h k = absurd (h.1 k.1.0 k.1.2)
-same_fault b max TooLarge Truncated h k = let low : length b < max = k.2 in let high : max ≤ length b = h.2 in absurd (omega arith)
+same_fault b max TooLarge Truncated h k = let low : length b < max = k.2 in let high : max ≤ length b = h.2 in
+    absurd (omega arith)
 same_fault b max TooLarge TooLarge h k = refl
 same_fault b max Read _ h k = absurd h
 same_fault b max Memory _ h k = absurd h
 same_fault b max _ Read h k = absurd k
 same_fault b max _ Memory h k = absurd k
 
-pub one_verdict : (b : List ℕ) (max : ℕ) (r q : Result Found HeaderFault) → HeaderVerdict b max r → HeaderVerdict b max q → r ≡ q
+pub one_verdict : (b : Bytes) (max : ℕ) (r q : Result Found HeaderFault) → HeaderVerdict b max r → HeaderVerdict b max q
+    → r ≡ q
 one_verdict b max (Ok x) (Ok y) h k = ap Ok (same_found b max x y h k)
 one_verdict b max (Ok x) (Err g) h k = absurd (header_fault b max x g h k)
 one_verdict b max (Err f) (Ok y) h k = absurd (header_fault b max y f k h)
 one_verdict b max (Err f) (Err g) h k = ap Err (same_fault b max f g h k)
 
 -- a header that was found begins the text, within the limit
-pub begins_found : (b : List ℕ) (max : ℕ) (x : Found) → Finds b max x → BeginsWith b max x
+pub begins_found : (b : Bytes) (max : ℕ) (x : Found) → Finds b max x → BeginsWith b max x
 begins_found b max x h =
-    let cap : take max b ≡ x.text ++ h.decides.lines.rest = h.decides.lines.front ∙ ap (λ (z : List ℕ). z ++ h.decides.lines.rest) (sym h.is) in
-    let size : length (take max b) ≡ length x.text + length h.decides.lines.rest = ap length cap ∙ length-append x.text h.decides.lines.rest in
+    let cap : take max b ≡ x.text ++ h.decides.lines.rest = h.decides.lines.front
+        ∙ ap (λ (z : Bytes). z ++ h.decides.lines.rest) (sym h.is) in
+    let size : length (take max b) ≡ length x.text + length h.decides.lines.rest = ap length cap
+        ∙ length-append x.text h.decides.lines.rest in
     record {
       rest = h.decides.lines.rest ++ drop max b;
       head = h.head;
-      front = sym (take-append-drop max b) ∙ ap (λ (z : List ℕ). z ++ drop max b) cap ∙ append_assoc x.text h.decides.lines.rest (drop max b);
+      front = sym (take-append-drop max b) ∙ ap (λ (z : Bytes). z ++ drop max b) cap
+          ∙ append_assoc x.text h.decides.lines.rest (drop max b);
       fits = omega (arith, length-take max b);
     }
 
-lines_split : (ls : List (List ℕ)) (e : List ℕ) → AllByRecursion IsLineText (ls ++ e ∷ []) → AllByRecursion IsLineText ls
+lines_split : (ls : List Bytes) (e : Bytes) → AllByRecursion IsLineText (ls ++ e ∷ []) → AllByRecursion IsLineText ls
 lines_split [] e h = tt
 lines_split (l ∷ ls) e h = (h.0, lines_split ls e h.1)
 
 -- a header that begins the text within the limit is found
-pub found_begins : (b : List ℕ) (max : ℕ) (x : Found) → BeginsWith b max x → Finds b max x
+pub found_begins : (b : Bytes) (max : ℕ) (x : Found) → BeginsWith b max x → Finds b max x
 found_begins b max x h =
     let p = head_path x.stanzas x.mac x.text h.head in
-    let end : List ℕ = end_text p.characters in
-    let ls : List (List ℕ) = p.lines ++ end ∷ [] in
-    let whole : List (List ℕ) = version_text ∷ ls in
+    let end : Bytes = end_text p.characters in
+    let ls : List Bytes = p.lines ++ end ∷ [] in
+    let whole : List Bytes = version_text ∷ ls in
     let text : x.text ≡ lines_text whole = p.is ∙ sym (whole_lines ls) in
-    let cut : List ℕ = take (max - length x.text) h.rest in
-    let cap : take max b ≡ x.text ++ cut = ap (λ (z : List ℕ). take max z) h.front ∙ take_past x.text h.rest max h.fits in
+    let cut : Bytes = take (max - length x.text) h.rest in
+    let cap : take max b ≡ x.text ++ cut = ap (λ (z : Bytes). take max z) h.front
+        ∙ take_past x.text h.rest max h.fits in
     let path : take max b ≡ (version_line ++ lines_text p.lines) ++ (line end ++ cut) =
-    cap ∙ ap (λ (z : List ℕ). z ++ cut) (p.is ∙ ap (λ (z : List ℕ). version_line ++ z) (lines_push p.lines end) ∙ sym (append_assoc version_line (lines_text p.lines) (line end)))
+    cap ∙ ap (λ (z : Bytes). z ++ cut) (p.is ∙ ap (λ (z : Bytes). version_line ++ z) (lines_push p.lines end)
+        ∙ sym (append_assoc version_line (lines_text p.lines) (line end)))
     ∙ append_assoc (version_line ++ lines_text p.lines) (line end) cut in
-    let front : b ≡ version_line ++ (lines_text ls ++ h.rest) = h.front ∙ ap (λ (z : List ℕ). z ++ h.rest) p.is ∙ append_assoc version_line (lines_text ls) h.rest in
-    let size : length x.text ≡ 22 + length (lines_text ls) = ap length p.is ∙ length-append version_line (lines_text ls) ∙ ap (λ (z : ℕ). z + length (lines_text ls)) version_size in
+    let front : b ≡ version_line ++ (lines_text ls ++ h.rest) = h.front ∙ ap (λ (z : Bytes). z ++ h.rest) p.is
+        ∙ append_assoc version_line (lines_text ls) h.rest in
+    let size : length x.text ≡ 22 + length (lines_text ls) = ap length p.is ∙ length-append version_line (lines_text ls)
+        ∙ ap (λ (z : ℕ). z + length (lines_text ls)) version_size in
     let fits : length x.text ≤ max = h.fits in
     let wide : 22 ≤ max = omega arith in
-    let header : IsHeader (lines_text whole) = (x.stanzas, x.mac, subst (λ (z : List ℕ). Head x.stanzas x.mac z) text h.head) in
+    let header : IsHeader (lines_text whole) =
+        (x.stanzas, x.mac, subst (λ (z : Bytes). Head x.stanzas x.mac z) text h.head) in
     record {
       lines = whole;
-      begun = subst (λ (z : List ℕ). BeginsAsAge (take max z)) (sym front) (begins (lines_text ls ++ h.rest) max wide);
+      begun = subst (λ (z : Bytes). BeginsAsAge (take max z)) (sym front) (begins (lines_text ls ++ h.rest) max wide);
       decides = record {
-        lines = record { rest = cut; each = (version_is_text, p.each); front = cap ∙ ap (λ (z : List ℕ). z ++ cut) text };
+        lines = record { rest = cut; each = (version_is_text, p.each); front = cap
+            ∙ ap (λ (z : Bytes). z ++ cut) text };
         decided = inl header;
         first = λ ks k fewer.
             let more : length ls ≡ length p.lines + 1 = length-append p.lines (end ∷ []) in
             let few : length ks ≤ length p.lines + 1 = omega arith in
-            path_first p.lines (between x.stanzas) (take max b) (line end ++ cut) (lines_split p.lines end p.each) p.leads path ks k few;
+            path_first p.lines (between x.stanzas) (take max b) (line end ++ cut) (lines_split p.lines end p.each)
+                p.leads path ks k few;
       };
       is = text;
       head = h.head;
     }
 
 -- a header that was found is found in every text that it begins
-pub found_again : (b : List ℕ) (max : ℕ) (x : Found) → Finds b max x → (rest : List ℕ) → Finds (x.text ++ rest) max x
+pub found_again : (b : Bytes) (max : ℕ) (x : Found) → Finds b max x → (rest : Bytes) → Finds (x.text ++ rest) max x
 found_again b max x h rest =
     let w = begins_found b max x h in
     found_begins (x.text ++ rest) max x (record { rest = rest; head = w.head; front = refl; fits = w.fits })

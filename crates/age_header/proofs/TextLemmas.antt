@@ -7,6 +7,7 @@ use Rattle.base64.specs.Rfc4648.{encode_symbols, unpadded_len}
 use Rattle.base64.proofs.RoundTrip.{length-encode_symbols}
 use Rattle.base64.specs.GeneralPurpose.{IsBytes, IsEncodedOver, encode_of, encoded_size_of}
 use Rattle.base64.specs.declared.engine.general_purpose.GeneralPurpose.{GeneralPurpose}
+use Rattle.age_kdf.specs.Bytes.{Bytes}
 use Rattle.age_header.specs.Base64.{IsBase64, alphabet, base64_of}
 use Rattle.age_header.specs.Header.{StanzaParts, Head, IsStanza, AreStanzas, IsFullLine, argument_line, line, version_line}
 use Rattle.age_header.specs.Text.{IsPlain, IsWhole, IsHeaderValue, body_lines, body_text, stanza_text, signed, mac_end}
@@ -14,34 +15,37 @@ use Rattle.age_header.proofs.Base64Lemmas.{IsBase64-encode, encode_of-unpadded}
 use Rattle.age_header.proofs.Base64Joined.{IsBase64-append}
 
 -- what the engine wrote into a buffer
-pub encoded : (e : GeneralPurpose) (m old new : List ℕ) (len : ℕ) → IsPlain e → IsEncodedOver e m old new → len ≡ encoded_size_of e (length m)
+pub encoded : (e : GeneralPurpose) (m old new : Bytes) (len : ℕ) → IsPlain e → IsEncodedOver e m old new
+    → len ≡ encoded_size_of e (length m)
     → take len new ≡ base64_of m
 unfolding base64_of
 encoded e m old new len p over is =
     let plain : encode_of e m ≡ encode_symbols alphabet m = encode_of-unpadded e m p.unpadded p.characters in
     let size : encoded_size_of e (length m) ≡ unpadded_len (length m) = rw p.unpadded refl in
     let fits : length (encode_symbols alphabet m) ≡ len = length-encode_symbols alphabet m ∙ sym size ∙ sym is in
-    ap (λ (z : List ℕ). take len z) (over ∙ ap (λ (z : List ℕ). z ++ drop (encoded_size_of e (length m)) old) plain) ∙ take_at (encode_symbols alphabet m) _ len fits
+    ap (λ (z : Bytes). take len z) (over ∙ ap (λ (z : Bytes). z ++ drop (encoded_size_of e (length m)) old) plain)
+        ∙ take_at (encode_symbols alphabet m) _ len fits
 
 pub encoded_size_plain : (e : GeneralPurpose) (n : ℕ) → IsPlain e → encoded_size_of e n ≡ (4 * n + 2) / 3
 encoded_size_plain e n p = rw p.unpadded refl
 
 -- one full line more
-pub body_step : (b piece after : List ℕ) → 48 ≤ length b → piece ≡ take 48 b → after ≡ drop 48 b
+pub body_step : (b piece after : Bytes) → 48 ≤ length b → piece ≡ take 48 b → after ≡ drop 48 b
     → body_text b ≡ base64_of piece ++ (10 ∷ body_text after)
 unfolding body_text body_lines
 body_step b piece after h p a =
     let n : length b / 48 ≡ suc (length (drop 48 b) / 48) = omega (arith, length-drop 48 b) in
     rw (n, p, a) (append_assoc (base64_of (take 48 b)) (10 ∷ []) _)
 
-pub body_end : (b : List ℕ) → length b < 48 → body_text b ≡ base64_of b ++ 10 ∷ []
+pub body_end : (b : Bytes) → length b < 48 → body_text b ≡ base64_of b ++ 10 ∷ []
 unfolding body_text body_lines
 body_end b h =
     let n : length b / 48 ≡ 0 = omega arith in
     rw n refl
 
 -- one element more of a list of texts
-pub flat_step : {X : Type 0} (f : X → List ℕ) (end : List ℕ) (xs : List X) (i : ℕ) (x : X) → i < length xs → x ≡ get_or xs i x
+pub flat_step : {X : Type 0} (f : X → Bytes) (end : Bytes) (xs : List X) (i : ℕ) (x : X) → i < length xs
+    → x ≡ get_or xs i x
     → flat_map f (drop i xs) ++ end ≡ f x ++ (flat_map f (drop (i + 1) xs) ++ end)
 flat_step {X} f end xs i x low is =
     at_drop_more (λ (ys : List X). flat_map f ys ++ end) xs i x low
@@ -50,22 +54,25 @@ flat_step {X} f end xs i x low is =
 
 -- one stanza more of a list of stanzas, before the text's end
 pub stanza_step : (ss : List StanzaParts) (i : ℕ) (s : StanzaParts) → i < length ss → s ≡ get_or ss i s
-    → flat_map stanza_text (drop i ss) ++ codes "---" ≡ argument_line s.args ++ (body_text s.body ++ (flat_map stanza_text (drop (i + 1) ss) ++ codes "---"))
+    → flat_map stanza_text (drop i ss) ++ codes "---"
+    ≡ argument_line s.args ++ (body_text s.body ++ (flat_map stanza_text (drop (i + 1) ss) ++ codes "---"))
 unfolding stanza_text
 stanza_step ss i s low is =
     flat_step stanza_text (codes "---") ss i s low is
     ∙ append_assoc (argument_line s.args) (body_text s.body) (flat_map stanza_text (drop (i + 1) ss) ++ codes "---")
 
-pub flat_of_map : {X : Type 0} (f : X → List ℕ) (xs : List X) → flat_map (λ a. 32 ∷ a) (map f xs) ≡ flat_map (λ x. 32 ∷ f x) xs
+pub flat_of_map : {X : Type 0} (f : X → Bytes) (xs : List X)
+    → flat_map (λ a. 32 ∷ a) (map f xs) ≡ flat_map (λ x. 32 ∷ f x) xs
 flat_of_map f [] = refl
-flat_of_map f (x ∷ xs) = ap (λ (z : List ℕ). (32 ∷ f x) ++ z) (flat_of_map f xs)
+flat_of_map f (x ∷ xs) = ap (λ (z : Bytes). (32 ∷ f x) ++ z) (flat_of_map f xs)
 
-pub args_step : {X : Type 0} (f : X → List ℕ) (xs : List X) (i : ℕ) (x : X) → i < length xs → x ≡ get_or xs i x
-    → flat_map (λ a. 32 ∷ a) (map f (drop i xs)) ++ 10 ∷ [] ≡ (32 ∷ []) ++ (f x ++ (flat_map (λ a. 32 ∷ a) (map f (drop (i + 1) xs)) ++ 10 ∷ []))
+pub args_step : {X : Type 0} (f : X → Bytes) (xs : List X) (i : ℕ) (x : X) → i < length xs → x ≡ get_or xs i x
+    → flat_map (λ a. 32 ∷ a) (map f (drop i xs)) ++ 10 ∷ []
+    ≡ (32 ∷ []) ++ (f x ++ (flat_map (λ a. 32 ∷ a) (map f (drop (i + 1) xs)) ++ 10 ∷ []))
 args_step f xs i x low is =
     rw (flat_of_map f (drop i xs), flat_of_map f (drop (i + 1) xs)) (flat_step (λ x. 32 ∷ f x) (10 ∷ []) xs i x low is)
 
-pub bytes_take : (n : ℕ) (b : List ℕ) → IsBytes b → IsBytes (take n b)
+pub bytes_take : (n : ℕ) (b : Bytes) → IsBytes b → IsBytes (take n b)
 bytes_take n b h i = elim (cases_lt i n) [
   | inl low ↦ rw (get_or-take n b i 0 low) (h i)
   | inr high ↦
@@ -73,26 +80,26 @@ bytes_take n b h i = elim (cases_lt i n) [
       omega arith
 ]
 
-pub bytes_drop : (n : ℕ) (b : List ℕ) → IsBytes b → IsBytes (drop n b)
+pub bytes_drop : (n : ℕ) (b : Bytes) → IsBytes b → IsBytes (drop n b)
 bytes_drop n b h i = rw (get_or-drop n b i 0) (h (n + i))
 
-pub characters_are : (b : List ℕ) → IsBytes b → IsBase64 b (base64_of b)
+pub characters_are : (b : Bytes) → IsBytes b → IsBase64 b (base64_of b)
 unfolding base64_of
 characters_are b h = IsBase64-encode b h
 
-pub signs_size : (b : List ℕ) → length (base64_of b) ≡ (4 * length b + 2) / 3
+pub signs_size : (b : Bytes) → length (base64_of b) ≡ (4 * length b + 2) / 3
 unfolding base64_of
 signs_size b = length-encode_symbols alphabet b
 
-record Cut (n : ℕ) (b : List ℕ) : Type 0 where
-  full : List (List ℕ)
-  last : List ℕ
+record Cut (n : ℕ) (b : Bytes) : Type 0 where
+  full : List Bytes
+  last : Bytes
   each : AllByRecursion IsFullLine full
   low : length last < 64
   text : IsBase64 b (concat full ++ last)
   spelled : body_lines n b ≡ flat_map line full ++ line last
 
-cut : (n : ℕ) (b : List ℕ) → IsBytes b → 48 * n ≤ length b → length b < 48 * n + 48 → Cut n b
+cut : (n : ℕ) (b : Bytes) → IsBytes b → 48 * n ≤ length b → length b < 48 * n + 48 → Cut n b
 unfolding body_lines
 cut zero b h low high = record {
   full = [];
@@ -103,20 +110,24 @@ cut zero b h low high = record {
   spelled = refl;
 }
 cut (suc n) b h low high =
-    let front : List ℕ = take 48 b in
-    let back : List ℕ = drop 48 b in
+    let front : Bytes = take 48 b in
+    let back : Bytes = drop 48 b in
     let size : length front ≡ 48 = omega (arith, length-take 48 b) in
     let full : length (base64_of front) ≡ 64 = omega (arith, signs_size front) in
     let four : length (base64_of front) ≡ 4 * 16 = full in
     let rest = cut n back (bytes_drop 48 b h) (omega (arith, length-drop 48 b)) (omega (arith, length-drop 48 b)) in
-    let both = IsBase64-append 16 front (base64_of front) back (concat rest.full ++ rest.last) four (characters_are front (bytes_take 48 b h)) rest.text in
+    let both = IsBase64-append 16 front (base64_of front) back (concat rest.full ++ rest.last) four
+        (characters_are front (bytes_take 48 b h)) rest.text in
     record {
       full = base64_of front ∷ rest.full;
       last = rest.last;
       each = (full, rest.each);
       low = rest.low;
-      text = rw (append_assoc (base64_of front) (concat rest.full) rest.last) (subst (λ (z : List ℕ). IsBase64 z (base64_of front ++ (concat rest.full ++ rest.last))) (take-append-drop 48 b) both);
-      spelled = ap (λ (z : List ℕ). line (base64_of front) ++ z) rest.spelled ∙ sym (append_assoc (line (base64_of front)) (flat_map line rest.full) (line rest.last));
+      text = rw (append_assoc (base64_of front) (concat rest.full) rest.last)
+          (subst (λ (z : Bytes). IsBase64 z (base64_of front ++ (concat rest.full ++ rest.last)))
+          (take-append-drop 48 b) both);
+      spelled = ap (λ (z : Bytes). line (base64_of front) ++ z) rest.spelled
+          ∙ sym (append_assoc (line (base64_of front)) (flat_map line rest.full) (line rest.last));
     }
 
 pub stanza_text_is : (s : StanzaParts) → IsWhole s → IsStanza s (stanza_text s)
@@ -129,14 +140,17 @@ stanza_text_is s h =
       arguments = h.0;
       cut = (c.each, c.low);
       body = c.text;
-      spelled = ap (λ (z : List ℕ). argument_line s.args ++ z) c.spelled ∙ sym (append_assoc (argument_line s.args) (flat_map line c.full) (line c.last));
+      spelled = ap (λ (z : Bytes). argument_line s.args ++ z) c.spelled
+          ∙ sym (append_assoc (argument_line s.args) (flat_map line c.full) (line c.last));
     }
 
 stanzas_text_is : (ss : List StanzaParts) → AllByRecursion IsWhole ss → AreStanzas ss (flat_map stanza_text ss)
 stanzas_text_is [] h = refl
-stanzas_text_is (s ∷ ss) h = (stanza_text s, flat_map stanza_text ss, stanza_text_is s h.0, stanzas_text_is ss h.1, refl)
+stanzas_text_is (s ∷ ss) h = (stanza_text s, flat_map stanza_text ss, stanza_text_is s h.0, stanzas_text_is ss h.1,
+    refl)
 
-pub header_text_is : (ss : List StanzaParts) (mac : List ℕ) → IsHeaderValue ss mac → Head ss mac (signed ss ++ mac_end mac)
+pub header_text_is : (ss : List StanzaParts) (mac : Bytes) → IsHeaderValue ss mac
+    → Head ss mac (signed ss ++ mac_end mac)
 unfolding signed mac_end
 header_text_is ss mac h = record {
   body = flat_map stanza_text ss;

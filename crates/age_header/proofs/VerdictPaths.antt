@@ -4,7 +4,8 @@ use Rattle.std.proofs.lemmas.List.{append-nil}
 use Rattle.std.proofs.lemmas.Bool.{cases_lt, and_parts, both_ways, not-true, eq-eqb}
 use Rattle.std.specs.Io.KnownBytes.{Consumes}
 use Rattle.std.specs.List.{AllByRecursion}
-use Rattle.std.specs.declared.option.Option.{Option}
+use Rattle.age_kdf.specs.Bytes.{Bytes}
+use Rattle.age_header.specs.Device.{Known}
 use Rattle.age_header.specs.Header.{line, version_line}
 use Rattle.age_header.specs.Steps.{State, between, Leads}
 use Rattle.age_header.specs.Verdict.{IsLineText, lines_text, IsViable, IsHeader, AreLines, BeginsAsAge, IsUndecided}
@@ -13,19 +14,19 @@ use Rattle.age_header.proofs.LineLemmas.{lines_front}
 use Rattle.age_header.proofs.StepRuns.{Leads-split}
 
 -- The lines after the version line that were taken, where they lead, and the room that is left under the limit.
-pub record Reached (a mid : Option (List ℕ)) (max room count : ℕ) (s : State) : Type 0 where
-  pub ls : List (List ℕ)
+pub record Reached (a mid : Known) (max room count : ℕ) (s : State) : Type 0 where
+  pub ls : List Bytes
   pub each : AllByRecursion IsLineText ls
   pub leads : Leads (between []) ls s
   pub taken : Consumes a mid (version_line ++ lines_text ls)
   pub size : room + 22 + length (lines_text ls) ≡ max
   pub lines : count ≡ length ls + 1
 
-abbrev pub clear : List ℕ → Bool
+abbrev pub clear : Bytes → Bool
 clear [] = true
 clear (c ∷ t) = not (c == 10) && clear t
 
-pub clear_text : (t : List ℕ) → clear t ≡ true → IsLineText t
+pub clear_text : (t : Bytes) → clear t ≡ true → IsLineText t
 clear_text [] e = tt
 clear_text (c ∷ t) e =
     let p = and_parts (not (c == 10)) (clear t) e in
@@ -40,37 +41,42 @@ pub no_empty : IsHeader [] → ⊥
 unfolding version_line
 no_empty h = here h.2.body h.2.characters h.2.spelled
   where
-    here : (b s : List ℕ) → [] ≡ version_line ++ b ++ line (codes "--- " ++ s) → ⊥
+    here : (b s : Bytes) → [] ≡ version_line ++ b ++ line (codes "--- " ++ s) → ⊥
     here b s e = cc
 
-pub whole_lines : (ls : List (List ℕ)) → lines_text (version_text ∷ ls) ≡ version_line ++ lines_text ls
+pub whole_lines : (ls : List Bytes) → lines_text (version_text ∷ ls) ≡ version_line ++ lines_text ls
 unfolding version_line version_text
 whole_lines ls = refl
 
 -- fewer lines of a path are viable and no header
-pub path_first : (ls : List (List ℕ)) (s : State) (cap tail : List ℕ) → AllByRecursion IsLineText ls → Leads (between []) ls s
+pub path_first : (ls : List Bytes) (s : State) (cap tail : Bytes) → AllByRecursion IsLineText ls
+    → Leads (between []) ls s
     → cap ≡ (version_line ++ lines_text ls) ++ tail
-    → (ks : List (List ℕ)) → AreLines ks cap → length ks ≤ length ls + 1 → IsViable (lines_text ks) × (IsHeader (lines_text ks) → ⊥)
+    → (ks : List Bytes) → AreLines ks cap → length ks ≤ length ls + 1
+    → IsViable (lines_text ks) × (IsHeader (lines_text ks) → ⊥)
 path_first ls s cap tail each leads is [] k n = (inl refl, no_empty)
 path_first ls s cap tail each leads is (k ∷ ks) h n =
-    let all : List (List ℕ) = version_text ∷ ls in
-    let e : lines_text (k ∷ ks) ++ h.rest ≡ lines_text all ++ tail = sym h.front ∙ is ∙ ap (λ (x : List ℕ). x ++ tail) (sym (whole_lines ls)) in
+    let all : List Bytes = version_text ∷ ls in
+    let e : lines_text (k ∷ ks) ++ h.rest ≡ lines_text all ++ tail = sym h.front ∙ is
+        ∙ ap (λ (x : Bytes). x ++ tail) (sym (whole_lines ls)) in
     let fits : length (k ∷ ks) ≤ length all = omega arith in
     let r = lines_front (k ∷ ks) all h.rest tail h.each (version_is_text, each) e fits in
     let head : k ≡ version_text = cc (r.1) in
     let back : ls ≡ ks ++ r.0 = cc (r.1) in
-    let cut = Leads-split (between []) s ks r.0 (subst (λ (x : List (List ℕ)). Leads (between []) x s) back leads) in
-    let same : lines_text (k ∷ ks) ≡ version_line ++ lines_text ks = ap (λ (x : List ℕ). lines_text (x ∷ ks)) head ∙ whole_lines ks in (
-      subst (λ (x : List ℕ). IsViable x) (sym same) (leads_viable ks cut.0 cut.1),
-      λ g. leads_no_header ks cut.0 h.each.1 cut.1 (subst (λ (x : List ℕ). IsHeader x) same g),
+    let cut = Leads-split (between []) s ks r.0 (subst (λ (x : List Bytes). Leads (between []) x s) back leads) in
+    let same : lines_text (k ∷ ks) ≡ version_line ++ lines_text ks = ap (λ (x : Bytes). lines_text (x ∷ ks)) head
+        ∙ whole_lines ks in (
+      subst (λ (x : Bytes). IsViable x) (sym same) (leads_viable ks cut.0 cut.1),
+      λ g. leads_no_header ks cut.0 h.each.1 cut.1 (subst (λ (x : Bytes). IsHeader x) same g),
     )
 
-pub no_lf : (more : List (List ℕ)) (rest tail : List ℕ) → IsLineText tail → tail ≡ lines_text more ++ rest → more ≡ []
+pub no_lf : (more : List Bytes) (rest tail : Bytes) → IsLineText tail → tail ≡ lines_text more ++ rest → more ≡ []
 no_lf [] rest tail h e = refl
 no_lf (m ∷ more) rest tail h e =
-    absurd (here m (lines_text more ++ rest) tail h (e ∙ append_assoc (line m) (lines_text more) rest ∙ append_assoc m (10 ∷ []) (lines_text more ++ rest)))
+    absurd (here m (lines_text more ++ rest) tail h
+        (e ∙ append_assoc (line m) (lines_text more) rest ∙ append_assoc m (10 ∷ []) (lines_text more ++ rest)))
   where
-    here : (m x tail : List ℕ) → IsLineText tail → tail ≡ m ++ 10 ∷ x → ⊥
+    here : (m x tail : Bytes) → IsLineText tail → tail ≡ m ++ 10 ∷ x → ⊥
     here [] x [] h e = cc
     here (d ∷ m) x [] h e = cc
     here [] x (c ∷ tail) h e = let same : c ≡ 10 = cc in h.0 same
@@ -81,17 +87,20 @@ both (inl a) b none = none a
 both (inr n) b none = n b
 
 -- a path that no whole line follows decides nothing
-pub path_open : (ls : List (List ℕ)) (s : State) (cap tail : List ℕ) → AllByRecursion IsLineText ls → Leads (between []) ls s
+pub path_open : (ls : List Bytes) (s : State) (cap tail : Bytes) → AllByRecursion IsLineText ls
+    → Leads (between []) ls s
     → cap ≡ (version_line ++ lines_text ls) ++ tail → IsLineText tail → IsUndecided cap
 path_open ls s cap tail each leads is text ks d =
-    let all : List (List ℕ) = version_text ∷ ls in
+    let all : List Bytes = version_text ∷ ls in
     elim (cases_lt (length all) (length ks)) [
       | inl more ↦
-          let e : lines_text all ++ tail ≡ lines_text ks ++ d.lines.rest = ap (λ (x : List ℕ). x ++ tail) (whole_lines ls) ∙ sym is ∙ d.lines.front in
+          let e : lines_text all ++ tail ≡ lines_text ks ++ d.lines.rest =
+              ap (λ (x : Bytes). x ++ tail) (whole_lines ls) ∙ sym is ∙ d.lines.front in
           let fits : length all ≤ length ks = omega arith in
           let r = lines_front all ks tail d.lines.rest (version_is_text, each) d.lines.each e fits in
           let none = no_lf r.0 d.lines.rest tail text r.2 in
-          let same : length ks ≡ length all = ap length (r.1 ∙ ap (λ (z : List (List ℕ)). all ++ z) none ∙ append-nil all) in
+          let same : length ks ≡ length all =
+              ap length (r.1 ∙ ap (λ (z : List Bytes). all ++ z) none ∙ append-nil all) in
           absurd (omega arith)
       | inr few ↦
           let fits : length ks ≤ length ls + 1 = omega arith in
@@ -103,17 +112,18 @@ pub version_size : length version_line ≡ 22
 unfolding version_line
 version_size = refl
 
-pub take_past : (x n : List ℕ) (m : ℕ) → length x ≤ m → take m (x ++ n) ≡ x ++ take (m - length x) n
+pub take_past : (x n : Bytes) (m : ℕ) → length x ≤ m → take m (x ++ n) ≡ x ++ take (m - length x) n
 take_past [] n m h = let e : m - 0 ≡ m = omega arith in rw e refl
 take_past (c ∷ x) n zero h = absurd (omega arith)
 take_past (c ∷ x) n (suc m) h =
     let low : length x ≤ m = omega arith in
     let e : suc m - length (c ∷ x) ≡ m - length x = omega arith in
-    rw e (ap (λ (z : List ℕ). c ∷ z) (take_past x n m low))
+    rw e (ap (λ (z : Bytes). c ∷ z) (take_past x n m low))
 
-pub begins : (x : List ℕ) (max : ℕ) → 22 ≤ max → BeginsAsAge (take max (version_line ++ x))
+pub begins : (x : Bytes) (max : ℕ) → 22 ≤ max → BeginsAsAge (take max (version_line ++ x))
 unfolding version_line
 begins x max h =
     let low : length version_line ≤ max = h in
-    let front : take 22 (take max (version_line ++ x)) ≡ version_line = ap (λ (z : List ℕ). take 22 z) (take_past version_line x max low) in
+    let front : take 22 (take max (version_line ++ x)) ≡ version_line =
+        ap (λ (z : Bytes). take 22 z) (take_past version_line x max low) in
     rw front refl

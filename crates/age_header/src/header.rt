@@ -3,7 +3,7 @@
 ghost use Rattle.std.specs.Prelude.{◌≡◌, ◌≢◌, ◌-◌, ◌^◌, [], length, min, IfSome, IfNone};
 
 use crate::base64_no_pad;
-use crate::size::stanza_len;
+use crate::size::{MAC_LINE_SIZE, MAC_TEXT_SIZE, VERSION_SIZE, stanza_len};
 use crate::stanza::Stanza;
 use std::marker::Model;
 
@@ -64,10 +64,10 @@ impl Header {
     }
 
     /// The base64 of the MAC, 43 characters, as in the end line.
-    pub fn mac_signs(&self) -> [u8; 43]
+    pub fn mac_signs(&self) -> [u8; MAC_TEXT_SIZE]
         ensures { IsBase64 self.now.mac result }
     {
-        let mut characters = [0u8; 43];
+        let mut characters = [0u8; MAC_TEXT_SIZE];
         let Ok(_) = base64_no_pad::engine().encode_slice(&self.mac, &mut characters) else {
             unreachable!();
         };
@@ -79,7 +79,7 @@ impl Header {
         ensures { (h : Bytes) × Head self.now.stanzas self.now.mac h
             × (result ≡ min (length h) (2 ^ 64 - 1)) }
     {
-        let mut len = 70u64;
+        let mut len = (VERSION_SIZE + MAC_LINE_SIZE) as u64;
         for stanza in self.stanzas() {
             len = len.saturating_add(stanza_len(stanza));
         }

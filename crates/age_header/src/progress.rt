@@ -8,6 +8,7 @@ ghost use Rattle.age_header.specs.Text.{IsPlain};
 use crate::arguments::Arguments;
 use crate::base64_no_pad;
 use crate::header::Header;
+use crate::size::LINE_SIZE;
 use crate::stanza::Stanza;
 use base64::engine::general_purpose::GeneralPurpose;
 use std::alloc::{AllocError, Global};
@@ -54,8 +55,7 @@ impl Progress {
         ensures stanzas { self ≡ between result.stanzas }
         ensures mac { result.mac ≡ mac }
     {
-        let Progress { stanzas, open } = self;
-        let _ = open;
+        let Progress { stanzas, .. } = self;
         let Some(header) = Header::new(stanzas, mac) else {
             unreachable!();
         };
@@ -102,14 +102,14 @@ fn body_line(
     ensures none { IfOk result (λ o. IfNone o ((s : State)
         → Step (within stanzas.items stanza.args stanza.body) text.now s → ⊥)) }
 {
-    if text.len() > 64 {
+    if text.len() > LINE_SIZE {
         return Ok(None);
     }
     let Some(more) = base64_no_pad::decode(alloc, engine, text)? else {
         return Ok(None);
     };
     stanza.extend(more.as_slice())?;
-    if text.len() == 64 {
+    if text.len() == LINE_SIZE {
         return Ok(Some(Progress {
             stanzas,
             open: Some(stanza),

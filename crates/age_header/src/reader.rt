@@ -15,6 +15,7 @@ use crate::fault::HeaderFault;
 use crate::header::Header;
 use crate::lines::{LineEnd, read_line};
 use crate::progress::Progress;
+use crate::size::VERSION_SIZE;
 use base64::engine::general_purpose::GeneralPurpose;
 use std::alloc::{AllocError, Global};
 use std::convert::TryFrom;
@@ -87,7 +88,7 @@ fn read_header<S: Source>(alloc: Global, input: &mut S, max: usize) -> Result<He
 {
     read_version(alloc, input, max)?;
     let engine = base64_no_pad::engine();
-    let mut room = max - 22;
+    let mut room = max - VERSION_SIZE;
     let mut lines = 1u64;
     let mut progress = Progress::new(alloc);
     'lines: loop {
@@ -122,7 +123,7 @@ fn read_version<S: Source>(alloc: Global, input: &mut S, max: usize) -> Result<(
     ensures err { IfErr result
         (λ e. ReadsHeader (S.to_come input.old) (S.to_come input.new) max (Err e)) }
 {
-    let (first, end) = read_line(alloc, input, max.min(22))?;
+    let (first, end) = read_line(alloc, input, max.min(VERSION_SIZE))?;
     let Some(rest) = strip_prefix(VERSION, first.as_slice()) else {
         return Err(HeaderFault::NotAge);
     };

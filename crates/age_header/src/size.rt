@@ -1,4 +1,5 @@
-//! The length of a stanza's text. Sums saturate at the largest `u64`.
+//! The sizes of a header's parts, in bytes (C2SP `age.md`, "Header"), and the length of a stanza's
+//! text. Sums saturate at the largest `u64`.
 
 ghost use Rattle.std.specs.Prelude.{◌≡◌, ◌-◌, ◌^◌, length, map, min};
 ghost use Rattle.std.specs.String.{string_bytes};
@@ -7,6 +8,21 @@ ghost use Rattle.age_header.specs.Header.{argument_line};
 ghost use Rattle.age_header.specs.Text.{body_text, stanza_text};
 
 use crate::stanza::Stanza;
+
+/// The version line, with its LF.
+pub(crate) const VERSION_SIZE: usize = 22;
+
+/// A full line of a stanza's body, without its LF.
+pub(crate) const LINE_SIZE: usize = 64;
+
+/// The part of the body that a full line encodes.
+pub(crate) const BYTES_OF_A_LINE: usize = 48;
+
+/// The MAC in base64.
+pub(crate) const MAC_TEXT_SIZE: usize = 43;
+
+/// The last line: three hyphens, a space, the MAC in base64 and an LF.
+pub(crate) const MAC_LINE_SIZE: usize = MAC_TEXT_SIZE + 5;
 
 /// The length of a stanza.
 pub(crate) fn stanza_len(stanza: &Stanza) -> u64
@@ -19,6 +35,7 @@ pub(crate) fn stanza_len(stanza: &Stanza) -> u64
 fn args_len(args: &[String]) -> u64
     ensures { result ≡ min (length (argument_line (map string_bytes args.now))) (2 ^ 64 - 1) }
 {
+    // the arrow and the LF
     let mut len = 3u64;
     for arg in args {
         len = len.saturating_add(1).saturating_add(arg.len() as u64);
@@ -30,7 +47,7 @@ fn args_len(args: &[String]) -> u64
 fn body_len(len: usize) -> u64
     ensures { (b : Bytes) → length b ≡ len → result ≡ min (length (body_text b)) (2 ^ 64 - 1) }
 {
-    let full = (len / 48) as u64;
-    let last = ((len % 48 * 4 + 2) / 3 + 1) as u64;
-    full.saturating_mul(65).saturating_add(last)
+    let full = (len / BYTES_OF_A_LINE) as u64;
+    let last = ((len % BYTES_OF_A_LINE * 4 + 2) / 3 + 1) as u64;
+    full.saturating_mul(LINE_SIZE as u64 + 1).saturating_add(last)
 }

@@ -11,6 +11,7 @@ ghost use Rattle.age_header.specs.Text.{IsPlain, body_text, stanza_text, signed,
 use crate::base64_no_pad;
 use crate::device::{DeviceFault, Sink, write_all};
 use crate::header::Header;
+use crate::size::{BYTES_OF_A_LINE, LINE_SIZE};
 use crate::stanza::Stanza;
 use base64::engine::general_purpose::GeneralPurpose;
 
@@ -79,8 +80,8 @@ fn write_body<W: Sink>(body: &[u8], engine: &GeneralPurpose, out: &mut W) -> Res
     ensures count { Counts (W.failed out.old) (W.failed out.new) result }
 {
     let mut rest = body;
-    while rest.len() >= 48 {
-        let (piece, after) = rest.split_at(48);
+    while rest.len() >= BYTES_OF_A_LINE {
+        let (piece, after) = rest.split_at(BYTES_OF_A_LINE);
         write_base64(piece, engine, out)?;
         write_all(out, b"\n")?;
         rest = after;
@@ -89,7 +90,7 @@ fn write_body<W: Sink>(body: &[u8], engine: &GeneralPurpose, out: &mut W) -> Res
     write_all(out, b"\n")
 }
 
-/// Writes the base64 of at most 48 bytes.
+/// Writes the base64 of at most `BYTES_OF_A_LINE` bytes.
 fn write_base64<W: Sink>(
     bytes: &[u8],
     engine: &GeneralPurpose,
@@ -100,7 +101,7 @@ fn write_base64<W: Sink>(
     ensures text { Writes (W.taken out.old) (W.taken out.new) result (base64_of bytes.now) }
     ensures count { Counts (W.failed out.old) (W.failed out.new) result }
 {
-    let mut characters = [0u8; 64];
+    let mut characters = [0u8; LINE_SIZE];
     let Ok(len) = engine.encode_slice(bytes, &mut characters) else {
         unreachable!();
     };

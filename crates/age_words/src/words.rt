@@ -1,6 +1,6 @@
 //! Parsing the arguments of the command line to a job.
 ghost use Rattle.std.specs.Prelude.{◌≡◌, IfOk};
-ghost use Rattle.age_words.specs.Job.{IsBetween, IsInRange, NamesInput, least_header, most_header, most_work};
+ghost use Rattle.age_words.specs.Job.{IsBetween, IsInRange, NamesInput};
 
 use crate::job::{Command, Job, WordsFault};
 use crate::options::{
@@ -180,7 +180,7 @@ fn seed_of(alloc: Global, matches: &ArgMatches<'_>) -> Result<String, WordsFault
 
 /// The maximum size of a header in bytes.
 fn max_header_of(matches: &ArgMatches<'_>) -> Result<usize, WordsFault>
-    ensures { IfOk result (IsBetween least_header most_header) }
+    ensures { IfOk result (IsBetween LEAST_HEADER MOST_HEADER) }
 {
     let max_header = number_in(matches, MAX_HEADER, LEAST_HEADER, MOST_HEADER)?;
     Ok(max_header as usize)
@@ -188,7 +188,7 @@ fn max_header_of(matches: &ArgMatches<'_>) -> Result<usize, WordsFault>
 
 /// The work factor that this option names.
 fn work_of(matches: &ArgMatches<'_>, id: &str) -> Result<u8, WordsFault>
-    ensures { IfOk result (IsBetween 1 most_work) }
+    ensures { IfOk result (IsBetween LEAST_WORK MOST_WORK) }
 {
     let work = number_in(matches, id, LEAST_WORK, MOST_WORK)?;
     Ok(work as u8)

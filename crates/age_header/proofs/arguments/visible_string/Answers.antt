@@ -1,11 +1,12 @@
-use Rattle.std.proofs.Common.{List, ℕ, sym, subst}
+use Rattle.std.proofs.Common.{sym, subst}
 use Rattle.std.proofs.lemmas.Str.{IsUtf8-from_ascii}
 use Rattle.std.proofs.lemmas.Bool.{false≢true}
 use Rattle.std.specs.Str.{IsUtf8}
+use Rattle.age_kdf.specs.Bytes.{Bytes}
 use Rattle.age_header.proofs.ArgumentLemmas.{visible_ascii}
 use Rattle.age_header.proofs.arguments.visible_string.Goals as goal
 
 pub unreachable-requires : goal.unreachable-requires
 unreachable-requires c =
     let text = IsUtf8-from_ascii c.args.text.now (visible_ascii c.args.text.now c.requires) in
-    false≢true (c.in-Err.ensures.succeeds (subst (λ (x : List ℕ). IsUtf8 x) (sym c.in_ok-from_slice.ensures.items) text))
+    false≢true (c.in-Err.ensures.succeeds (subst (λ (x : Bytes). IsUtf8 x) (sym c.in_ok-from_slice.ensures.items) text))

@@ -1,4 +1,5 @@
-use Rattle.std.proofs.Common.{◌∙◌, sym, ℕ, List, subst}
+use Rattle.std.proofs.Common.{◌∙◌, sym, subst}
+use Rattle.age_kdf.specs.Bytes.{Bytes}
 use Rattle.age_header.specs.Base64.{IsBase64}
 use Rattle.age_header.proofs.Base64Lemmas.{IsBase64-only, IsBase64-encode, IsBase64-bytes, encode_of-unpadded}
 use Rattle.age_header.proofs.Decoding.{b64_decoded, none_decoded}
@@ -8,7 +9,8 @@ pub returns-in-Ok-clause-some : goal.returns-in-Ok-clause-some
 returns-in-Ok-clause-some c =
     let is = c.in-Ok.ensures.exact c.requires.strict in
     let plain = encode_of-unpadded c.args.engine.now c.in-Ok.bytes.items c.requires.unpadded c.requires.characters in
-    subst (λ (s : List ℕ). IsBase64 c.in-Ok.bytes.items s) (sym (is ∙ plain)) (IsBase64-encode c.in-Ok.bytes.items c.in-Ok.ensures.bytes)
+    subst (λ (s : Bytes). IsBase64 c.in-Ok.bytes.items s) (sym (is ∙ plain))
+        (IsBase64-encode c.in-Ok.bytes.items c.in-Ok.ensures.bytes)
 
 pub returns-in-Err-DecodeError-clause-none : goal.returns-in-Err-DecodeError-clause-none
 returns-in-Err-DecodeError-clause-none c b h =
@@ -22,4 +24,5 @@ pub returns-in-Ok-clause-value : goal.returns-in-Ok-clause-value
 returns-in-Ok-clause-value c = sym (b64_decoded c.args.text.now c.in-Ok.bytes.items (returns-in-Ok-clause-some c))
 
 pub returns-in-Err-DecodeError-clause-value : goal.returns-in-Err-DecodeError-clause-value
-returns-in-Err-DecodeError-clause-value c = sym (none_decoded c.args.text.now (returns-in-Err-DecodeError-clause-none c))
+returns-in-Err-DecodeError-clause-value c =
+    sym (none_decoded c.args.text.now (returns-in-Err-DecodeError-clause-none c))

@@ -5,6 +5,7 @@ use Rattle.age_header.proofs.filling.fill_from.Goals as goal
 pub loop-at-preserved : goal.loop-at-preserved
 loop-at-preserved g c = record {
   size = c.read_after.ensures.len ∙ c.loop-at.invariant.size;
-  filled = filled-more c.args.start c.loop-at.at c.in-Ok.n c.args.buf.now c.loop-at.buf c.read_after.new.buf _ _ _ c.loop-at.invariant.size c.loop-at.invariant.filled c.in-Ok.ensures.bytes;
+  filled = filled-more c.args.start c.loop-at.at c.in-Ok.n c.args.buf.now c.loop-at.buf c.read_after.new.buf _ _ _
+      c.loop-at.invariant.size c.loop-at.invariant.filled c.in-Ok.ensures.bytes;
   count = c.in-Ok.ensures.count ∙ c.loop-at.invariant.count;
 }

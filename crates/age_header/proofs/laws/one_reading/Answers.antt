@@ -1,5 +1,6 @@
-use Rattle.std.proofs.Common.{[], sym, subst, List, ℕ}
+use Rattle.std.proofs.Common.{[], sym, subst}
 use Rattle.std.proofs.lemmas.List.{append-nil}
+use Rattle.age_kdf.specs.Bytes.{Bytes}
 use Rattle.age_header.specs.Header.{Head}
 use Rattle.age_header.proofs.OneReading.{reading}
 use Rattle.age_header.proofs.OneText.{one_text}
@@ -7,7 +8,7 @@ use Rattle.age_header.proofs.laws.one_reading.Goals as goal
 
 pub returns-clause-reading : goal.returns-clause-reading
 returns-clause-reading c ss ts m n h a b =
-    let r = reading ss ts m n h [] a (subst (λ (z : List ℕ). Head ts n z) (sym (append-nil h)) b) in
+    let r = reading ss ts m n h [] a (subst (λ (z : Bytes). Head ts n z) (sym (append-nil h)) b) in
     (r.1, r.2)
 
 pub returns-clause-text : goal.returns-clause-text

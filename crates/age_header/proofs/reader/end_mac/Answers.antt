@@ -1,5 +1,6 @@
-use Rattle.std.proofs.Common.{◌≡◌, ◌∙◌, List, ℕ, length, sym, ap, subst, codes}
+use Rattle.std.proofs.Common.{◌≡◌, ◌∙◌, length, sym, ap, subst, codes}
 use Rattle.std.proofs.lemmas.List.{append_cancel_left}
+use Rattle.age_kdf.specs.Bytes.{Bytes}
 use Rattle.age_header.specs.Base64.{IsBase64}
 use Rattle.age_header.proofs.OneStep.{IsBase64-injective}
 use Rattle.age_header.proofs.reader.end_mac.Goals as goal
@@ -7,12 +8,16 @@ use Rattle.age_header.proofs.reader.end_mac.Goals as goal
 pub returns-clause-none : goal.returns-clause-none
 returns-clause-none c mac characters n e h =
     let found = rw c.in-Some-2.is at c.in_ok-mac.ensures.some in
-    let same : characters ≡ c.in-Some.characters.now = append_cancel_left (codes "--- ") characters c.in-Some.characters.now (sym e ∙ c.in-Some.ensures) in
-    let bytes : mac ≡ c.in-Some-2.mac.items = IsBase64-injective mac c.in-Some-2.mac.items c.in-Some.characters.now (subst (λ (x : List ℕ). IsBase64 mac x) same h) found in
+    let same : characters ≡ c.in-Some.characters.now =
+        append_cancel_left (codes "--- ") characters c.in-Some.characters.now (sym e ∙ c.in-Some.ensures) in
+    let bytes : mac ≡ c.in-Some-2.mac.items =
+        IsBase64-injective mac c.in-Some-2.mac.items c.in-Some.characters.now
+        (subst (λ (x : Bytes). IsBase64 mac x) same h) found in
     c.in-Err.ensures.1 (ap length c.as_slice.ensures.value ∙ sym (ap length bytes) ∙ n)
 
 pub returns-in_default-2-clause-none : goal.returns-in_default-2-clause-none
 returns-in_default-2-clause-none c mac characters n e h =
     let none = rw c.in_default-2.is at c.in_ok-mac.ensures.none in
-    let same : characters ≡ c.in-Some.characters.now = append_cancel_left (codes "--- ") characters c.in-Some.characters.now (sym e ∙ c.in-Some.ensures) in
-    none mac (subst (λ (x : List ℕ). IsBase64 mac x) same h)
+    let same : characters ≡ c.in-Some.characters.now =
+        append_cancel_left (codes "--- ") characters c.in-Some.characters.now (sym e ∙ c.in-Some.ensures) in
+    none mac (subst (λ (x : Bytes). IsBase64 mac x) same h)

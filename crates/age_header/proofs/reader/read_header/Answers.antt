@@ -1,6 +1,7 @@
-use Rattle.std.proofs.Common.{◌≡◌, ◌∙◌, List, ℕ, length, sym, ap, subst, arith}
+use Rattle.std.proofs.Common.{◌≡◌, ◌∙◌, length, sym, ap, subst, arith}
 use Rattle.std.proofs.lemmas.Bool.{iff_false}
 use Rattle.std.proofs.lemmas.Grind.{common_steps}
+use Rattle.age_kdf.specs.Bytes.{Bytes}
 use Rattle.age_header.specs.Base64.{IsBase64}
 use Rattle.age_header.specs.Steps.{Step}
 use Rattle.age_header.proofs.LaterLines.{path_truncated, path_too_large, path_header, path_bad, path_more, path_lines}
@@ -9,17 +10,19 @@ use Rattle.age_header.proofs.reader.read_header.Goals.{then-is_whole+in-Ok-None,
 
 pub returns-in-Input-clause-verdict : goal.returns-in-Input-clause-verdict
 returns-in-Input-clause-verdict g c =
-    let text : List ℕ = c.in_ok-text.text.items in
+    let text : Bytes = c.in_ok-text.text.items in
     let bytes = rw c.in-Input.is at c.in_ok-text.ensures.bytes in
     let end = rw c.in-Input.is at c.in_ok-text.ensures.end in
-    path_truncated _ _ _ c.args.max c.lines.room c.lines.lines c.lines.progress text c.lines.invariant.path bytes c.in_ok-text.ensures.text end
+    path_truncated _ _ _ c.args.max c.lines.room c.lines.lines c.lines.progress text c.lines.invariant.path bytes
+        c.in_ok-text.ensures.text end
 
 pub returns-in-Room-clause-verdict : goal.returns-in-Room-clause-verdict
 returns-in-Room-clause-verdict g c =
-    let text : List ℕ = c.in_ok-text.text.items in
+    let text : Bytes = c.in_ok-text.text.items in
     let bytes = rw c.in-Room.is at c.in_ok-text.ensures.bytes in
     let end = rw c.in-Room.is at c.in_ok-text.ensures.end in
-    path_too_large _ _ _ c.args.max c.lines.room c.lines.lines c.lines.progress text c.lines.invariant.path bytes c.in_ok-text.ensures.text end
+    path_too_large _ _ _ c.args.max c.lines.room c.lines.lines c.lines.progress text c.lines.invariant.path bytes
+        c.in_ok-text.ensures.text end
 
 pub overflow_add-lines : goal.overflow_add-lines
 overflow_add-lines g c =
@@ -28,19 +31,21 @@ overflow_add-lines g c =
 
 pub returns-in-Ok-Some-clause-verdict : goal.returns-in-Ok-Some-clause-verdict
 returns-in-Ok-Some-clause-verdict g c =
-    let text : List ℕ = c.in_ok-text.text.items in
+    let text : Bytes = c.in_ok-text.text.items in
     let bytes = rw c.in-Lf.is at c.in_ok-text.ensures.bytes in
     let low = rw c.in-Lf.is at c.in_ok-text.ensures.end in
     let end = rw c.in-Ok-Some.field-0-is at c.in-Ok-Some.ensures.some in
     let whole = c.is_whole.ensures.0 c.if-is_whole.true in
     let same : c.finish.result.stanzas ≡ whole.0 = cc (c.finish.ensures.stanzas, whole.2) in
-    path_header _ _ _ c.args.max c.lines.room c.lines.lines c.lines.progress text c.finish.result.stanzas c.finish.result.mac end.0
+    path_header _ _ _ c.args.max c.lines.room c.lines.lines c.lines.progress text c.finish.result.stanzas
+        c.finish.result.mac end.0
     c.lines.invariant.path bytes c.in_ok-text.ensures.text low c.finish.ensures.stanzas (λ e. whole.1 (sym same ∙ e))
-    (sym c.as_slice.ensures.value ∙ end.2) (subst (λ (x : List ℕ). IsBase64 x end.0) (sym c.finish.ensures.mac) end.3) (ap length c.finish.ensures.mac ∙ end.1)
+    (sym c.as_slice.ensures.value ∙ end.2) (subst (λ (x : Bytes). IsBase64 x end.0) (sym c.finish.ensures.mac) end.3)
+        (ap length c.finish.ensures.mac ∙ end.1)
 
 pub returns-in-Ok-None-step-clause-verdict : goal.returns-in-Ok-None-step-clause-verdict
 returns-in-Ok-None-step-clause-verdict g c =
-    let text : List ℕ = c.in_ok-text.text.items in
+    let text : Bytes = c.in_ok-text.text.items in
     let bytes = rw c.in-Lf.is at c.in_ok-text.ensures.bytes in
     let low = rw c.in-Lf.is at c.in_ok-text.ensures.end in
     let none = rw c.in-Ok-None-step.field-0-is at c.in-Ok-None-step.ensures.none in
@@ -52,15 +57,16 @@ returns-in-Ok-None-step-clause-verdict g c =
           end mac characters n (w.as_slice.ensures.value ∙ is) h
       | else-is_whole w ↦ iff_false c.is_whole.ensures w.if-is_whole.false (ss, some, at)
     ])
-    (λ t step. none t (subst (λ (x : List ℕ). Step c.lines.progress x t) (sym c.as_slice-in-lines.ensures.value) step))
+    (λ t step. none t (subst (λ (x : Bytes). Step c.lines.progress x t) (sym c.as_slice-in-lines.ensures.value) step))
 
 pub lines-preserved : goal.lines-preserved
 lines-preserved g c =
-    let text : List ℕ = c.in_ok-text.text.items in
+    let text : Bytes = c.in_ok-text.text.items in
     let bytes = rw c.in-Lf.is at c.in_ok-text.ensures.bytes in
     let low = rw c.in-Lf.is at c.in_ok-text.ensures.end in
     let some = rw c.in-Ok-Some-step.field-0-is at c.in-Ok-Some-step.ensures.some in
-    let step = subst (λ (x : List ℕ). Step c.lines.progress x c.in-Ok-Some-step.next) c.as_slice-in-lines.ensures.value some in
+    let step = subst (λ (x : Bytes). Step c.lines.progress x c.in-Ok-Some-step.next) c.as_slice-in-lines.ensures.value
+        some in
     let size : length text ≡ c.len.result = grind (arith, common_steps) in
     let more = path_more _ _ _ c.args.max c.lines.room c.lines.lines c.lines.progress c.in-Ok-Some-step.next text
     c.lines.invariant.path bytes c.in_ok-text.ensures.text low step in

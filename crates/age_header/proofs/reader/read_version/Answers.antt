@@ -1,6 +1,7 @@
-use Rattle.std.proofs.Common.{◌≡◌, ◌∙◌, List, ℕ, ◌++◌, length, sym, ap, arith}
+use Rattle.std.proofs.Common.{◌≡◌, ◌∙◌, ◌++◌, length, sym, ap, arith}
 use Rattle.std.proofs.lemmas.Grind.{common_steps}
 use Rattle.std.proofs.lemmas.List.{nil_from_length}
+use Rattle.age_kdf.specs.Bytes.{Bytes}
 use Rattle.age_header.proofs.PathLemmas.{version_text}
 use Rattle.age_header.proofs.FirstLine.{no_front, short_line, short_input, short_room, version_taken}
 use Rattle.age_header.proofs.reader.read_version.Goals as goal
@@ -8,15 +9,15 @@ use Rattle.age_header.proofs.reader.read_version.Goals as goal
 pub returns-in_default-clause-err : goal.returns-in_default-clause-err
 unfolding version_text
 returns-in_default-clause-err g c =
-    let first : List ℕ = c.in_ok-first.first.items in
+    let first : Bytes = c.in_ok-first.first.items in
     let end = rw c.min.ensures at c.in_ok-first.ensures.end in
     no_front _ _ first c.in_ok-first.end c.args.max c.in_ok-first.ensures.bytes c.in_ok-first.ensures.text end
-    (λ x e. c.in_default.ensures x (e ∙ ap (λ (z : List ℕ). z ++ x) (sym c.as_slice.ensures.value)))
+    (λ x e. c.in_default.ensures x (e ∙ ap (λ (z : Bytes). z ++ x) (sym c.as_slice.ensures.value)))
 
 pub returns-in-Input-clause-err : goal.returns-in-Input-clause-err
 unfolding version_text
 returns-in-Input-clause-err g c =
-    let first : List ℕ = c.in_ok-first.first.items in
+    let first : Bytes = c.in_ok-first.first.items in
     let bytes = rw c.in-Input.is at c.in_ok-first.ensures.bytes in
     let end = rw (c.in-Input.is, c.min.ensures) at c.in_ok-first.ensures.end in
     let is = rw c.as_slice.ensures.value at c.in-Some.ensures in
@@ -25,7 +26,7 @@ returns-in-Input-clause-err g c =
 pub returns-in-Room-clause-err : goal.returns-in-Room-clause-err
 unfolding version_text
 returns-in-Room-clause-err g c =
-    let first : List ℕ = c.in_ok-first.first.items in
+    let first : Bytes = c.in_ok-first.first.items in
     let bytes = rw c.in-Room.is at c.in_ok-first.ensures.bytes in
     let end = rw (c.in-Room.is, c.min.ensures) at c.in_ok-first.ensures.end in
     let is = rw c.as_slice.ensures.value at c.in-Some.ensures in
@@ -34,17 +35,19 @@ returns-in-Room-clause-err g c =
 pub returns-then-not-is_empty-clause-err : goal.returns-then-not-is_empty-clause-err
 unfolding version_text
 returns-then-not-is_empty-clause-err g c =
-    let first : List ℕ = c.in_ok-first.first.items in
+    let first : Bytes = c.in_ok-first.first.items in
     let bytes = rw c.in-Lf.is at c.in_ok-first.ensures.bytes in
     let end = rw (c.in-Lf.is, c.min.ensures) at c.in_ok-first.ensures.end in
     let is = rw c.as_slice.ensures.value at c.in-Some.ensures in
-    short_line _ _ first c.in-Some.rest.now c.args.max bytes c.in_ok-first.ensures.text end is (λ e. let n : length c.in-Some.rest.now ≡ 0 = ap length e in grind (arith, common_steps))
+    short_line _ _ first c.in-Some.rest.now c.args.max bytes c.in_ok-first.ensures.text end is
+        (λ e. let n : length c.in-Some.rest.now ≡ 0 = ap length e in grind (arith, common_steps))
 
 pub returns-clause-ok : goal.returns-clause-ok
 unfolding version_text
 returns-clause-ok g c =
-    let first : List ℕ = c.in_ok-first.first.items in
+    let first : Bytes = c.in_ok-first.first.items in
     let bytes = rw c.in-Lf.is at c.in_ok-first.ensures.bytes in
     let end = rw (c.in-Lf.is, c.min.ensures) at c.in_ok-first.ensures.end in
     let is = rw c.as_slice.ensures.value at c.in-Some.ensures in
-    version_taken _ _ first c.in-Some.rest.now c.args.max bytes end is (nil_from_length c.in-Some.rest.now (grind (arith, common_steps)))
+    version_taken _ _ first c.in-Some.rest.now c.args.max bytes end is
+        (nil_from_length c.in-Some.rest.now (grind (arith, common_steps)))

@@ -1,6 +1,7 @@
-use Rattle.std.proofs.Common.{◌∙◌, ◌+◌, List, ℕ, [], ◌∷◌, ◌++◌, map, drop, refl, arith, codes}
+use Rattle.std.proofs.Common.{◌∙◌, ◌+◌, [], ◌∷◌, ◌++◌, map, drop, refl, arith, codes}
 use Rattle.std.proofs.lemmas.List.{drop_all}
 use Rattle.std.specs.String.{string_bytes}
+use Rattle.age_kdf.specs.Bytes.{Bytes}
 use Rattle.age_header.specs.Header.{argument_line}
 use Rattle.age_header.proofs.ArgumentLemmas.{spaced}
 use Rattle.age_header.proofs.TextLemmas.{args_step}
@@ -9,31 +10,37 @@ use Rattle.age_header.proofs.writer.write_args.Goals as goal
 
 pub returns-in_err-write_all-clause-text : goal.returns-in_err-write_all-clause-text
 returns-in_err-write_all-clause-text g c =
-    let text : List ℕ = argument_line (map string_bytes c.args.args.now) in
+    let text : Bytes = argument_line (map string_bytes c.args.args.now) in
     part_at_exit _ _ _ _ _ c.from_residual.ensures.1
-    (done_part _ _ _ text text (codes "->") (spaced (map string_bytes c.args.args.now) ++ 10 ∷ []) (done_start _ text) refl c.in_err-write_all.ensures.text)
+    (done_part _ _ _ text text (codes "->") (spaced (map string_bytes c.args.args.now) ++ 10 ∷ []) (done_start _ text)
+        refl c.in_err-write_all.ensures.text)
 
 pub returns-in_err-write_all-2-clause-text : goal.returns-in_err-write_all-2-clause-text
 returns-in_err-write_all-2-clause-text g c =
-    let step = args_step string_bytes c.args.args.now c.loop-arg.arg-index c.arg-item.result (omega arith) c.arg-item.is in
+    let step = args_step string_bytes c.args.args.now c.loop-arg.arg-index c.arg-item.result (omega arith)
+        c.arg-item.is in
     part_at_exit _ _ _ _ _ c.from_residual-in_err-write_all-2.ensures.1
     (done_part _ _ _ _ _ (32 ∷ []) _ c.loop-arg.invariant.written step c.in_err-write_all-2.ensures.text)
 
 pub returns-in_err-write_all-3-clause-text : goal.returns-in_err-write_all-3-clause-text
 returns-in_err-write_all-3-clause-text g c =
-    let step = args_step string_bytes c.args.args.now c.loop-arg.arg-index c.arg-item.result (omega arith) c.arg-item.is in
+    let step = args_step string_bytes c.args.args.now c.loop-arg.arg-index c.arg-item.result (omega arith)
+        c.arg-item.is in
     let one = done_more _ _ _ _ _ _ _ c.loop-arg.invariant.written step c.in_ok-write_all-2.ensures.text in
     let failed = rw c.as_bytes.ensures.value at c.in_err-write_all-3.ensures.text in
     part_at_exit _ _ _ _ _ c.from_residual-in_err-write_all-3.ensures.1
-    (done_part _ _ _ _ _ (string_bytes c.arg-item.result) (spaced (map string_bytes (drop (c.loop-arg.arg-index + 1) c.args.args.now)) ++ 10 ∷ []) one refl failed)
+    (done_part _ _ _ _ _ (string_bytes c.arg-item.result)
+        (spaced (map string_bytes (drop (c.loop-arg.arg-index + 1) c.args.args.now)) ++ 10 ∷ []) one refl failed)
 
 pub loop-arg-preserved : goal.loop-arg-preserved
 loop-arg-preserved g c =
-    let step = args_step string_bytes c.args.args.now c.loop-arg.arg-index c.arg-item.result (omega arith) c.arg-item.is in
+    let step = args_step string_bytes c.args.args.now c.loop-arg.arg-index c.arg-item.result (omega arith)
+        c.arg-item.is in
     let one = done_more _ _ _ _ _ _ _ c.loop-arg.invariant.written step c.in_ok-write_all-2.ensures.text in
     let wrote = rw c.as_bytes.ensures.value at c.in_ok-write_all-3.ensures.text in
     record {
-      written = done_more _ _ _ _ _ (string_bytes c.arg-item.result) (spaced (map string_bytes (drop (c.loop-arg.arg-index + 1) c.args.args.now)) ++ 10 ∷ []) one refl wrote;
+      written = done_more _ _ _ _ _ (string_bytes c.arg-item.result)
+          (spaced (map string_bytes (drop (c.loop-arg.arg-index + 1) c.args.args.now)) ++ 10 ∷ []) one refl wrote;
       count = c.in_ok-write_all-3.ensures.count ∙ c.in_ok-write_all-2.ensures.count ∙ c.loop-arg.invariant.count;
     }
 

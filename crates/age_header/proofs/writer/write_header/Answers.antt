@@ -1,4 +1,5 @@
-use Rattle.std.proofs.Common.{List, ℕ, ◌++◌, refl}
+use Rattle.std.proofs.Common.{◌++◌, refl}
+use Rattle.age_kdf.specs.Bytes.{Bytes}
 use Rattle.age_header.specs.Header.{Head}
 use Rattle.age_header.specs.Text.{signed, mac_end}
 use Rattle.age_header.proofs.TextLemmas.{header_text_is}
@@ -8,17 +9,18 @@ use Rattle.age_header.proofs.writer.write_header.Goals as goal
 pub returns-in_err-write_signed-clause-text : goal.returns-in_err-write_signed-clause-text
 returns-in_err-write_signed-clause-text g c =
     let ss = c.args.header.now.stanzas in
-    let mac : List ℕ = c.args.header.now.mac in
-    let text : List ℕ = signed ss ++ mac_end mac in
+    let mac : Bytes = c.args.header.now.mac in
+    let text : Bytes = signed ss ++ mac_end mac in
     let head : Head ss mac text = header_text_is ss mac c.stanzas.ensures.whole in
     let failed = rw c.stanzas.ensures.value at c.in_err-write_signed.ensures.text in
-    (text, head, part_at_exit _ _ _ _ _ c.from_residual.ensures.1 (done_part _ _ _ text text (signed ss) (mac_end mac) (done_start _ text) refl failed))
+    (text, head, part_at_exit _ _ _ _ _ c.from_residual.ensures.1
+        (done_part _ _ _ text text (signed ss) (mac_end mac) (done_start _ text) refl failed))
 
 pub returns-clause-text : goal.returns-clause-text
 returns-clause-text g c =
     let ss = c.args.header.now.stanzas in
-    let mac : List ℕ = c.args.header.now.mac in
-    let text : List ℕ = signed ss ++ mac_end mac in
+    let mac : Bytes = c.args.header.now.mac in
+    let text : Bytes = signed ss ++ mac_end mac in
     let head : Head ss mac text = header_text_is ss mac c.stanzas.ensures.whole in
     let front = rw c.stanzas.ensures.value at c.in_ok-write_signed.ensures.text in
     let one = done_more _ _ _ text text (signed ss) (mac_end mac) (done_start _ text) refl front in

@@ -1,5 +1,6 @@
-use Rattle.std.proofs.Common.{◌∙◌, List, ℕ, ◌++◌, flat_map, refl, codes, append_assoc}
+use Rattle.std.proofs.Common.{◌∙◌, ◌++◌, flat_map, refl, codes, append_assoc}
 use Rattle.std.proofs.lemmas.List.{drop_all}
+use Rattle.age_kdf.specs.Bytes.{Bytes}
 use Rattle.age_header.specs.Header.{argument_line, version_line}
 use Rattle.age_header.specs.Text.{body_text, stanza_text, signed}
 use Rattle.age_header.proofs.TextLemmas.{stanza_step}
@@ -10,17 +11,19 @@ pub returns-in_err-write_all-clause-text : goal.returns-in_err-write_all-clause-
 unfolding signed version_line
 returns-in_err-write_all-clause-text g c =
     let ss = c.args.stanzas.now in
-    let rest : List ℕ = flat_map stanza_text ss ++ codes "---" in
+    let rest : Bytes = flat_map stanza_text ss ++ codes "---" in
     part_at_exit _ _ _ _ _ c.from_residual.ensures.1
-    (done_part _ _ _ (signed ss) (signed ss) version_line rest (done_start _ (signed ss)) (append_assoc version_line (flat_map stanza_text ss) (codes "---")) c.in_err-write_all.ensures.text)
+    (done_part _ _ _ (signed ss) (signed ss) version_line rest (done_start _ (signed ss))
+        (append_assoc version_line (flat_map stanza_text ss) (codes "---")) c.in_err-write_all.ensures.text)
 
 pub loop-stanza-init : goal.loop-stanza-init
 unfolding signed version_line
 loop-stanza-init g c =
     let ss = c.args.stanzas.now in
-    let rest : List ℕ = flat_map stanza_text ss ++ codes "---" in
+    let rest : Bytes = flat_map stanza_text ss ++ codes "---" in
     record {
-      written = done_more _ _ _ (signed ss) (signed ss) version_line rest (done_start _ (signed ss)) (append_assoc version_line (flat_map stanza_text ss) (codes "---")) c.in_ok-write_all.ensures.text;
+      written = done_more _ _ _ (signed ss) (signed ss) version_line rest (done_start _ (signed ss))
+          (append_assoc version_line (flat_map stanza_text ss) (codes "---")) c.in_ok-write_all.ensures.text;
       count = c.in_ok-write_all.ensures.count;
     }
 

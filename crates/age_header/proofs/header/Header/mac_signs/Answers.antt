@@ -1,6 +1,7 @@
-use Rattle.std.proofs.Common.{◌≡◌, ◌∙◌, ◌++◌, List, ℕ, [], length, drop, sym, ap, subst, arith, rules}
+use Rattle.std.proofs.Common.{◌≡◌, ◌∙◌, ◌++◌, [], length, drop, sym, ap, subst, arith, rules}
 use Rattle.std.proofs.lemmas.List.{append-nil, drop_all}
 use Rattle.base64.specs.GeneralPurpose.{encoded_size_of, encode_of}
+use Rattle.age_kdf.specs.Bytes.{Bytes}
 use Rattle.age_header.specs.Base64.{IsBase64}
 use Rattle.age_header.specs.Header.{HeaderParts}
 use Rattle.age_header.proofs.Base64Lemmas.{IsBase64-encode, encode_of-unpadded}
@@ -10,12 +11,14 @@ use Rattle.age_header.proofs.header.Header.mac_signs.Goals as goal
 pub returns : goal.returns
 returns c =
     let e = c.engine.result in
-    let m : List ℕ = c.self.inside.mac in
+    let m : Bytes = c.self.inside.mac in
     let size = encoded_size_plain e (length m) c.engine.ensures in
     let plain = encode_of-unpadded e m c.engine.ensures.unpadded c.engine.ensures.characters in
     let long : length m ≡ 32 = search rules in
     let rest : drop (encoded_size_of e (length m)) _ ≡ [] = drop_all (encoded_size_of e (length m)) _ (omega arith) in
-    let is = c.in-Ok.ensures.written ∙ ap (λ (z : List ℕ). encode_of e m ++ z) rest ∙ append-nil (encode_of e m) ∙ plain in
-    let characters : List ℕ = c.encode_slice.new.output in
-    let here : IsBase64 m characters = subst (λ (z : List ℕ). IsBase64 m z) (sym is) (IsBase64-encode m (search rules)) in
+    let is = c.in-Ok.ensures.written ∙ ap (λ (z : Bytes). encode_of e m ++ z) rest ∙ append-nil (encode_of e m)
+        ∙ plain in
+    let characters : Bytes = c.encode_slice.new.output in
+    let here : IsBase64 m characters = subst (λ (z : Bytes). IsBase64 m z) (sym is)
+        (IsBase64-encode m (search rules)) in
     subst (λ (z : HeaderParts). IsBase64 z.mac characters) c.self.view_is here
