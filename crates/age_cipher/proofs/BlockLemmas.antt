@@ -7,19 +7,21 @@ use Rattle.std.proofs.lemmas.List.FromFn.{fill_by_all}
 use Rattle.std.proofs.lemmas.Grind.{flat_map-append}
 use Rattle.std.proofs.lemmas.Bool.{cases_lt}
 use Rattle.std.proofs.lemmas.Simd.{length-zip2, length-chunk, get_or-zip2, get_or-chunk, get_or-put_chunk_below, get_or-put_chunk_at, get_or-put_chunk_above}
+use Rattle.age_cipher.specs.Bytes.{Bytes, Words}
 use Rattle.age_cipher.specs.Numbers.{le_bytes}
 use Rattle.age_cipher.specs.ChaCha20.{start, mixed, block, stream_byte}
 use Rattle.age_cipher.specs.Lanes.{lane, bytes, IsXoredAt}
 use Rattle.age_cipher.proofs.LaneLemmas.{lane-word}
 
 -- lane j of sixteen vectors, written out
-pub lane_written : (state : List (List ℕ)) (j : ℕ) → length state ≡ 16
+pub lane_written : (state : List Words) (j : ℕ) → length state ≡ 16
     → map (λ k. slice_index (slice_index_or state k []) j) (range_with_len 0 16) ≡ lane j state
 lane_written state j long =
-    sym (fill_by_all (λ k. slice_index (slice_index_or state k []) j) (lane j state) 16 0 (length-map state (λ v. slice_index v j) ∙ long) (λ k h. lane-word state j k (omega arith)))
+    sym (fill_by_all (λ k. slice_index (slice_index_or state k []) j) (lane j state) 16 0
+        (length-map state (λ v. slice_index v j) ∙ long) (λ k h. lane-word state j k (omega arith)))
 
 -- the bytes of a vector of words
-pub digits-bytes : (words : List ℕ) → Each1 (λ w. w < 2 ^ 32) words
+pub digits-bytes : (words : Words) → Each1 (λ w. w < 2 ^ 32) words
     → digits_l 256 (4 * length words) (number_l (2 ^ 32) words) ≡ bytes words
 digits-bytes [] below = refl
 digits-bytes (w ∷ words) below =
@@ -30,35 +32,41 @@ digits-bytes (w ∷ words) below =
     let b2 : (w + 2 ^ 32 * rest) / 256 / 256 % 256 ≡ w / 256 ^ 2 % 256 = omega arith in
     let b3 : (w + 2 ^ 32 * rest) / 256 / 256 / 256 % 256 ≡ w / 256 ^ 3 % 256 = omega arith in
     let left : (w + 2 ^ 32 * rest) / 256 / 256 / 256 / 256 ≡ rest = omega (arith, below.0) in
-    rw (e, b0, b1, b2, b3, left) (ap (λ bs. w % 256 ∷ w / 256 % 256 ∷ w / 256 ^ 2 % 256 ∷ w / 256 ^ 3 % 256 ∷ bs) (digits-bytes words below.1))
+    rw (e, b0, b1, b2, b3, left) (ap (λ bs. w % 256 ∷ w / 256 % 256 ∷ w / 256 ^ 2 % 256 ∷ w / 256 ^ 3 % 256 ∷ bs)
+        (digits-bytes words below.1))
 
 -- a word has four bytes
-pub length-bytes : (words : List ℕ) → length (bytes words) ≡ 4 * length words
+pub length-bytes : (words : Words) → length (bytes words) ≡ 4 * length words
 length-bytes [] = refl
 length-bytes (w ∷ words) = omega (arith, length-bytes words)
 
 -- the length of four blocks
-pub length-four_blocks : (a b c d : List ℕ) → length a ≡ 64 → length b ≡ 64 → length c ≡ 64 → length d ≡ 64
+pub length-four_blocks : (a b c d : Bytes) → length a ≡ 64 → length b ≡ 64 → length c ≡ 64 → length d ≡ 64
     → length (a ++ (b ++ (c ++ d))) ≡ 256
 length-four_blocks a b c d la lb lc ld =
     omega (arith, length-append a (b ++ (c ++ d)), length-append b (c ++ d), length-append c d)
 
 -- the bytes of four vectors of words
-pub bytes_of_four : (a b c d : List ℕ) → bytes (a ++ (b ++ (c ++ d))) ≡ bytes a ++ (bytes b ++ (bytes c ++ bytes d))
+pub bytes_of_four : (a b c d : Words) → bytes (a ++ (b ++ (c ++ d))) ≡ bytes a ++ (bytes b ++ (bytes c ++ bytes d))
 bytes_of_four a b c d =
-    let f : ℕ → List ℕ = λ word. le_bytes 4 word in
+    let f : ℕ → Bytes = λ word. le_bytes 4 word in
     rw (flat_map-append f a (b ++ (c ++ d)), flat_map-append f b (c ++ d), flat_map-append f c d) refl
 
 -- two pieces xored one after the other
-pub xored_on : (at next : ℕ) (s t old mid new : List ℕ) → next ≡ at + length s → IsXoredAt at s old mid → IsXoredAt next t mid new → IsXoredAt at (s ++ t) old new
+pub xored_on : (at next : ℕ) (s t old mid new : Bytes) → next ≡ at + length s → IsXoredAt at s old mid
+    → IsXoredAt next t mid new → IsXoredAt at (s ++ t) old new
 xored_on at next s t old mid new e first then =
-    let inside : (j : ℕ) → j < length (s ++ t) → (j < length s) ⊎ (length s ≤ j) → slice_index new (at + j) ≡ bit_xor (slice_index old (at + j)) (slice_index (s ++ t) j) = λ j below here. elim here [
-      | inl low ↦ then.0 (at + j) (omega arith) ∙ first.1 j low ∙ ap (bit_xor (slice_index old (at + j))) (sym (get_or_append_left s t 0 j low))
+    let inside : (j : ℕ) → j < length (s ++ t) → (j < length s) ⊎ (length s ≤ j)
+        → slice_index new (at + j) ≡ bit_xor (slice_index old (at + j)) (slice_index (s ++ t) j) =
+        λ j below here. elim here [
+      | inl low ↦ then.0 (at + j) (omega arith) ∙ first.1 j low
+          ∙ ap (bit_xor (slice_index old (at + j))) (sym (get_or_append_left s t 0 j low))
       | inr high ↦
           let k = j - length s in
           let place : at + j ≡ next + k = omega arith in
           ap (slice_index new) place ∙ then.1 k (omega (arith, length-append s t))
-          ∙ ap₂ bit_xor (ap (slice_index mid) (sym place) ∙ first.2 (at + j) (omega arith)) (sym (get_or-append_right s t (length s) j 0 refl (omega arith)))
+          ∙ ap₂ bit_xor (ap (slice_index mid) (sym place) ∙ first.2 (at + j) (omega arith))
+          (sym (get_or-append_right s t (length s) j 0 refl (omega arith)))
     ] in (
       λ j below. then.0 j (omega arith) ∙ first.0 j below,
       λ j below. inside j below (cases_lt j (length s)),
@@ -66,12 +74,13 @@ xored_on at next s t old mid new e first then =
     )
 
 -- n bytes of a buffer xored with a stream
-pub chunk_xored : (n at : ℕ) (buf digits stream : List ℕ) → digits ≡ stream → length stream ≡ n → at + n ≤ length buf
+pub chunk_xored : (n at : ℕ) (buf digits stream : Bytes) → digits ≡ stream → length stream ≡ n → at + n ≤ length buf
     → IsXoredAt at stream buf (put_chunk at buf (zip2 bit_xor (take n (drop at buf)) digits))
 chunk_xored n at buf digits stream e long room =
     let chunk_long : length (take n (drop at buf)) ≡ n = length-chunk at n buf room in
     let mixed = zip2 bit_xor (take n (drop at buf)) stream in
-    let mixed_long : length mixed ≡ n = length-zip2 bit_xor (take n (drop at buf)) stream (chunk_long ∙ sym long) ∙ chunk_long in
+    let mixed_long : length mixed ≡ n = length-zip2 bit_xor (take n (drop at buf)) stream (chunk_long ∙ sym long)
+        ∙ chunk_long in
     rw e (
       λ j below. get_or-put_chunk_below at buf mixed j 0 below,
       λ j below. get_or-put_chunk_at at buf mixed j 0 (omega arith) (omega arith)
@@ -81,12 +90,13 @@ chunk_xored n at buf digits stream e long room =
     )
 
 -- a list is the key stream's first n bytes, from the block `counter` on
-abbrev pub IsStream : List ℕ → List ℕ → ℕ → ℕ → List ℕ → Type 0
+abbrev pub IsStream : Bytes → Bytes → ℕ → ℕ → Bytes → Type 0
 IsStream key nonce counter n stream =
     (length stream ≡ n) × ((j : ℕ) → j < n → slice_index stream j ≡ stream_byte key nonce counter j)
 
 -- the bytes of a block's words are the stream for one block
-pub block-stream : (key nonce : List ℕ) (counter : ℕ) (words : List ℕ) → words ≡ mixed (start key nonce counter) → IsStream key nonce counter 64 (bytes words)
+pub block-stream : (key nonce : Bytes) (counter : ℕ) (words : Words) → words ≡ mixed (start key nonce counter)
+    → IsStream key nonce counter 64 (bytes words)
 unfolding block mixed
 block-stream key nonce counter words e = rw e (
   refl,
@@ -98,10 +108,12 @@ block-stream key nonce counter words e = rw e (
 )
 
 -- a stream of m blocks, and the stream after it
-pub stream_on : (key nonce : List ℕ) (counter next m n : ℕ) (front back : List ℕ) → next ≡ counter + m
-    → IsStream key nonce counter (64 * m) front → IsStream key nonce next n back → IsStream key nonce counter (64 * m + n) (front ++ back)
+pub stream_on : (key nonce : Bytes) (counter next m n : ℕ) (front back : Bytes) → next ≡ counter + m
+    → IsStream key nonce counter (64 * m) front → IsStream key nonce next n back
+    → IsStream key nonce counter (64 * m + n) (front ++ back)
 stream_on key nonce counter next m n front back e one two =
-    let cases : (j : ℕ) → j < 64 * m + n → (j < 64 * m) ⊎ (64 * m ≤ j) → slice_index (front ++ back) j ≡ stream_byte key nonce counter j = λ j below here. elim here [
+    let cases : (j : ℕ) → j < 64 * m + n → (j < 64 * m) ⊎ (64 * m ≤ j)
+        → slice_index (front ++ back) j ≡ stream_byte key nonce counter j = λ j below here. elim here [
       | inl low ↦ get_or_append_left front back 0 j (omega (arith, one.0)) ∙ one.1 j low
       | inr high ↦
           let block_number : next + (j - 64 * m) / 64 ≡ counter + j / 64 = omega arith in
@@ -114,17 +126,18 @@ stream_on key nonce counter next m n front back e one two =
     )
 
 -- four blocks' stream
-pub four_stream : (key nonce : List ℕ) (counter : ℕ) (a b c d : List ℕ)
+pub four_stream : (key nonce : Bytes) (counter : ℕ) (a b c d : Bytes)
     → a ≡ mixed (start key nonce counter) → b ≡ mixed (start key nonce (counter + 1))
     → c ≡ mixed (start key nonce (counter + 2)) → d ≡ mixed (start key nonce (counter + 3))
     → IsStream key nonce counter 256 (bytes a ++ (bytes b ++ (bytes c ++ bytes d)))
 four_stream key nonce counter a b c d ea eb ec ed =
     stream_on key nonce counter (counter + 1) 1 192 _ _ (omega arith) (block-stream key nonce counter a ea)
     (stream_on key nonce (counter + 1) (counter + 2) 1 128 _ _ (omega arith) (block-stream key nonce (counter + 1) b eb)
-    (stream_on key nonce (counter + 2) (counter + 3) 1 64 _ _ (omega arith) (block-stream key nonce (counter + 2) c ec) (block-stream key nonce (counter + 3) d ed)))
+    (stream_on key nonce (counter + 2) (counter + 3) 1 64 _ _ (omega arith) (block-stream key nonce (counter + 2) c ec)
+        (block-stream key nonce (counter + 3) d ed)))
 
 -- xored with a list that is the stream, byte by byte
-pub xored_with_stream : (key nonce : List ℕ) (counter at n : ℕ) (stream old new : List ℕ)
+pub xored_with_stream : (key nonce : Bytes) (counter at n : ℕ) (stream old new : Bytes)
     → IsStream key nonce counter n stream → IsXoredAt at stream old new → (j : ℕ) → at ≤ j → j < at + n
     → slice_index new j ≡ bit_xor (slice_index old j) (stream_byte key nonce counter (j - at))
 xored_with_stream key nonce counter at n stream old new is xored j low high =

@@ -5,16 +5,17 @@ use Rattle.std.specs.Simd.Lanes.{zip2}
 use Rattle.std.proofs.lemmas.List.{get_or-map, get_or-set_other, map-set, length-map, length-set}
 use Rattle.std.proofs.lemmas.List.FromFn.{fill_by_all}
 use Rattle.std.proofs.lemmas.Simd.{get_or-zip2, get_or-replicate, length-zip2, length-replicate}
+use Rattle.age_cipher.specs.Bytes.{Words}
 use Rattle.age_cipher.specs.ChaCha20.{add_words, add_xor_rotate, quarter_round, start}
 use Rattle.age_cipher.specs.Lanes.{lane, quarter_round_at, AreApart}
 
 -- a word of a lane is a lane of a word
-pub lane-word : (state : List (List ℕ)) (j k : ℕ) → k < length state
+pub lane-word : (state : List Words) (j k : ℕ) → k < length state
     → slice_index (lane j state) k ≡ slice_index (slice_index_or state k []) j
 lane-word state j k inside = get_or-map (λ vector. slice_index vector j) state k [] 0 inside
 
 -- a vector written is a word written in each lane
-pub lane-set : (state : List (List ℕ)) (j k : ℕ) (vector : List ℕ)
+pub lane-set : (state : List Words) (j k : ℕ) (vector : Words)
     → lane j (set state k vector) ≡ set (lane j state) k (slice_index vector j)
 lane-set state j k vector = map-set (λ v. slice_index v j) state k vector
 
@@ -27,14 +28,16 @@ four_cases P p0 p1 p2 p3 (suc (suc (suc zero))) h = p3
 four_cases P p0 p1 p2 p3 (suc (suc (suc (suc n)))) h = absurd (omega arith)
 
 -- an operator with one number in each of n lanes
-pub with_splat : (n : ℕ) (f : ℕ → ℕ → ℕ) (x : List ℕ) (m j : ℕ) → length x ≡ n → j < n
+pub with_splat : (n : ℕ) (f : ℕ → ℕ → ℕ) (x : Words) (m j : ℕ) → length x ≡ n → j < n
     → slice_index (zip2 f x (replicate n m)) j ≡ f (slice_index x j) m
 with_splat n f x m j long inside =
-    get_or-zip2 f x (replicate n m) j 0 0 0 (omega arith) (omega (arith, length-replicate n m)) ∙ ap (f (slice_index x j)) (get_or-replicate n j m 0 inside)
+    get_or-zip2 f x (replicate n m) j 0 0 0 (omega arith) (omega (arith, length-replicate n m))
+        ∙ ap (f (slice_index x j)) (get_or-replicate n j m 0 inside)
 
 -- two shifts of each lane and an or rotate it
-pub shifts_rotate : (n : ℕ) (x : List ℕ) (by j : ℕ) → length x ≡ n → 0 < by → by < 32 → j < n
-    → slice_index (zip2 bit_or (zip2 (λ a n. a * 2 ^ n % 2 ^ 32) x (replicate n by)) (zip2 (λ a n. a / 2 ^ n) x (replicate n (32 - by)))) j
+pub shifts_rotate : (n : ℕ) (x : Words) (by j : ℕ) → length x ≡ n → 0 < by → by < 32 → j < n
+    → slice_index (zip2 bit_or (zip2 (λ a n. a * 2 ^ n % 2 ^ 32) x (replicate n by))
+    (zip2 (λ a n. a / 2 ^ n) x (replicate n (32 - by)))) j
     ≡ rotate_left w32 (slice_index x j) by
 shifts_rotate n x by j long low high inside =
     let left : ℕ → ℕ → ℕ = λ a n. a * 2 ^ n % 2 ^ 32 in
@@ -43,55 +46,65 @@ shifts_rotate n x by j long low high inside =
     omega (arith, length-zip2 f x (replicate n m) (long ∙ sym (length-replicate n m))) in
     let same : by % 32 ≡ by = omega arith in
     let rest : (32 - by) % 32 ≡ 32 - by = omega arith in
-    get_or-zip2 bit_or (zip2 left x (replicate n by)) (zip2 right x (replicate n (32 - by))) j 0 0 0 (here left by) (here right (32 - by))
-    ∙ ap₂ bit_or (with_splat n left x by j long inside) (with_splat n right x (32 - by) j long inside) ∙ rw (same, rest) refl
+    get_or-zip2 bit_or (zip2 left x (replicate n by)) (zip2 right x (replicate n (32 - by))) j 0 0 0 (here left by)
+        (here right (32 - by))
+    ∙ ap₂ bit_or (with_splat n left x by j long inside) (with_splat n right x (32 - by) j long inside)
+    ∙ rw (same, rest) refl
 
 -- one line of the quarter round, in lane j
-pub lane-line : (state : List (List ℕ)) (a b d by j : ℕ) (sum turned : List ℕ)
+pub lane-line : (state : List Words) (a b d by j : ℕ) (sum turned : Words)
     → a < length state → b < length state → d < length state
-    → slice_index sum j ≡ add_words (slice_index (slice_index_or state a []) j) (slice_index (slice_index_or state b []) j)
-    → slice_index turned j ≡ rotate_left w32 (bit_xor (slice_index (slice_index_or (set state a sum) d []) j) (slice_index (slice_index_or (set state a sum) a []) j)) by
+    → slice_index sum j ≡ add_words (slice_index (slice_index_or state a []) j)
+    (slice_index (slice_index_or state b []) j)
+    → slice_index turned j ≡ rotate_left w32
+    (bit_xor (slice_index (slice_index_or (set state a sum) d []) j)
+    (slice_index (slice_index_or (set state a sum) a []) j)) by
     → lane j (set (set state a sum) d turned) ≡ add_xor_rotate a b d by (lane j state)
 unfolding add_xor_rotate
 lane-line state a b d by j sum turned a_in b_in d_in es et =
     let next = set state a sum in
     let a_still : a < length next = omega (arith, length-set state a sum) in
     let d_still : d < length next = omega (arith, length-set state a sum) in
-    let f : List ℕ → List ℕ = λ words. set words d (rotate_left w32 (bit_xor (slice_index words d) (slice_index words a)) by) in
-    let first : lane j next ≡ set (lane j state) a (add_words (slice_index (lane j state) a) (slice_index (lane j state) b)) =
-    lane-set state j a sum ∙ ap (set (lane j state) a) (es ∙ ap₂ add_words (sym (lane-word state j a a_in)) (sym (lane-word state j b b_in))) in
+    let f : Words → Words = λ words. set words d
+        (rotate_left w32 (bit_xor (slice_index words d) (slice_index words a)) by) in
+    let first : lane j next ≡ set (lane j state) a
+        (add_words (slice_index (lane j state) a) (slice_index (lane j state) b)) =
+    lane-set state j a sum ∙ ap (set (lane j state) a)
+        (es ∙ ap₂ add_words (sym (lane-word state j a a_in)) (sym (lane-word state j b b_in))) in
     lane-set next j d turned
-    ∙ ap (set (lane j next) d) (et ∙ ap₂ (λ x y. rotate_left w32 (bit_xor x y) by) (sym (lane-word next j d d_still)) (sym (lane-word next j a a_still)))
+    ∙ ap (set (lane j next) d) (et ∙ ap₂ (λ x y. rotate_left w32 (bit_xor x y) by) (sym (lane-word next j d d_still))
+    (sym (lane-word next j a a_still)))
     ∙ ap f first
 
 -- sixteen words that are those of lane j
-pub lane-is : (state : List (List ℕ)) (words : List ℕ) (j : ℕ) → length state ≡ 16 → length words ≡ 16
+pub lane-is : (state : List Words) (words : Words) (j : ℕ) → length state ≡ 16 → length words ≡ 16
     → ((k : ℕ) → k < 16 → slice_index words k ≡ slice_index (slice_index_or state k []) j) → words ≡ lane j state
 lane-is state words j state_long words_long each =
     let f : ℕ → ℕ = λ k. slice_index (slice_index_or state k []) j in
     fill_by_all f words 16 0 words_long each
-    ∙ sym (fill_by_all f (lane j state) 16 0 (length-map state (λ v. slice_index v j) ∙ state_long) (λ k h. lane-word state j k (omega arith)))
+    ∙ sym (fill_by_all f (lane j state) 16 0 (length-map state (λ v. slice_index v j) ∙ state_long)
+    (λ k h. lane-word state j k (omega arith)))
 
 -- the counter is word 12 of a block's first state
-pub start-set : (key nonce : List ℕ) (a b : ℕ) → set (start key nonce a) 12 b ≡ start key nonce b
+pub start-set : (key nonce : Words) (a b : ℕ) → set (start key nonce a) 12 b ≡ start key nonce b
 unfolding start
 start-set key nonce a b = refl
 
 -- lists of two, four and eight, written out
-pub two_long : (x : List ℕ) → length x ≡ 2 → x ≡ slice_index x 0 ∷ slice_index x 1 ∷ []
+pub two_long : (x : Words) → length x ≡ 2 → x ≡ slice_index x 0 ∷ slice_index x 1 ∷ []
 two_long x long = fill_by_all (λ k. slice_index x k) x 2 0 long (λ k h. refl)
 
-pub four_long : (x : List ℕ) → length x ≡ 4
+pub four_long : (x : Words) → length x ≡ 4
     → x ≡ slice_index x 0 ∷ slice_index x 1 ∷ slice_index x 2 ∷ slice_index x 3 ∷ []
 four_long x long = fill_by_all (λ k. slice_index x k) x 4 0 long (λ k h. refl)
 
-pub eight_long : (x : List ℕ) → length x ≡ 8
+pub eight_long : (x : Words) → length x ≡ 8
     → x ≡ slice_index x 0 ∷ slice_index x 1 ∷ slice_index x 2 ∷ slice_index x 3
     ∷ slice_index x 4 ∷ slice_index x 5 ∷ slice_index x 6 ∷ slice_index x 7 ∷ []
 eight_long x long = fill_by_all (λ k. slice_index x k) x 8 0 long (λ k h. refl)
 
 -- words written at two places, in either order
-set_swap : (w : List ℕ) (i m x y : ℕ) → i ≢ m → set (set w i x) m y ≡ set (set w m y) i x
+set_swap : (w : Words) (i m x y : ℕ) → i ≢ m → set (set w i x) m y ≡ set (set w m y) i x
 set_swap [] i m x y apart = refl
 set_swap (v ∷ w) zero zero x y apart = absurd (apart refl)
 set_swap (v ∷ w) zero (suc m) x y apart = refl
@@ -99,25 +112,26 @@ set_swap (v ∷ w) (suc i) zero x y apart = refl
 set_swap (v ∷ w) (suc i) (suc m) x y apart = ap (λ l. v ∷ l) (set_swap w i m x y (λ e. apart (ap suc e)))
 
 -- half a line of the quarter round: a word is written that depends on what it was and on another
-abbrev step : (f : ℕ → ℕ → ℕ) (i k : ℕ) (w : List ℕ) → List ℕ
+abbrev step : (f : ℕ → ℕ → ℕ) (i k : ℕ) (w : Words) → Words
 step f i k w = set w i (f (slice_index w i) (slice_index w k))
 
 -- two such writes, in either order
-step_swap : (f g : ℕ → ℕ → ℕ) (i k m n : ℕ) (w : List ℕ) → i ≢ m → i ≢ n → k ≢ m
+step_swap : (f g : ℕ → ℕ → ℕ) (i k m n : ℕ) (w : Words) → i ≢ m → i ≢ n → k ≢ m
     → step g m n (step f i k w) ≡ step f i k (step g m n w)
 step_swap f g i k m n w im kn km =
     let x = f (slice_index w i) (slice_index w k) in
     let y = g (slice_index w m) (slice_index w n) in
-    ap (set (set w i x) m) (ap₂ g (get_or-set_other w i m x 0 (λ e. im (sym e))) (get_or-set_other w i n x 0 (λ e. kn (sym e))))
+    ap (set (set w i x) m) (ap₂ g (get_or-set_other w i m x 0 (λ e. im (sym e)))
+        (get_or-set_other w i n x 0 (λ e. kn (sym e))))
     ∙ set_swap w i m x y im
     ∙ ap (set (set w m y) i) (sym (ap₂ f (get_or-set_other w m i y 0 im) (get_or-set_other w m k y 0 km)))
 
 -- a line on three of four places
-abbrev line : (by i k l : ℕ) (places w : List ℕ) → List ℕ
+abbrev line : (by i k l : ℕ) (places : List ℕ) (w : Words) → Words
 line by i k l places w = add_xor_rotate (slice_index places i) (slice_index places k) (slice_index places l) by w
 
 -- lines on places that are apart, in either order
-line_swap : (p q : List ℕ) → AreApart p q → (m n : ℕ) (i k l r s t : ℕ) (w : List ℕ)
+line_swap : (p q : List ℕ) → AreApart p q → (m n : ℕ) (i k l r s t : ℕ) (w : Words)
     → i < 4 → k < 4 → l < 4 → r < 4 → s < 4 → t < 4
     → line m i k l p (line n r s t q w) ≡ line n r s t q (line m i k l p w)
 unfolding add_xor_rotate
@@ -125,18 +139,23 @@ line_swap p q apart m n i k l r s t w hi hk hl hr hs ht =
     let turned : ℕ → ℕ → ℕ → ℕ = λ by u v. rotate_left w32 (bit_xor u v) by in
     let at : ℕ → ℕ = λ j. slice_index p j in
     let on : ℕ → ℕ = λ j. slice_index q j in
-    let p_add : List ℕ → List ℕ = λ v. step add_words (at i) (at k) v in
-    let p_turn : List ℕ → List ℕ = λ v. step (turned m) (at l) (at i) v in
-    let q_add : List ℕ → List ℕ = λ v. step add_words (on r) (on s) v in
-    let q_turn : List ℕ → List ℕ = λ v. step (turned n) (on t) (on r) v in
-    ap p_turn (sym (step_swap add_words (turned n) (at i) (at k) (on t) (on r) (q_add w) (apart i t hi ht) (apart i r hi hr) (apart k t hk ht)))
-    ∙ sym (step_swap (turned m) (turned n) (at l) (at i) (on t) (on r) (p_add (q_add w)) (apart l t hl ht) (apart l r hl hr) (apart i t hi ht))
-    ∙ ap (λ v. q_turn (p_turn v)) (sym (step_swap add_words add_words (at i) (at k) (on r) (on s) w (apart i r hi hr) (apart i s hi hs) (apart k r hk hr)))
-    ∙ ap q_turn (sym (step_swap (turned m) add_words (at l) (at i) (on r) (on s) (p_add w) (apart l r hl hr) (apart l s hl hs) (apart i r hi hr)))
+    let p_add : Words → Words = λ v. step add_words (at i) (at k) v in
+    let p_turn : Words → Words = λ v. step (turned m) (at l) (at i) v in
+    let q_add : Words → Words = λ v. step add_words (on r) (on s) v in
+    let q_turn : Words → Words = λ v. step (turned n) (on t) (on r) v in
+    ap p_turn (sym (step_swap add_words (turned n) (at i) (at k) (on t) (on r) (q_add w) (apart i t hi ht)
+        (apart i r hi hr) (apart k t hk ht)))
+    ∙ sym (step_swap (turned m) (turned n) (at l) (at i) (on t) (on r) (p_add (q_add w)) (apart l t hl ht)
+    (apart l r hl hr) (apart i t hi ht))
+    ∙ ap (λ v. q_turn (p_turn v)) (sym (step_swap add_words add_words (at i) (at k) (on r) (on s) w (apart i r hi hr)
+    (apart i s hi hs) (apart k r hk hr)))
+    ∙ ap q_turn (sym (step_swap (turned m) add_words (at l) (at i) (on r) (on s) (p_add w) (apart l r hl hr)
+    (apart l s hl hs) (apart i r hi hr)))
 
 -- two quarter rounds on places that are apart, line by line: the lines on p come first, one by one
-pub two_by_lines : (p q w : List ℕ) → AreApart p q
-    → line 7 2 3 1 q (line 7 2 3 1 p (line 8 0 1 3 q (line 8 0 1 3 p (line 12 2 3 1 q (line 12 2 3 1 p (line 16 0 1 3 q (line 16 0 1 3 p w)))))))
+pub two_by_lines : (p q : List ℕ) (w : Words) → AreApart p q
+    → line 7 2 3 1 q (line 7 2 3 1 p (line 8 0 1 3 q
+    (line 8 0 1 3 p (line 12 2 3 1 q (line 12 2 3 1 p (line 16 0 1 3 q (line 16 0 1 3 p w)))))))
     ≡ quarter_round_at q (quarter_round_at p w)
 unfolding quarter_round
 two_by_lines p q w apart =
@@ -147,11 +166,11 @@ two_by_lines p q w apart =
     let p16 = line 16 0 1 3 p w in
     let p12 = line 12 2 3 1 p p16 in
     let p8 = line 8 0 1 3 p p12 in
-    let p7 : List ℕ → List ℕ = λ v. line 7 2 3 1 p v in
-    let q16 : List ℕ → List ℕ = λ v. line 16 0 1 3 q v in
-    let q12 : List ℕ → List ℕ = λ v. line 12 2 3 1 q v in
-    let q8 : List ℕ → List ℕ = λ v. line 8 0 1 3 q v in
-    let q7 : List ℕ → List ℕ = λ v. line 7 2 3 1 q v in
+    let p7 : Words → Words = λ v. line 7 2 3 1 p v in
+    let q16 : Words → Words = λ v. line 16 0 1 3 q v in
+    let q12 : Words → Words = λ v. line 12 2 3 1 q v in
+    let q8 : Words → Words = λ v. line 8 0 1 3 q v in
+    let q7 : Words → Words = λ v. line 7 2 3 1 q v in
     let to_p12 = line_swap p q apart 12 16 2 3 1 0 1 3 p16 third fourth second first second fourth in
     let to_p8 =
     line_swap p q apart 8 12 0 1 3 2 3 1 (q16 p12) first second fourth third fourth second

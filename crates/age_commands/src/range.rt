@@ -2,7 +2,8 @@
 ghost use Rattle.std.specs.Prelude.{◌≤◌, ◌<◌, ◌≡◌, ◌+◌, ◌-◌, ◌^◌, ◌%◌, ◌∷◌, [], length, min, IfOk};
 ghost use Rattle.age_stream.specs.Ranges.{IsSound, chunks_of, range_len, source_at_of};
 ghost use Rattle.age_stream.specs.Sizes.{chunk_size};
-ghost use Rattle.age_words.specs.Job.{IsInRange, most_offset};
+ghost use Rattle.age_words.specs.Job.{IsInRange};
+ghost use Rattle.age_words.specs.declared.options.TheConstants.{MOST_OFFSET};
 ghost use Rattle.age_commands.specs.Range.{Ranging, WritesNext, WritesRange};
 ghost use Rattle.age_commands.specs.Secret.{answers_of, limits_of};
 
@@ -67,8 +68,8 @@ fn write_range<D: ReadAt, W: Sink>(
     piece: &mut [u8],
     out: &mut W,
 ) -> Result<(), Fault>
-    requires at { at ≤ most_offset }
-    requires len { len ≤ most_offset }
+    requires at { at ≤ MOST_OFFSET }
+    requires len { len ≤ MOST_OFFSET }
     requires piece { length piece.old ≡ CHUNK_SIZE }
     ensures { let told = D.bytes (source_at_of reader.old).now in
         IsSound told (chunks_of reader.old) → WritesRange told (chunks_of reader.old) at len

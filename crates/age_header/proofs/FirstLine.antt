@@ -11,7 +11,7 @@ use Rattle.age_header.specs.declared.fault.HeaderFault.TheVariants.{NotAge, Trun
 use Rattle.age_header.specs.declared.lines.LineEnd.{LineEnd}
 use Rattle.age_header.specs.declared.lines.LineEnd.TheVariants.{Lf, Input, Room}
 use Rattle.age_header.specs.Lines.{taken, IsEnd}
-use Rattle.age_header.specs.Header.{version_line}
+use Rattle.age_header.specs.Header.{version_line, version_size}
 use Rattle.age_header.specs.Reader.{ReadsHeader}
 use Rattle.age_header.specs.Verdict.{IsLineText, BeginsAsAge, IsUndecided, IsFault}
 use Rattle.age_header.proofs.PathLemmas.{version_text}
@@ -42,43 +42,43 @@ unfolding version_line version_text
 version_is_line = refl
 
 -- the first 22 bytes under the limit, where a first line of these was taken
-pub cap_front : (b : Bytes) (max : ℕ) → take 22 (take max b) ≡ take (min max 22) b
-cap_front b max = elim (cases_lt max 22) [
+pub cap_front : (b : Bytes) (max : ℕ) → take version_size (take max b) ≡ take (min max version_size) b
+cap_front b max = elim (cases_lt max version_size) [
   | inl low ↦
-      let e : min max 22 ≡ max = omega arith in
-      let short : length (take max b) ≤ 22 = omega (arith, length-take max b) in
-      rw (e, take_all 22 (take max b) short) refl
+      let e : min max version_size ≡ max = omega arith in
+      let short : length (take max b) ≤ version_size = omega (arith, length-take max b) in
+      rw (e, take_all version_size (take max b) short) refl
   | inr high ↦
-      let e : min max 22 ≡ 22 = omega arith in
-      rw (e, take-take 22 max b high) refl
+      let e : min max version_size ≡ version_size = omega arith in
+      rw (e, take-take version_size max b high) refl
 ]
 
-pub lf_front : (b n first : Bytes) (max : ℕ) → b ≡ (first ++ 10 ∷ []) ++ n → length first < min max 22
-    → take (min max 22) b ≡ first ++ 10 ∷ take (min max 22 - length (first ++ 10 ∷ [])) n
+pub lf_front : (b n first : Bytes) (max : ℕ) → b ≡ (first ++ 10 ∷ []) ++ n → length first < min max version_size
+    → take (min max version_size) b ≡ first ++ 10 ∷ take (min max version_size - length (first ++ 10 ∷ [])) n
 lf_front b n first max is end =
-    let low : length (first ++ 10 ∷ []) ≤ min max 22 = omega (arith, length-append first (10 ∷ [])) in
-    ap (λ (z : Bytes). take (min max 22) z) is ∙ take_past (first ++ 10 ∷ []) n (min max 22) low
+    let low : length (first ++ 10 ∷ []) ≤ min max version_size = omega (arith, length-append first (10 ∷ [])) in
+    ap (λ (z : Bytes). take (min max version_size) z) is ∙ take_past (first ++ 10 ∷ []) n (min max version_size) low
         ∙ append_assoc first (10 ∷ []) _
 
 pub first_front : (b n first : Bytes) (end : LineEnd) (max : ℕ) → b ≡ taken first end ++ n
-    → IsEnd end (length first) (min max 22) (Some n)
-    → (d : Bytes) × (take (min max 22) b ≡ first ++ d)
-first_front b n first Lf max is end = (10 ∷ take (min max 22 - length (first ++ 10 ∷ [])) n,
+    → IsEnd end (length first) (min max version_size) (Some n)
+    → (d : Bytes) × (take (min max version_size) b ≡ first ++ d)
+first_front b n first Lf max is end = (10 ∷ take (min max version_size - length (first ++ 10 ∷ [])) n,
     lf_front b n first max is end)
 first_front b n first Input max is end =
-    let low : length first ≤ min max 22 = omega arith in
-    (take (min max 22 - length first) n,
-        ap (λ (z : Bytes). take (min max 22) z) is ∙ take_past first n (min max 22) low)
+    let low : length first ≤ min max version_size = omega arith in
+    (take (min max version_size - length first) n,
+        ap (λ (z : Bytes). take (min max version_size) z) is ∙ take_past first n (min max version_size) low)
 first_front b n first Room max is end =
-    let low : length first ≤ min max 22 = omega arith in
-    (take (min max 22 - length first) n,
-        ap (λ (z : Bytes). take (min max 22) z) is ∙ take_past first n (min max 22) low)
+    let low : length first ≤ min max version_size = omega arith in
+    (take (min max version_size - length first) n,
+        ap (λ (z : Bytes). take (min max version_size) z) is ∙ take_past first n (min max version_size) low)
 
 pub age_front : (b n first : Bytes) (end : LineEnd) (max : ℕ) → b ≡ taken first end ++ n
-    → IsEnd end (length first) (min max 22) (Some n)
+    → IsEnd end (length first) (min max version_size) (Some n)
     → BeginsAsAge (take max b) → (d : Bytes) × (version_text ++ 10 ∷ [] ≡ first ++ d)
 age_front b n first end max is ends age =
-    let t : Bytes = take 22 (take max b) in
+    let t : Bytes = take version_size (take max b) in
     let r = first_front b n first end max is ends in
     let whole : version_line ≡ t ++ drop (length t) version_line = starts_with_rest version_line t age in
     let front : t ≡ first ++ r.0 = cap_front b max ∙ r.1 in (
@@ -88,7 +88,7 @@ age_front b n first end max is ends age =
     )
 
 pub no_front_told : (b n first : Bytes) (end : LineEnd) (max : ℕ) → b ≡ taken first end ++ n → IsLineText first
-    → IsEnd end (length first) (min max 22) (Some n) → ((x : Bytes) → version_text ≢ first ++ x)
+    → IsEnd end (length first) (min max version_size) (Some n) → ((x : Bytes) → version_text ≢ first ++ x)
     → BeginsAsAge (take max b) → ⊥
 no_front_told b n first end max took text ends none age =
     let w = age_front b n first end max took ends age in
@@ -98,7 +98,7 @@ no_front_told b n first end max took text ends none age =
 -- not the front of the version line's text
 pub no_front : (a new : Known) (first : Bytes) (end : LineEnd) (max : ℕ) → Consumes a new (taken first end)
     → IsLineText first
-    → IsEnd end (length first) (min max 22) new → ((x : Bytes) → version_text ≢ first ++ x)
+    → IsEnd end (length first) (min max version_size) new → ((x : Bytes) → version_text ≢ first ++ x)
     → ReadsHeader a new max (Err NotAge)
 no_front a new first Lf max took text ends none =
     answered a new (first ++ 10 ∷ []) max NotAge took (λ b n is. no_front_told b n first Lf max is text ends none)
@@ -110,14 +110,15 @@ no_front a new first Room max took text ends none =
 
 -- a line that ends too early
 pub short_line : (a new : Known) (first rest : Bytes) (max : ℕ) → Consumes a new (first ++ 10 ∷ []) → IsLineText first
-    → length first < min max 22 → version_text ≡ first ++ rest → rest ≢ [] → ReadsHeader a new max (Err NotAge)
+    → length first < min max version_size → version_text ≡ first ++ rest → rest ≢ []
+    → ReadsHeader a new max (Err NotAge)
 short_line a new first rest max took text ends is more = answered a new (first ++ 10 ∷ []) max NotAge took told
   where
     told : (b n : Bytes) → b ≡ (first ++ 10 ∷ []) ++ n → BeginsAsAge (take max b) → ⊥
     told b n came age =
-        let t : Bytes = take 22 (take max b) in
+        let t : Bytes = take version_size (take max b) in
         let whole : version_line ≡ t ++ drop (length t) version_line = starts_with_rest version_line t age in
-        let x : Bytes = take (min max 22 - length (first ++ 10 ∷ [])) n in
+        let x : Bytes = take (min max version_size - length (first ++ 10 ∷ [])) n in
         let front : t ≡ first ++ 10 ∷ x = cap_front b max ∙ lf_front b n first max came ends in
         let e : version_text ++ 10 ∷ [] ≡ first ++ 10 ∷ (x ++ drop (length t) version_line) =
         sym version_is_line ∙ whole ∙ ap (λ (z : Bytes). z ++ drop (length t) version_line) front
@@ -125,11 +126,11 @@ short_line a new first rest max took text ends is more = answered a new (first +
         let cut = line_split version_text first [] _ version_is_text text e in
         more (append_cancel_left first rest [] (sym is ∙ cut.0 ∙ sym (append-nil first)))
 
-pub front_age : (first rest : Bytes) → version_text ≡ first ++ rest → length first ≤ 22 → BeginsAsAge first
+pub front_age : (first rest : Bytes) → version_text ≡ first ++ rest → length first ≤ version_size → BeginsAsAge first
 front_age first rest is low =
     let whole : version_line ≡ first ++ (rest ++ 10 ∷ []) = version_is_line ∙ ap (λ (z : Bytes). z ++ 10 ∷ []) is
         ∙ append_assoc first rest (10 ∷ []) in
-    let all : take 22 first ≡ first = take_all 22 first low in
+    let all : take version_size first ≡ first = take_all version_size first low in
     rw (all, whole) (take_at first (rest ++ 10 ∷ []) (length first) refl)
 
 pub version_text_size : length version_text ≡ 21
@@ -141,12 +142,13 @@ front_size first rest is = omega (arith, ap length is, version_text_size, length
 
 -- a first line that goes on, at the end of the input or under the limit
 pub short_input : (a new : Known) (first rest : Bytes) (max : ℕ) → Consumes a new first → IsLineText first
-    → (length first < min max 22) × IsAtEnd new → version_text ≡ first ++ rest → ReadsHeader a new max (Err Truncated)
+    → (length first < min max version_size) × IsAtEnd new → version_text ≡ first ++ rest
+    → ReadsHeader a new max (Err Truncated)
 short_input a new first rest max took text ends is = answered_at_end a new first max Truncated took ends.1 told
   where
     told : (b : Bytes) → b ≡ first → IsFault b max Truncated
     told b all =
-        let size : length first < min max 22 = ends.0 in
+        let size : length first < min max version_size = ends.0 in
         let low : length first ≤ max = omega arith in
         let cap : take max b ≡ first = ap (λ (z : Bytes). take max z) all ∙ take_all max first low in
         let age : BeginsAsAge first = front_age first rest is (omega arith) in
@@ -155,7 +157,7 @@ short_input a new first rest max took text ends is = answered_at_end a new first
             subst (λ (z : Bytes). IsUndecided z) (sym cap) (line_open first text), omega arith)
 
 pub short_room : (a new : Known) (first rest : Bytes) (max : ℕ) → Consumes a new first → IsLineText first
-    → length first ≡ min max 22 → version_text ≡ first ++ rest → ReadsHeader a new max (Err TooLarge)
+    → length first ≡ min max version_size → version_text ≡ first ++ rest → ReadsHeader a new max (Err TooLarge)
 short_room a new first rest max took text ends is = answered a new first max TooLarge took told
   where
     told : (b n : Bytes) → b ≡ first ++ n → IsFault b max TooLarge
@@ -170,8 +172,8 @@ short_room a new first rest max took text ends is = answered a new first max Too
 
 -- the version line
 pub version_taken : (a new : Known) (first rest : Bytes) (max : ℕ) → Consumes a new (first ++ 10 ∷ [])
-    → length first < min max 22
-    → version_text ≡ first ++ rest → rest ≡ [] → (22 ≤ max) × Consumes a new version_line
+    → length first < min max version_size
+    → version_text ≡ first ++ rest → rest ≡ [] → (version_size ≤ max) × Consumes a new version_line
 version_taken a new first rest max took ends is none =
     let sum = front_size first rest is in
     let zero : length rest ≡ 0 = ap length none in

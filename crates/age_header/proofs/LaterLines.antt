@@ -10,7 +10,7 @@ use Rattle.age_kdf.specs.Bytes.{Bytes}
 use Rattle.age_header.specs.Device.{Known}
 use Rattle.age_header.specs.declared.fault.HeaderFault.TheVariants.{BadLine, Truncated, TooLarge}
 use Rattle.age_header.specs.Base64.{IsBase64}
-use Rattle.age_header.specs.Header.{StanzaParts, Head, line, version_line}
+use Rattle.age_header.specs.Header.{StanzaParts, Head, line, version_line, version_size}
 use Rattle.age_header.specs.Steps.{State, between, Step, Leads}
 use Rattle.age_header.specs.Reader.{ReadsHeader}
 use Rattle.age_header.specs.Verdict.{IsLineText, lines_text, IsViable, IsHeader, Decides, BeginsAsAge, IsUndecided, Finds, IsFault}
@@ -19,8 +19,9 @@ use Rattle.age_header.proofs.OneReading.{head_path, end_text}
 use Rattle.age_header.proofs.OneStep.{Leads-once}
 use Rattle.age_header.proofs.StepRuns.{Leads-split, Leads-append}
 use Rattle.age_header.proofs.FrontPaths.{front_path, Lines-append}
-use Rattle.age_header.proofs.VerdictPaths.{Reached, version_is_text, whole_lines, path_first, path_open, version_size, take_past, begins}
+use Rattle.age_header.proofs.VerdictPaths.{Reached, version_is_text, whole_lines, path_first, path_open, take_past, begins}
 use Rattle.age_header.proofs.SourceVerdicts.{answered, answered_at_end, answered_header}
+use Rattle.age_header.proofs.LengthLemmas.{length-version_line}
 
 -- what a line at the end of the input, or under the limit, says of a path
 pub path_truncated : (a mid new : Known) (max room count : ℕ) (s : State) (text : Bytes)
@@ -35,17 +36,17 @@ path_truncated a mid new max room count s text p took is ends =
 
     told : (b : Bytes) → b ≡ front ++ text → IsFault b max Truncated
     told b all =
-        let size : length b ≡ 22 + length (lines_text p.ls) + length text =
+        let size : length b ≡ version_size + length (lines_text p.ls) + length text =
         ap length all ∙ length-append front text
             ∙ ap (λ (z : ℕ). z + length text)
             (length-append version_line (lines_text p.ls)
-            ∙ ap (λ (z : ℕ). z + length (lines_text p.ls)) version_size) in
+            ∙ ap (λ (z : ℕ). z + length (lines_text p.ls)) length-version_line) in
         let fits : length text < room = ends.0 in
-        let sum : room + 22 + length (lines_text p.ls) ≡ max = p.size in
+        let sum : room + version_size + length (lines_text p.ls) ≡ max = p.size in
         let low : length b < max = omega arith in
         let cap : take max b ≡ b = take_all max b (omega arith) in
         let open' : IsUndecided b = path_open p.ls s b text p.each p.leads all is in
-        let wide : 22 ≤ max = omega arith in
+        let wide : version_size ≤ max = omega arith in
         let begun : take max b ≡ take max (version_line ++ (lines_text p.ls ++ text)) =
             ap (λ (z : Bytes). take max z) (all ∙ append_assoc version_line (lines_text p.ls) text) in
         (subst (λ (z : Bytes). BeginsAsAge z) (sym begun) (begins (lines_text p.ls ++ text) max wide),
@@ -62,16 +63,16 @@ path_too_large a mid new max room count s text p took is ends =
 
     told : (b n : Bytes) → b ≡ (front ++ text) ++ n → IsFault b max TooLarge
     told b n all =
-        let size : length (front ++ text) ≡ 22 + length (lines_text p.ls) + length text =
+        let size : length (front ++ text) ≡ version_size + length (lines_text p.ls) + length text =
         length-append front text ∙ ap (λ (z : ℕ). z + length text)
             (length-append version_line (lines_text p.ls)
-            ∙ ap (λ (z : ℕ). z + length (lines_text p.ls)) version_size) in
-        let sum : room + 22 + length (lines_text p.ls) ≡ max = p.size in
+            ∙ ap (λ (z : ℕ). z + length (lines_text p.ls)) length-version_line) in
+        let sum : room + version_size + length (lines_text p.ls) ≡ max = p.size in
         let whole : length (front ++ text) ≡ max = omega arith in
         let cap : take max b ≡ front ++ text = ap (λ (z : Bytes). take max z) all
             ∙ take_at (front ++ text) n max whole in
         let open' : IsUndecided (front ++ text) = path_open p.ls s (front ++ text) text p.each p.leads refl is in
-        let wide : 22 ≤ max = omega arith in
+        let wide : version_size ≤ max = omega arith in
         let begun : take max b ≡ take max (version_line ++ (lines_text p.ls ++ (text ++ n))) =
         ap (λ (z : Bytes). take max z) (all ∙ append_assoc front text n
             ∙ append_assoc version_line (lines_text p.ls) (text ++ n)) in
@@ -84,7 +85,7 @@ record Further (b n : Bytes) (max : ℕ) (ls : List Bytes) (text : Bytes) : Type
   all : b ≡ lines_text (version_text ∷ (ls ++ text ∷ [])) ++ n
   same : lines_text (version_text ∷ (ls ++ text ∷ [])) ≡ version_line ++ lines_text (ls ++ text ∷ [])
   fits : length (lines_text (version_text ∷ (ls ++ text ∷ []))) ≤ max
-  wide : 22 ≤ max
+  wide : version_size ≤ max
 
 pub lines_push : (ls : List Bytes) (text : Bytes) → lines_text (ls ++ text ∷ []) ≡ lines_text ls ++ line text
 lines_push ls text = flat_map-append line ls (text ∷ [])
@@ -105,15 +106,15 @@ took_line a mid new max room count s text p took =
 
 further : (b n : Bytes) (max room : ℕ) (ls : List Bytes) (text : Bytes)
     → b ≡ lines_text (version_text ∷ (ls ++ text ∷ [])) ++ n
-    → room + 22 + length (lines_text ls) ≡ max → length text < room → Further b n max ls text
+    → room + version_size + length (lines_text ls) ≡ max → length text < room → Further b n max ls text
 further b n max room ls text all sum low =
     let front : Bytes = version_line ++ lines_text ls in
     let size : length (lines_text (version_text ∷ (ls ++ text ∷ [])))
-        ≡ 22 + length (lines_text ls) + (length text + 1) =
+        ≡ version_size + length (lines_text ls) + (length text + 1) =
     ap length (pushed ls text) ∙ length-append front (line text)
     ∙ ap (λ (z : ℕ). z + length (line text))
-    (length-append version_line (lines_text ls) ∙ ap (λ (z : ℕ). z + length (lines_text ls)) version_size)
-    ∙ ap (λ (z : ℕ). 22 + length (lines_text ls) + z) (length-append text (10 ∷ [])) in
+    (length-append version_line (lines_text ls) ∙ ap (λ (z : ℕ). z + length (lines_text ls)) length-version_line)
+    ∙ ap (λ (z : ℕ). version_size + length (lines_text ls) + z) (length-append text (10 ∷ [])) in
     record {
       all = all;
       same = whole_lines (ls ++ text ∷ []);
@@ -222,7 +223,7 @@ path_bad a mid new max room count s text p took is low end none =
     not_viable (inl e) = no_nil _ e
       where
         no_nil : (x : Bytes) → version_line ++ x ≡ [] → ⊥
-        no_nil x e = absurd (omega (arith, ap length e, length-append version_line x, version_size))
+        no_nil x e = absurd (omega (arith, ap length e, length-append version_line x, length-version_line))
     not_viable (inr v) =
         let q = front_path _ v in
         let e : lines_text ls ≡ lines_text q.lines = append_cancel_left version_line _ _ q.is in
@@ -267,8 +268,8 @@ path_more a mid new max room count s t text p took is low step =
       lines = omega (arith, p.lines, length-append p.ls (text ∷ []));
     }
 
-pub path_start : (a mid : Known) (max : ℕ) → 22 ≤ max → Consumes a mid version_line
-    → Reached a mid max (max - 22) 1 (between [])
+pub path_start : (a mid : Known) (max : ℕ) → version_size ≤ max → Consumes a mid version_line
+    → Reached a mid max (max - version_size) 1 (between [])
 path_start a mid max wide took = record {
   ls = [];
   each = tt;

@@ -3,7 +3,7 @@ use Rattle.std.proofs.Common.{◌≡◌, ℕ, zero, suc, ◌+◌, ◌-◌, ◌*�
 use Rattle.std.proofs.lemmas.List.{take_more, append-nil}
 use Rattle.std.proofs.lemmas.List.Concat.{flat_map-append}
 use Rattle.age_kdf.specs.Bytes.{Bytes}
-use Rattle.age_header.specs.Header.{StanzaParts, argument_line, line, version_line}
+use Rattle.age_header.specs.Header.{StanzaParts, argument_line, line, version_line, version_size}
 use Rattle.age_header.specs.Base64.{base64_of}
 use Rattle.age_header.specs.Text.{body_lines, body_text, stanza_text, signed, mac_end}
 use Rattle.age_header.proofs.TextLemmas.{signs_size}
@@ -48,9 +48,9 @@ pub stanza_size : (s : StanzaParts) → length (stanza_text s) ≡ length (argum
 unfolding stanza_text
 stanza_size s = length-append (argument_line s.args) (body_text s.body)
 
-pub version_size : length version_line ≡ 22
+pub length-version_line : length version_line ≡ version_size
 unfolding version_line
-version_size = refl
+length-version_line = refl
 
 pub mac_end_size : (mac : Bytes) → length mac ≡ 32 → length (mac_end mac) ≡ 45
 unfolding mac_end
@@ -64,7 +64,7 @@ header_size ss mac n =
     let front = length-append (version_line ++ flat_map stanza_text ss) (codes "---") in
     let first = length-append version_line (flat_map stanza_text ss) in
     let end = mac_end_size mac n in
-    let v = version_size in
+    let v = length-version_line in
     omega arith
 
 -- sums that stay at the largest number

@@ -7,14 +7,15 @@ use Rattle.std.specs.declared.result.Result.{Result}
 use Rattle.age_kdf.specs.Bytes.{Bytes}
 use Rattle.age_header.specs.declared.fault.HeaderFault.{HeaderFault}
 use Rattle.age_header.specs.declared.fault.HeaderFault.TheVariants.{NotAge, BadLine, Truncated, TooLarge, Read, Memory}
-use Rattle.age_header.specs.Header.{StanzaParts, Head, line, version_line}
+use Rattle.age_header.specs.Header.{StanzaParts, Head, line, version_line, version_size}
 use Rattle.age_header.specs.Steps.{between}
 use Rattle.age_header.specs.Verdict.{IsLineText, lines_text, IsHeader, AreLines, Decides, BeginsAsAge, Found, Finds, IsFault, HeaderVerdict, BeginsWith}
 use Rattle.age_header.proofs.LineLemmas.{lines_front}
 use Rattle.age_header.proofs.OneReading.{head_path, end_text, reading}
 use Rattle.age_header.proofs.PathLemmas.{version_text}
-use Rattle.age_header.proofs.VerdictPaths.{path_first, begins, take_past, version_is_text, version_size, whole_lines, both}
+use Rattle.age_header.proofs.VerdictPaths.{path_first, begins, take_past, version_is_text, whole_lines, both}
 use Rattle.age_header.proofs.LaterLines.{lines_push}
+use Rattle.age_header.proofs.LengthLemmas.{length-version_line}
 
 -- fewer lines don't decide where more do
 not_fewer : (b : Bytes) (ks ls : List Bytes) → Decides ks b → Decides ls b → length ks < length ls → ⊥
@@ -138,10 +139,11 @@ found_begins b max x h =
     ∙ append_assoc (version_line ++ lines_text p.lines) (line end) cut in
     let front : b ≡ version_line ++ (lines_text ls ++ h.rest) = h.front ∙ ap (λ (z : Bytes). z ++ h.rest) p.is
         ∙ append_assoc version_line (lines_text ls) h.rest in
-    let size : length x.text ≡ 22 + length (lines_text ls) = ap length p.is ∙ length-append version_line (lines_text ls)
-        ∙ ap (λ (z : ℕ). z + length (lines_text ls)) version_size in
+    let size : length x.text ≡ version_size + length (lines_text ls) = ap length p.is
+        ∙ length-append version_line (lines_text ls)
+        ∙ ap (λ (z : ℕ). z + length (lines_text ls)) length-version_line in
     let fits : length x.text ≤ max = h.fits in
-    let wide : 22 ≤ max = omega arith in
+    let wide : version_size ≤ max = omega arith in
     let header : IsHeader (lines_text whole) =
         (x.stanzas, x.mac, subst (λ (z : Bytes). Head x.stanzas x.mac z) text h.head) in
     record {

@@ -12,7 +12,7 @@ use Rattle.age_header.specs.declared.lines.LineEnd.{LineEnd}
 use Rattle.age_header.specs.declared.lines.LineEnd.TheVariants.{Lf, Input, Room}
 use Rattle.age_header.specs.Arguments.{NoVisible}
 use Rattle.age_header.specs.Base64.{IsBase64, decoded}
-use Rattle.age_header.specs.Header.{StanzaParts, AreArguments, IsVisible, argument_line, line}
+use Rattle.age_header.specs.Header.{StanzaParts, AreArguments, IsVisible, argument_line, line, version_size}
 use Rattle.age_header.specs.Lines.{taken, IsEnd}
 use Rattle.age_header.specs.Steps.{State, between, within, Step}
 use Rattle.age_header.specs.Verdict.{IsLineText, Found, HeaderVerdict}
@@ -250,7 +250,7 @@ path_verdict (suc n) b m max room count s low p =
 -- a first line that the version line begins with
 begun_verdict : (b : Bytes) (max : ℕ) (text : Bytes) (end : LineEnd) (rest behind : Bytes) → IsLineText text
     → b ≡ taken text end ++ rest
-    → IsEnd end (length text) (min max 22) (Some rest) → version_text ≡ text ++ behind → HasVerdict b max
+    → IsEnd end (length text) (min max version_size) (Some rest) → version_text ≡ text ++ behind → HasVerdict b max
 begun_verdict b max text Input rest behind is took ends front =
     (Err Truncated, short_input (Some b) (Some rest) text behind max took is ends front)
 begun_verdict b max text Room rest behind is took ends front =
@@ -258,13 +258,14 @@ begun_verdict b max text Room rest behind is took ends front =
 begun_verdict b max text Lf rest behind is took ends front = elim (nil_or_some behind) [
   | inl none ↦
       let v = version_taken (Some b) (Some rest) text behind max took ends front none in
-      path_verdict max b rest max (max - 22) 1 (between []) (omega arith) (path_start (Some b) (Some rest) max v.0 v.1)
+      path_verdict max b rest max (max - version_size) 1 (between []) (omega arith)
+          (path_start (Some b) (Some rest) max v.0 v.1)
   | inr some ↦ (Err NotAge, short_line (Some b) (Some rest) text behind max took is ends front some)
 ]
 
 pub some_verdict : (b : Bytes) (max : ℕ) → HasVerdict b max
 some_verdict b max =
-    let l = first_line (min max 22) b in
+    let l = first_line (min max version_size) b in
     elim (front_of l.text version_text) [
       | inl w ↦ begun_verdict b max l.text l.end l.rest w.0 l.is l.took l.ends w.1
       | inr none ↦ (Err NotAge, no_front (Some b) (Some l.rest) l.text l.end max l.took l.is l.ends none)

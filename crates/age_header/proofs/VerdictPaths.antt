@@ -6,7 +6,7 @@ use Rattle.std.specs.Io.KnownBytes.{Consumes}
 use Rattle.std.specs.List.{AllByRecursion}
 use Rattle.age_kdf.specs.Bytes.{Bytes}
 use Rattle.age_header.specs.Device.{Known}
-use Rattle.age_header.specs.Header.{line, version_line}
+use Rattle.age_header.specs.Header.{line, version_line, version_size}
 use Rattle.age_header.specs.Steps.{State, between, Leads}
 use Rattle.age_header.specs.Verdict.{IsLineText, lines_text, IsViable, IsHeader, AreLines, BeginsAsAge, IsUndecided}
 use Rattle.age_header.proofs.PathLemmas.{leads_viable, leads_no_header, version_text}
@@ -19,7 +19,7 @@ pub record Reached (a mid : Known) (max room count : ℕ) (s : State) : Type 0 w
   pub each : AllByRecursion IsLineText ls
   pub leads : Leads (between []) ls s
   pub taken : Consumes a mid (version_line ++ lines_text ls)
-  pub size : room + 22 + length (lines_text ls) ≡ max
+  pub size : room + version_size + length (lines_text ls) ≡ max
   pub lines : count ≡ length ls + 1
 
 abbrev pub clear : Bytes → Bool
@@ -108,10 +108,6 @@ path_open ls s cap tail each leads is text ks d =
           both d.decided f.0 f.1
     ]
 
-pub version_size : length version_line ≡ 22
-unfolding version_line
-version_size = refl
-
 pub take_past : (x n : Bytes) (m : ℕ) → length x ≤ m → take m (x ++ n) ≡ x ++ take (m - length x) n
 take_past [] n m h = let e : m - 0 ≡ m = omega arith in rw e refl
 take_past (c ∷ x) n zero h = absurd (omega arith)
@@ -120,10 +116,10 @@ take_past (c ∷ x) n (suc m) h =
     let e : suc m - length (c ∷ x) ≡ m - length x = omega arith in
     rw e (ap (λ (z : Bytes). c ∷ z) (take_past x n m low))
 
-pub begins : (x : Bytes) (max : ℕ) → 22 ≤ max → BeginsAsAge (take max (version_line ++ x))
+pub begins : (x : Bytes) (max : ℕ) → version_size ≤ max → BeginsAsAge (take max (version_line ++ x))
 unfolding version_line
 begins x max h =
     let low : length version_line ≤ max = h in
-    let front : take 22 (take max (version_line ++ x)) ≡ version_line =
-        ap (λ (z : Bytes). take 22 z) (take_past version_line x max low) in
+    let front : take version_size (take max (version_line ++ x)) ≡ version_line =
+        ap (λ (z : Bytes). take version_size z) (take_past version_line x max low) in
     rw front refl

@@ -1,33 +1,36 @@
 -- The blocks of BlockMix, one by one.
-use Rattle.std.proofs.Common.{◌≡◌, ℕ, suc, ◌+◌, ◌*◌, ◌≤◌, List, ◌++◌, length, take, drop, bit_xor, sym, ap, ap₂, ◌∙◌, arith}
+use Rattle.std.proofs.Common.{◌≡◌, ℕ, suc, ◌+◌, ◌*◌, ◌≤◌, ◌++◌, length, take, drop, bit_xor, sym, ap, ap₂, ◌∙◌, arith}
 use Rattle.std.specs.Simd.Lanes.{zip2}
 use Rattle.std.proofs.lemmas.Slice.{take-put_mid}
+use Rattle.age_kdf.specs.Bytes.{Words}
 use borrow.Rule.Slice.PartMut.{put_mid}
 use Rattle.age_kdf.specs.Salsa.{salsa8}
 use Rattle.age_kdf.specs.BlockMix.{mixed, evens, odds}
 
 -- one step: X after it
-pub mixed_next : (r : ℕ) (b x out : List ℕ) (i at next : ℕ) → x ≡ mixed r b i → at ≡ 16 * i → next ≡ suc i
+pub mixed_next : (r : ℕ) (b x out : Words) (i at next : ℕ) → x ≡ mixed r b i → at ≡ 16 * i → next ≡ suc i
     → out ≡ salsa8 (zip2 bit_xor x (take 16 (drop at b))) → out ≡ mixed r b next
 unfolding mixed
 mixed_next r b x out i at next is place after made =
     made ∙ ap₂ (λ y a. salsa8 (zip2 bit_xor y (take 16 (drop a b)))) is place ∙ ap (mixed r b) (sym after)
 
 -- a block written after those that were written before
-pub block_written : (out front x : List ℕ) (at k next : ℕ) → take at out ≡ front → length x ≡ 16 → next ≡ at + 16
+pub block_written : (out front x : Words) (at k next : ℕ) → take at out ≡ front → length x ≡ 16 → next ≡ at + 16
     → at + 16 ≤ length out → take next (put_mid at k out x) ≡ front ++ x
 block_written out front x at k next is len after room =
     take-put_mid at k out x next (omega arith) (omega arith) ∙ ap (λ z. z ++ x) is
 
 -- one more even block
-pub evens_next : (r : ℕ) (b x all : List ℕ) (i : ℕ) → all ≡ evens r b i ++ x → x ≡ mixed r b (2 * i + 1) → all ≡ evens r b (i + 1)
+pub evens_next : (r : ℕ) (b x all : Words) (i : ℕ) → all ≡ evens r b i ++ x → x ≡ mixed r b (2 * i + 1)
+    → all ≡ evens r b (i + 1)
 unfolding evens
 evens_next r b x all i is x-is =
     let one : suc i ≡ i + 1 = omega arith in
     is ∙ ap (λ z. evens r b i ++ z) x-is ∙ ap (evens r b) one
 
 -- one more odd block
-pub odds_next : (r : ℕ) (b x all : List ℕ) (i : ℕ) → all ≡ odds r b i ++ x → x ≡ mixed r b (2 * i + 2) → all ≡ odds r b (i + 1)
+pub odds_next : (r : ℕ) (b x all : Words) (i : ℕ) → all ≡ odds r b i ++ x → x ≡ mixed r b (2 * i + 2)
+    → all ≡ odds r b (i + 1)
 unfolding odds
 odds_next r b x all i is x-is =
     let one : suc i ≡ i + 1 = omega arith in

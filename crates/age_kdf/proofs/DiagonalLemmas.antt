@@ -1,33 +1,40 @@
 -- The rounds of Salsa20/8 lane by lane.
-use Rattle.std.proofs.Common.{◌≡◌, ℕ, ◌-◌, ◌*◌, ◌/◌, ◌%◌, ◌^◌, ◌<◌, List, [], ◌∷◌, length, replicate, slice_index, bit_or, arith, refl, ap, ap₂, ◌∙◌}
+use Rattle.std.proofs.Common.{◌≡◌, ℕ, ◌-◌, ◌*◌, ◌/◌, ◌%◌, ◌^◌, ◌<◌, [], ◌∷◌, length, replicate, slice_index, bit_or, arith, refl, ap, ap₂, ◌∙◌}
 use Rattle.std.specs.Int.{w32, rotate_left}
 use Rattle.std.specs.Simd.Lanes.{zip2}
 use Rattle.std.proofs.lemmas.Simd.{get_or-zip2, get_or-replicate, length-zip2}
+use Rattle.age_kdf.specs.Bytes.{Words}
 use Rattle.age_kdf.specs.Salsa.{quarter, columns, rows}
 use Rattle.age_kdf.specs.Diagonals.{quartered, spread, turned}
 
 -- two shifts of each lane and an or rotate it
-pub shifts_rotate : (x : List ℕ) (k j : ℕ) → length x ≡ 4 → 0 < k → k < 32 → j < 4
-    → slice_index (zip2 bit_or (zip2 (λ a n. a * 2 ^ n % 2 ^ 32) x (replicate 4 k)) (zip2 (λ a n. a / 2 ^ n) x (replicate 4 (32 - k)))) j
+pub shifts_rotate : (x : Words) (k j : ℕ) → length x ≡ 4 → 0 < k → k < 32 → j < 4
+    → slice_index (zip2 bit_or (zip2 (λ a n. a * 2 ^ n % 2 ^ 32) x (replicate 4 k))
+    (zip2 (λ a n. a / 2 ^ n) x (replicate 4 (32 - k)))) j
     ≡ rotate_left w32 (slice_index x j) k
 shifts_rotate x k j long low high inside =
     let shifted : (f : ℕ → ℕ → ℕ) (n : ℕ) → slice_index (zip2 f x (replicate 4 n)) j ≡ f (slice_index x j) n =
-    λ f n. get_or-zip2 f x (replicate 4 n) j 0 0 0 (omega arith) inside ∙ ap (f (slice_index x j)) (get_or-replicate 4 j n 0 inside) in
-    let here : (f : ℕ → ℕ → ℕ) (n : ℕ) → j < length (zip2 f x (replicate 4 n)) = λ f n. omega (arith, length-zip2 f x (replicate 4 n) long) in
+    λ f n. get_or-zip2 f x (replicate 4 n) j 0 0 0 (omega arith) inside
+        ∙ ap (f (slice_index x j)) (get_or-replicate 4 j n 0 inside) in
+    let here : (f : ℕ → ℕ → ℕ) (n : ℕ) → j < length (zip2 f x (replicate 4 n)) =
+        λ f n. omega (arith, length-zip2 f x (replicate 4 n) long) in
     let left : ℕ → ℕ → ℕ = λ a n. a * 2 ^ n % 2 ^ 32 in
     let right : ℕ → ℕ → ℕ = λ a n. a / 2 ^ n in
     let whole : k % 32 ≡ k = omega arith in
     let rest : (32 - k) % 32 ≡ 32 - k = omega arith in
-    get_or-zip2 bit_or (zip2 left x (replicate 4 k)) (zip2 right x (replicate 4 (32 - k))) j 0 0 0 (here left k) (here right (32 - k))
+    get_or-zip2 bit_or (zip2 left x (replicate 4 k)) (zip2 right x (replicate 4 (32 - k))) j 0 0 0 (here left k)
+        (here right (32 - k))
     ∙ ap₂ bit_or (shifted left k) (shifted right (32 - k)) ∙ rw (whole, rest) refl
 
 -- four lanes before and after the four steps
-abbrev pub AreQuartered : List ℕ → List ℕ → List ℕ → List ℕ → List ℕ → List ℕ → List ℕ → List ℕ → Type 0
+abbrev pub AreQuartered : Words → Words → Words → Words → Words → Words → Words → Words → Type 0
 AreQuartered a b c d e f g h = (j : ℕ) → j < 4
-    → (slice_index e j, slice_index f j, slice_index g j, slice_index h j) ≡ quartered (slice_index a j) (slice_index b j) (slice_index c j) (slice_index d j)
+    → (slice_index e j, slice_index f j, slice_index g j, slice_index h j)
+    ≡ quartered (slice_index a j) (slice_index b j) (slice_index c j) (slice_index d j)
 
 -- the steps in every lane are those on the columns
-pub columns_spread : (a b c d e f g h : List ℕ) → AreQuartered a b c d e f g h → spread (e ∷ f ∷ g ∷ h ∷ []) ≡ columns (spread (a ∷ b ∷ c ∷ d ∷ []))
+pub columns_spread : (a b c d e f g h : Words) → AreQuartered a b c d e f g h
+    → spread (e ∷ f ∷ g ∷ h ∷ []) ≡ columns (spread (a ∷ b ∷ c ∷ d ∷ []))
 unfolding columns quarter quartered
 columns_spread a b c d e f g h q =
     let q0 = q 0 (omega arith) in
@@ -38,7 +45,7 @@ columns_spread a b c d e f g h q =
     ∷ (q0 i).2 ∷ (q1 i).1 ∷ (q2 i).0 ∷ (q3 i).3 ∷ (q0 i).3 ∷ (q1 i).2 ∷ (q2 i).1 ∷ (q3 i).0 ∷ []
 
 -- the steps in every lane are those on the rows, where the lanes are moved before and back after
-pub rows_spread : (a b c d e f g h : List ℕ) → AreQuartered a (turned 1 d) (turned 2 c) (turned 3 b) e f g h
+pub rows_spread : (a b c d e f g h : Words) → AreQuartered a (turned 1 d) (turned 2 c) (turned 3 b) e f g h
     → spread (e ∷ turned 1 h ∷ turned 2 g ∷ turned 3 f ∷ []) ≡ rows (spread (a ∷ b ∷ c ∷ d ∷ []))
 unfolding rows quarter quartered
 rows_spread a b c d e f g h q =

@@ -1,18 +1,19 @@
 -- The blocks of HKDF.
-use Rattle.std.proofs.Common.{◌≡◌, ℕ, zero, suc, ◌+◌, ◌*◌, List, [], ◌∷◌, ◌++◌, length, take, refl, sym, ap, ap₂, ◌∙◌, arith, append_assoc, length-append}
+use Rattle.std.proofs.Common.{◌≡◌, ℕ, zero, suc, ◌+◌, ◌*◌, [], ◌∷◌, ◌++◌, length, take, refl, sym, ap, ap₂, ◌∙◌, arith, append_assoc, length-append}
+use Rattle.age_kdf.specs.Bytes.{Bytes}
 use Rattle.age_kdf.specs.Hmac.{hmac}
 use Rattle.age_kdf.specs.Hkdf.{hkdf_block, hkdf_blocks}
 use Rattle.age_kdf.proofs.HmacLemmas.{length-hmac}
 
 -- n blocks have 32 * n bytes
-pub length-hkdf_blocks : (prk info : List ℕ) (n : ℕ) → length (hkdf_blocks prk info n) ≡ 32 * n
+pub length-hkdf_blocks : (prk info : Bytes) (n : ℕ) → length (hkdf_blocks prk info n) ≡ 32 * n
 unfolding hkdf_blocks hkdf_block
 length-hkdf_blocks prk info zero = refl
 length-hkdf_blocks prk info (suc n) =
     length-append _ _ ∙ ap₂ ◌+◌ (length-hkdf_blocks prk info n) (length-hmac _ _) ∙ (omega arith)
 
 -- one more block: its bytes, and the output up to it
-pub hkdf_next : (out block prk info last : List ℕ) (i len : ℕ) → last ≡ hkdf_block prk info i
+pub hkdf_next : (out block prk info last : Bytes) (i len : ℕ) → last ≡ hkdf_block prk info i
     → block ≡ hmac prk (last ++ (info ++ (i + 1) ∷ []))
     → take (32 * (i + 1)) out ≡ take len (hkdf_blocks prk info i ++ block)
     → record {

@@ -1,12 +1,13 @@
 -- One more block of an output.
-use Rattle.std.proofs.Common.{◌≡◌, ℕ, ◌+◌, ◌≤◌, List, ◌++◌, length, take, refl, sym, ap, ◌∙◌, arith, rules, length-append}
+use Rattle.std.proofs.Common.{◌≡◌, ℕ, ◌+◌, ◌≤◌, ◌++◌, length, take, refl, sym, ap, ◌∙◌, arith, rules, length-append}
 use Rattle.std.proofs.lemmas.List.{take_all}
 use Rattle.std.proofs.Math.Seq.{take-append-add}
 use Rattle.std.proofs.lemmas.Slice.{take-put_mid, overwrites}
+use Rattle.age_kdf.specs.Bytes.{Bytes}
 use borrow.Rule.Slice.PartMut.{put_mid}
 
 -- where the whole block fits
-pub whole : (out front block ys : List ℕ) (at next k : ℕ) → length front ≡ at → take at out ≡ take (length out) front
+pub whole : (out front block ys : Bytes) (at next k : ℕ) → length front ≡ at → take at out ≡ take (length out) front
     → length block ≡ 32 → ys ≡ take 32 block → next ≡ at + 32 → at + 32 ≤ length out
     → take next (put_mid at k out ys) ≡ take (length out) (front ++ block)
 whole out front block ys at next k size same len is on room =
@@ -20,7 +21,7 @@ whole out front block ys at next k size same len is on room =
     ) refl
 
 -- where its first n bytes alone fit
-pub cut : (out front block ys : List ℕ) (at next k m n : ℕ) → length front ≡ at → take at out ≡ take (length out) front
+pub cut : (out front block ys : Bytes) (at next k m n : ℕ) → length front ≡ at → take at out ≡ take (length out) front
     → length ys ≡ n → ys ≡ take m block → m ≡ n → k ≡ n → at + n ≡ length out → length out ≤ next
     → take next (put_mid at k out ys) ≡ take (length out) (front ++ block)
 cut out front block ys at next k m n size same len is m-is k-is end past =

@@ -1,24 +1,26 @@
 -- The rows of the table, and the row that the last block of X names.
-use Rattle.std.proofs.Common.{◌≡◌, ℕ, suc, ◌+◌, ◌*◌, ◌-◌, ◌%◌, ◌^◌, ◌<◌, ◌≤◌, List, [], ◌∷◌, length, take, drop, get_or, bit_xor, refl, sym, ap, ◌∙◌, arith}
+use Rattle.std.proofs.Common.{◌≡◌, ℕ, suc, ◌+◌, ◌*◌, ◌-◌, ◌%◌, ◌^◌, ◌<◌, ◌≤◌, [], ◌∷◌, length, take, drop, get_or, bit_xor, refl, sym, ap, ◌∙◌, arith}
 use Rattle.std.specs.Simd.Lanes.{number_l, zip2}
 use Rattle.std.proofs.lemmas.List.{drop-take, drop_at, length-take-le}
 use Rattle.std.proofs.lemmas.Simd.{get_or-chunk}
 use Rattle.std.proofs.lemmas.Slice.{take-put_mid, take-put_mid_below}
 use Rattle.std.proofs.Math.Nat.{add-mul-mod_self_left, mul_assoc, mul-le-mul_left}
 use Rattle.std.proofs.lemmas.Nat.{pow-add, mod_below, pow_pos}
+use Rattle.age_kdf.specs.Bytes.{Words}
 use borrow.Rule.Slice.PartMut.{put_mid}
 use Rattle.age_kdf.specs.BlockMix.{block, block_mix}
 use Rattle.age_kdf.specs.RoMix.{integerify, mixed_times, romix_after}
 
 -- a row that was just written
-pub row_here : (at size k : ℕ) (xs ys : List ℕ) → length ys ≡ size → at ≤ length xs → take size (drop at (put_mid at k xs ys)) ≡ ys
+pub row_here : (at size k : ℕ) (xs ys : Words) → length ys ≡ size → at ≤ length xs
+    → take size (drop at (put_mid at k xs ys)) ≡ ys
 row_here at size k xs ys len room =
     sym (drop-take at size (put_mid at k xs ys))
     ∙ ap (drop at) (take-put_mid at k xs ys (at + size) (omega arith) room)
     ∙ drop_at (take at xs) ys at (length-take-le at xs room)
 
 -- a row before the one that was written
-pub row_below : (a at size k : ℕ) (xs ys : List ℕ) → a + size ≤ at → at ≤ length xs
+pub row_below : (a at size k : ℕ) (xs ys : Words) → a + size ≤ at → at ≤ length xs
     → take size (drop a (put_mid at k xs ys)) ≡ take size (drop a xs)
 row_below a at size k xs ys before room =
     sym (drop-take a size (put_mid at k xs ys))
@@ -30,7 +32,7 @@ pub rows_apart : (size i j : ℕ) → j < i → size * j + size ≤ size * i
 rows_apart size i j less = omega (arith, mul-le-mul_left size less)
 
 -- modulo a power of two of at most 32 bits a number is its lowest word
-low_word : (k : ℕ) (ws : List ℕ) → k ≤ 32 → number_l (2 ^ 32) ws % 2 ^ k ≡ get_or ws 0 0 % 2 ^ k
+low_word : (k : ℕ) (ws : Words) → k ≤ 32 → number_l (2 ^ 32) ws % 2 ^ k ≡ get_or ws 0 0 % 2 ^ k
 low_word k [] h = refl
 low_word k (w ∷ ws) h =
     let whole : 32 ≡ k + (32 - k) = omega arith in
@@ -40,7 +42,7 @@ low_word k (w ∷ ws) h =
     ∙ add-mul-mod_self_left w (2 ^ k) (2 ^ (32 - k) * number_l (2 ^ 32) ws)
 
 -- the first word of the last block modulo N is Integerify(X) modulo N
-pub index_is : (r k : ℕ) (x : List ℕ) → 0 < r → k ≤ 32 → get_or x (32 * r - 16) 0 % 2 ^ k ≡ integerify r (2 ^ k) x
+pub index_is : (r k : ℕ) (x : Words) → 0 < r → k ≤ 32 → get_or x (32 * r - 16) 0 % 2 ^ k ≡ integerify r (2 ^ k) x
 index_is r k x pos h =
     let place : 32 * r - 16 ≡ 16 * (2 * r - 1) + 0 = omega arith in
     ap (λ p. get_or x p 0 % 2 ^ k) place
@@ -48,7 +50,7 @@ index_is r k x pos h =
     ∙ sym (low_word k (block x (2 * r - 1)) h)
 
 -- one turn of the second loop
-pub look_turn : (r k m len n : ℕ) (b x x1 x2 table : List ℕ) → 0 < r → k ≤ 32 → len ≡ 32 * r → n ≡ 2 ^ k
+pub look_turn : (r k m len n : ℕ) (b x x1 x2 table : Words) → 0 < r → k ≤ 32 → len ≡ 32 * r → n ≡ 2 ^ k
     → x ≡ romix_after r (2 ^ k) b m
     → ((j : ℕ) → j < 2 ^ k → take (32 * r) (drop (32 * r * j) table) ≡ mixed_times r b j)
     → x1 ≡ zip2 bit_xor x (take len (drop (len * (get_or x (32 * r - 16) 0 % n)) table))

@@ -1,14 +1,15 @@
 -- Words of joined bytes, and parts that are mixed one after another.
-use Rattle.std.proofs.Common.{◌≡◌, ℕ, zero, suc, ◌+◌, ◌*◌, ◌≤◌, ◌<◌, List, [], ◌∷◌, ◌++◌, length, take, drop, get_or, refl, sym, ap, ap₂, ◌∙◌, arith, append_assoc}
+use Rattle.std.proofs.Common.{◌≡◌, ℕ, zero, suc, ◌+◌, ◌*◌, ◌≤◌, ◌<◌, [], ◌∷◌, ◌++◌, length, take, drop, get_or, refl, sym, ap, ap₂, ◌∙◌, arith, append_assoc}
 use Rattle.std.proofs.lemmas.List.{append-nil, get_or-append-add, drop-drop}
 use Rattle.std.proofs.Math.ListN.{get_or-append}
 use Rattle.std.proofs.lemmas.Slice.{take-put_mid, drop-put_mid}
+use Rattle.age_kdf.specs.Bytes.{Bytes, Words}
 use borrow.Rule.Slice.PartMut.{put_mid}
 use Rattle.age_kdf.specs.Scrypt.{words_of, word_at, parts_mixed}
 use Rattle.age_kdf.specs.RoMix.{romix}
 
 -- words that lie in the front bytes
-words-front : (xs ys : List ℕ) (n : ℕ) → 4 * n ≤ length xs → words_of (xs ++ ys) n ≡ words_of xs n
+words-front : (xs ys : Bytes) (n : ℕ) → 4 * n ≤ length xs → words_of (xs ++ ys) n ≡ words_of xs n
 unfolding words_of
 words-front xs ys zero room = refl
 words-front xs ys (suc n) room =
@@ -22,7 +23,7 @@ words-front xs ys (suc n) room =
     ) refl
 
 -- a word that lies after the front bytes
-word_behind : (xs ys : List ℕ) (k : ℕ) → word_at (xs ++ ys) (length xs + k) ≡ word_at ys k
+word_behind : (xs ys : Bytes) (k : ℕ) → word_at (xs ++ ys) (length xs + k) ≡ word_at ys k
 word_behind xs ys k =
     let at : (i : ℕ) → get_or (xs ++ ys) (length xs + k + i) 0 ≡ get_or ys (k + i) 0 = λ i.
     let e : length xs + k + i ≡ length xs + (k + i) = omega arith in
@@ -30,7 +31,8 @@ word_behind xs ys k =
     rw (get_or-append-add xs ys k 0, at 1, at 2, at 3) refl
 
 -- the words of joined bytes are the words of each, joined
-pub words-joined : (xs ys : List ℕ) (m n : ℕ) → length xs ≡ 4 * m → words_of (xs ++ ys) (m + n) ≡ words_of xs m ++ words_of ys n
+pub words-joined : (xs ys : Bytes) (m n : ℕ) → length xs ≡ 4 * m
+    → words_of (xs ++ ys) (m + n) ≡ words_of xs m ++ words_of ys n
 unfolding words_of
 words-joined xs ys m zero len =
     let none : m + 0 ≡ m = omega arith in
@@ -43,7 +45,7 @@ words-joined xs ys m (suc n) len =
     ∙ append_assoc (words_of xs m) (words_of ys n) _
 
 -- a block of eight words written after those that were written before
-pub block_loaded : (words ws front block : List ℕ) (i k : ℕ) → take (8 * i) words ≡ words_of front (8 * i)
+pub block_loaded : (words ws : Words) (front block : Bytes) (i k : ℕ) → take (8 * i) words ≡ words_of front (8 * i)
     → ws ≡ words_of block 8 → length ws ≡ 8 → length front ≡ 32 * i → 8 * i + 8 ≤ length words
     → take (8 * (i + 1)) (put_mid (8 * i) k words ws) ≡ words_of (front ++ block) (8 * (i + 1))
 block_loaded words ws front block i k before is len long room =
@@ -54,7 +56,7 @@ block_loaded words ws front block i k before is len long room =
     ∙ ap (words_of (front ++ block)) next
 
 -- a part mixed in place after those that were mixed before
-pub part_mixed : (r n size i k next : ℕ) (b parts x : List ℕ) → size ≡ 32 * r → k ≡ size → next ≡ size * i + size
+pub part_mixed : (r n size i k next : ℕ) (b parts x : Words) → size ≡ 32 * r → k ≡ size → next ≡ size * i + size
     → take (size * i) parts ≡ parts_mixed r n b i → drop (size * i) parts ≡ drop (size * i) b
     → x ≡ romix r n (take k (drop (size * i) parts)) → length x ≡ size → next ≤ length parts
     → record {
@@ -66,7 +68,8 @@ part_mixed r n size i k next b parts x size-is k-is next-is done rest x-is len r
     let one : suc i ≡ i + 1 = omega arith in
     record {
       done = take-put_mid (size * i) k parts x next (omega arith) (omega arith)
-          ∙ ap₂ ◌++◌ done (x-is ∙ ap₂ (λ a d. romix r n (take a d)) (k-is ∙ size-is) (rest ∙ ap (λ s. drop (s * i) b) size-is))
+          ∙ ap₂ ◌++◌ done (x-is ∙ ap₂ (λ a d. romix r n (take a d)) (k-is ∙ size-is)
+          (rest ∙ ap (λ s. drop (s * i) b) size-is))
           ∙ ap (parts_mixed r n b) one;
       rest = drop-put_mid (size * i) k parts x next (omega arith) (omega arith) (omega arith)
           ∙ ap (λ a. drop a parts) next-is ∙ sym (drop-drop size (size * i) parts)

@@ -1,5 +1,6 @@
-use Rattle.std.proofs.Common.{◌≡◌, ℕ, ◌+◌, List, ◌++◌, length, take, drop, slice_index, arith, sym, ap₂, ◌∙◌, rules}
+use Rattle.std.proofs.Common.{◌≡◌, ℕ, ◌+◌, ◌++◌, length, take, drop, slice_index, arith, sym, ap₂, ◌∙◌, rules}
 use Rattle.std.proofs.lemmas.List.{length-map}
+use Rattle.age_cipher.specs.Bytes.{Words}
 use Rattle.age_cipher.specs.Lanes.{lane, bytes, IsXoredAt}
 use Rattle.age_cipher.proofs.BlockLemmas.{length-bytes, lane_written, length-four_blocks, xored_on}
 use Rattle.age_cipher.proofs.chacha20_blocks.xor_eight_lanes.Goals as goal
@@ -14,8 +15,8 @@ returns c =
     let full : length words ≡ 16 = search rules in
     let long : (j : ℕ) → length (bytes (lane j words)) ≡ 64 = λ j.
     omega (arith, length-bytes (lane j words), length-map words (λ v. slice_index v j), full) in
-    let low : List ℕ → List ℕ → List ℕ = λ x y. take 4 x ++ take 4 y in
-    let high : List ℕ → List ℕ → List ℕ = λ x y. drop 4 x ++ drop 4 y in
+    let low : Words → Words → Words = λ x y. take 4 x ++ take 4 y in
+    let high : Words → Words → Words = λ x y. drop 4 x ++ drop 4 y in
     let row0 = ap₂ ◌++◌ (c.low_halves.ensures ∙ ap₂ low t1.first t2.first)
     (c.low_halves-2.ensures ∙ ap₂ low t3.first t4.first) ∙ lane_written words 0 full in
     let row1 = ap₂ ◌++◌ (c.low_halves-3.ensures ∙ ap₂ low t1.second t2.second)
@@ -33,7 +34,8 @@ returns c =
     let row7 = ap₂ ◌++◌ (c.high_halves-7.ensures ∙ ap₂ high t1.fourth t2.fourth)
     (c.high_halves-8.ensures ∙ ap₂ high t3.fourth t4.fourth) ∙ lane_written words 7 full in
     let at = c.args.at in
-    let b0 : IsXoredAt at (bytes (lane 0 words)) c.args.buf.now c.xor_halves.new.buf = rw (sym row0) c.xor_halves.ensures in
+    let b0 : IsXoredAt at (bytes (lane 0 words)) c.args.buf.now c.xor_halves.new.buf =
+        rw (sym row0) c.xor_halves.ensures in
     let b1 : IsXoredAt (at + 64) (bytes (lane 1 words)) c.xor_halves.new.buf c.xor_halves-2.new.buf =
     rw (sym row1) c.xor_halves-2.ensures in
     let b2 : IsXoredAt (at + 128) (bytes (lane 2 words)) c.xor_halves-2.new.buf c.xor_halves-3.new.buf =

@@ -1,5 +1,6 @@
-use Rattle.std.proofs.Common.{arith, rules, sym, subst, ◌∙◌, ap, refl, ◌≡◌, length, ◌+◌, ◌/◌, ℕ, List, []}
+use Rattle.std.proofs.Common.{arith, rules, sym, subst, ◌∙◌, ap, refl, ◌≡◌, length, ◌+◌, ◌/◌, []}
 use Rattle.std.proofs.lemmas.List.{take_all, append-nil}
+use Rattle.age_kdf.specs.Bytes.{Bytes}
 use Rattle.age_kdf.specs.Hmac.{hmac}
 use Rattle.age_kdf.specs.Hkdf.{hkdf, hkdf_block, hkdf_blocks}
 use Rattle.age_kdf.specs.HmacState.{IsFed}
@@ -15,7 +16,7 @@ pub each_block-preserved : goal.each_block-preserved
 each_block-preserved c =
     let prk-is : c.hmac.result ≡ hmac c.args.salt.now c.args.ikm.now =
     c.hmac.ensures ∙ ap (hmac c.args.salt.now) (append-nil c.args.ikm.now) in
-    let P : List ℕ → Type 0 = λ k. IsFed c.new-extracted.result k [] in
+    let P : Bytes → Type 0 = λ k. IsFed c.new-extracted.result k [] in
     let fed = subst P prk-is c.new-extracted.ensures in
     let turn = hkdf_next c.put_block.new.out c.tag_with-block.result _ _ _ c.each_block.i (length c.each_block.out)
     c.each_block.invariant.last (c.tag_with-block.ensures _ _ fed)

@@ -1,8 +1,9 @@
-use Rattle.std.proofs.Common.{◌≡◌, ℕ, ◌*◌, List, [], length, take}
+use Rattle.std.proofs.Common.{◌≡◌, ◌*◌, [], length, take}
+use Rattle.age_kdf.specs.Bytes.{Bytes}
 use Rattle.age_kdf.specs.Pbkdf2.{pbkdf2_blocks}
 use Rattle.age_kdf.specs.HmacState.{IsFed}
 use Rattle.age_kdf.proofs.pbkdf2_sha256.fill.Given as goal
 
 abbrev pub invariant-each_block : goal.invariant-each_block
-invariant-each_block l = (pass salt : List ℕ) → IsFed l.keyed pass [] → IsFed l.salted pass salt
+invariant-each_block l = (pass salt : Bytes) → IsFed l.keyed pass [] → IsFed l.salted pass salt
     → take (32 * l.i) l.out ≡ take (length l.out) (pbkdf2_blocks pass salt l.rounds l.i)

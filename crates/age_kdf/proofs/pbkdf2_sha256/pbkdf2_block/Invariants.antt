@@ -1,11 +1,12 @@
-use Rattle.std.proofs.Common.{◌≡◌, ℕ, ◌+◌, ◌++◌, List, []}
+use Rattle.std.proofs.Common.{◌≡◌, ◌+◌, ◌++◌, []}
 use Rattle.std.specs.Int.{w32, to_be_bytes}
+use Rattle.age_kdf.specs.Bytes.{Bytes}
 use Rattle.age_kdf.specs.Pbkdf2.{pbkdf2_sum, pbkdf2_round}
 use Rattle.age_kdf.specs.HmacState.{IsFed}
 use Rattle.age_kdf.proofs.pbkdf2_sha256.pbkdf2_block.Given as goal
 
 abbrev pub invariant-rounds : goal.invariant-rounds
-invariant-rounds l = (pass salt : List ℕ) → IsFed l.keyed pass [] → IsFed l.salted pass salt →
+invariant-rounds l = (pass salt : Bytes) → IsFed l.keyed pass [] → IsFed l.salted pass salt →
     let first = salt ++ to_be_bytes w32 l.number in
     record {
       sum : l.sum ≡ pbkdf2_sum pass first (l._round + 1);

@@ -16,7 +16,8 @@ fill-preserved c =
     record {
       x = c.copy_from_slice.ensures.after ∙ c.block_mix.ensures ∙ ap (block_mix c.args.r) before.x
           ∙ ap (mixed_times c.args.r c.args.x.now) next;
-      table = below_more _ _ (λ j h. c.put_row.ensures.below j h ∙ before.table j h) (c.put_row.ensures.here ∙ before.x);
+      table = below_more _ _ (λ j h. c.put_row.ensures.below j h ∙ before.table j h)
+          (c.put_row.ensures.here ∙ before.x);
     }
 
 pub look-init : goal.look-init
@@ -29,7 +30,8 @@ pub look-preserved : goal.look-preserved
 look-preserved c =
     let long : length c.look.x ≡ 32 * c.args.r = c.look.auto.x ∙ c.fill.auto.x ∙ c.requires.x in
     let end : c.fill.i ≡ 2 ^ c.args.log_n = omega (arith, c.row_count-n.ensures.value) in
-    look_turn c.args.r c.args.log_n c.look._turn (length c.look.x) c.row_count-n.result c.args.x.now c.look.x c.xor_row.new.x _ c.fill.table
+    look_turn c.args.r c.args.log_n c.look._turn (length c.look.x) c.row_count-n.result c.args.x.now c.look.x
+        c.xor_row.new.x _ c.fill.table
     c.requires.r.0 (omega (arith, c.requires.log_n)) long c.row_count-n.ensures.value c.look.invariant
     (λ j h. c.fill.invariant.table j (rw end h))
     c.xor_row.ensures

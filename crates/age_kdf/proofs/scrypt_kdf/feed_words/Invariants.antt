@@ -1,7 +1,9 @@
-use Rattle.std.proofs.Common.{ℕ, List, ◌++◌, take}
+use Rattle.std.proofs.Common.{◌++◌, take}
+use Rattle.age_kdf.specs.Bytes.{Bytes}
 use Rattle.age_kdf.specs.Scrypt.{bytes_of}
 use Rattle.age_kdf.specs.HmacState.{IsFed}
 use Rattle.age_kdf.proofs.scrypt_kdf.feed_words.Given as goal
 
 abbrev pub invariant-loop-word : goal.invariant-loop-word
-invariant-loop-word l = (key m : List ℕ) → IsFed l.fn.mac key m → IsFed l.mac key (m ++ bytes_of (take l.word-index l.words))
+invariant-loop-word l = (key m : Bytes) → IsFed l.fn.mac key m
+    → IsFed l.mac key (m ++ bytes_of (take l.word-index l.words))

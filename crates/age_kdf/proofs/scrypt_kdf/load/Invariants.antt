@@ -1,9 +1,10 @@
-use Rattle.std.proofs.Common.{◌≡◌, ℕ, ◌*◌, List, [], take}
+use Rattle.std.proofs.Common.{◌≡◌, ◌*◌, [], take}
+use Rattle.age_kdf.specs.Bytes.{Bytes}
 use Rattle.age_kdf.specs.Pbkdf2.{pbkdf2_blocks}
 use Rattle.age_kdf.specs.Scrypt.{words_of}
 use Rattle.age_kdf.specs.HmacState.{IsFed}
 use Rattle.age_kdf.proofs.scrypt_kdf.load.Given as goal
 
 abbrev pub invariant-each_block : goal.invariant-each_block
-invariant-each_block l = (pass salt : List ℕ) → IsFed l.keyed pass [] → IsFed l.salted pass salt
+invariant-each_block l = (pass salt : Bytes) → IsFed l.keyed pass [] → IsFed l.salted pass salt
     → take (8 * l.i) l.words ≡ words_of (pbkdf2_blocks pass salt 1 l.i) (8 * l.i)

@@ -1,8 +1,9 @@
-use Rattle.std.proofs.Common.{ℕ, List, ◌++◌, take}
+use Rattle.std.proofs.Common.{◌++◌, take}
 use Rattle.std.specs.List.{flat_map}
+use Rattle.age_kdf.specs.Bytes.{Bytes}
 use Rattle.age_kdf.specs.HmacState.{IsFed}
 use Rattle.age_kdf.proofs.hmac_sha256.Mac.tag_with.Given as goal
 
 abbrev pub invariant-parts : goal.invariant-parts
-invariant-parts l = (key text : List ℕ) → IsFed l.self key text
+invariant-parts l = (key text : Bytes) → IsFed l.self key text
     → IsFed l.mac key (text ++ flat_map (λ p. p.now) (take l.part-index l.parts))
