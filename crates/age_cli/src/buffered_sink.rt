@@ -97,7 +97,8 @@ impl<'a, W: Write, K: Start> BufferedSink<'a, W, K> {
         }
     }
 
-    /// Ends the sink after this work: writes what it holds, unless a write has failed.
+    /// Ends the sink after this work: writes what it holds, unless a write has failed. So verified
+    /// chunks arrive after a fault too. A failed write replaces the fault.
     pub(crate) fn finish(self, work: Result<(), Fault>) -> Finished<'a, W>
         ensures writer { result.out.ghost_name ≡ K.writer }
         ensures ends { Ends K.contents (taken_by self.entry) (W.contents result.out.now)

@@ -112,7 +112,7 @@ fn check_of(
     }
 }
 
-/// Writes the table of a header.
+/// Writes the table of a header. A column is wider where a number is longer than it.
 fn write_table<W: Write>(header: &Header, check: Check, out: &mut W) -> io::Result<()>
     ensures { OnOk result ((shown : Bytes) × IsTable header.now check shown
         × Appends (W.contents out.old) (W.contents out.new) shown) }

@@ -15,7 +15,8 @@ use age_words::Job;
 use std::alloc::Global;
 
 /// Writes the plaintext of the source from the job's offset on to the sink, at most as many bytes
-/// as the job requests. On a fault of a chunk the plaintext up to that chunk was written.
+/// as the job requests. On a fault of a chunk the plaintext up to that chunk was written. If it
+/// requests none, key, header and last chunk are checked all the same.
 pub fn range_of<D: ReadAt, W: Sink>(
     alloc: Global,
     job: &Job,

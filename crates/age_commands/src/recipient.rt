@@ -12,7 +12,9 @@ use age_file::{
 use age_words::Job;
 use std::alloc::{AllocError, Global};
 
-/// The recipient of a secret: that of its passphrase, or those of its keys in order.
+/// The recipient of a secret: that of its passphrase, or those of its keys in order, all with one
+/// salt: it is the key that tells the wrapping keys apart. It is one object, since a function that
+/// returns a list of boxes which it made can't be proved.
 #[derive(Drop)]
 pub(crate) enum SecretRecipient {
     Passphrase(PassRecipient),

@@ -45,7 +45,8 @@ IsLineText text = AllByRecursion (λ c. c ≢ 10) text
 abbrev pub lines_text : List Bytes → Bytes
 lines_text ls = flat_map line ls
 
--- these are the first whole lines of b
+-- These are the first whole lines of b. They are a list, and no count of LFs, so that "fewer lines"
+-- needs no arithmetic.
 pub record AreLines (ls : List Bytes) (b : Bytes) : Type 0 where
   pub rest : Bytes
   pub each : AllByRecursion IsLineText ls

@@ -12,6 +12,7 @@ use base64::alphabet::Alphabet;
 use base64::engine::general_purpose::{GeneralPurpose, NO_PAD};
 use std::alloc::{AllocError, Global};
 
+// spelled here, since a contract has to state it: the crate only tests its own alphabets
 const ALPHABET: &str = "ABCDEFGHIJKLMNOPQRSTUVWXYZabcdefghijklmnopqrstuvwxyz0123456789+/";
 
 /// The engine for base64 without padding, canonical. It holds a table, so make it once for many

@@ -214,7 +214,8 @@ impl<R: Read> Source for ReadSource<R> {
     }
 }
 
-/// A sink over any writer. A write of 0 bytes of a nonempty piece is a failure.
+/// A sink over any writer. A write of 0 bytes of a nonempty piece is a failure: a loop over such
+/// writes would never end.
 #[derive(Drop)]
 pub struct WriteSink<W> {
     writer: W,

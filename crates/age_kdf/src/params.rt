@@ -35,7 +35,7 @@ pub(crate) fn row_count(log_n: u32) -> usize
 
 impl ScryptParams {
     /// Makes parameters; `None` if one is out of range: `log_n` is 1 to 30 and below 16 * r, and
-    /// `r` and `p` are 1 to 32.
+    /// `r` and `p` are 1 to 32. These ranges are inside the RFC's, and no product wraps in them.
     pub fn new(log_n: u32, r: u32, p: u32) -> Option<ScryptParams>
         ensures in_range { IsSome result ↔ InRange log_n r p }
         ensures parts { IfSome result (λ s. s ≡ record { log_n = log_n; r = r; p = p }) }

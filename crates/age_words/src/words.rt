@@ -194,8 +194,8 @@ fn work_of(matches: &ArgMatches<'_>, id: &str) -> Result<u8, WordsFault>
     Ok(work as u8)
 }
 
-/// The number of an option, which is tested again, since `clap` promises little of what it
-/// accepted.
+/// The number of an option, which is tested again: `clap` promises the values of the command line's
+/// own arguments, and none of a subcommand's. No command line is known that is refused here.
 fn number_in(matches: &ArgMatches<'_>, id: &str, least: u64, most: u64) -> Result<u64, WordsFault>
     ensures { IfOk result (IsBetween least most) }
 {
