@@ -62,7 +62,8 @@ pub enum Labels {
 
 impl Labels {
     /// Whether recipients with these labels may be recipients of one file: both have names, and the
-    /// same set of them. So two that are `Alone` don't go together, though their labels are the same.
+    /// same set of them. So two that are `Alone` don't go together, though their labels are the
+    /// same.
     pub fn go_together(&self, other: &Labels) -> bool
         ensures { result ≡ go_together self.now other.now }
     {
