@@ -4,14 +4,11 @@ ghost use Rattle.std.specs.Io.KnownBytes.{Appends, Keeps, append_known};
 ghost use Rattle.age_header.specs.Device.{Takes};
 ghost use Rattle.age_cli.specs.Output.{Buffered, Ends, Grows, HasFront, taken_by};
 
-use age_file::{DeviceFault, Fault, Sink};
+use age_file::{BUFFER_SIZE, DeviceFault, Fault, Sink};
 use std::alloc::{AllocError, Global};
 use std::io;
 use std::io::Write;
 use std::marker::{Brand, Model, PhantomData};
-
-/// The size of the buffer in bytes. Longer pieces pass it by.
-const BUFFER_LEN: usize = 65_536;
 
 /// Which writer a sink was made for, and what the writer had then.
 pub(crate) trait Start {
@@ -31,7 +28,7 @@ impl Start for Brand {
     ghost contents = { None };
 }
 
-/// A sink over a writer that gathers small pieces. It keeps the reason of its last failed write. No
+/// A sink over a writer that gathers small pieces; longer ones pass its buffer by. It keeps the reason of its last failed write. No
 /// write is tried again.
 pub(crate) struct BufferedSink<'a, W: Write, K: Start> {
     out: &'a mut W,
@@ -73,7 +70,7 @@ impl<'a, W: Write, K: Start> Model for BufferedSink<'a, W, K> {
 pub(crate) fn new_buffer(alloc: Global) -> Result<Vec<u8>, AllocError>
     ensures { IfOk result (λ held. held.items ≡ []) }
 {
-    Vec::with_capacity(alloc, BUFFER_LEN)
+    Vec::with_capacity(alloc, BUFFER_SIZE)
 }
 
 impl<'a, W: Write, K: Start> BufferedSink<'a, W, K> {
@@ -162,10 +159,10 @@ fn put<W: Write>(out: &mut W, held: &mut Vec<u8>, piece: &[u8]) -> Result<usize,
         (append_known (W.contents out.new) held.new.items) result piece.now }
     ensures grows { Grows (W.contents out.old) (W.contents out.new) }
 {
-    if piece.len() > BUFFER_LEN.saturating_sub(held.len()) {
+    if piece.len() > BUFFER_SIZE.saturating_sub(held.len()) {
         write_held(out, held)?;
     }
-    if piece.len() >= BUFFER_LEN && held.is_empty() {
+    if piece.len() >= BUFFER_SIZE && held.is_empty() {
         return write_some(out, piece);
     }
     match held.extend_from_slice(piece) {

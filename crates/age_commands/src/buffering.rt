@@ -3,28 +3,22 @@ ghost use Rattle.std.specs.Prelude.{◌≡◌, ◌<◌, None, IfOk, IfErr};
 ghost use Rattle.age_words.specs.Job.{IsInRange};
 ghost use Rattle.age_commands.specs.Secret.{limits_of};
 
-use age_file::{Fault, FileAt, Limits, ReadAt, ReadSource, Source};
+use age_file::{BUFFER_SIZE, Fault, FileAt, Limits, MOST_CHUNKS, ReadAt, ReadSource, Source};
 use age_words::Job;
 use std::alloc::Global;
 use std::io::{BufReader, Read, Seek};
-
-/// The size of the buffer for reading a header alone, byte by byte.
-const BUFFER_LEN: usize = 65_536;
 
 /// The size of the buffer for reading a header before its payload. The payload's bytes that it
 /// holds are copied out of it. The rest of the payload is read straight into the buffer in which it
 /// is opened.
 const HEADER_BUFFER_LEN: usize = 8_192;
 
-/// The maximum number of chunks, which is the default of `age_file`.
-const MAX_CHUNKS: u128 = 1 << 88;
-
 /// The limits of this job.
 pub fn limits_of(job: &Job) -> Limits
     requires { IsInRange job.now }
     ensures { result ≡ limits_of job.now }
 {
-    let Some(limits) = Limits::new(job.max_header, MAX_CHUNKS) else {
+    let Some(limits) = Limits::new(job.max_header, MOST_CHUNKS) else {
         unreachable!();
     };
     limits
@@ -39,7 +33,7 @@ pub(crate) fn header_source<R: Read + Drop>(
         ≡ R.remaining input) }
     ensures err { IfErr result (λ fault. fault ≡ Fault.OutOfMemory) }
 {
-    buffered_source(alloc, BUFFER_LEN, input)
+    buffered_source(alloc, BUFFER_SIZE, input)
 }
 
 /// Makes a source over this reader, for a header and its payload.

@@ -7,8 +7,10 @@ ghost use Rattle.age_file.specs.Device.{CountsRead, CountsWrite};
 use crate::fault::Fault;
 use age_header::{Sink, Source, fill_from, write_all};
 
-/// The length of the buffer of `copy_all`, and of each full piece but the first.
-pub(crate) const BUFFER_SIZE: usize = 65_536;
+/// The size in bytes of the buffer of `rewrap`, and of each full piece that it writes but the first,
+/// which fills up the sink's buffer behind the header. So a sink has a buffer of this size: then each
+/// later piece passes it by.
+pub const BUFFER_SIZE: usize = 65_536;
 
 /// How many full pieces are copied at most, 2^105 bytes in all: more than any payload has, so that
 /// the loop ends.

@@ -60,13 +60,14 @@ pub use age_stream::{
     CHUNK_SIZE, Done, FileAt, MemAt, NONCE_SIZE, RangeReader, ReadAt, Refused, SEALED_CHUNK_SIZE,
     StreamFault, StreamReader, StreamWriter, TAG_SIZE,
 };
+pub use copying::BUFFER_SIZE;
 pub use decrypting::decrypt;
 pub use decryptor::Decryptor;
 pub use encrypting::{encrypt, write_front};
 pub use encryptor::Encryptor;
 pub use fault::Fault;
 pub use inspecting::inspect;
-pub use limits::{Fresh, Limits};
+pub use limits::{Fresh, Limits, MOST_CHUNKS};
 pub use new_header::header_for;
 pub use ranges::{open_ranges, opened_ranges};
 pub use rewrapping::rewrap;

@@ -1,3 +1,5 @@
+//! The limits of a file, and the random bytes of a new one.
+
 ghost use Rattle.std.specs.Prelude.{◌≡◌, ◌^◌, Some, None, IfSome, IfNone};
 ghost use Rattle.age_file.specs.AgeFile.{default_max_header};
 ghost use Rattle.age_stream.specs.Sizes.{most_chunks};
@@ -15,7 +17,7 @@ const MOST_MAX_HEADER: usize = 16_777_216;
 const DEFAULT_MAX_HEADER: usize = 65_536;
 
 /// The maximum number of chunks of a payload: a chunk's number has eleven bytes in its nonce.
-const MOST_CHUNKS: u128 = 1 << 88;
+pub const MOST_CHUNKS: u128 = 1 << 88;
 
 /// The maximum size of a header in bytes, and of a payload in chunks.
 #[derive(Clone, Copy, Debug, PartialEq, Eq)]
