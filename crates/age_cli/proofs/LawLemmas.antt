@@ -32,56 +32,74 @@ grown xs more (Some ys) (Some zs) a k = ap Some (k ∙ a)
 
 abbrev pub OkIsAgeFile : Type 0
 OkIsAgeFile = (limits : Bounds) (answers : Answering) (b plain : Bytes) → IsVerdict limits answers b (whole plain)
-    ↔ ((stanzas : List StanzaParts) × (k : FileKey) × AgeFile limits k stanzas plain b × (choice (answers stanzas) ≡ Ok k))
+    ↔ ((stanzas : List StanzaParts) × (k : FileKey) × AgeFile limits k stanzas plain b
+        × (choice (answers stanzas) ≡ Ok k))
 
 abbrev pub Gained : (limits : Bounds) (b xs : Bytes) (new : Known) → Type 0
-Gained limits b xs new = (stanzas : List StanzaParts) × (k : FileKey) × (plain : Bytes) × AgeFile limits k stanzas plain b × (new ≡ Some (xs ++ plain))
+Gained limits b xs new = (stanzas : List StanzaParts) × (k : FileKey) × (plain : Bytes)
+    × AgeFile limits k stanzas plain b × (new ≡ Some (xs ++ plain))
 
-decrypted_whole : OkIsAgeFile → (limits : Bounds) (answers : Answering) (b xs : Bytes) (taken new : Known) (counts : Done)
+decrypted_whole : OkIsAgeFile → (limits : Bounds) (answers : Answering) (b xs : Bytes) (taken new : Known)
+    (counts : Done)
     → DecryptsText limits answers b (Some xs) taken (Ok counts) → Keeps taken new → Gained limits b xs new
 decrypted_whole law limits answers b xs taken new counts (verdict, judged, (none, bytes, n), appends) keeps =
     let is_whole = subst (λ f. IsVerdict limits answers b (record { front = verdict.front; fault = f })) none judged in
     let found = (law limits answers b verdict.front).0 is_whole in
     (found.0, found.1, verdict.front, found.2, grown xs verdict.front taken new appends keeps)
 
-decrypted : OkIsAgeFile → (limits : Bounds) (answers : Answering) (b xs : Bytes) (taken new : Known) (done : Result Done Fault) (work : Result ⊤ Fault)
-    → work ≡ without_counts done → Decrypts limits answers (Some b) (Some xs) taken done → Ends (Some xs) taken new work (Ok tt) → Gained limits b xs new
+decrypted : OkIsAgeFile → (limits : Bounds) (answers : Answering) (b xs : Bytes) (taken new : Known)
+    (done : Result Done Fault) (work : Result ⊤ Fault)
+    → work ≡ without_counts done → Decrypts limits answers (Some b) (Some xs) taken done
+    → Ends (Some xs) taken new work (Ok tt) → Gained limits b xs new
 decrypted law limits answers b xs taken new (Err fault) work is d (inl (ended, keeps)) = absurd (cc)
 decrypted law limits answers b xs taken new (Err fault) work is d (inr (failed, rest)) = absurd (cc)
-decrypted law limits answers b xs taken new (Ok counts) work is d (inl (ended, keeps)) = decrypted_whole law limits answers b xs taken new counts d keeps
+decrypted law limits answers b xs taken new (Ok counts) work is d (inl (ended, keeps)) =
+    decrypted_whole law limits answers b xs taken new counts d keeps
 decrypted law limits answers b xs taken new (Ok counts) work is d (inr (failed, rest)) = absurd (cc)
 
-decrypt_done : OkIsAgeFile → (job : Job) (b xs : Bytes) (new : Known) (task : Task) → IsTaskOf command.Decrypt task → Works job task (Some b) (Some xs) new (Ok tt) → Gained (limits_of job) b xs new
+decrypt_done : OkIsAgeFile → (job : Job) (b xs : Bytes) (new : Known) (task : Task) → IsTaskOf command.Decrypt task
+    → Works job task (Some b) (Some xs) new (Ok tt) → Gained (limits_of job) b xs new
 decrypt_done law job b xs new (task.Decrypt secret) is (taken, work, (done, same, d), quiet, ends) =
     decrypted law (limits_of job) (answers_of secret job.max_work) b xs taken new done work same d ends
 decrypt_done law job b xs new (task.Encrypt secret seed) is w = absurd is
 decrypt_done law job b xs new (task.Rewrap old other salt) is w = absurd is
 decrypt_done law job b xs new (task.Inspect key) is w = absurd is
 
-pub done_decrypt : OkIsAgeFile → (job : Job) (b xs : Bytes) (new : Known) → job.command ≡ command.Decrypt → Finishes job (Some b) (Some xs) new → Gained (limits_of job) b xs new
-done_decrypt law job b xs new one (task, is, w) = decrypt_done law job b xs new task (subst (λ (x : Command). IsTaskOf x task) one is) w
+pub done_decrypt : OkIsAgeFile → (job : Job) (b xs : Bytes) (new : Known) → job.command ≡ command.Decrypt
+    → Finishes job (Some b) (Some xs) new → Gained (limits_of job) b xs new
+done_decrypt law job b xs new one (task, is, w) =
+    decrypt_done law job b xs new task (subst (λ (x : Command). IsTaskOf x task) one is) w
 
 -- the output gained an age file of the input
 abbrev pub Made : (limits : Bounds) (plain xs : Bytes) (new : Known) → Type 0
-Made limits plain xs new = (stanzas : List StanzaParts) × (k : FileKey) × (b : Bytes) × AgeFile limits k stanzas plain b × (new ≡ Some (xs ++ b))
+Made limits plain xs new = (stanzas : List StanzaParts) × (k : FileKey) × (b : Bytes) × AgeFile limits k stanzas plain b
+    × (new ≡ Some (xs ++ b))
 
-encrypted_whole : (limits : Bounds) (fresh : Fresh) (gathered : Gathering) (plain xs : Bytes) (taken new : Known) (counts : Done)
+encrypted_whole : (limits : Bounds) (fresh : Fresh) (gathered : Gathering) (plain xs : Bytes) (taken new : Known)
+    (counts : Done)
     → EncryptsText limits fresh gathered plain (Some xs) taken (Ok counts) → Keeps taken new → Made limits plain xs new
 encrypted_whole limits fresh gathered plain xs taken new counts (gained, file, appends, bytes, n) keeps =
     (file.stanzas, fresh.file_key, gained, file.file, grown xs gained taken new appends keeps)
 
-encrypted : (limits : Bounds) (fresh : Fresh) (gathered : Gathering) (plain xs : Bytes) (taken new : Known) (done : Result Done Fault) (work : Result ⊤ Fault)
-    → work ≡ without_counts done → Encrypting limits fresh gathered (Some plain) (Some xs) taken done → Ends (Some xs) taken new work (Ok tt) → Made limits plain xs new
+encrypted : (limits : Bounds) (fresh : Fresh) (gathered : Gathering) (plain xs : Bytes) (taken new : Known)
+    (done : Result Done Fault) (work : Result ⊤ Fault)
+    → work ≡ without_counts done → Encrypting limits fresh gathered (Some plain) (Some xs) taken done
+    → Ends (Some xs) taken new work (Ok tt) → Made limits plain xs new
 encrypted limits fresh gathered plain xs taken new (Err fault) work is e (inl (ended, keeps)) = absurd (cc)
 encrypted limits fresh gathered plain xs taken new (Err fault) work is e (inr (failed, rest)) = absurd (cc)
-encrypted limits fresh gathered plain xs taken new (Ok counts) work is e (inl (ended, keeps)) = encrypted_whole limits fresh gathered plain xs taken new counts e.0 keeps
+encrypted limits fresh gathered plain xs taken new (Ok counts) work is e (inl (ended, keeps)) =
+    encrypted_whole limits fresh gathered plain xs taken new counts e.0 keeps
 encrypted limits fresh gathered plain xs taken new (Ok counts) work is e (inr (failed, rest)) = absurd (cc)
 
-encrypt_done : (job : Job) (plain xs : Bytes) (new : Known) (task : Task) → IsTaskOf command.Encrypt task → Works job task (Some plain) (Some xs) new (Ok tt) → Made (limits_of job) plain xs new
-encrypt_done job plain xs new (task.Encrypt secret seed) is (taken, work, (done, same, e), quiet, ends) = encrypted (limits_of job) seed.fresh _ plain xs taken new done work same e ends
+encrypt_done : (job : Job) (plain xs : Bytes) (new : Known) (task : Task) → IsTaskOf command.Encrypt task
+    → Works job task (Some plain) (Some xs) new (Ok tt) → Made (limits_of job) plain xs new
+encrypt_done job plain xs new (task.Encrypt secret seed) is (taken, work, (done, same, e), quiet, ends) =
+    encrypted (limits_of job) seed.fresh _ plain xs taken new done work same e ends
 encrypt_done job plain xs new (task.Decrypt secret) is w = absurd is
 encrypt_done job plain xs new (task.Rewrap old other salt) is w = absurd is
 encrypt_done job plain xs new (task.Inspect key) is w = absurd is
 
-pub done_encrypt : (job : Job) (plain xs : Bytes) (new : Known) → job.command ≡ command.Encrypt → Finishes job (Some plain) (Some xs) new → Made (limits_of job) plain xs new
-done_encrypt job plain xs new one (task, is, w) = encrypt_done job plain xs new task (subst (λ (x : Command). IsTaskOf x task) one is) w
+pub done_encrypt : (job : Job) (plain xs : Bytes) (new : Known) → job.command ≡ command.Encrypt
+    → Finishes job (Some plain) (Some xs) new → Made (limits_of job) plain xs new
+done_encrypt job plain xs new one (task, is, w) =
+    encrypt_done job plain xs new task (subst (λ (x : Command). IsTaskOf x task) one is) w

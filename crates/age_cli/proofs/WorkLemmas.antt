@@ -19,7 +19,8 @@ kept f old new (Ok u) h = tt
 kept f old new (Err fault) (inl late) = inl late
 kept f old new (Err fault) (inr same) = inr (ap f same)
 
-pub quiet_by : {V W : Type 0} (f : V → W) (task : Task) (old new : V) (r : Result ⊤ Fault) → PerformsQuietly task old new r → PerformsQuietly task (f old) (f new) r
+pub quiet_by : {V W : Type 0} (f : V → W) (task : Task) (old new : V) (r : Result ⊤ Fault)
+    → PerformsQuietly task old new r → PerformsQuietly task (f old) (f new) r
 quiet_by f (Encrypt secret seed) old new r h = kept f old new r h
 quiet_by f (Decrypt secret) old new r h = kept f old new r h
 quiet_by f (Rewrap one other salt) old new r h = kept f old new r h
@@ -31,16 +32,20 @@ pub held_none : (known : Known) (held : Bytes) → held ≡ [] → append_known 
 held_none None held none = refl
 held_none (Some xs) held none = ap Some (ap (λ ys. xs ++ ys) none ∙ append-nil xs)
 
-pub works : (job : Job) (task : Task) (from begun start old taken now new : Known) (work r s : Result ⊤ Fault) → begun ≡ old → start ≡ old → now ≡ new → r ≡ s
-    → Performs job task from start taken work → PerformsQuietly task start taken work → Ends begun taken now work r → Works job task from old new s
+pub works : (job : Job) (task : Task) (from begun start old taken now new : Known) (work r s : Result ⊤ Fault)
+    → begun ≡ old → start ≡ old → now ≡ new → r ≡ s
+    → Performs job task from start taken work → PerformsQuietly task start taken work → Ends begun taken now work r
+    → Works job task from old new s
 works job task from begun start old taken now new work r s eb es en er p q e = (
   taken,
   work,
   subst (λ k. Performs job task from k taken work) es p,
   subst (λ k. PerformsQuietly task k taken work) es q,
-  subst (λ x. Ends old taken new work x) er (subst (λ k. Ends old taken k work r) en (subst (λ k. Ends k taken now work r) eb e)),
+  subst (λ x. Ends old taken new work x) er
+      (subst (λ k. Ends old taken k work r) en (subst (λ k. Ends k taken now work r) eb e)),
 )
 
-pub works_on : (job : Job) (task : Task) (from old now new : Known) (r s : Result ⊤ Fault) → now ≡ new → r ≡ s → Works job task from old now r → Works job task from old new s
+pub works_on : (job : Job) (task : Task) (from old now new : Known) (r s : Result ⊤ Fault) → now ≡ new → r ≡ s
+    → Works job task from old now r → Works job task from old new s
 works_on job task from old now new r s en er h =
     subst (λ x. Works job task from old new x) er (subst (λ k. Works job task from old k r) en h)

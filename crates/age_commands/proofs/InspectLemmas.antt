@@ -39,58 +39,79 @@ missed limits l raw key from to old fault same (Ok h, is, reads) = absurd (cc)
 missed limits l raw key from to old fault same (Err e, is, reads) =
     let one : ◌≡◌ {A = Fault} fault (header_fault e) = cc in
     subst (λ f. Inspecting limits raw key from old old (Err f)) (sym one)
-    (missed_from limits raw key from to old e (subst (λ (m : Bounds). ReadsHeader from to m.max_header (Err e)) same reads))
+    (missed_from limits raw key from to old e
+        (subst (λ (m : Bounds). ReadsHeader from to m.max_header (Err e)) same reads))
 
 -- the same of a header that was not shown to its end
 front_of : (limits : Bounds) (raw : Bool) (key : Option Bytes) (b : Bytes) (from to old new : Known) (h : HeaderParts)
-    → ReadsHeaderOf b from to limits.max_header (Ok h) → ShowsFront raw h (check_of key h) old new → InspectsText limits raw key b old new (Err Write)
+    → ReadsHeaderOf b from to limits.max_header (Ok h) → ShowsFront raw h (check_of key h) old new
+    → InspectsText limits raw key b old new (Err Write)
 front_of limits raw key b from to old new h (text, verdict, took) front = (h, text, verdict, front)
 
 front_from : (limits : Bounds) (raw : Bool) (key : Option Bytes) (from to old new : Known) (h : HeaderParts)
-    → ReadsHeader from to limits.max_header (Ok h) → ShowsFront raw h (check_of key h) old new → Inspecting limits raw key from old new (Err Write)
-front_from limits raw key None to old new h (b, reads) front = (b, front_of limits raw key b None to old new h reads front)
-front_from limits raw key (Some b) to old new h reads front = front_of limits raw key b (Some b) to old new h reads front
+    → ReadsHeader from to limits.max_header (Ok h) → ShowsFront raw h (check_of key h) old new
+    → Inspecting limits raw key from old new (Err Write)
+front_from limits raw key None to old new h (b, reads) front =
+    (b, front_of limits raw key b None to old new h reads front)
+front_from limits raw key (Some b) to old new h reads front =
+    front_of limits raw key b (Some b) to old new h reads front
 
 -- nothing is shown where memory was refused
-unshown : (limits : Bounds) (raw : Bool) (key : Option Bytes) (from old new : Known) → Keeps old new → Inspecting limits raw key from old new (Err OutOfMemory)
+unshown : (limits : Bounds) (raw : Bool) (key : Option Bytes) (from old new : Known) → Keeps old new
+    → Inspecting limits raw key from old new (Err OutOfMemory)
 unshown limits raw key None old new k = ([], k)
 unshown limits raw key (Some b) old new k = k
 
-shown_of : (limits : Bounds) (raw : Bool) (key : Option Bytes) (from to old new : Known) (h : HeaderParts) (fault : Fault)
-    → ReadsHeader from to limits.max_header (Ok h) → Shows raw h (check_of key h) old new (Err fault) → Inspecting limits raw key from old new (Err fault)
+shown_of : (limits : Bounds) (raw : Bool) (key : Option Bytes) (from to old new : Known) (h : HeaderParts)
+    (fault : Fault)
+    → ReadsHeader from to limits.max_header (Ok h) → Shows raw h (check_of key h) old new (Err fault)
+    → Inspecting limits raw key from old new (Err fault)
 shown_of limits raw key from to old new h fault reads (inl (is, front)) =
-    subst (λ f. Inspecting limits raw key from old new (Err f)) (sym is) (front_from limits raw key from to old new h reads front)
+    subst (λ f. Inspecting limits raw key from old new (Err f)) (sym is)
+        (front_from limits raw key from to old new h reads front)
 shown_of limits raw key from to old new h fault reads (inr (is, k)) =
     subst (λ f. Inspecting limits raw key from old new (Err f)) (sym is) (unshown limits raw key from old new k)
 
-pub shown_in_part : (limits l : Bounds) (raw : Bool) (key : Option Bytes) (from to old new : Known) (h : HeaderParts) (checked : Check) (fault : Fault) → l ≡ limits
-    → Inspects l from to (Ok h) → checked ≡ check_of key h → Shows raw h checked old new (Err fault) → Inspecting limits raw key from old new (Err fault)
+pub shown_in_part : (limits l : Bounds) (raw : Bool) (key : Option Bytes) (from to old new : Known) (h : HeaderParts)
+    (checked : Check) (fault : Fault) → l ≡ limits
+    → Inspects l from to (Ok h) → checked ≡ check_of key h → Shows raw h checked old new (Err fault)
+    → Inspecting limits raw key from old new (Err fault)
 shown_in_part limits l raw key from to old new h checked fault same (Err e, is, reads) made shows = absurd (cc)
 shown_in_part limits l raw key from to old new h checked fault same (Ok g, is, reads) made shows =
     let one : ◌≡◌ {A = HeaderParts} g h = cc in
     shown_of limits raw key from to old new h fault
-    (subst (λ (m : Bounds). ReadsHeader from to m.max_header (Ok h)) same (subst (λ (x : HeaderParts). ReadsHeader from to l.max_header (Ok x)) one reads))
+    (subst (λ (m : Bounds). ReadsHeader from to m.max_header (Ok h)) same
+        (subst (λ (x : HeaderParts). ReadsHeader from to l.max_header (Ok x)) one reads))
     (subst (λ (x : Check). Shows raw h x old new (Err fault)) made shows)
 
 -- the rows of one more stanza
-rows_push : (n : ℕ) (xs : List StanzaParts) (x : StanzaParts) → rows n (xs ++ x ∷ []) ≡ rows n xs ++ row (n + length xs) x
+rows_push : (n : ℕ) (xs : List StanzaParts) (x : StanzaParts)
+    → rows n (xs ++ x ∷ []) ≡ rows n xs ++ row (n + length xs) x
 rows_push n [] x = append-nil (row n x) ∙ ap (λ k. row k x) (omega arith)
-rows_push n (y ∷ xs) x = ap (λ r. row n y ++ r) (rows_push (n + 1) xs x ∙ ap (λ k. rows (n + 1) xs ++ row k x) (omega arith)) ∙ sym (append_assoc (row n y) (rows (n + 1) xs) (row (n + length (y ∷ xs)) x))
+rows_push n (y ∷ xs) x = ap (λ r. row n y ++ r)
+    (rows_push (n + 1) xs x ∙ ap (λ k. rows (n + 1) xs ++ row k x) (omega arith))
+    ∙ sym (append_assoc (row n y) (rows (n + 1) xs) (row (n + length (y ∷ xs)) x))
 
-pub rows_more : (old mid new : Known) (xs : List StanzaParts) (x d : StanzaParts) (i : ℕ) → i < length xs → x ≡ get_or xs i d
+pub rows_more : (old mid new : Known) (xs : List StanzaParts) (x d : StanzaParts) (i : ℕ) → i < length xs
+    → x ≡ get_or xs i d
     → Appends old mid (rows 0 (take i xs)) → Appends mid new (row i x) → Appends old new (rows 0 (take (i + 1) xs))
 rows_more old mid new xs x d i low is before one =
     let l : length (take i xs) ≡ i = length-take-le i xs (omega arith) in
     let start : 0 + length (take i xs) ≡ i = omega arith in
     let at : rows 0 (take (i + 1) xs) ≡ rows 0 (take i xs) ++ row i x =
-    ap (rows 0) (take_more xs i d low) ∙ rows_push 0 (take i xs) (get_or xs i d) ∙ ap (λ k. rows 0 (take i xs) ++ row k (get_or xs i d)) start ∙ ap (λ (y : StanzaParts). rows 0 (take i xs) ++ row i y) (sym is) in
+    ap (rows 0) (take_more xs i d low) ∙ rows_push 0 (take i xs) (get_or xs i d)
+        ∙ ap (λ k. rows 0 (take i xs) ++ row k (get_or xs i d)) start
+        ∙ ap (λ (y : StanzaParts). rows 0 (take i xs) ++ row i y) (sym is) in
     subst (Appends old new) (sym at) (Appends-trans old mid new (rows 0 (take i xs)) (row i x) before one)
 
 -- the parts of a table, one after the other
-pub tabled : {E : Type 0} (header : HeaderParts) (checked : Check) (one two three four five six : Known) (characters text : Bytes) (n : ℕ) (r : Result ⊤ E)
+pub tabled : {E : Type 0} (header : HeaderParts) (checked : Check) (one two three four five six : Known)
+    (characters text : Bytes) (n : ℕ) (r : Result ⊤ E)
     → n ≡ min (length text) (2 ^ 64 - 1) → IsBase64 header.mac characters → Head header.stanzas header.mac text
-    → Appends one two (first_lines (length header.stanzas)) → Appends two three (rows 0 header.stanzas) → Appends three four (codes "mac ") → Appends four five characters
-    → OnOk r (Appends five six (last_lines n checked)) → OnOk r ((shown : Bytes) × IsTable header checked shown × Appends one six shown)
+    → Appends one two (first_lines (length header.stanzas)) → Appends two three (rows 0 header.stanzas)
+    → Appends three four (codes "mac ") → Appends four five characters
+    → OnOk r (Appends five six (last_lines n checked))
+    → OnOk r ((shown : Bytes) × IsTable header checked shown × Appends one six shown)
 tabled header checked one two three four five six characters text n (Err e) is mac whole a b c d f = tt
 tabled header checked one two three four five six characters text n (Ok u) is mac whole a b c d f =
     let front : Bytes = first_lines (length header.stanzas) in
@@ -101,9 +122,11 @@ tabled header checked one two three four five six characters text n (Ok u) is ma
         text = text;
         mac = mac;
         whole = whole;
-        spelled = ap (λ k. first_lines (length header.stanzas) ++ rows 0 header.stanzas ++ codes "mac " ++ characters ++ last_lines k checked) is;
+        spelled = ap (λ k. first_lines (length header.stanzas) ++ rows 0 header.stanzas ++ codes "mac " ++ characters
+            ++ last_lines k checked) is;
       },
       Appends-trans one five six (front ++ lines ++ codes "mac " ++ characters) (last_lines n checked)
           (Appends-trans one four five (front ++ lines ++ codes "mac ") characters
-          (Appends-trans one three four (front ++ lines) (codes "mac ") (Appends-trans one two three front lines a b) c) d) f,
+          (Appends-trans one three four (front ++ lines) (codes "mac ") (Appends-trans one two three front lines a b) c)
+              d) f,
     )

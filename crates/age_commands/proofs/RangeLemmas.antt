@@ -28,14 +28,16 @@ nothing told layout at n old none = record {
 }
 
 -- a prefix of a slice is one
-slice_front : (told : Known) (layout : Layout) (at n : ℕ) (xs : Bytes) → HasPlain told layout at xs → HasPlain told layout at (take n xs)
+slice_front : (told : Known) (layout : Layout) (at n : ℕ) (xs : Bytes) → HasPlain told layout at xs
+    → HasPlain told layout at (take n xs)
 slice_front told layout at n xs plain k lt =
     let l : length (take n xs) ≡ min n (length xs) = length-take n xs in
     let byte = plain k (omega arith) in
     (byte.0, byte.1, byte.2 ∙ ap Some (sym (get_or-take n xs k 0 (omega arith))))
 
 -- two slices that follow one another are one
-slices : (told : Known) (layout : Layout) (at : ℕ) (xs ys : Bytes) → HasPlain told layout at xs → HasPlain told layout (at + length xs) ys → HasPlain told layout at (xs ++ ys)
+slices : (told : Known) (layout : Layout) (at : ℕ) (xs ys : Bytes) → HasPlain told layout at xs
+    → HasPlain told layout (at + length xs) ys → HasPlain told layout at (xs ++ ys)
 slices told layout at xs ys one more k lt =
     let all : length (xs ++ ys) ≡ length xs + length ys = length-append xs ys in
     elim (cases_lt k (length xs)) [
@@ -47,8 +49,10 @@ slices told layout at xs ys one more k lt =
           let sum : k ≡ length xs + j = omega arith in
           let same : at + k ≡ at + length xs + j = omega arith in
           let byte = more j (omega arith) in
-          let value : slice_index (xs ++ ys) k ≡ slice_index ys j = ap (slice_index (xs ++ ys)) sum ∙ get_or-append-add xs ys j 0 in
-          (byte.0, ap (λ x. opening layout.key (bytes_from told layout.first) (x / 65536)) same ∙ byte.1, ap (λ x. slice_get byte.0 (x % 65536)) same ∙ byte.2 ∙ ap Some (sym value))
+          let value : slice_index (xs ++ ys) k ≡ slice_index ys j = ap (slice_index (xs ++ ys)) sum
+              ∙ get_or-append-add xs ys j 0 in
+          (byte.0, ap (λ x. opening layout.key (bytes_from told layout.first) (x / 65536)) same ∙ byte.1,
+              ap (λ x. slice_get byte.0 (x % 65536)) same ∙ byte.2 ∙ ap Some (sym value))
     ]
 
 -- a chunk of a range ends in the first piece
@@ -56,8 +60,10 @@ within_one : (at n m i : ℕ) → 65536 * i < at + n → n ≤ m → m ≤ 65536
 within_one at n m i to low within = omega arith
 
 -- what a range that stops has not written
-pub stopped : (told : Known) (s : RangeState) (at left most : ℕ) (was buf : Bytes) (opened : ℕ) (fault : StreamFault) (named : Fault) (old : Known)
-    → most ≤ left → most ≤ 65536 - at % 65536 → named ≡ stream_fault fault → IsSound told s → Stops told s at (range_len s at most) was buf opened fault
+pub stopped : (told : Known) (s : RangeState) (at left most : ℕ) (was buf : Bytes) (opened : ℕ) (fault : StreamFault)
+    (named : Fault) (old : Known)
+    → most ≤ left → most ≤ 65536 - at % 65536 → named ≡ stream_fault fault → IsSound told s
+    → Stops told s at (range_len s at most) was buf opened fault
     → WritesRange told s at left old old (Err named)
 stopped told s at left most was buf opened fault named old le within is sound stops =
     let some : 0 < range_len s at most = stops.some in
@@ -72,13 +78,15 @@ stopped told s at left most was buf opened fault named old le within is sound st
           from = stops.from;
           to = omega arith;
           lost = lost.1 sound;
-          writes = nothing told s.layout at (65536 * stops.chunk - at) old (within_one at (range_len s at most) most stops.chunk to (omega arith) within);
+          writes = nothing told s.layout at (65536 * stops.chunk - at) old
+              (within_one at (range_len s at most) most stops.chunk to (omega arith) within);
         },
       )
     ]
 
 -- a piece was written
-pub written : (told : Known) (layout : Layout) (at n : ℕ) (buf rest : Bytes) (old new : Known) → n ≤ length buf → HasPlain told layout at (take n buf)
+pub written : (told : Known) (layout : Layout) (at n : ℕ) (buf rest : Bytes) (old new : Known) → n ≤ length buf
+    → HasPlain told layout at (take n buf)
     → Appends old new (take n (buf ++ rest)) → WritesPlain told layout at n old new
 written told layout at n buf rest old new le plain a = record {
   part = take n buf;
@@ -88,7 +96,8 @@ written told layout at n buf rest old new le plain a = record {
 }
 
 -- a prefix of a piece was written
-pub written_part : (told : Known) (layout : Layout) (at n k most : ℕ) (buf rest : Bytes) (old new : Known) → n ≤ length buf → HasPlain told layout at (take n buf) → n ≤ most
+pub written_part : (told : Known) (layout : Layout) (at n k most : ℕ) (buf rest : Bytes) (old new : Known)
+    → n ≤ length buf → HasPlain told layout at (take n buf) → n ≤ most
     → Appends old new (take k (take n (buf ++ rest))) → (x : ℕ) × (x ≤ most) × WritesPlain told layout at x old new
 written_part told layout at n k most buf rest old new le plain low a =
     let l : length (take k (take n buf)) ≡ min k (length (take n buf)) = length-take k (take n buf) in
@@ -104,8 +113,10 @@ written_part told layout at n k most buf rest old new le plain low a =
     )
 
 -- two parts that follow one another are one
-pub joined : (told again : Known) (layout same : Layout) (at k from n m : ℕ) (old mid new : Known) → again ≡ told → same ≡ layout → from ≡ at + k → m ≡ k + n
-    → WritesPlain told layout at k old mid → WritesPlain again same from n mid new → WritesPlain told layout at m old new
+pub joined : (told again : Known) (layout same : Layout) (at k from n m : ℕ) (old mid new : Known) → again ≡ told
+    → same ≡ layout → from ≡ at + k → m ≡ k + n
+    → WritesPlain told layout at k old mid → WritesPlain again same from n mid new
+    → WritesPlain told layout at m old new
 joined told again layout same at k from n m old mid new et el ef em one more =
     let all : length (one.part ++ more.part) ≡ length one.part + length more.part = length-append one.part more.part in
     let a : length one.part ≡ k = one.size in
@@ -115,7 +126,9 @@ joined told again layout same at k from n m old mid new et el ef em one more =
       part = one.part ++ more.part;
       size = omega arith;
       plain = slices told layout at one.part more.part one.plain
-          (subst (λ x. HasPlain told layout x more.part) here (subst (λ l. HasPlain told l from more.part) el (subst (λ t. HasPlain t same from more.part) et more.plain)));
+          (subst (λ x. HasPlain told layout x more.part) here
+              (subst (λ l. HasPlain told l from more.part) el
+              (subst (λ t. HasPlain t same from more.part) et more.plain)));
       appends = Appends-trans old mid new one.part more.part one.appends more.appends;
     }
 
@@ -123,7 +136,8 @@ joined told again layout same at k from n m old mid new et el ef em one more =
 abbrev pub IsWhole : (plain begin at left : ℕ) → Type 0
 IsWhole plain begin at left = (at ≡ begin) ⊎ ((at % 65536 ≡ 0) ⊎ ((plain ≤ at) ⊎ (left ≡ 0)))
 
-pub whole_on : (plain begin at left n : ℕ) → n ≡ min (min left (65536 - at % 65536)) (plain - at) → IsWhole plain begin (at + n) (left - n)
+pub whole_on : (plain begin at left n : ℕ) → n ≡ min (min left (65536 - at % 65536)) (plain - at)
+    → IsWhole plain begin (at + n) (left - n)
 whole_on plain begin at left n is = elim (cases_lt n left) [
   | inl lt ↦ elim (cases_lt n (65536 - at % 65536)) [
     | inl less ↦ inr (inr (inl (omega arith)))
@@ -132,21 +146,25 @@ whole_on plain begin at left n is = elim (cases_lt n left) [
   | inr ge ↦ inr (inr (inr (omega arith)))
 ]
 
-pub some_on : (plain begin len at left n : ℕ) → n ≡ min (min left (65536 - at % 65536)) (plain - at) → at + left ≡ begin + len → begin ≤ at → at - begin ≤ min len (plain - begin)
+pub some_on : (plain begin len at left n : ℕ) → n ≡ min (min left (65536 - at % 65536)) (plain - at)
+    → at + left ≡ begin + len → begin ≤ at → at - begin ≤ min len (plain - begin)
     → at + n - begin ≤ min len (plain - begin)
 some_on plain begin len at left n is end low some = omega arith
 
 -- where the chunk begins that stops a range
-before_chunk : (plain begin at left i : ℕ) → IsWhole plain begin at left → begin ≤ at → 0 < min left (plain - at) → at < 65536 * (i + 1) → 65536 * i - begin ≡ (at - begin) + (65536 * i - at)
+before_chunk : (plain begin at left i : ℕ) → IsWhole plain begin at left → begin ≤ at → 0 < min left (plain - at)
+    → at < 65536 * (i + 1) → 65536 * i - begin ≡ (at - begin) + (65536 * i - at)
 before_chunk plain begin at left i (inl e) low some from = omega arith
 before_chunk plain begin at left i (inr (inl e)) low some from = omega arith
 before_chunk plain begin at left i (inr (inr (inl e))) low some from = absurd (omega arith)
 before_chunk plain begin at left i (inr (inr (inr e))) low some from = absurd (omega arith)
 
 -- a range that fails after a part
-pub failed_on : (told again : Known) (s t : RangeState) (begin len at left : ℕ) (old mid new : Known) (fault : Fault) → again ≡ told → t.layout ≡ s.layout
+pub failed_on : (told again : Known) (s t : RangeState) (begin len at left : ℕ) (old mid new : Known) (fault : Fault)
+    → again ≡ told → t.layout ≡ s.layout
     → at + left ≡ begin + len → begin ≤ at → at - begin ≤ range_len s begin len → IsWhole s.layout.plain begin at left
-    → WritesPlain told s.layout begin (at - begin) old mid → WritesRange again t at left mid new (Err fault) → WritesRange told s begin len old new (Err fault)
+    → WritesPlain told s.layout begin (at - begin) old mid → WritesRange again t at left mid new (Err fault)
+    → WritesRange told s begin len old new (Err fault)
 failed_on told again s t begin len at left old mid new fault et el end low some whole one (inl (i, is, stops)) =
     let plain : t.layout.plain ≡ s.layout.plain = ap (λ (l : Layout). l.plain) el in
     let has : 0 < range_len t at left = stops.some in
@@ -159,20 +177,27 @@ failed_on told again s t begin len at left old mid new fault et el end low some 
         some = omega arith;
         from = omega arith;
         to = omega arith;
-        lost = subst (λ (l : Layout). opens_to told l i ≡ None) el (subst (λ (k : Known). opens_to k t.layout i ≡ None) et stops.lost);
-        writes = joined told again s.layout t.layout begin (at - begin) at (65536 * i - at) (65536 * i - begin) old mid new et el (omega arith)
+        lost = subst (λ (l : Layout). opens_to told l i ≡ None) el
+            (subst (λ (k : Known). opens_to k t.layout i ≡ None) et stops.lost);
+        writes = joined told again s.layout t.layout begin (at - begin) at (65536 * i - at) (65536 * i - begin) old mid
+            new et el (omega arith)
             (before_chunk s.layout.plain begin at left i whole low (omega arith) from) one stops.writes;
       },
     )
-failed_on told again s t begin len at left old mid new fault et el end low some whole one (inr (which, (n, within, more))) =
+failed_on told again s t begin len at left old mid new fault et el end low some whole one
+    (inr (which, (n, within, more))) =
     let plain : t.layout.plain ≡ s.layout.plain = ap (λ (l : Layout). l.plain) el in
-    inr (which, (at - begin + n, omega arith, joined told again s.layout t.layout begin (at - begin) at n (at - begin + n) old mid new et el (omega arith) refl one more))
+    inr (which, (at - begin + n, omega arith,
+        joined told again s.layout t.layout begin (at - begin) at n (at - begin + n) old mid new et el (omega arith)
+        refl one more))
 
 -- a source that was opened, by one identity in a list
-pub ranged : {X : Type 0} (m : X → List StanzaParts → Unwrapped) (items : List X) (x : X) (l limits : Bounds) (at len : ℕ) (told again : Known) (s : RangeState) (given given2 : ℕ)
+pub ranged : {X : Type 0} (m : X → List StanzaParts → Unwrapped) (items : List X) (x : X) (l limits : Bounds)
+    (at len : ℕ) (told again : Known) (s : RangeState) (given given2 : ℕ)
     (old new : Known) (r : Result ⊤ Fault) → items ≡ x ∷ [] → l ≡ limits → again ≡ told
     → IfSome told (λ b. IsRangesOf l (λ stanzas. map (λ i. m i stanzas) items) b s given given2)
-    → (IsSound again s → WritesRange again s at len old new r) → Ranging limits (λ stanzas. m x stanzas ∷ []) at len told old new r
+    → (IsSound again s → WritesRange again s at len old new r)
+    → Ranging limits (λ stanzas. m x stanzas ∷ []) at len told old new r
 ranged m items x l limits at len None again s given given2 old new r one is et opens writes = tt
 ranged m items x l limits at len (Some b) again s given given2 old new r one is et opens writes =
     let opened : IsRangesOf limits (λ stanzas. m x stanzas ∷ []) b s given given2 =
@@ -183,12 +208,15 @@ ranged m items x l limits at len (Some b) again s given given2 old new r one is 
       given = given;
       given2 = given2;
       opened = opened;
-      writes = subst (λ (k : Known). WritesRange k s at len old new r) et (writes (subst (λ (k : Known). IsSound k s) (sym et) opened.opened.sound));
+      writes = subst (λ (k : Known). WritesRange k s at len old new r) et
+          (writes (subst (λ (k : Known). IsSound k s) (sym et) opened.opened.sound));
     })
 
 -- one that was not
-pub unopened : {X : Type 0} (m : X → List StanzaParts → Unwrapped) (items : List X) (x : X) (l limits : Bounds) (at len : ℕ) (told old : Known) (fault : Fault) → items ≡ x ∷ [] → l ≡ limits
-    → MissesRanges l (λ stanzas. map (λ i. m i stanzas) items) told fault → Ranging limits (λ stanzas. m x stanzas ∷ []) at len told old old (Err fault)
+pub unopened : {X : Type 0} (m : X → List StanzaParts → Unwrapped) (items : List X) (x : X) (l limits : Bounds)
+    (at len : ℕ) (told old : Known) (fault : Fault) → items ≡ x ∷ [] → l ≡ limits
+    → MissesRanges l (λ stanzas. map (λ i. m i stanzas) items) told fault
+    → Ranging limits (λ stanzas. m x stanzas ∷ []) at len told old old (Err fault)
 unopened m items x l limits at len None old fault one is misses = tt
 unopened m items x l limits at len (Some b) old fault one is misses =
     inl (
@@ -197,6 +225,8 @@ unopened m items x l limits at len (Some b) old fault one is misses =
       Keeps-refl old,
     )
 
-pub ranging_meant : (f g : List StanzaParts → Unwrapped) (limits : Bounds) (at len : ℕ) (told old new : Known) (r : Result ⊤ Fault) → f ≡ g
+pub ranging_meant : (f g : List StanzaParts → Unwrapped) (limits : Bounds) (at len : ℕ) (told old new : Known)
+    (r : Result ⊤ Fault) → f ≡ g
     → Ranging limits (λ s. f s ∷ []) at len told old new r → Ranging limits (λ s. g s ∷ []) at len told old new r
-ranging_meant f g limits at len told old new r same h = subst (λ (m : List StanzaParts → Unwrapped). Ranging limits (λ s. m s ∷ []) at len told old new r) same h
+ranging_meant f g limits at len told old new r same h =
+    subst (λ (m : List StanzaParts → Unwrapped). Ranging limits (λ s. m s ∷ []) at len told old new r) same h

@@ -6,6 +6,7 @@ use Rattle.age_file.specs.AgeFile.{Bounds}
 use Rattle.age_file.specs.Verdict.{Answering}
 use Rattle.age_file.specs.Decrypt.{Decrypts}
 
-pub not_decrypted : (limits : Bounds) (answers : Answering) (from old : Known) → Decrypts limits answers from old old (Err OutOfMemory)
+pub not_decrypted : (limits : Bounds) (answers : Answering) (from old : Known)
+    → Decrypts limits answers from old old (Err OutOfMemory)
 not_decrypted limits answers None old = ([], tt)
 not_decrypted limits answers (Some b) old = tt

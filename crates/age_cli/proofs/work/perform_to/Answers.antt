@@ -8,8 +8,10 @@ pub returns-in_default : goal.returns-in_default
 returns-in_default g c = (OutOfMemory, c.out_of_memory.ensures, inl (refl, Keeps-refl _))
 
 pub returns-in-Ok-result : goal.returns-in-Ok-result
-returns-in-Ok-result g c = works_on c.args.job.now _ _ _ _ _ _ _ (search rules) c.in-Ok-result.is c.perform_through-done.ensures.works
+returns-in-Ok-result g c = works_on c.args.job.now _ _ _ _ _ _ _ (search rules) c.in-Ok-result.is
+    c.perform_through-done.ensures.works
 
 pub returns-in-Err : goal.returns-in-Err
 returns-in-Err g c =
-    (c.in-Err.fault, c.explained.ensures, inr (works_on c.args.job.now _ _ _ _ _ _ _ (search rules) c.in-Err.is c.perform_through-done.ensures.works))
+    (c.in-Err.fault, c.explained.ensures,
+        inr (works_on c.args.job.now _ _ _ _ _ _ _ (search rules) c.in-Err.is c.perform_through-done.ensures.works))

@@ -7,4 +7,5 @@ abbrev plain : App → Bool
 plain a = a.top.is_plain
 
 pub returns : goal.returns
-returns c = IfOk-weaker c.arg.result _ _ (λ command h. ap plain (h.shape (search rules)) ∙ c.in_ok-with_opening_options.ensures) c.arg.ensures
+returns c = IfOk-weaker c.arg.result _ _
+    (λ command h. ap plain (h.shape (search rules)) ∙ c.in_ok-with_opening_options.ensures) c.arg.ensures

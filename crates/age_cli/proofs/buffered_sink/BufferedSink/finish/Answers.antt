@@ -9,6 +9,7 @@ returns-clause-ends g c =
       refl,
       (
         grows_on _ _ _ c.self.invariant.1 c.flush.ensures.grows,
-        subst (λ (s : Buffered). HasFront (taken_by s) (g.W.Write.contents c.flush.new.out)) c.self.view_is c.in-Err.ensures.part,
+        subst (λ (s : Buffered). HasFront (taken_by s) (g.W.Write.contents c.flush.new.out)) c.self.view_is
+            c.in-Err.ensures.part,
       ),
     )
