@@ -16,8 +16,8 @@ def text_of(name):
     return read(name).decode("utf-8")
 
 
-def wide_lines(name, text):
-    """The numbers of the lines of more than 100 columns, but for those that may be wider: imports,
+def wide_lines(name, text, most=100):
+    """The numbers of the lines of more than `most` columns, but for those that may be wider: imports,
     long literals, tables, blocks of code; of scripts all but the comments."""
     found, is_code = [], False
     for number, line in enumerate(text.split("\n"), 1):
@@ -29,15 +29,15 @@ def wide_lines(name, text):
             may_be_wide = re.match(r" *((pub|ghost|unfoldable) )*use |.*\".{60}", line)
         else:
             may_be_wide = not re.match(" *#", line)
-        if not may_be_wide and len(line) > 100:
+        if not may_be_wide and len(line) > most:
             found.append(number)
     return found
 
 
 class Columns(unittest.TestCase):
-    def assert_narrow(self, names):
+    def assert_narrow(self, names, most=100):
         self.assertTrue(names)
-        wide = {os.path.relpath(name, ROOT): wide_lines(name, text_of(name)) for name in names}
+        wide = {os.path.relpath(name, ROOT): wide_lines(name, text_of(name), most) for name in names}
         self.assertEqual({name: lines for name, lines in wide.items() if lines}, {})
 
     def test_crates(self):
@@ -46,6 +46,10 @@ class Columns(unittest.TestCase):
             with self.subTest(os.path.basename(crate)):
                 found = glob.glob(crate + "/src/**/*.rt", recursive=True)
                 self.assert_narrow(found + glob.glob(crate + "/specs/**/*.antt", recursive=True))
+
+    def test_proofs(self):
+        """Proofs have at most 120 columns."""
+        self.assert_narrow(glob.glob(ROOT + "/crates/*/proofs/**/*.antt", recursive=True), 120)
 
     def test_documents(self):
         """Documents have at most 100 columns."""
