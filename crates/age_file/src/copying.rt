@@ -7,9 +7,9 @@ ghost use Rattle.age_file.specs.Device.{CountsRead, CountsWrite};
 use crate::fault::Fault;
 use age_header::{Sink, Source, fill_from, write_all};
 
-/// The size in bytes of the buffer of `rewrap`, and of each full piece that it writes but the first,
-/// which fills up the sink's buffer behind the header. So a sink has a buffer of this size: then each
-/// later piece passes it by.
+/// The size in bytes of the buffer of `rewrap`, and of each full piece that it writes but the
+/// first, which fills up the sink's buffer behind the header. So a sink has a buffer of this size:
+/// then each later piece passes it by.
 pub const BUFFER_SIZE: usize = 65_536;
 
 /// How many full pieces are copied at most, 2^105 bytes in all: more than any payload has, so that
