@@ -66,7 +66,7 @@ pub(crate) const LEAST_HEADER: u64 = 1024;
 pub const MOST_HEADER: u64 = 16_777_216;
 
 /// The greatest offset of a range, and its greatest length, in bytes: 2^63 - 1.
-pub(crate) const MOST_OFFSET: u64 = 9_223_372_036_854_775_807;
+pub const MOST_OFFSET: u64 = 9_223_372_036_854_775_807;
 
 /// The seed file if the command line names none.
 pub const DEFAULT_SEED: &str = "/dev/urandom";
