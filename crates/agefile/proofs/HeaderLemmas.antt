@@ -1,10 +1,9 @@
 -- The header in front of bytes that lie in memory.
-use Rattle.std.proofs.Common.{◌≡◌, ℕ, ◌<◌, ◌≤◌, ◌-◌, ◌^◌, List, [], ◌∷◌, ◌++◌, length, take, map, flat_map, min, ◌∙◌, sym, ap, refl, subst, inl, inr, arith, Option, Some, None, Result, Ok, Err}
-use Rattle.std.specs.Prelude.{String, IfOk, ◌⊎◌}
+use Rattle.std.proofs.Common.{◌≡◌, ℕ, ◌≤◌, ◌-◌, ◌^◌, List, [], ◌∷◌, ◌++◌, length, take, map, flat_map, min, ◌∙◌, sym, ap, refl, subst, inl, inr, arith, Option, Some, None, Result, Ok, Err}
+use Rattle.std.specs.Prelude.{String, IfOk}
 use Rattle.std.specs.Global.{Global}
 use Rattle.std.specs.String.{string_bytes}
-use Rattle.std.specs.List.{join_by, slice_get}
-use Rattle.std.proofs.lemmas.Option.{slice_get_past}
+use Rattle.std.specs.List.{join_by}
 use Rattle.age_header.specs.declared.fault.HeaderFault.{HeaderFault}
 use Rattle.age_header.specs.declared.fault.HeaderFault.TheVariants as header
 use Rattle.age_header.specs.Header.{Head, HeaderParts, StanzaParts}
@@ -16,13 +15,11 @@ use Rattle.age_file.specs.declared.fault.Fault.{Fault}
 use Rattle.age_file.specs.AgeFile.{Bounds}
 use Rattle.age_file.specs.Device.{CountsRead}
 use Rattle.age_file.specs.Inspect.{Inspects, file_result}
-use Rattle.agefile.specs.declared.inspecting.StanzaSummary.{StanzaSummary}
 use Rattle.agefile.specs.declared.inspecting.Summary.{Summary}
 use Rattle.agefile.specs.declared.report.Report.{Report}
-use Rattle.agefile.specs.Giving.{Fits, Gives, GivesUp}
 use Rattle.agefile.specs.Codes.{fault_code}
 use Rattle.agefile.specs.Report.{report_of}
-use Rattle.agefile.specs.Inspect.{InspectsStanza, GivesStanza, HeaderOf, Inspected, joined}
+use Rattle.agefile.specs.Inspect.{HeaderOf, Inspected, joined}
 use Rattle.agefile.specs.Limits.{limits}
 use Rattle.agefile.proofs.FrontLemmas.{whole_verdict}
 
@@ -75,39 +72,6 @@ inspected_fault b old report code fault (inl memory) place returned =
     inl (returned ∙ ap fault_code memory, place ∙ ap (λ f. report_of 0 (Some f)) memory, refl)
 inspected_fault b old report code fault (inr (reason, found, same)) place returned =
     inr (Err reason, found, ((returned ∙ ap fault_code same, place ∙ ap (λ f. report_of 0 (Some f)) same), refl))
-
--- what a caller is given of a stanza
-pub stanza_none : (b : List ℕ) (header : HeaderParts) (index : ℕ) (old new : List ℕ) (before : StanzaSummary) (report : Report) (code : ℕ) → HeaderOf b (Ok header)
-    → length header.stanzas ≤ index → GivesUp 23 old new report code → InspectsStanza b index old new before before report code
-stanza_none b header index old new before report code (text, found) past up =
-    inr (
-      Ok (record { stanzas = header.stanzas; mac = header.mac; text = text }),
-      found,
-      subst (λ s. GivesStanza s old new before before report code) (sym (slice_get_past header.stanzas index past)) (up, refl),
-    )
-
-pub stanza_some : (b : List ℕ) (header : HeaderParts) (index : ℕ) (s : StanzaParts) (old new : List ℕ) (before after : StanzaSummary) (report : Report) (code : ℕ) → HeaderOf b (Ok header)
-    → slice_get header.stanzas index ≡ Some s
-    → ((GivesUp 17 old new report code × (after ≡ before)) ⊎ GivesStanza (Some s) old new before after report code) → InspectsStanza b index old new before after report code
-stanza_some b header index s old new before after report code of at (inl up) = inl up
-stanza_some b header index s old new before after report code (text, found) at (inr gives) =
-    inr (
-      Ok (record { stanzas = header.stanzas; mac = header.mac; text = text }),
-      found,
-      subst (λ z. GivesStanza z old new before after report code) (sym at) gives,
-    )
-
-fault_of : (b : List ℕ) (index : ℕ) (old new : List ℕ) (before : StanzaSummary) (report : Report) (code : ℕ) (fault : Fault) → HeaderOf b (Err fault)
-    → Fits [] (Some fault) old new report code → InspectsStanza b index old new before before report code
-fault_of b index old new before report code fault (inl memory) fits =
-    inl (record { returned = fits.returned ∙ ap fault_code memory; reported = fits.reported ∙ ap (λ f. report_of 0 (Some f)) memory; buffer = fits.buffer }, refl)
-fault_of b index old new before report code fault (inr (reason, found, same)) fits =
-    inr (Err reason, found, ((fits.returned ∙ ap fault_code same, fits.reported ∙ ap (λ f. report_of 0 (Some f)) same), fits.buffer, refl))
-
-pub stanza_fault : (b : List ℕ) (index : ℕ) (old new : List ℕ) (before : StanzaSummary) (report : Report) (code : ℕ) (fault : Fault) → HeaderOf b (Err fault)
-    → Gives [] (Some fault) old new report code → InspectsStanza b index old new before before report code
-stanza_fault b index old new before report code fault of (inl fits) = fault_of b index old new before report code fault of fits
-stanza_fault b index old new before report code fault of (inr exceeds) = let less : length old < 0 = exceeds.exceeds in absurd (omega arith)
 
 join_map : {X : Type 0} (f : X → List ℕ) (xs : List X) → flat_map (λ x. 32 ∷ [] ++ f x) xs ≡ flat_map (λ a. 32 ∷ [] ++ a) (map f xs)
 join_map f [] = refl

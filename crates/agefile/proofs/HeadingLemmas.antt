@@ -19,7 +19,7 @@ use Rattle.age_file.specs.declared.fault.Fault.TheVariants.{BadLine, MixedPassph
 use Rattle.age_file.specs.AgeFile.{is_mixed}
 use Rattle.age_file.specs.NewFile.{IsHeading}
 use Rattle.age_file.proofs.DecryptLemmas.{err-err}
-use Rattle.agefile.specs.Heading.{FindsMac, IsMac, MakesHeader, framed, given, in_text, lines_in, probe, stanzas_in, unless_mixed}
+use Rattle.agefile.specs.Heading.{FindsMac, HasStanzas, IsMac, MakesHeader, framed, given, in_text, lines_in, probe, stanzas_in, unless_mixed}
 use Rattle.agefile.specs.Inspect.{HeaderOf}
 use Rattle.agefile.specs.Limits.{limits}
 use Rattle.agefile.proofs.SizeLemmas.{b64_size}
@@ -88,11 +88,11 @@ unmixed true xs ss e = absurd (cc)
 unmixed false xs ss e = (refl, ok-ok xs ss e)
 
 -- what is known of a text whose probe was read to its end
-record Reads (text : List ℕ) (ss : List StanzaParts) : Type 0 where
-  alone : is_mixed ss ≡ false
-  mac : List ℕ
-  head : Head ss mac (probe text)
-  fits : length (probe text) ≤ 65536
+pub record Reads (text : List ℕ) (ss : List StanzaParts) : Type 0 where
+  pub alone : is_mixed ss ≡ false
+  pub mac : List ℕ
+  pub head : Head ss mac (probe text)
+  pub fits : length (probe text) ≤ 65536
 
 read_whole : (text : List ℕ) (found : Found) (ss : List StanzaParts) → HeaderVerdict (probe text) limits.max_header (Ok found) → length (probe text) ≤ length found.text
     → Ok ss ≡ unless_mixed (stanzas_in text (Ok found)) → Reads text ss
@@ -120,6 +120,10 @@ reads text (Ok found) ss h eq = elim (cases_lt (length found.text) (length (prob
   | inr ge ↦ read_whole text found ss h ge eq
 ]
 
+pub read_of : (text : List ℕ) (ss : List StanzaParts) → HasStanzas text (Ok ss) → Reads text ss
+read_of text ss (inl (none, is)) = absurd (cc)
+read_of text ss (inr (some, (verdict, h, eq))) = reads text verdict ss h eq
+
 same_front : (a b c d : List ℕ) → a ++ b ≡ c ++ d → length b ≡ length d → a ≡ c
 same_front a b c d e len =
     let size : length c ≡ length a = omega (arith, ap length e, length-append a b, length-append c d, len) in
@@ -137,15 +141,14 @@ framed_size text characters len =
       length-append (codes "--- ") characters,
     )
 
--- the text between the version line and the end line is the stanzas'
-pub between : (text mac : List ℕ) (ss : List StanzaParts) → Head ss mac (probe text) → AreStanzas ss text
-between text mac ss h =
+-- the text between the version line and the end line is the header's
+pub same_body : (text mac : List ℕ) (ss : List StanzaParts) (h : Head ss mac (probe text)) → text ≡ h.body
+same_body text mac ss h =
     let mine : length (line (codes "--- " ++ replicate 43 65)) ≡ 48 = refl in
     let sized : length h.characters ≡ 43 = omega (arith, b64_size mac h.characters h.mac_text, h.mac_len) in
     let theirs : length (line (codes "--- " ++ h.characters)) ≡ 48 = omega (arith, sized, line_size (codes "--- " ++ h.characters), length-append (codes "--- ") h.characters) in
     let front : version_line ++ text ≡ version_line ++ h.body = same_front _ _ _ _ h.spelled (mine ∙ sym theirs) in
-    let same : text ≡ h.body = sym (drop_at version_line text 22 version_size) ∙ ap (drop 22) front ∙ drop_at version_line h.body 22 version_size in
-    subst (AreStanzas ss) (sym same) h.stanza_text
+    sym (drop_at version_line text 22 version_size) ∙ ap (drop 22) front ∙ drop_at version_line h.body 22 version_size
 
 -- the same text with the right MAC is the header
 heading_of : (text mac characters : List ℕ) (k : FileKey) (ss : List StanzaParts) → Reads text ss → mac ≡ header_mac k.0 ss → IsBase64 mac characters → length mac ≡ 32
@@ -161,7 +164,7 @@ heading_of text mac characters k ss r is bytes len =
             body = text;
             characters = characters;
             some = r.head.some;
-            stanza_text = between text r.mac ss r.head;
+            stanza_text = subst (AreStanzas ss) (sym (same_body text r.mac ss r.head)) r.head.stanza_text;
             mac_len = len;
             mac_text = bytes;
             spelled = refl;

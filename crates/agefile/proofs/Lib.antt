@@ -1,19 +1,17 @@
 mod FrontLemmas
-mod GivesFileLemmas
 mod GivesPlainLemmas
 mod HeaderLemmas
 mod ListLemmas
 mod PlainSizes
 mod RangeFront
 pub mod RangeLemmas
-mod ReadsRunLemmas
-mod SeedLemmas
+mod OpensRunLemmas
+mod NewFileLemmas
 pub mod SizeLemmas
 mod StartLemmas
 mod StepsReadLemmas
 mod UnlockLemmas
-mod WriterLemmas
-mod WritesRunLemmas
+mod SealsRunLemmas
 mod HeadingLemmas
 mod WrapLemmas
 mod GroupLemmas

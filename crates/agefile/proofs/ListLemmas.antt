@@ -1,5 +1,5 @@
 -- Listing the stanzas of a header.
-use Rattle.std.proofs.Common.{◌≡◌, ◌⊎◌, ℕ, List, ◌∙◌, ap, refl, inl, inr, Some, Result, Ok, Err}
+use Rattle.std.proofs.Common.{◌≡◌, ◌⊎◌, ℕ, List, ◌∙◌, ap, refl, inl, inr, Some, Ok, Err}
 use Rattle.age_header.specs.Header.{HeaderParts}
 use Rattle.age_file.specs.declared.fault.Fault.{Fault}
 use Rattle.agefile.specs.declared.inspecting.StanzaSummary.{StanzaSummary}

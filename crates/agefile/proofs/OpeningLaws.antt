@@ -1,48 +1,26 @@
 -- What opening by a file key comes to.
-use Rattle.std.proofs.Common.{◌≡◌, ℕ, ◌+◌, ◌≤◌, ◌++◌, Bool, true, false, List, [], ◌∷◌, length, drop, cond, sym, ◌∙◌, ap, refl, subst, inl, inr, Vec, Result, Ok, Err}
-use Rattle.std.specs.Global.{Global}
+use Rattle.std.proofs.Common.{◌≡◌, ℕ, Bool, true, false, List, length, drop, cond, sym, ◌∙◌, ap, refl, subst, inl, inr, Result, Ok, Err}
 use Rattle.std.specs.Str.{bytes_eq}
 use Rattle.age_header.specs.declared.fault.HeaderFault.{HeaderFault}
-use Rattle.age_header.specs.Header.{HeaderParts, StanzaParts}
+use Rattle.age_header.specs.Header.{HeaderParts}
 use Rattle.age_header.specs.Mac.{header_mac}
 use Rattle.age_header.specs.Verdict.{Found, HeaderVerdict}
 use Rattle.age_recipient.specs.declared.choice.UnlockFault.{UnlockFault}
 use Rattle.age_recipient.specs.declared.key.FileKey.{FileKey}
 use Rattle.age_recipient.specs.Choice.{choice}
-use Rattle.age_stream.specs.Payload.{chunks, payload}
 use Rattle.age_stream.specs.Reading.{Reading}
 use Rattle.age_file.specs.declared.fault.Fault.{Fault}
 use Rattle.age_file.specs.declared.fault.Fault.TheVariants.{BadMac, MixedPassphrase, OutOfMemory}
-use Rattle.age_file.specs.AgeFile.{AgeFile, is_mixed}
+use Rattle.age_file.specs.AgeFile.{is_mixed}
 use Rattle.age_file.specs.Verdict.{Answering, IsVerdict, checked, judged, parts_of, read_under, unlocked}
 use Rattle.age_file.proofs.FileLemmas.{one_verdict}
 use Rattle.agefile.specs.declared.report.Report.{Report}
 use Rattle.agefile.specs.declared.unlocking.Unlocked.{Unlocked}
-use Rattle.agefile.specs.Heading.{MakesHeader}
 use Rattle.agefile.specs.Limits.{limits}
 use Rattle.agefile.specs.Opening.{by_file_key}
 use Rattle.agefile.specs.Unlock.{GivesKey, Unlocks, key_of, with_len}
-use Rattle.agefile.proofs.ReadsRunLemmas.{some-code}
+use Rattle.agefile.proofs.OpensRunLemmas.{some-code}
 use Rattle.agefile.proofs.StartLemmas.{ok-ok}
-
--- a header that was made, and a payload
-pub written : (stanzas nonce plain : List ℕ) (k : FileKey) (header : Vec ℕ Global) → length nonce ≡ 16 → length (chunks plain) ≤ limits.max_chunks → MakesHeader stanzas k (Ok header)
-    → (ss : List StanzaParts) × AgeFile limits k ss plain (header.items ++ payload k nonce plain)
-written stanzas nonce plain k header len few (inl memory) = absurd (cc)
-written stanzas nonce plain k header len few (inr (Err fault, has, is)) = absurd (cc)
-written stanzas nonce plain k header len few (inr (Ok ss, has, heading)) = (
-  ss,
-  record {
-    header = header.items;
-    nonce = nonce;
-    head = heading.head;
-    nonce_len = len;
-    spelled = refl;
-    header_fits = heading.fits;
-    chunks_fit = few;
-    unmixed = heading.unmixed;
-  },
-)
 
 same_key : (t : Bool) (j k : FileKey) → ◌≡◌ {A = Result FileKey Fault} (cond t (Ok j) (Err BadMac)) (Ok k) → j ≡ k
 same_key true j k e = ok-ok j k e

@@ -22,7 +22,7 @@ use Rattle.agefile.specs.Report.{report_of}
 use Rattle.agefile.specs.Start.{IsStart, start_under}
 use Rattle.agefile.proofs.FrontLemmas.{whole-start}
 use Rattle.agefile.proofs.RangeLemmas.{slice-there}
-use Rattle.agefile.proofs.ReadsRunLemmas.{some-code}
+use Rattle.agefile.proofs.OpensRunLemmas.{some-code}
 use Rattle.agefile.proofs.StartLemmas.{ok-ok}
 use Rattle.agefile.proofs.StepsReadLemmas.{IsVerdictFrom, verdict-from}
 

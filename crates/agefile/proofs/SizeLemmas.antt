@@ -1,5 +1,5 @@
 -- How long the parts of a file are.
-use Rattle.std.proofs.Common.{◌≡◌, ℕ, ◌+◌, ◌*◌, ◌/◌, ◌<◌, ◌≤◌, List, [], ◌∷◌, ◌++◌, length, length-append, length-drop, length-take, drop, codes, flat_map, refl, sym, ap, subst, inl, inr, arith, ◌∙◌}
+use Rattle.std.proofs.Common.{◌≡◌, ℕ, ◌+◌, ◌*◌, ◌/◌, ◌<◌, ◌≤◌, List, [], ◌∷◌, ◌++◌, length, length-append, codes, flat_map, refl, sym, ap, inl, inr, arith, ◌∙◌}
 use Rattle.std.specs.List.{AllByRecursion, concat}
 use Rattle.std.specs.Fmt.{decimal}
 use Rattle.std.proofs.lemmas.Fmt.{length-decimal-le}
@@ -15,11 +15,7 @@ use Rattle.age_recipient.specs.Sealing.{zero_nonce}
 use Rattle.age_stream.proofs.CuttingLemmas.{filled-some, is_cut}
 use Rattle.age_stream.specs.Cutting.{IsFilled}
 use Rattle.age_cipher.specs.Sealing.{sealed}
-use Rattle.age_header.specs.Mac.{header_mac}
-use Rattle.age_file.specs.NewFile.{NewFile}
-use Rattle.agefile.specs.Giving.{IsFileUnder, fresh_of, only, salt_of}
-use Rattle.agefile.specs.Limits.{limits}
-use Rattle.agefile.specs.Sizes.{chunk_count, sealed_len}
+use Rattle.agefile.specs.Sizes.{chunk_count}
 use Rattle.age_stream.specs.Payload.{chunks, is_end, payload, payload_key, chunk_nonce, sealed_from}
 
 -- ---- headers
@@ -138,43 +134,3 @@ payload_size k nonce plain =
     let join : length (concat (chunks plain)) ≡ length plain = ap length (is_cut 65536 plain (omega arith)).joined in
     let count = chunks_size plain in
     omega (arith, length-append nonce (concat (sealed_from (payload_key k nonce) 0 (chunks plain))))
-
--- ---- files
-
--- the salt, the file key and the nonce of a seed have 16 bytes
-pub seed_salt_size : (seed : List ℕ) → length seed ≡ 48 → length (salt_of seed) ≡ 16
-seed_salt_size seed size = omega (arith, length-take 16 (drop 32 seed), length-drop 32 seed)
-
-pub seed_key_size : (seed : List ℕ) → length seed ≡ 48 → length (fresh_of seed).file_key.0 ≡ 16
-seed_key_size seed size = omega (arith, length-take 16 seed)
-
-seed_nonce_size : (seed : List ℕ) → length seed ≡ 48 → length (fresh_of seed).nonce ≡ 16
-seed_nonce_size seed size = omega (arith, length-take 16 (drop 16 seed), length-drop 16 seed)
-
-file_size : (seed : List ℕ) (stanza : StanzaParts) (plain file : List ℕ) (is : NewFile limits (fresh_of seed) (only stanza) plain file) → length seed ≡ 48
-    → length file ≡ length is.text + (16 + (length plain + 16 * chunk_count (length plain)))
-file_size seed stanza plain file is size =
-    let sealed = payload_size (fresh_of seed).file_key (fresh_of seed).nonce plain in
-    let nonce = seed_nonce_size seed size in
-    ap length is.spelled ∙ omega (arith, length-append is.text (payload (fresh_of seed).file_key (fresh_of seed).nonce plain))
-
--- a header of the stanza alone
-only_head : (seed : List ℕ) (stanza : StanzaParts) (plain file : List ℕ) (is : NewFile limits (fresh_of seed) (only stanza) plain file)
-    → Head (stanza ∷ []) (header_mac (fresh_of seed).file_key.0 is.stanzas) is.text
-only_head seed stanza plain file is =
-    let same : is.stanzas ≡ stanza ∷ [] = cc (is.heading.gives) in
-    subst (λ ss. Head ss (header_mac (fresh_of seed).file_key.0 is.stanzas) is.text) same is.heading.head
-
-pub key_file : (key seed plain file : List ℕ) → length seed ≡ 48
-    → IsFileUnder seed (keyed_stanza key (salt_of seed)) plain file → length file ≡ sealed_len (length plain)
-key_file key seed plain file size is =
-    let all = file_size seed _ plain file is size in
-    let head = key_header key (salt_of seed) (fresh_of seed).file_key _ is.text (seed_salt_size seed size) (seed_key_size seed size) (only_head seed _ plain file is) in
-    omega arith
-
-pub pass_file : (pass seed plain file : List ℕ) (work : ℕ) → length seed ≡ 48 → work ≤ 30
-    → IsFileUnder seed (pass_stanza pass work (salt_of seed)) plain file → length file < sealed_len (length plain)
-pass_file pass seed plain file work size high is =
-    let all = file_size seed _ plain file is size in
-    let head = pass_header pass (salt_of seed) work (fresh_of seed).file_key _ is.text (seed_salt_size seed size) (seed_key_size seed size) high (only_head seed _ plain file is) in
-    omega arith

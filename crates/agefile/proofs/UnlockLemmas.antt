@@ -22,7 +22,7 @@ use Rattle.agefile.specs.Limits.{limits}
 use Rattle.agefile.specs.Report.{report_of}
 use Rattle.agefile.specs.Unlock.{FindsKey, GivesKey, IsKey, Unlocks, with_len}
 use Rattle.agefile.proofs.FrontLemmas.{whole_verdict}
-use Rattle.agefile.proofs.ReadsRunLemmas.{some-code}
+use Rattle.agefile.proofs.OpensRunLemmas.{some-code}
 use Rattle.agefile.proofs.StartLemmas.{fronts}
 
 -- no header was read

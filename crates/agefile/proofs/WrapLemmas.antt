@@ -1,5 +1,5 @@
 -- The text of a stanza that is written.
-use Rattle.std.proofs.Common.{◌≡◌, ◌≢◌, ℕ, zero, suc, ◌+◌, ◌-◌, ◌<◌, ◌≤◌, List, [], ◌∷◌, ◌++◌, length, take, drop, codes, flat_map, get_or, sym, ◌∙◌, ap, refl, subst, arith, inl, inr, append_assoc, length-append, None}
+use Rattle.std.proofs.Common.{◌≡◌, ℕ, zero, suc, ◌-◌, ◌<◌, ◌≤◌, List, [], ◌∷◌, ◌++◌, length, take, drop, codes, flat_map, get_or, sym, ◌∙◌, ap, refl, subst, arith, inl, inr, append_assoc, length-append, None}
 use Rattle.std.specs.List.{AllByRecursion}
 use Rattle.std.specs.Str.{IsUtf8}
 use Rattle.std.proofs.lemmas.List.{append-nil, drop_at, take_at}

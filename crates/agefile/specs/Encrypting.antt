@@ -12,6 +12,14 @@ use Rattle.agefile.specs.Giving.{Gives, GivesUp}
 use Rattle.agefile.specs.Heading.{MakesHeader, Refuses}
 use Rattle.agefile.specs.Limits.{limits}
 
+-- The file of a plaintext that has a header of this text of stanzas, and the payload under this file
+-- key and nonce.
+abbrev pub IsNewFile : (stanzas file_key nonce plain file : Bytes) → Type 0
+IsNewFile stanzas file_key nonce plain file =
+    let k : FileKey = record { 0 = file_key } in
+    (header : Vec ℕ Global) × MakesHeader stanzas k (Ok header)
+    × (file ≡ header.items ++ payload k nonce plain) × (length (chunks plain) ≤ limits.max_chunks)
+
 -- these bytes and then a plaintext's sealed chunks, which are within the limit
 abbrev pub IsSealedBehind : (front plain : Bytes) (k : FileKey) (nonce file : Bytes) → Type 0
 IsSealedBehind front plain k nonce file =

@@ -1,5 +1,5 @@
 -- What a text of stanzas is, and what calls give that make a header of it.
-use Rattle.std.specs.Prelude.{◌≡◌, ◌≢◌, ◌⊎◌, ◌==◌, ℕ, ◌+◌, ◌-◌, ◌++◌, List, [], length, replicate, codes, nat_lt, Some, None, Result, Ok, Err, if◌then◌else◌, Vec}
+use Rattle.std.specs.Prelude.{◌≡◌, ◌≢◌, ◌⊎◌, ◌==◌, ℕ, ◌-◌, ◌++◌, List, [], length, replicate, codes, nat_lt, Some, None, Result, Ok, Err, if◌then◌else◌, Vec}
 use Rattle.std.specs.Global.{Global}
 use Rattle.std.specs.List.{count_by}
 use Rattle.age_kdf.specs.Bytes.{Bytes}

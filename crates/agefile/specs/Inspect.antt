@@ -1,6 +1,6 @@
 -- What calls over a header give.
-use Rattle.std.specs.Prelude.{◌≡◌, ◌⊎◌, ℕ, List, [], ◌∷◌, length, Option, Some, None, Result, Ok, Err}
-use Rattle.std.specs.List.{join_by, slice_get}
+use Rattle.std.specs.Prelude.{◌≡◌, ◌⊎◌, ℕ, List, [], ◌∷◌, length, Some, None, Result, Ok, Err}
+use Rattle.std.specs.List.{join_by}
 use Rattle.age_kdf.specs.Bytes.{Bytes}
 use Rattle.age_header.specs.declared.fault.HeaderFault.{HeaderFault}
 use Rattle.age_header.specs.Header.{HeaderParts, StanzaParts}
@@ -11,8 +11,7 @@ use Rattle.age_file.specs.Verdict.{header_fault}
 use Rattle.agefile.specs.declared.inspecting.StanzaSummary.{StanzaSummary}
 use Rattle.agefile.specs.declared.inspecting.Summary.{Summary}
 use Rattle.agefile.specs.declared.report.Report.{Report}
-use Rattle.agefile.specs.Giving.{Gives, GivesUp}
-use Rattle.agefile.specs.Codes.{fault_code, ok, out_of_memory, out_of_order}
+use Rattle.agefile.specs.Codes.{fault_code, ok, out_of_memory}
 use Rattle.agefile.specs.Limits.{limits}
 use Rattle.agefile.specs.Report.{report_of}
 
@@ -59,28 +58,3 @@ joined args = join_by (λ arg. arg) (32 ∷ []) args
 abbrev pub stanza_summary : StanzaParts → StanzaSummary
 stanza_summary s =
     record { args = length s.args; args_len = length (joined s.args); body_len = length s.body }
-
--- the stanza with this index is summed up, and its arguments are given if they fit the buffer; or
--- there is none
-abbrev pub GivesStanza : (found : Option StanzaParts) (old new : Bytes)
-    (before after : StanzaSummary) (report : Report) (code : ℕ) → Type 0
-GivesStanza (Some s) old new before after report code =
-    Gives (joined s.args) None old new report code × (after ≡ stanza_summary s)
-GivesStanza None old new before after report code =
-    GivesUp out_of_order old new report code × (after ≡ before)
-
--- the same of an index in a header; or the header's fault is returned, and nothing is given
-abbrev pub StanzaOf : (verdict : Result Found HeaderFault) (index : ℕ) (old new : Bytes)
-    (before after : StanzaSummary) (report : Report) (code : ℕ) → Type 0
-StanzaOf (Ok found) index old new before after report code =
-    GivesStanza (slice_get found.stanzas index) old new before after report code
-StanzaOf (Err reason) index old new before after report code =
-    ReportsFault reason report code × (new ≡ old) × (after ≡ before)
-
--- what asking for a stanza of b's header gives; or out of memory, and nothing is given
-abbrev pub InspectsStanza : (b : Bytes) (index : ℕ) (old new : Bytes) (before after : StanzaSummary)
-    (report : Report) (code : ℕ) → Type 0
-InspectsStanza b index old new before after report code =
-    (GivesUp out_of_memory old new report code × (after ≡ before))
-    ⊎ ((verdict : Result Found HeaderFault) × HeaderVerdict b limits.max_header verdict
-    × StanzaOf verdict index old new before after report code)

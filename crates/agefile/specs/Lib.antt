@@ -12,13 +12,10 @@ pub mod Part
 pub mod Payload
 pub mod Phase
 pub mod Ranges
-pub mod Reader
 pub mod Report
 pub mod Runs
 pub mod Sizes
 pub mod Start
-pub mod State
 pub mod Steps
 pub mod Unlock
 pub mod Wrapping
-pub mod Writer

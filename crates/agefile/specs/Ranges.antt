@@ -14,7 +14,18 @@ use Rattle.agefile.specs.Limits.{limits}
 use Rattle.agefile.specs.Report.{report_of}
 use Rattle.agefile.specs.Start.{FindsStart}
 use Rattle.age_stream.specs.Sizes.{tag_size, chunk_size, sealed_chunk_size}
-use Rattle.agefile.specs.State.{state_closed, state_open, state_verified}
+
+-- nothing was opened
+abbrev pub state_closed : ℕ
+state_closed = 0
+
+-- the last piece was not verified yet
+abbrev pub state_open : ℕ
+state_open = 1
+
+-- the last piece was verified
+abbrev pub state_verified : ℕ
+state_verified = 2
 
 -- the index of the last piece, if all pieces together have `sealed` bytes
 abbrev pub last_index : ℕ → ℕ
@@ -47,9 +58,9 @@ abbrev pub piece_report : (r : Ranges) (i : ℕ) → Report
 piece_report r i =
     record { len = piece_len r.sealed_len i; place = r.first + sealed_chunk_size * i; detail = 0 }
 
--- the call returns this code alone, and no payload is open
-pub record StaysClosed (expected : ℕ) (new : Ranges) (report : Report) (code : ℕ) : Type 0 where
-  pub returned : code ≡ expected
+-- the call is out of order, and no payload is open
+pub record StaysClosed (new : Ranges) (report : Report) (code : ℕ) : Type 0 where
+  pub returned : code ≡ out_of_order
   pub reported : report ≡ report_of 0 None
   pub ranges : new ≡ closed
 
@@ -58,7 +69,7 @@ pub record StaysClosed (expected : ℕ) (new : Ranges) (report : Report) (code :
 abbrev pub OpensAt : (file_len : ℕ) (start : Result Start Fault) (new : Ranges) (report : Report)
     (code : ℕ) → Type 0
 OpensAt file_len (Ok start) new report code =
-    ((file_len < start.first) × StaysClosed out_of_order new report code)
+    ((file_len < start.first) × StaysClosed new report code)
     ⊎ ((start.first ≤ file_len) × (code ≡ ok) × (new ≡ opened start file_len)
     × (report ≡ piece_report (opened start file_len) (last_index (file_len - start.first))))
 OpensAt file_len (Err fault) new report code =

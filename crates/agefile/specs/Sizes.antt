@@ -6,8 +6,8 @@ use Rattle.age_stream.specs.Sizes.{nonce_size, tag_size, chunk_size, sealed_chun
 abbrev pub chunk_count : ℕ → ℕ
 chunk_count n = (n - 1) / chunk_size + 1
 
--- the longest header that this library writes, that under a key: lines of 22, 42, 44 and 48 bytes;
--- under a passphrase it has at most 150
+-- the longest header of one stanza of this library's own, that under a key: lines of 22, 42, 44 and
+-- 48 bytes; under a passphrase it has at most 150
 abbrev pub longest_header : ℕ
 longest_header = 156
 
@@ -20,10 +20,9 @@ shortest_header = 70
 abbrev pub file_len : (header n : ℕ) → ℕ
 file_len header n = header + nonce_size + n + tag_size * chunk_count n
 
--- the length of the file of a plaintext of n bytes under a key: a header, a nonce, and a tag for
--- each chunk
+-- the same where the header is the longest
 abbrev pub sealed_len : ℕ → ℕ
-sealed_len n = longest_header + nonce_size + n + tag_size * chunk_count n
+sealed_len n = file_len longest_header n
 
 -- the most that pieces of n bytes open to: 65,536 bytes of each full one, and of what is left all
 -- but a tag

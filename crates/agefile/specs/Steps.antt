@@ -1,4 +1,4 @@
--- What the steps of readers and writers share.
+-- What the calls on payloads and on parts share.
 use Rattle.std.specs.Prelude.{◌≡◌, ℕ, None}
 use Rattle.age_kdf.specs.Bytes.{Bytes}
 use Rattle.agefile.specs.declared.report.Report.{Report}

@@ -1,5 +1,5 @@
 -- What calls give that write a stanza.
-use Rattle.std.specs.Prelude.{◌≡◌, ◌⊎◌, ◌==◌, ℕ, List, None}
+use Rattle.std.specs.Prelude.{◌⊎◌, ◌==◌, ℕ, List, None}
 use Rattle.std.specs.List.{slice_split}
 use Rattle.std.specs.Str.{IsUtf8}
 use Rattle.age_kdf.specs.Bytes.{Bytes}

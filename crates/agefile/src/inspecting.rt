@@ -1,15 +1,12 @@
 //! Reading a file's header.
 
-ghost use Rattle.std.specs.Prelude.{◌≡◌, ◌⊎◌, take, Some, IfOk};
+ghost use Rattle.std.specs.Prelude.{◌≡◌, take, IfOk};
 ghost use Rattle.std.specs.String.{string_bytes};
 ghost use Rattle.age_kdf.specs.Bytes.{Bytes};
-ghost use Rattle.agefile.specs.Giving.{GivesUp};
-ghost use Rattle.agefile.specs.Inspect.{GivesStanza, HeaderOf, Inspected, InspectsStanza, joined, stanza_summary};
-ghost use Rattle.agefile.specs.Codes.{out_of_memory};
+ghost use Rattle.agefile.specs.Inspect.{HeaderOf, Inspected, joined, stanza_summary};
 ghost use Rattle.agefile.specs.Limits.{front_size};
 
-use crate::code::{OK, OUT_OF_MEMORY, OUT_OF_ORDER, fault_code};
-use crate::giving::{give_part, give_up, give_whole};
+use crate::code::{OK, fault_code};
 use crate::limits::limits;
 use crate::report::Report;
 use age_file::{Fault, Header, MemSource, Stanza, inspect};
@@ -71,57 +68,6 @@ pub extern "C" fn agefile_inspect(
             fault_code(fault)
         }
     }
-}
-
-/// Writes the sizes of the header's stanza of this index, from 0, to `stanza`, and its arguments,
-/// joined by single spaces, to the start of `args`. If `args` is too small for them, `stanza` is
-/// still set. The first 65,552 bytes of a longer file suffice.
-///
-/// # Errors
-/// 23 if there is no such stanza, 21 if `args` is too small, 17 if an allocation was refused, else
-/// those of `age_file::inspect`; then `args` is unchanged, and in all but 21 `stanza` too.
-#[unsafe(no_mangle)]
-pub extern "C" fn agefile_stanza(
-    alloc: Global,
-    front: &[u8],
-    index: u64,
-    args: &mut [u8],
-    stanza: &mut StanzaSummary,
-    report: &mut Report,
-) -> u32
-    ensures front { InspectsStanza front.now index args.old args.new stanza.old stanza.new
-        report.new result }
-    ensures file { (b : Bytes) → front.now ≡ take front_size b
-        → InspectsStanza b index args.old args.new stanza.old stanza.new report.new result }
-{
-    let header = match header_of(alloc, front) {
-        Ok(header) => header,
-        Err(fault) => return give_part(&[], fault, args, report),
-    };
-    if index >= header.stanzas().len() as u64 {
-        return give_up(OUT_OF_ORDER, args, report);
-    }
-    let place = index as usize;
-    give_stanza(alloc, &header.stanzas()[place], args, stanza, report)
-}
-
-/// Writes a stanza's sizes and its arguments.
-fn give_stanza(
-    alloc: Global,
-    found: &Stanza,
-    args: &mut [u8],
-    stanza: &mut StanzaSummary,
-    report: &mut Report,
-) -> u32
-    ensures { ((GivesUp out_of_memory args.old args.new report.new result)
-        × (stanza.new ≡ stanza.old))
-        ⊎ GivesStanza (Some found.now) args.old args.new stanza.old stanza.new report.new result }
-{
-    let Ok(text) = joined(alloc, found) else {
-        return give_up(OUT_OF_MEMORY, args, report);
-    };
-    *stanza = stanza_summary(found, text.as_bytes());
-    give_whole(text.as_bytes(), args, report)
 }
 
 /// The sizes of a stanza whose arguments are joined to this text.

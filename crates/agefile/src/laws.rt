@@ -1,36 +1,29 @@
 //! Laws over the definitions alone: functions that do nothing, each with a law as its contract.
 
-ghost use Rattle.std.specs.Prelude.{None, Ok, List, Vec, [], ◌∷◌, drop, length, take, true, ℕ, ◌≤◌, ◌%◌, ◌++◌, ◌+◌, ◌/◌, ◌<◌, ◌≡◌, ◌≢◌, ◌⊎◌};
+ghost use Rattle.std.specs.Prelude.{None, Ok, List, [], ◌∷◌, drop, length, take, true, ℕ, ◌≤◌, ◌%◌, ◌++◌, ◌+◌, ◌/◌, ◌<◌, ◌≡◌, ◌≢◌, ◌⊎◌};
+ghost use Rattle.std.specs.List.{concat};
 ghost use Rattle.age_kdf.specs.Bytes.{Bytes};
-ghost use Rattle.age_header.specs.Header.{StanzaParts};
-ghost use Rattle.age_recipient.specs.declared.key.FileKey.{FileKey};
-ghost use Rattle.age_stream.specs.Payload.{chunks, payload, pieces, sealed_from};
+ghost use Rattle.age_stream.specs.Payload.{chunks, pieces, sealed_from};
 ghost use Rattle.age_stream.specs.Reading.{Reading, outcome, whole};
+ghost use Rattle.age_stream.specs.Sizes.{chunk_size, nonce_size, tag_size};
+ghost use Rattle.age_stream.specs.Slice.{IsSlice, last_outcome, plain_len};
 ghost use Rattle.age_file.specs.declared.fault.Fault.{Fault};
 ghost use Rattle.age_file.specs.Verdict.{Answering, IsVerdict, read_under};
-ghost use Rattle.agefile.specs.declared.reader.Reader.{Reader};
-ghost use Rattle.agefile.specs.declared.report.Report.{Report};
-ghost use Rattle.agefile.specs.declared.writer.Writer.{Writer};
-ghost use Rattle.agefile.specs.Giving.{IsFileUnder, seed_size};
-ghost use Rattle.agefile.specs.Codes.{code_of, ok, out_of_memory, too_many_chunks};
-ghost use Rattle.agefile.specs.Limits.{limits, front_size};
-ghost use Rattle.agefile.specs.Reader.{OpensReader};
-ghost use Rattle.agefile.specs.Report.{report_of};
-ghost use Rattle.agefile.specs.Runs.{ReadsRun, WritesRun};
-ghost use Rattle.agefile.specs.Unlock.{Unlocks};
-ghost use Rattle.agefile.specs.Writer.{OpensWriter};
-ghost use Rattle.age_stream.specs.Slice.{IsSlice, last_outcome, plain_len};
-ghost use Rattle.agefile.specs.declared.ranges.Ranges.{Ranges};
-ghost use Rattle.agefile.specs.Ranges.{OpensRanges, gives, last_index, piece_at, plain_of};
-ghost use Rattle.agefile.specs.Start.{IsStart};
-ghost use Rattle.age_stream.specs.Sizes.{chunk_size, nonce_size, tag_size};
-ghost use Rattle.std.specs.Global.{Global};
-ghost use Rattle.std.specs.List.{concat};
 ghost use Rattle.agefile.specs.declared.payload.Payload.{Payload};
+ghost use Rattle.agefile.specs.declared.ranges.Ranges.{Ranges};
+ghost use Rattle.agefile.specs.declared.report.Report.{Report};
+ghost use Rattle.agefile.specs.Codes.{code_of, ok, out_of_memory, too_many_chunks};
+ghost use Rattle.agefile.specs.Encrypting.{IsNewFile};
 ghost use Rattle.agefile.specs.Groups.{SealsGroups, all_of, sealed_open};
-ghost use Rattle.agefile.specs.Heading.{MakesHeader};
-ghost use Rattle.agefile.specs.Opening.{by_file_key};
+ghost use Rattle.agefile.specs.Heading.{BeginsFile};
+ghost use Rattle.agefile.specs.Limits.{limits, front_size};
+ghost use Rattle.agefile.specs.Opening.{Opens, by_file_key};
 ghost use Rattle.agefile.specs.Payload.{SealsNext};
+ghost use Rattle.agefile.specs.Ranges.{OpensRanges, gives, last_index, piece_at, plain_of};
+ghost use Rattle.agefile.specs.Report.{report_of};
+ghost use Rattle.agefile.specs.Runs.{OpensRun, SealsRun};
+ghost use Rattle.agefile.specs.Start.{IsStart};
+ghost use Rattle.agefile.specs.Unlock.{Unlocks};
 
 use age_file::laws;
 
@@ -38,29 +31,38 @@ use age_file::laws;
 /// b is enough to open it. A fault of the opening, except out of memory, is the verdict's, before
 /// any plaintext. Otherwise the texts of the sealed chunks after the nonce, joined up to the first
 /// fault, are the verdict's plaintext, and that fault, with its line or chunk, is the verdict's.
+/// The same is so of the verdict for a secret, if the file key was unlocked by it.
 pub fn steps_read()
-    ensures refused { (answers : Answering) (b : Bytes) (reader : Reader) (report : Report)
-        (code : ℕ) (v : Reading Fault)
-        → OpensReader answers (take front_size b) reader report code → IsVerdict limits answers b v
+    ensures refused { (answers : Answering) (b : Bytes) (p : Payload) (report : Report) (code : ℕ)
+        (v : Reading Fault)
+        → Opens answers (take front_size b) p report code → IsVerdict limits answers b v
         → code ≢ ok → code ≢ out_of_memory
         → (v.front ≡ []) × (code_of v.fault ≡ code) × (report ≡ report_of 0 v.fault) }
-    ensures read { (answers : Answering) (b : Bytes) (reader : Reader) (report : Report)
-        (text : Bytes) (code place : ℕ) (v : Reading Fault)
-        → OpensReader answers (take front_size b) reader report ok
-        → ReadsRun reader (pieces (drop report.len b)) text code place
-        → IsVerdict limits answers b v
+    ensures read { (answers : Answering) (b : Bytes) (p : Payload) (report : Report) (text : Bytes)
+        (code place : ℕ) (v : Reading Fault)
+        → Opens answers (take front_size b) p report ok
+        → OpensRun p (pieces (drop report.len b)) text code place → IsVerdict limits answers b v
+        → (v.front ≡ text) × ((code_of v.fault ≡ code) × ((report_of 0 v.fault).place ≡ place)) }
+    ensures unlocked_refused { (answers : Answering) (b old key : Bytes) (p : Payload)
+        (at report : Report) (code : ℕ) (v : Reading Fault) → Unlocks answers b old key at ok
+        → Opens (by_file_key key) (take front_size b) p report code → IsVerdict limits answers b v
+        → code ≢ ok → code ≢ out_of_memory
+        → (v.front ≡ []) × (code_of v.fault ≡ code) × (report ≡ report_of 0 v.fault) }
+    ensures unlocked_read { (answers : Answering) (b old key : Bytes) (p : Payload)
+        (at report : Report) (text : Bytes) (code place : ℕ) (v : Reading Fault)
+        → Unlocks answers b old key at ok → Opens (by_file_key key) (take front_size b) p report ok
+        → OpensRun p (pieces (drop report.len b)) text code place → IsVerdict limits answers b v
         → (v.front ≡ text) × ((code_of v.fault ≡ code) × ((report_of 0 v.fault).place ≡ place)) }
 {}
 
-/// Writing a file in steps writes what encrypting writes: the front that the opening wrote and the
-/// sealed chunks of a plaintext, joined, are the plaintext's file. Otherwise the plaintext has more
-/// chunks than the limit, and a step returns 14.
+/// Writing a file in steps writes what encrypting writes: the header and the nonce that begin it
+/// and the sealed chunks of a plaintext, joined, are the plaintext's file. Otherwise the plaintext
+/// has more chunks than the limit, and a step returns 14.
 pub fn steps_write()
-    ensures { (seed : Bytes) (stanza : FileKey → StanzaParts) (plain old new : Bytes)
-        (writer : Writer) (report : Report) (out : Bytes) (code : ℕ)
-        → length seed ≡ seed_size → OpensWriter seed stanza old new writer report ok
-        → WritesRun writer (chunks plain) out code
-        → ((code ≡ ok) × IsFileUnder seed stanza plain (take report.len new ++ out))
+    ensures { (stanzas file_key nonce plain old new : Bytes) (p : Payload) (report : Report)
+        (out : Bytes) (code : ℕ) → BeginsFile stanzas file_key nonce old new p report ok
+        → SealsRun p (chunks plain) out code
+        → ((code ≡ ok) × IsNewFile stanzas file_key nonce plain (take report.len new ++ out))
         ⊎ ((code ≡ too_many_chunks) × (limits.max_chunks < length (chunks plain))) }
 {}
 
@@ -131,14 +133,12 @@ pub fn parts_seal()
         → out ++ after ≡ concat (sealed_from old.key old.number (all_of groups ++ text ∷ [])) }
 {}
 
-/// A file whose header was made of a text of stanzas, with a plaintext's payload after it, has for
-/// its file key the verdict "this plaintext, no fault", whatever the stanzas.
+/// A file that encrypting writes has for its file key the verdict "this plaintext, no fault",
+/// whatever the stanzas.
 pub fn written_reads()
-    ensures { (stanzas file_key nonce plain : Bytes) (header : Vec ℕ Global)
-        → length nonce ≡ nonce_size → length (chunks plain) ≤ limits.max_chunks
-        → MakesHeader stanzas (record { 0 = file_key }) (Ok header)
-        → IsVerdict limits (by_file_key file_key)
-        (header.items ++ payload (record { 0 = file_key }) nonce plain) (whole plain) }
+    ensures { (stanzas file_key nonce plain file : Bytes) → length nonce ≡ nonce_size
+        → IsNewFile stanzas file_key nonce plain file
+        → IsVerdict limits (by_file_key file_key) file (whole plain) }
 {
     laws::ok_is_age_file();
 }

@@ -4,15 +4,20 @@
 //!
 //! ```c
 //! agefile_report report;
-//! uint32_t code = agefile_decrypt_passphrase(
-//!     file, file_len, pass, pass_len, 22, out, out_len, &report);
+//! uint8_t file_key[16];
+//! uint32_t code = agefile_unlock_passphrase(
+//!     file, file_len, pass, pass_len, 22, file_key, &report);
+//! if (code == AGEFILE_OK)
+//!     code = agefile_decrypt(file, file_len, file_key, out, out_len, &report);
 //! if (code == AGEFILE_OK)
 //!     fwrite(out, 1, report.len, stdout);
 //! ```
 //!
-//! The exports are in `decrypting` and `encrypting` (whole buffers), `inspecting` and `listing`
-//! (headers), `unlocking` (file keys), `sizes`, and `reader`, `writer` and `ranges` (steps). The
-//! other modules have none.
+//! The exports are in `inspecting` and `listing` (what is in a header), `unlocking` (from a secret
+//! to a file key), `wrapping` (from a file key to a stanza), `heading` (from stanzas to a header),
+//! `opening` and `sealing` (by a file key: whole buffers, and the start of a payload), `payload`
+//! and `part` (chunks in order, and on many threads), `ranges`, `sizes` and `version`. The other
+//! modules have none.
 //!
 //! Limits: a header of 65,536 bytes, 2^64 - 1 chunks, one recipient. The duties of a caller, and
 //! what is proved, are in docs/C.md.
@@ -20,8 +25,6 @@
 
 mod chunk;
 mod code;
-mod decrypting;
-mod encrypting;
 mod giving;
 mod heading;
 mod inspecting;
@@ -33,16 +36,13 @@ mod part;
 mod payload;
 mod phase;
 mod ranges;
-mod reader;
 mod report;
 mod sealing;
 mod sizes;
 mod start;
-mod state;
 #[cfg(test)]
 mod tests;
 pub mod there_and_back;
 mod unlocking;
 mod version;
 mod wrapping;
-mod writer;

@@ -1,20 +1,20 @@
 //! Opening a file by its file key.
 
-ghost use Rattle.std.specs.Prelude.{◌≡◌};
-ghost use Rattle.agefile.specs.Giving.{GivesPlain};
+ghost use Rattle.std.specs.Prelude.{◌≡◌, map};
+ghost use Rattle.agefile.specs.Giving.{GivesPlain, alone};
 ghost use Rattle.agefile.specs.Opening.{Opens, StartsAt, by_file_key};
 ghost use Rattle.agefile.specs.Ranges.{OpensRanges};
 ghost use Rattle.agefile.specs.Start.{FindsStart};
 
 use crate::code::{OK, OUT_OF_MEMORY, fault_code};
-use crate::decrypting::open_with;
-use crate::giving::give_up;
+use crate::giving::{give_part, give_up, give_whole, is_memory};
+use crate::limits::limits;
 use crate::payload::Payload;
 use crate::phase::READING;
 use crate::ranges::{Ranges, open_at};
 use crate::report::Report;
 use crate::start::{Start, start_for};
-use age_file::{Fault, FileKey, Identity, Stanza, Unwrapped};
+use age_file::{Fault, FileKey, Identity, MemSink, MemSource, Stanza, Unwrapped, decrypt};
 use std::alloc::{AllocError, Global};
 use std::marker::Model;
 
@@ -139,8 +139,50 @@ pub extern "C" fn agefile_decrypt(
     }
 }
 
+/// Decrypts a file for one identity.
+fn open_with(
+    alloc: Global,
+    file: &[u8],
+    identity: Box<dyn Identity>,
+    out: &mut [u8],
+    report: &mut Report,
+) -> u32
+    ensures { GivesPlain (alone (meaning identity)) file.now out.old out.new report.new result }
+{
+    match vec![in alloc; identity] {
+        Ok(identities) => open_for(alloc, file, identities.as_slice(), out, report),
+        Err(_) => give_up(OUT_OF_MEMORY, out, report),
+    }
+}
+
+/// Decrypts a file for some identities.
+fn open_for(
+    alloc: Global,
+    file: &[u8],
+    identities: &[Box<dyn Identity>],
+    out: &mut [u8],
+    report: &mut Report,
+) -> u32
+    ensures { GivesPlain (λ stanzas. map (λ i. meaning i stanzas) identities.now) file.now out.old
+        out.new report.new result }
+{
+    let mut source = MemSource::new(file);
+    let mut sink = MemSink::new(Vec::new(alloc));
+    let answer = decrypt(alloc, &mut source, &mut sink, identities, &limits());
+    let text = sink.into_vec();
+    match answer {
+        Ok(_) => give_whole(text.as_slice(), out, report),
+        Err(fault) => {
+            if is_memory(fault) {
+                return give_up(OUT_OF_MEMORY, out, report);
+            }
+            give_part(text.as_slice(), fault, out, report)
+        }
+    }
+}
+
 /// Finds the start of a file with this front by its file key.
-pub(crate) fn start_under(alloc: Global, front: &[u8], file_key: &[u8; 16]) -> Result<Start, Fault>
+fn start_under(alloc: Global, front: &[u8], file_key: &[u8; 16]) -> Result<Start, Fault>
     ensures { FindsStart (by_file_key file_key.now) front.now result }
 {
     match Box::new(alloc, GivenKey::new(FileKey(*file_key))) {

@@ -1,7 +1,8 @@
 //! A payload in order: one sealed chunk after another, opened or sealed.
 
-ghost use Rattle.std.specs.Prelude.{◌≡◌};
-ghost use Rattle.agefile.specs.Payload.{OpensNext, SealsNext, before_first, closed, may_open, may_seal};
+ghost use Rattle.std.specs.Prelude.{◌≡◌, ◌+◌, ◌^◌, ◌<◌};
+ghost use Rattle.agefile.specs.Codes.{ok};
+ghost use Rattle.agefile.specs.Payload.{OpensNext, SealsNext, after_chunk, before_first, closed, may_open, may_seal};
 
 use crate::chunk::{has_text, is_chunk_len, open_as, seal_as};
 use crate::code::{OK, OUT_OF_ORDER};
@@ -83,12 +84,7 @@ pub extern "C" fn agefile_open_next(
         return OUT_OF_ORDER;
     }
     let code = open_as(&payload.key, payload.number, last, chunk, report);
-    if code == OK {
-        payload.number += 1;
-        payload.state = if last { ENDED } else { READING };
-    } else {
-        payload.state = FAILED;
-    }
+    go_on(payload, last, code);
     code
 }
 
@@ -113,11 +109,21 @@ pub extern "C" fn agefile_seal_next(
         return OUT_OF_ORDER;
     }
     let code = seal_as(&payload.key, payload.number, last, chunk, report);
-    if code == OK {
-        payload.number += 1;
-        payload.state = if last { ENDED } else { WRITING };
-    } else {
-        payload.state = FAILED;
-    }
+    go_on(payload, last, code);
     code
+}
+
+/// Counts a chunk that was accepted, or keeps a fault.
+fn go_on(payload: &mut Payload, last: bool, code: u32)
+    requires { code ≡ ok → payload.old.number + 1 < 2 ^ 64 }
+    ensures { payload.new ≡ after_chunk payload.old last code }
+{
+    if code != OK {
+        payload.state = FAILED;
+        return;
+    }
+    payload.number += 1;
+    if last {
+        payload.state = ENDED;
+    }
 }

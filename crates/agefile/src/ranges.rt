@@ -3,23 +3,24 @@
 ghost use Rattle.std.specs.Prelude.{◌≡◌, ◌≤◌, ◌/◌, None, true};
 ghost use Rattle.std.specs.Bool.{OnFalse, OnTrue};
 ghost use Rattle.age_stream.specs.Reading.{outcome};
-ghost use Rattle.age_recipient.specs.KeyedHolders.{key_unwraps};
-ghost use Rattle.age_recipient.specs.PassphraseHolders.{WorkFits, pass_unwraps};
-ghost use Rattle.agefile.specs.Giving.{alone};
 ghost use Rattle.agefile.specs.Limits.{limits};
-ghost use Rattle.agefile.specs.Ranges.{GivesFrom, OpensAt, OpensRanges, StaysClosed, Verified, closed, gives, has_byte, last_index, may_open, may_verify, piece_len, piece_report, plain_of};
+ghost use Rattle.agefile.specs.Ranges.{GivesFrom, OpensAt, StaysClosed, Verified, closed, gives, has_byte, last_index, may_open, may_verify, piece_len, piece_report, plain_of};
 ghost use Rattle.agefile.specs.Report.{report_of};
 ghost use Rattle.age_stream.specs.Sizes.{chunk_size};
-ghost use Rattle.agefile.specs.Codes.{ok, bad_work_factor, out_of_order};
+ghost use Rattle.agefile.specs.Codes.{ok, out_of_order};
 
-use crate::code::{OK, OUT_OF_ORDER, WORK_FACTOR, fault_code};
+use crate::code::{OK, OUT_OF_ORDER, fault_code};
 use crate::limits::MAX_CHUNKS;
 use crate::report::Report;
-use crate::start::{Start, start_for_key, start_for_passphrase};
-use crate::state::{CLOSED, OPEN};
+use crate::start::Start;
 use age_file::Fault;
 use age_stream::{CHUNK_SIZE, SEALED_CHUNK_SIZE, TAG_SIZE, open_chunk};
-use std::alloc::Global;
+
+/// Nothing was opened.
+const CLOSED: u64 = 0;
+
+/// The last sealed chunk was not verified yet.
+const OPEN: u64 = 1;
 
 /// The last sealed chunk was verified.
 const VERIFIED: u64 = 2;
@@ -52,65 +53,13 @@ impl Ranges {
     }
 }
 
-/// Opens a file of `file_len` bytes with this front, its first 65,552 bytes or all of a shorter
-/// one, with a passphrase, which is any bytes. It accepts work factors of at most `max_work`, 1 to
-/// 30. On 0 the report has the last sealed chunk's offset in the file and its length.
-///
-/// # Errors
-/// 22 if `max_work` is not 1 to 30, 17 if an allocation was refused. Otherwise the first that
-/// applies of those of `age_file::inspect` and `age_file::unlock_header`, and 10 if fewer than 16
-/// bytes follow the header; then 23 if the file ends before its first sealed chunk. No payload is
-/// open then.
-#[unsafe(no_mangle)]
-pub extern "C" fn agefile_ranges_open_passphrase(
-    alloc: Global,
-    front: &[u8],
-    file_len: u64,
-    pass: &[u8],
-    max_work: u8,
-    ranges: &mut Ranges,
-    report: &mut Report,
-) -> u32
-    ensures fit { WorkFits max_work
-        → OpensRanges (alone (pass_unwraps (record { pass = pass.now; max = max_work }))) front.now
-        file_len ranges.new report.new result }
-    ensures unfit { (WorkFits max_work → ⊥)
-        → StaysClosed bad_work_factor ranges.new report.new result }
-{
-    match start_for_passphrase(alloc, front, pass, max_work) {
-        Some(start) => open_at(start, file_len, ranges, report),
-        None => stay_closed(WORK_FACTOR, ranges, report),
-    }
-}
-
-/// Opens a file of `file_len` bytes with this front, its first 65,552 bytes or all of a shorter
-/// one, with a key of 32 bytes, this project's own kind. On 0 the report has the last sealed
-/// chunk's offset in the file and its length.
-///
-/// # Errors
-/// Those of `agefile_ranges_open_passphrase` except 22.
-#[unsafe(no_mangle)]
-pub extern "C" fn agefile_ranges_open_key(
-    alloc: Global,
-    front: &[u8],
-    file_len: u64,
-    key: &[u8; 32],
-    ranges: &mut Ranges,
-    report: &mut Report,
-) -> u32
-    ensures { OpensRanges (alone (key_unwraps key.now)) front.now file_len ranges.new report.new
-        result }
-{
-    open_at(start_for_key(alloc, front, key), file_len, ranges, report)
-}
-
-/// No payload, and a code.
-fn stay_closed(code: u32, ranges: &mut Ranges, report: &mut Report) -> u32
-    ensures { StaysClosed code ranges.new report.new result }
+/// No payload.
+fn stay_closed(ranges: &mut Ranges, report: &mut Report) -> u32
+    ensures { StaysClosed ranges.new report.new result }
 {
     *ranges = Ranges::closed();
     *report = Report::default();
-    code
+    OUT_OF_ORDER
 }
 
 /// The payload from this start to the end of a file of this many bytes, or none.
@@ -131,7 +80,7 @@ pub(crate) fn open_at(
         }
     };
     if file_len < start.first {
-        return stay_closed(OUT_OF_ORDER, ranges, report);
+        return stay_closed(ranges, report);
     }
     let sealed_len = file_len - start.first;
     let last = last_index(sealed_len);

@@ -1,14 +1,20 @@
 //! The sizes of buffers that suffice.
 
-ghost use Rattle.std.specs.Prelude.{◌≡◌, ◌-◌, ◌^◌, ◌<◌, ◌≤◌, ℕ, length, min};
+ghost use Rattle.std.specs.Prelude.{◌≡◌, ◌-◌, ◌^◌, ◌<◌, ◌≤◌, ◌++◌, ℕ, length, min};
 ghost use Rattle.age_kdf.specs.Bytes.{Bytes};
+ghost use Rattle.age_header.specs.Header.{IsStanza};
+ghost use Rattle.age_recipient.specs.declared.key.FileKey.{FileKey};
+ghost use Rattle.age_recipient.specs.Key.{file_key_size};
 ghost use Rattle.age_recipient.specs.KeyedStanza.{keyed_stanza};
 ghost use Rattle.age_recipient.specs.PassphraseHolders.{WorkFits};
 ghost use Rattle.age_recipient.specs.PassphraseStanza.{pass_stanza};
+ghost use Rattle.age_recipient.specs.Salt.{salt_size};
+ghost use Rattle.age_stream.specs.Payload.{payload};
 ghost use Rattle.age_stream.specs.Reading.{Reading};
+ghost use Rattle.age_stream.specs.Sizes.{nonce_size};
 ghost use Rattle.age_file.specs.declared.fault.Fault.{Fault};
 ghost use Rattle.age_file.specs.Verdict.{Answering, IsVerdict};
-ghost use Rattle.agefile.specs.Giving.{IsFileUnder, salt_of, seed_size};
+ghost use Rattle.agefile.specs.Encrypting.{IsNewFile};
 ghost use Rattle.agefile.specs.Limits.{limits};
 ghost use Rattle.agefile.specs.Sizes.{file_len, plain_len_at_most, sealed_len};
 
@@ -21,19 +27,21 @@ const FRONT: u64 = 172;
 /// The shortest header, 70 bytes without its stanzas, and its payload's nonce.
 const LEAST_FRONT: u64 = 86;
 
-/// A buffer size that suffices for the file of a plaintext of this many bytes under a key or a
-/// passphrase. It is the length under a key, saturating at the largest `u64`.
+/// A buffer size that suffices for the file of a plaintext of this many bytes with one stanza of
+/// `agefile_wrap_key` or `agefile_wrap_passphrase`. It is the length under a key, saturating at the
+/// largest `u64`.
 #[unsafe(no_mangle)]
 pub extern "C" fn agefile_sealed_len(plain_len: u64) -> u64
     ensures value { result ≡ min (sealed_len plain_len) (2 ^ 64 - 1) }
-    ensures key { (key seed plain file : Bytes) → length seed ≡ seed_size
-        → length plain ≡ plain_len
-        → IsFileUnder seed (keyed_stanza key (salt_of seed)) plain file
-        → length file ≡ sealed_len plain_len }
-    ensures pass { (pass seed plain file : Bytes) (work : ℕ) → length seed ≡ seed_size
+    ensures key { (key salt stanza file_key nonce plain file : Bytes) → length salt ≡ salt_size
+        → length file_key ≡ file_key_size → length nonce ≡ nonce_size → length plain ≡ plain_len
+        → IsStanza (keyed_stanza key salt (record { 0 = file_key })) stanza
+        → IsNewFile stanza file_key nonce plain file → length file ≡ sealed_len plain_len }
+    ensures pass { (pass salt stanza file_key nonce plain file : Bytes) (work : ℕ)
+        → length salt ≡ salt_size → length file_key ≡ file_key_size → length nonce ≡ nonce_size
         → WorkFits work → length plain ≡ plain_len
-        → IsFileUnder seed (pass_stanza pass work (salt_of seed)) plain file
-        → length file < sealed_len plain_len }
+        → IsStanza (pass_stanza pass work salt (record { 0 = file_key })) stanza
+        → IsNewFile stanza file_key nonce plain file → length file < sealed_len plain_len }
 {
     let chunks = plain_len.saturating_sub(1) / CHUNK_SIZE as u64 + 1;
     FRONT
@@ -58,7 +66,10 @@ pub extern "C" fn agefile_plain_len_at_most(file_len: u64) -> u64
 /// saturating at the largest `u64`.
 #[unsafe(no_mangle)]
 pub extern "C" fn agefile_file_len(header_len: u64, plain_len: u64) -> u64
-    ensures { result ≡ min (file_len header_len plain_len) (2 ^ 64 - 1) }
+    ensures value { result ≡ min (file_len header_len plain_len) (2 ^ 64 - 1) }
+    ensures file { (k : FileKey) (header nonce plain : Bytes) → length header ≡ header_len
+        → length nonce ≡ nonce_size → length plain ≡ plain_len
+        → length (header ++ payload k nonce plain) ≡ file_len header_len plain_len }
 {
     let chunks = plain_len.saturating_sub(1) / CHUNK_SIZE as u64 + 1;
     header_len

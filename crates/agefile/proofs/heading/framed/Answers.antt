@@ -1,4 +1,4 @@
-use Rattle.std.proofs.Common.{[], ◌∷◌, ◌++◌, ◌∙◌, ap, codes, refl}
+use Rattle.std.proofs.Common.{[], ◌∷◌, ◌++◌, ◌∙◌, ap, codes}
 use Rattle.agefile.proofs.HeadingLemmas.{framed_text}
 use Rattle.agefile.proofs.heading.framed.Goals as goal
 

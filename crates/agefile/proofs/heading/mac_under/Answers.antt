@@ -1,4 +1,4 @@
-use Rattle.std.proofs.Common.{◌≡◌, ◌<◌, ◌-◌, length, take, ◌∙◌, ap, subst, sym, arith, Some, Err}
+use Rattle.std.proofs.Common.{◌≡◌, ◌-◌, length, take, ◌∙◌, ap, subst, sym, arith, Some, Err}
 use Rattle.age_file.specs.declared.fault.Fault.TheVariants.{BadLine}
 use Rattle.agefile.specs.Inspect.{HeaderOf}
 use Rattle.agefile.proofs.HeaderLemmas.{header_found}

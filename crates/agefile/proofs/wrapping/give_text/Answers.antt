@@ -1,4 +1,4 @@
-use Rattle.std.proofs.Common.{◌≡◌, ◌≤◌, ◌∙◌, ap, ◌-◌, arith, drop, take, length, subst, sym}
+use Rattle.std.proofs.Common.{◌≡◌, ◌∙◌, ap, ◌-◌, arith, drop, take, length}
 use Rattle.agefile.proofs.WrapLemmas.{signed_least, text_given}
 use Rattle.agefile.proofs.wrapping.give_text.Goals as goal
 

@@ -1,5 +1,5 @@
--- What runs of steps give.
-use Rattle.std.proofs.Common.{◌≡◌, ◌≢◌, ◌⊎◌, ℕ, ◌+◌, ◌≤◌, List, [], ◌∷◌, ◌++◌, length, take, nat_eq, Bool, true, false, sym, ◌∙◌, ap, subst, arith, inl, inr, Result, Ok, Err}
+-- What runs of calls that open give.
+use Rattle.std.proofs.Common.{◌≡◌, ◌≢◌, ◌⊎◌, ℕ, ◌+◌, ◌≤◌, List, [], ◌∷◌, ◌++◌, length, take, replicate, Bool, true, false, sym, ◌∙◌, ap, subst, arith, inl, inr, Result, Ok, Err}
 use Rattle.std.specs.Prelude.{option_map}
 use Rattle.std.proofs.lemmas.Bool.{le-leb}
 use Rattle.std.proofs.Math.Seq.{take-append_seam}
@@ -10,17 +10,18 @@ use Rattle.age_stream.proofs.CuttingLemmas.{AtMost, cut-at_most}
 use Rattle.age_file.specs.declared.fault.Fault.{Fault}
 use Rattle.age_file.specs.declared.fault.Fault.TheVariants.{NotAge, BadLine, HeaderTruncated, HeaderTooLarge, MixedPassphrase, NoMatch, WrongKey, Malformed, BadMac, NonceTruncated, ChunkShort, EmptyFinal, BadChunk, TooManyChunks, Read, Write, OutOfMemory, NoRecipients, Refused, IncompatibleRecipients}
 use Rattle.age_file.specs.Verdict.{stream_fault}
-use Rattle.agefile.specs.declared.reader.Reader.{Reader}
+use Rattle.agefile.specs.declared.payload.Payload.{Payload}
 use Rattle.agefile.specs.declared.report.Report.{Report}
 use Rattle.agefile.specs.Codes.{code_of, fault_code, fault_place}
 use Rattle.agefile.specs.Limits.{limits}
 use Rattle.agefile.specs.Report.{report_of}
-use Rattle.agefile.specs.Reader.{Reads, after_chunk, accepts}
-use Rattle.agefile.specs.Runs.{ReadsRun}
+use Rattle.agefile.specs.Payload.{after_chunk, may_open}
+use Rattle.agefile.specs.Chunk.{Opened}
+use Rattle.agefile.specs.Runs.{OpensRun}
 
--- an open reader before chunk i
-abbrev pub reader_at : List ℕ → ℕ → Reader
-reader_at key i = record { key = key; number = i; state = 1 }
+-- a payload for reading before chunk i
+abbrev pub reading_at : List ℕ → ℕ → Payload
+reading_at key i = record { key = key; number = i; state = 1; spare = replicate 2 0 }
 
 -- no fault has the code 0
 pub some-code : (f : Fault) → fault_code f ≡ 0 → ⊥
@@ -46,30 +47,30 @@ some-code (Refused i n) e = absurd (omega arith)
 some-code (IncompatibleRecipients i) e = absurd (omega arith)
 
 -- what a run gives, where its first chunk's outcome is known
-abbrev RunsBy : Reader → Bool → List (List ℕ) → List ℕ → ℕ → ℕ → Result (List ℕ) StreamFault → Type 0
-RunsBy r last more text code place (Ok t) = (rest : List ℕ) × (text ≡ t ++ rest) × ReadsRun (after_chunk r last) more rest code place
-RunsBy r last more text code place (Err f) = (text ≡ []) × ((code ≡ fault_code (stream_fault f)) × (place ≡ fault_place (stream_fault f)))
+abbrev RunsBy : Payload → Bool → List (List ℕ) → List ℕ → ℕ → ℕ → Result (List ℕ) StreamFault → Type 0
+RunsBy p last more text code place (Ok t) = (rest : List ℕ) × (text ≡ t ++ rest) × OpensRun (after_chunk p last 0) more rest code place
+RunsBy p last more text code place (Err f) = (text ≡ []) × ((code ≡ fault_code (stream_fault f)) × (place ≡ fault_place (stream_fault f)))
 
-read-by : (r new : Reader) (chunk after text : List ℕ) (more : List (List ℕ)) (last : Bool) (report : Report) (step_code code place : ℕ) (o : Result (List ℕ) StreamFault)
-    → Reads r new chunk after last report step_code o
-    → ((step_code ≡ 0) × ((rest : List ℕ) × (text ≡ take report.len after ++ rest) × ReadsRun new more rest code place))
-    ⊎ ((step_code ≢ 0) × ((text ≡ []) × ((code ≡ step_code) × (place ≡ report.place)))) → RunsBy r last more text code place o
-read-by r new chunk after text more last report step_code code place (Ok t) (is, reported, state, buffer) (inl (zero, (rest, joined, run))) = (
+open-by : (p new : Payload) (chunk after text : List ℕ) (more : List (List ℕ)) (last : Bool) (report : Report) (step_code code place : ℕ) (o : Result (List ℕ) StreamFault)
+    → Opened chunk after report step_code o → new ≡ after_chunk p last step_code
+    → ((step_code ≡ 0) × ((rest : List ℕ) × (text ≡ take report.len after ++ rest) × OpensRun new more rest code place))
+    ⊎ ((step_code ≢ 0) × ((text ≡ []) × ((code ≡ step_code) × (place ≡ report.place)))) → RunsBy p last more text code place o
+open-by p new chunk after text more last report step_code code place (Ok t) (is, reported, buffer) state (inl (zero, (rest, joined, run))) = (
   rest,
   joined ∙ ap (λ n. take n after ++ rest) (ap (λ (x : Report). x.len) reported) ∙ ap (λ b. take (length t) b ++ rest) buffer ∙ ap (λ x. x ++ rest) (take-append_seam t _),
-  subst (λ n. ReadsRun n more rest code place) state run,
+  subst (λ n. OpensRun n more rest code place) (state ∙ ap (after_chunk p last) is) run,
 )
-read-by r new chunk after text more last report step_code code place (Ok t) (is, reported, state, buffer) (inr (nonzero, h)) = absurd (nonzero is)
-read-by r new chunk after text more last report step_code code place (Err f) (is, reported, state, buffer) (inl (zero, h)) = absurd (some-code (stream_fault f) (sym is ∙ zero))
-read-by r new chunk after text more last report step_code code place (Err f) (is, reported, state, buffer) (inr (nonzero, (none, (codes, places)))) =
+open-by p new chunk after text more last report step_code code place (Ok t) (is, reported, buffer) state (inr (nonzero, h)) = absurd (nonzero is)
+open-by p new chunk after text more last report step_code code place (Err f) (is, reported, buffer) state (inl (zero, h)) = absurd (some-code (stream_fault f) (sym is ∙ zero))
+open-by p new chunk after text more last report step_code code place (Err f) (is, reported, buffer) state (inr (nonzero, (none, (codes, places)))) =
     (none, (codes ∙ is, places ∙ ap (λ (x : Report). x.place) reported))
 
-run-first : (key : List ℕ) (i : ℕ) (chunk text : List ℕ) (more : List (List ℕ)) (code place : ℕ) → accepts (reader_at key i) (length chunk) (is_end more) ≡ true
-    → ReadsRun (reader_at key i) (chunk ∷ more) text code place
-    → RunsBy (reader_at key i) (is_end more) more text code place (outcome key limits.max_chunks i (is_end more) chunk)
+run-first : (key : List ℕ) (i : ℕ) (chunk text : List ℕ) (more : List (List ℕ)) (code place : ℕ) → may_open (reading_at key i) (length chunk) (is_end more) ≡ true
+    → OpensRun (reading_at key i) (chunk ∷ more) text code place
+    → RunsBy (reading_at key i) (is_end more) more text code place (outcome key limits.max_chunks i (is_end more) chunk)
 run-first key i chunk text more code place fits (new, after, report, step_code, inl (unfit, _), on) = absurd (cc)
-run-first key i chunk text more code place fits (new, after, report, step_code, inr (_, reads), on) =
-    read-by (reader_at key i) new chunk after text more (is_end more) report step_code code place _ reads on
+run-first key i chunk text more code place fits (new, after, report, step_code, inr (_, opened, state), on) =
+    open-by (reading_at key i) new chunk after text more (is_end more) report step_code code place _ opened state on
 
 -- the reading of pieces from number i on
 abbrev pub IsRead : List ℕ → ℕ → List (List ℕ) → List ℕ → ℕ → ℕ → Type 0
@@ -77,27 +78,27 @@ IsRead key i cs text code place = (text ≡ front (outcomes key limits.max_chunk
     × ((code ≡ code_of (option_map stream_fault (first_fault (outcomes key limits.max_chunks i cs))))
     × (place ≡ (report_of 0 (option_map stream_fault (first_fault (outcomes key limits.max_chunks i cs)))).place))
 
-last-fits : (key : List ℕ) (i : ℕ) (chunk : List ℕ) → length chunk ≤ 65552 → accepts (reader_at key i) (length chunk) true ≡ true
+last-fits : (key : List ℕ) (i : ℕ) (chunk : List ℕ) → length chunk ≤ 65552 → may_open (reading_at key i) (length chunk) true ≡ true
 last-fits key i chunk le = le-leb (length chunk) 65552 le
 
-full-fits : (key : List ℕ) (i : ℕ) (chunk : List ℕ) → length chunk ≡ 65552 → accepts (reader_at key i) (length chunk) false ≡ true
-full-fits key i chunk is = ap (λ n. nat_eq n 65552) is
+full-fits : (key : List ℕ) (i : ℕ) (chunk : List ℕ) → length chunk ≡ 65552 → may_open (reading_at key i) (length chunk) false ≡ true
+full-fits key i chunk is = ap (λ n. may_open (reading_at key i) n false) is
 
 read-last : (key : List ℕ) (i : ℕ) (chunk text : List ℕ) (code place : ℕ) (o : Result (List ℕ) StreamFault)
-    → RunsBy (reader_at key i) true [] text code place o
+    → RunsBy (reading_at key i) true [] text code place o
     → (text ≡ front (o ∷ [])) × ((code ≡ code_of (option_map stream_fault (first_fault (o ∷ [])))) × (place ≡ (report_of 0 (option_map stream_fault (first_fault (o ∷ [])))).place))
 read-last key i chunk text code place (Ok t) (rest, joined, (none, (zero, nowhere))) = (joined ∙ ap (λ r. t ++ r) none, (zero, nowhere))
 read-last key i chunk text code place (Err f) h = h
 
 read-more : (key : List ℕ) (i : ℕ) (text : List ℕ) (code place : ℕ) (more : List (List ℕ)) (o : Result (List ℕ) StreamFault) (os : List (Result (List ℕ) StreamFault))
-    → ((rest : List ℕ) → ReadsRun (reader_at key (i + 1)) more rest code place → (rest ≡ front os)
+    → ((rest : List ℕ) → OpensRun (reading_at key (i + 1)) more rest code place → (rest ≡ front os)
     × ((code ≡ code_of (option_map stream_fault (first_fault os))) × (place ≡ (report_of 0 (option_map stream_fault (first_fault os))).place)))
-    → RunsBy (reader_at key i) false more text code place o
+    → RunsBy (reading_at key i) false more text code place o
     → (text ≡ front (o ∷ os)) × ((code ≡ code_of (option_map stream_fault (first_fault (o ∷ os)))) × (place ≡ (report_of 0 (option_map stream_fault (first_fault (o ∷ os)))).place))
 read-more key i text code place more (Ok t) os next (rest, joined, run) = let h = next rest run in (joined ∙ ap (λ r. t ++ r) h.0, h.1)
 read-more key i text code place more (Err f) os next h = h
 
-pub run_reads : (key : List ℕ) (i : ℕ) (cs : List (List ℕ)) (text : List ℕ) (code place : ℕ) → AtMost 65552 cs → ReadsRun (reader_at key i) cs text code place
+pub run_reads : (key : List ℕ) (i : ℕ) (cs : List (List ℕ)) (text : List ℕ) (code place : ℕ) → AtMost 65552 cs → OpensRun (reading_at key i) cs text code place
     → IsRead key i cs text code place
 run_reads key i [] text code place sizes run = absurd sizes
 run_reads key i (c ∷ []) text code place sizes run =
@@ -108,5 +109,5 @@ run_reads key i (c ∷ d ∷ more) text code place sizes run =
     (run-first key i c text (d ∷ more) code place (full-fits key i c sizes.0) run)
 
 -- the same of all that follows a nonce
-pub payload_reads : (key rest text : List ℕ) (code place : ℕ) → ReadsRun (reader_at key 0) (pieces rest) text code place → IsRead key 0 (pieces rest) text code place
+pub payload_reads : (key rest text : List ℕ) (code place : ℕ) → OpensRun (reading_at key 0) (pieces rest) text code place → IsRead key 0 (pieces rest) text code place
 payload_reads key rest text code place run = run_reads key 0 (pieces rest) text code place (cut-at_most 65552 rest (omega arith)) run

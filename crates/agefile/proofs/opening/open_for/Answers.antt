@@ -1,7 +1,7 @@
 use Rattle.std.proofs.Common.{◌≡◌, false}
 use Rattle.agefile.specs.Codes.{is_memory}
 use Rattle.agefile.proofs.GivesPlainLemmas.{plain_part}
-use Rattle.agefile.proofs.decrypting.open_for.Goals as goal
+use Rattle.agefile.proofs.opening.open_for.Goals as goal
 
 pub returns : goal.returns
 returns g c =

@@ -1,0 +1,7 @@
+use Rattle.std.proofs.Common.{◌∙◌, ap, length}
+use Rattle.agefile.specs.Sizes.{file_len}
+use Rattle.agefile.proofs.NewFileLemmas.{size_of}
+use Rattle.agefile.proofs.sizes.agefile_file_len.Goals as goal
+
+pub returns-clause-file : goal.returns-clause-file
+returns-clause-file c k header nonce plain head fresh len = size_of k header nonce plain fresh ∙ ap (λ h. file_len h (length plain)) head ∙ ap (file_len c.args.header_len) len
