@@ -198,25 +198,6 @@ static bool is_kept(const struct memory *memory, const struct call *call)
     return memcmp(memory->pointers[call->count], zeros, sizeof(agefile_report)) == 0;
 }
 
-// Makes the call with each allocation refused in turn, until none is. Whether each ended as it should.
-static bool refuses_each(const struct call *call)
-{
-    for (long number = 1;; number++) {
-        struct memory memory;
-        map_all(&memory, call);
-        refused = number, allocations = live = 0, is_counting = true;
-        uint64_t code = make(call, &memory);
-        is_counting = false;
-        bool was_refused = allocations >= number;
-        bool is_well = live == 0 && are_surroundings_kept(&memory, call) && (!was_refused || (code == AGEFILE_OUT_OF_MEMORY && is_kept(&memory, call)));
-        unmap_all(&memory, call);
-        if (!is_well)
-            fprintf(stderr, "driver: allocation %ld of call %d: code %d, %ld blocks left\n", number, call->index, (int)code, live);
-        if (!is_well || !was_refused)
-            return is_well;
-    }
-}
-
 struct turn {
     const struct call *call;
     struct memory memory;
@@ -241,6 +222,28 @@ static bool is_same_turn(const struct turn *a, const struct turn *b)
             memcmp(a->memory.pointers[i], b->memory.pointers[i], call->arguments[i].number) != 0)
             return false;
     return a->result == b->result && memcmp(a->memory.pointers[call->count], b->memory.pointers[call->count], sizeof(agefile_report)) == 0;
+}
+
+// Makes the call with each allocation refused in turn, until none is. Whether each was out of memory, or
+// got on with less and did what it does otherwise.
+static bool refuses_each(const struct turn *usual)
+{
+    const struct call *call = usual->call;
+    for (long number = 1;; number++) {
+        struct turn turn = {.call = call};
+        map_all(&turn.memory, call);
+        refused = number, allocations = live = 0, is_counting = true;
+        turn.result = make(call, &turn.memory);
+        is_counting = false;
+        bool was_refused = allocations >= number;
+        bool is_out = was_refused && turn.result == AGEFILE_OUT_OF_MEMORY && is_kept(&turn.memory, call);
+        bool is_well = live == 0 && are_surroundings_kept(&turn.memory, call) && (is_out || is_same_turn(usual, &turn));
+        unmap_all(&turn.memory, call);
+        if (!is_well)
+            fprintf(stderr, "driver: allocation %ld of call %d: code %d, %ld blocks left\n", number, call->index, (int)turn.result, live);
+        if (!is_well || !was_refused)
+            return is_well;
+    }
 }
 
 // Makes the call on eight threads at once. Whether all did the same as this turn.
@@ -304,9 +307,8 @@ int main(void)
     struct call call;
     while (get_call(&call)) {
         struct turn turn = {.call = &call};
-        uint8_t is_well = !(call.flags & REFUSING) || refuses_each(&call);
         on_a_thread(&turn);
-        is_well &= turn.is_well && (!(call.flags & THREADS) || agrees_on_threads(&turn));
+        uint8_t is_well = turn.is_well && (!(call.flags & REFUSING) || refuses_each(&turn)) && (!(call.flags & THREADS) || agrees_on_threads(&turn));
         put(&turn.result, sizeof turn.result);
         put(&is_well, 1);
         put(turn.memory.pointers[call.count], sizeof(agefile_report));

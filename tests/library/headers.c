@@ -159,10 +159,9 @@ static void made_of_stanzas(void)
     CHECK(agefile_header(lines, lines_len, file_key, out, sizeof out, &report) == AGEFILE_OK);
     size_t len = report.len;
     agefile_payload payload;
-    memcpy(out + len, pass, 13);
-    memset(out + len + 13, 0, 3);
+    memset(out + len, 0, 16);
     CHECK(agefile_open(out, len + 16, file_key, &payload, &report) == AGEFILE_OK && has_fields(&report, len + 16, 0, 0));
-    CHECK(agefile_open(out, len + 16, pass, &payload, &report) == AGEFILE_BAD_MAC && payload.state == AGEFILE_CLOSED);
+    CHECK(agefile_open(out, len + 16, key, &payload, &report) == AGEFILE_BAD_MAC && payload.state == AGEFILE_CLOSED);
     release(body);
 }
 
@@ -178,7 +177,7 @@ static void refused_stanzas(void)
     } rows[] = {
         {"", AGEFILE_NO_RECIPIENTS, 0},
         {"-> a\n\n-> b\n\n", AGEFILE_OK, 0},
-        {"-> a\n\n-> b\n", AGEFILE_HEADER_TRUNCATED, 0},
+        {"-> a\n\n-> b\n", AGEFILE_BAD_LINE, 4},
         {"-> a\n\n-> b", AGEFILE_HEADER_TRUNCATED, 0},
         {"-> a\n\n-> b\n\nc\n", AGEFILE_BAD_LINE, 5},
         {"-> a\n=\n", AGEFILE_BAD_LINE, 2},

@@ -128,9 +128,15 @@ static const struct {
     {"the chunks' calls allocate nothing", all_chunks, 0},
 };
 
-// Runs a call with each allocation refused in turn, until it meets no refusal.
+// Runs a call with each allocation refused in turn, until it meets no refusal. It is out of memory, or
+// gets on with less and does what it does otherwise.
 static void each_allocation(uint32_t (*call)(void), long least)
 {
+    static uint8_t usual[sizeof out];
+    long ended = 0;
+    memset(out, 0xEE, sizeof out);
+    CHECK(call() == AGEFILE_OK);
+    memcpy(usual, out, sizeof out);
     for (refused = 1;; refused++) {
         memset(out, 0xEE, sizeof out);
         memset(&payload, 0, sizeof payload);
@@ -141,15 +147,18 @@ static void each_allocation(uint32_t (*call)(void), long least)
         uint32_t code = call();
         is_counting = false;
         CHECK(live == 0);
-        if (allocations < refused) {
-            CHECK(code == AGEFILE_OK);
+        if (code == AGEFILE_OK)
+            CHECK(are_equal(out, usual, sizeof out));
+        if (allocations < refused)
             break;
-        }
+        if (code == AGEFILE_OK)
+            continue;
+        ended++;
         CHECK(code == AGEFILE_OUT_OF_MEMORY && has_fields(&report, 0, 0, 0) && are_all(out, sizeof out, 0xEE));
         CHECK(payload.state == AGEFILE_CLOSED && ranges.state == 0);
     }
-    CHECK(refused > least && (least > 0 || refused == 1));
-    printf("%ld allocations\n", refused - 1);
+    CHECK(ended >= least && (least > 0 || refused == 1));
+    printf("%ld allocations, %ld times out of memory\n", refused - 1, ended);
 }
 
 int main(int argc, char **argv)
