@@ -12,7 +12,7 @@ import tempfile
 import unittest
 from pathlib import Path
 
-sys.path.insert(0, str(Path(__file__).resolve().parent.parent / "share/generate"))
+sys.path.append(str(Path(__file__).resolve().parent.parent / "share/generate"))
 import codes
 
 from program import AGEP, version
