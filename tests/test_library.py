@@ -192,7 +192,7 @@ class Folders(unittest.TestCase):
         self.environment = os.environ | {"DESTDIR": str(self.staged)}
 
     def install(self, *words):
-        return run(ROOT / "install", "--library", *words, "--libdir=lib/x86_64-linux-gnu", "/usr", env=self.environment, status=0)
+        return run(ROOT / "install", "--library", "--libdir=lib/x86_64-linux-gnu", *words, "/usr", env=self.environment, status=0)
 
     def loaded(self, program, *words):
         loader = re.search(r"interpreter: (.*)\]", said("readelf", "-Wl", program))[1]
@@ -272,7 +272,7 @@ class Declarations(unittest.TestCase):
         """Each difference is found, and shown as one of its file."""
         header, python, rust = "bindings/c/agefile.h", "bindings/python/agefile/_library.py", "bindings/rust/src/ffi.rs"
         rows = [
-            ("a parameter of an export", "crates/agefile/src/ranges.rt", "file_len: u64", "file_len: u32", header),
+            ("a parameter of an export", "crates/agefile/src/opening.rt", "file_len: u64", "file_len: u32", header),
             ("a field of an export", "crates/agefile/src/report.rt", "pub detail: u64", "pub detail: u32", header),
             ("a slice of an export", "crates/agefile/src/listing.rt", "stanzas: &mut [StanzaSummary]", "stanzas: &mut [u8]", header),
             ("a type in the header", header, "uint64_t count", "uint32_t count", header),
@@ -511,8 +511,9 @@ class WithTheProgram(unittest.TestCase):
     def test_inputs_that_fail(self):
         """The example makes no file of an input that fails midway, nor of a folder."""
         stream = built("stream", *sanitizers(), source=EXAMPLES / "stream.c")
-        with os.fdopen(os.open(work(), os.O_RDONLY)) as folder:
-            self.makes_no_file(run(stream, "-e", work() / "key", stdin=folder))
+        folder = os.open(work(), os.O_RDONLY)
+        self.addCleanup(os.close, folder)
+        self.makes_no_file(run(stream, "-e", work() / "key", stdin=folder))
         for length in (0, 10, 65535, 65536, 65537, 131072, 131073):
             with self.subTest(f"{length} bytes"):
                 self.makes_no_file(run(built("breaks", "-O2"), length, stream, "-e", work() / "key"))
