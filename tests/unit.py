@@ -21,7 +21,7 @@ sys.dont_write_bytecode = True
 import program
 
 # They build something first, which takes long: each has a script of its own.
-ALONE = {"test_avx2", "test_packages"}
+ALONE = {"test_avx2", "test_library", "test_packages"}
 
 
 class Result(unittest.TestResult):

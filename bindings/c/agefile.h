@@ -1,5 +1,5 @@
 /* agefile.h: a proved library for the age v1 encrypted file format (C2SP age.md). Whole buffers,
- * streams in steps, ranges in steps.
+ * streams in steps, ranges in steps, for recipients and identities of any kind.
  *
  * Every length and every number is checked inside. The following duties are the caller's;
  * nothing can check them, and a call that breaks one of them has undefined behaviour:
@@ -9,9 +9,9 @@
  *     AGEFILE_NULL_POINTER. This is checked by the functions of this header. A caller of the
  *     library's own functions, by dlsym or from another language, passes no null pointer.
  *  2. A pointer is valid for the length that follows it, which is below 2^63 bytes. A key has 32
- *     bytes, a file key 16, a seed 48.
+ *     bytes; a file key, a nonce and a salt have 16; a seed has 48.
  *  3. Structs are aligned as the compiler aligns them, and a bool is 0 or 1.
- *  4. What a call writes (`out`, `args`, `text`, `file_key`, `chunk`, the structs) overlaps no
+ *  4. What a call writes (`out`, `stanzas`, `text`, `file_key`, `chunk`, the structs) overlaps no
  *     other argument. So a whole buffer cannot be encrypted or decrypted in place; a chunk of the
  *     steps is processed in place.
  *  5. During a call no other thread reads or writes what the call writes, or writes what it
@@ -24,9 +24,10 @@
  * fails, it writes only what its comment says. Lines are counted from 1, chunks, stanzas and
  * bytes from 0. A passphrase is any bytes. A work factor is 1 to 30; `max_work` is the greatest
  * that is accepted, and 22 is usual; 18 is usual for a new file. A seed is 48 fresh random bytes
- * (getrandom) for each file: the same seed for two files repeats their keys. A writer in use is
- * never copied, since a copy would seal another chunk under a nonce that was used. Keys and
- * passphrases stay in freed memory. docs/C.md says what is proved and what is trusted. */
+ * (getrandom) for each file: the same seed for two files repeats their keys. Only the calls change
+ * a payload or a part, and neither is ever copied while it is in use: a copy would seal another
+ * chunk under a nonce that was used. Keys and passphrases stay in freed memory. docs/C.md says what
+ * is proved and what is trusted. */
 #ifndef AGEFILE_H
 #define AGEFILE_H
 #include <stdbool.h>
@@ -61,8 +62,8 @@ extern "C" {
 #define AGEFILE_HEADER_ROOM 256    /* bytes that hold a new file's header and nonce */
 
 /* A code is never reused. 15, 16, 19 and 20 are faults of files and of other recipients; no
- * call here returns them. AGEFILE_NULL_POINTER comes before every other code: a reader, writer
- * or ranges that was to be opened is not open, and otherwise only the report is written. */
+ * call here returns them. AGEFILE_NULL_POINTER comes before every other code: a payload or ranges
+ * that was to be opened is closed, and otherwise only the report is written. */
 enum agefile_code {
     AGEFILE_OK = 0,
     AGEFILE_NOT_AGE = 1,
@@ -148,35 +149,20 @@ typedef struct agefile_report {
     uint64_t detail; /* for AGEFILE_MALFORMED the part of the stanza, see agefile_detail, else 0 */
 } agefile_report;
 
-/* ---- Whole buffers. report.len is the number of bytes written to the start of `out`; on
- * AGEFILE_TOO_SMALL it is the number that would have been written. After a fault of the payload
- * these bytes are the plaintext of the verified chunks before the fault: use it only after
- * AGEFILE_OK. */
-static inline uint32_t agefile_decrypt_passphrase(
-    const uint8_t *file, size_t file_len, const uint8_t *pass, size_t pass_len, uint8_t max_work,
-    uint8_t *out, size_t out_len, agefile_report *report) AGEFILE_CALL("decrypt_passphrase", (8));
-static inline uint32_t agefile_decrypt_key(
-    const uint8_t *file, size_t file_len, const uint8_t key[AGEFILE_LEAST 32], uint8_t *out,
-    size_t out_len, agefile_report *report) AGEFILE_CALL("decrypt_key", (3, 6));
-static inline uint32_t agefile_encrypt_passphrase(
-    const uint8_t *plain, size_t plain_len, const uint8_t *pass, size_t pass_len, uint8_t work,
-    const uint8_t seed[AGEFILE_LEAST 48], uint8_t *out, size_t out_len, agefile_report *report)
-    AGEFILE_CALL("encrypt_passphrase", (6, 9));
-static inline uint32_t agefile_encrypt_key(
-    const uint8_t *plain, size_t plain_len, const uint8_t key[AGEFILE_LEAST 32],
-    const uint8_t seed[AGEFILE_LEAST 48], uint8_t *out, size_t out_len, agefile_report *report)
-    AGEFILE_CALL("encrypt_key", (3, 4, 7));
-
-/* The size of a buffer that suffices; UINT64_MAX if it exceeds 64 bits. */
+/* ---- Sizes of buffers, UINT64_MAX if they exceed 64 bits. The first suffices for a file whose one
+ * stanza agefile_wrap_key or agefile_wrap_passphrase wrote, the second for the plaintext of any
+ * file. */
 uint64_t agefile_sealed_len(uint64_t plain_len) AGEFILE_USED;
 uint64_t agefile_plain_len_at_most(uint64_t file_len) AGEFILE_USED;
-/* The length of a file with a header of header_len bytes; UINT64_MAX if it exceeds 64 bits. */
+/* The length of a file with a header of header_len bytes. */
 uint64_t agefile_file_len(uint64_t header_len, uint64_t plain_len) AGEFILE_USED;
 /* The version of the library, as AGEFILE_VERSION of its header. */
 uint32_t agefile_version(void) AGEFILE_USED;
 
 /* ---- Headers. Reading a header needs no passphrase or key, so its MAC is not verified. `front` is
- * the file's first AGEFILE_FRONT bytes, or all of a shorter file. */
+ * any beginning of the file that holds its header, here and below: each call returns the same for
+ * all of them. AGEFILE_FRONT bytes, or all of a shorter file, always suffice. A shorter front is
+ * AGEFILE_HEADER_TRUNCATED; then read on, if the file has more. */
 typedef struct agefile_summary {
     uint64_t header_len;
     uint64_t stanzas;
@@ -192,12 +178,6 @@ typedef struct agefile_stanza_summary {
 static inline uint32_t agefile_inspect(
     const uint8_t *front, size_t front_len, agefile_summary *summary, agefile_report *report)
     AGEFILE_CALL("inspect", (3, 4));
-/* Writes the arguments, joined by single spaces; report.len is their length. On
- * AGEFILE_TOO_SMALL `args` is unchanged, and `stanza` is set nevertheless. AGEFILE_OUT_OF_ORDER
- * if there is no such stanza. */
-static inline uint32_t agefile_stanza(
-    const uint8_t *front, size_t front_len, uint64_t index, uint8_t *args, size_t args_len,
-    agefile_stanza_summary *stanza, agefile_report *report) AGEFILE_CALL("stanza", (6, 7));
 /* Lists all stanzas in one reading. Writes their sizes, in order, to the start of `stanzas`, and to
  * the start of `text` of each its arguments, joined by single spaces, and then its body. report.len
  * is the length of this text, and report.place the number of stanzas. On AGEFILE_TOO_SMALL, if one
@@ -225,8 +205,8 @@ static inline uint32_t agefile_wrap_passphrase(
     const uint8_t salt[AGEFILE_LEAST 16], uint8_t *out, size_t out_len, agefile_report *report)
     AGEFILE_CALL("wrap_passphrase", (1, 5, 8));
 static inline uint32_t agefile_wrap_key(
-    const uint8_t file_key[AGEFILE_LEAST 16], const uint8_t key[AGEFILE_LEAST 32], const uint8_t
-    salt[AGEFILE_LEAST 16], uint8_t *out, size_t out_len, agefile_report *report)
+    const uint8_t file_key[AGEFILE_LEAST 16], const uint8_t key[AGEFILE_LEAST 32],
+    const uint8_t salt[AGEFILE_LEAST 16], uint8_t *out, size_t out_len, agefile_report *report)
     AGEFILE_CALL("wrap_key", (1, 2, 3, 6));
 /* A stanza of the caller's own. `args` are its type and its arguments, joined by single spaces;
  * AGEFILE_BAD_ARGUMENTS if they are not words of `!` to `~`. `body` is its body's bytes. */
@@ -241,11 +221,12 @@ static inline uint32_t agefile_wrap(
  * AGEFILE_MIXED_PASSPHRASE if a scrypt stanza is beside another one. With a fault `out` is
  * unchanged. */
 static inline uint32_t agefile_header(
-    const uint8_t *stanzas, size_t stanzas_len, const uint8_t file_key[AGEFILE_LEAST 16], uint8_t
-    *out, size_t out_len, agefile_report *report) AGEFILE_CALL("header", (3, 6));
+    const uint8_t *stanzas, size_t stanzas_len, const uint8_t file_key[AGEFILE_LEAST 16],
+    uint8_t *out, size_t out_len, agefile_report *report) AGEFILE_CALL("header", (3, 6));
 
-/* ---- A payload. Only the calls change it, and it is never copied while it is in use: a copy
- * would seal another chunk under a nonce that was used. */
+/* ---- A payload in order, which its caller holds between two calls. A call that does not fit its
+ * state, or a chunk of another length than is said below, returns AGEFILE_OUT_OF_ORDER, and
+ * everything except the report is unchanged. On a fault of a chunk report.place is its number. */
 enum agefile_state {
     AGEFILE_CLOSED = 0,
     AGEFILE_READING = 1,
@@ -266,8 +247,8 @@ typedef struct agefile_payload {
  * fresh random bytes each, for each file. With a fault `out` is unchanged, and the payload is
  * closed. */
 static inline uint32_t agefile_begin(
-    const uint8_t *stanzas, size_t stanzas_len, const uint8_t file_key[AGEFILE_LEAST 16], const
-    uint8_t nonce[AGEFILE_LEAST 16], uint8_t *out, size_t out_len, agefile_payload *payload,
+    const uint8_t *stanzas, size_t stanzas_len, const uint8_t file_key[AGEFILE_LEAST 16],
+    const uint8_t nonce[AGEFILE_LEAST 16], uint8_t *out, size_t out_len, agefile_payload *payload,
     agefile_report *report) AGEFILE_CALL("begin", (3, 4, 7, 8));
 /* Verifies the MAC of the header at the start of `front` under a file key, and starts the payload
  * for reading. report.len is the offset of the first sealed chunk. With a fault the payload is
@@ -306,7 +287,7 @@ uint32_t agefile_take_part(
     agefile_payload *payload, uint64_t count, agefile_part *part, agefile_report *report)
     AGEFILE_USED AGEFILE_NONNULL((1, 3, 4));
 /* Opens or seals the part's next chunk in place, AGEFILE_SEALED_CHUNK bytes, as the calls for a
- * payload do. report.place is the chunk's number in the file. A file is complete only if the
+ * payload do; report.place is the chunk's number in the file. A file is complete only if the
  * payload and each part is AGEFILE_ENDED. */
 static inline uint32_t agefile_part_open_next(
     agefile_part *part, uint8_t *chunk, size_t chunk_len, agefile_report *report)
@@ -315,75 +296,13 @@ static inline uint32_t agefile_part_seal_next(
     agefile_part *part, uint8_t *chunk, size_t chunk_len, agefile_report *report)
     AGEFILE_CALL("part_seal_next", (1, 4));
 
-/* ---- Whole buffers by a file key. What is said above of `front`, `out` and stanzas holds. After a
- * fault of the payload the start of `out` has the plaintext of the verified chunks before it. */
-static inline uint32_t agefile_decrypt(
-    const uint8_t *file, size_t file_len, const uint8_t file_key[AGEFILE_LEAST 16], uint8_t *out,
-    size_t out_len, agefile_report *report) AGEFILE_CALL("decrypt", (3, 6));
-static inline uint32_t agefile_encrypt(
-    const uint8_t *plain, size_t plain_len, const uint8_t *stanzas, size_t stanzas_len, const
-    uint8_t file_key[AGEFILE_LEAST 16], const uint8_t nonce[AGEFILE_LEAST 16], uint8_t *out, size_t
-    out_len, agefile_report *report) AGEFILE_CALL("encrypt", (5, 6, 9));
-
-/* ---- Reading in steps: open, then one call for each sealed chunk. The caller keeps the struct,
- * only the calls change it, and it is never copied while it is in use. If an opening returns 0,
- * report.len is the offset of the first sealed chunk; otherwise the reader is not open. Even if no
- * byte follows, one call for the last chunk is needed: it finds that the file was cut short. A
- * call that does not fit the state, or a chunk of another length, returns AGEFILE_OUT_OF_ORDER,
- * and everything except the report is unchanged. */
-typedef struct agefile_reader {
-    uint8_t key[32];
-    uint64_t number; /* of the next chunk */
-    uint64_t state;  /* 0 not open, 1 open, 2 ended, 3 failed */
-} agefile_reader;
-
-static inline uint32_t agefile_reader_open_passphrase(
-    const uint8_t *front, size_t front_len, const uint8_t *pass, size_t pass_len, uint8_t max_work,
-    agefile_reader *reader, agefile_report *report) AGEFILE_CALL("reader_open_passphrase", (6, 7));
-static inline uint32_t agefile_reader_open_key(
-    const uint8_t *front, size_t front_len, const uint8_t key[AGEFILE_LEAST 32],
-    agefile_reader *reader, agefile_report *report) AGEFILE_CALL("reader_open_key", (3, 4, 5));
-/* Opens the next sealed chunk in place: AGEFILE_SEALED_CHUNK bytes, or what is left if it is the
- * last. On 0 its text is at the start of the chunk, report.len bytes; otherwise the chunk is
- * unchanged. After a fault the reader accepts no other chunk. A plaintext is complete only after
- * a 0 for its last chunk. */
-static inline uint32_t agefile_reader_chunk(
-    agefile_reader *reader, uint8_t *chunk, size_t chunk_len, bool last, agefile_report *report)
-    AGEFILE_CALL("reader_chunk", (1, 5));
-
-/* ---- Writing in steps: open, then one call for each chunk. Only the calls change the struct, and
- * it is never copied while it is in use: a copy repeats nonces, as a seed does. An empty plaintext
- * has one chunk, which is empty; no other is empty. If an opening returns 0, `out` starts with the
- * header and the nonce, report.len bytes; otherwise the writer is not open, and on
- * AGEFILE_TOO_SMALL report.len is the size that is needed. A call that does not fit the state, or
- * a chunk of another length, returns AGEFILE_OUT_OF_ORDER, as for a reader. */
-typedef struct agefile_writer {
-    uint8_t key[32];
-    uint64_t number; /* of the next chunk */
-    uint64_t state;  /* 0 not open, 1 open, 2 ended, 3 after one chunk too many */
-} agefile_writer;
-
-static inline uint32_t agefile_writer_open_passphrase(
-    const uint8_t *pass, size_t pass_len, uint8_t work, const uint8_t seed[AGEFILE_LEAST 48],
-    uint8_t *out, size_t out_len, agefile_writer *writer, agefile_report *report)
-    AGEFILE_CALL("writer_open_passphrase", (4, 7, 8));
-static inline uint32_t agefile_writer_open_key(
-    const uint8_t key[AGEFILE_LEAST 32], const uint8_t seed[AGEFILE_LEAST 48], uint8_t *out,
-    size_t out_len, agefile_writer *writer, agefile_report *report)
-    AGEFILE_CALL("writer_open_key", (1, 2, 5, 6));
-/* Seals the next chunk in place: its text, AGEFILE_TEXT_CHUNK bytes or what is left if it is the
- * last, and then 16 bytes for the tag. On 0 all chunk_len bytes are the sealed chunk; otherwise
- * they are unchanged. */
-static inline uint32_t agefile_writer_chunk(
-    agefile_writer *writer, uint8_t *chunk, size_t chunk_len, bool last, agefile_report *report)
-    AGEFILE_CALL("writer_chunk", (1, 5));
-
 /* ---- Ranges in steps: open, verify the last sealed chunk, then locate and open the chunks that
  * are wanted. Damage in other chunks is not noticed. If an opening returns 0, report.place and
  * report.len are the last sealed chunk's offset in the file and its length; otherwise nothing is
  * open. `file_len` is the file's true length; AGEFILE_OUT_OF_ORDER if it ends before the first
  * sealed chunk. A call that does not fit the state, or a chunk of another length, returns
- * AGEFILE_OUT_OF_ORDER, as for a reader. */
+ * AGEFILE_OUT_OF_ORDER, as for a payload. Threads may share a struct whose last chunk was verified,
+ * since the calls after that only read it. */
 typedef struct agefile_ranges {
     uint8_t key[32];
     uint64_t first;      /* the offset of the first sealed chunk */
@@ -391,16 +310,10 @@ typedef struct agefile_ranges {
     uint64_t state;      /* 0 not open, 1 open, 2 the last chunk was verified */
 } agefile_ranges;
 
-static inline uint32_t agefile_ranges_open_passphrase(
-    const uint8_t *front, size_t front_len, uint64_t file_len, const uint8_t *pass, size_t pass_len,
-    uint8_t max_work, agefile_ranges *ranges, agefile_report *report)
-    AGEFILE_CALL("ranges_open_passphrase", (7, 8));
-static inline uint32_t agefile_ranges_open_key(
-    const uint8_t *front, size_t front_len, uint64_t file_len, const uint8_t key[AGEFILE_LEAST 32],
-    agefile_ranges *ranges, agefile_report *report) AGEFILE_CALL("ranges_open_key", (4, 5, 6));
 static inline uint32_t agefile_ranges_open(
-    const uint8_t *front, size_t front_len, uint64_t file_len, const uint8_t file_key[AGEFILE_LEAST
-    16], agefile_ranges *ranges, agefile_report *report) AGEFILE_CALL("ranges_open", (4, 5, 6));
+    const uint8_t *front, size_t front_len, uint64_t file_len,
+    const uint8_t file_key[AGEFILE_LEAST 16], agefile_ranges *ranges, agefile_report *report)
+    AGEFILE_CALL("ranges_open", (4, 5, 6));
 /* Verifies the last sealed chunk, which proves where the file ends, and must come first. On 0
  * its text is at the start of the chunk, and report.len is the plaintext's length. On a fault
  * the chunk is unchanged, and the payload counts as not verified. */
@@ -418,30 +331,43 @@ static inline uint32_t agefile_ranges_chunk(
     const agefile_ranges *ranges, uint64_t at, uint8_t *chunk, size_t chunk_len,
     agefile_report *report) AGEFILE_CALL("ranges_chunk", (1, 5));
 
+/* ---- Whole buffers by a file key. report.len is the number of bytes written to the start of
+ * `out`. On AGEFILE_TOO_SMALL it is the number that is needed, and `out` is unchanged. What is said
+ * above of the front, of stanzas, file key and nonce holds. After a fault of the payload the start
+ * of `out` has the plaintext of the verified chunks before it: use it only after AGEFILE_OK. */
+static inline uint32_t agefile_decrypt(
+    const uint8_t *file, size_t file_len, const uint8_t file_key[AGEFILE_LEAST 16], uint8_t *out,
+    size_t out_len, agefile_report *report) AGEFILE_CALL("decrypt", (3, 6));
+static inline uint32_t agefile_encrypt(
+    const uint8_t *plain, size_t plain_len, const uint8_t *stanzas, size_t stanzas_len,
+    const uint8_t file_key[AGEFILE_LEAST 16], const uint8_t nonce[AGEFILE_LEAST 16], uint8_t *out,
+    size_t out_len, agefile_report *report) AGEFILE_CALL("encrypt", (5, 6, 9));
+
+/* ---- Whole buffers by a secret: each is two of the calls above, and has the first one's report if
+ * that fails. They are functions of this header alone; the library has no such names. The seed is
+ * the file key, the nonce and the salt. */
+static inline uint32_t agefile_decrypt_passphrase(
+    const uint8_t *file, size_t file_len, const uint8_t *pass, size_t pass_len, uint8_t max_work,
+    uint8_t *out, size_t out_len, agefile_report *report) AGEFILE_USED AGEFILE_NONNULL((8));
+static inline uint32_t agefile_decrypt_key(
+    const uint8_t *file, size_t file_len, const uint8_t key[AGEFILE_LEAST 32], uint8_t *out,
+    size_t out_len, agefile_report *report) AGEFILE_USED AGEFILE_NONNULL((3, 6));
+static inline uint32_t agefile_encrypt_passphrase(
+    const uint8_t *plain, size_t plain_len, const uint8_t *pass, size_t pass_len, uint8_t work,
+    const uint8_t seed[AGEFILE_LEAST 48], uint8_t *out, size_t out_len, agefile_report *report)
+    AGEFILE_USED AGEFILE_NONNULL((6, 9));
+static inline uint32_t agefile_encrypt_key(
+    const uint8_t *plain, size_t plain_len, const uint8_t key[AGEFILE_LEAST 32],
+    const uint8_t seed[AGEFILE_LEAST 48], uint8_t *out, size_t out_len, agefile_report *report)
+    AGEFILE_USED AGEFILE_NONNULL((3, 4, 7));
+
 /* ---- How null pointers are checked. The library's own functions take no null pointer. They have
  * names of their own here, and the calls above, which are functions of this header, check the
  * pointers and call them. A null pointer with the length 0 is replaced by the address of a byte or
  * struct that is neither read nor written. */
-uint32_t agefile_export_decrypt_passphrase(
-    const uint8_t *file, size_t file_len, const uint8_t *pass, size_t pass_len, uint8_t max_work,
-    uint8_t *out, size_t out_len, agefile_report *report) __asm__("agefile_decrypt_passphrase");
-uint32_t agefile_export_decrypt_key(
-    const uint8_t *file, size_t file_len, const uint8_t key[AGEFILE_LEAST 32], uint8_t *out,
-    size_t out_len, agefile_report *report) __asm__("agefile_decrypt_key");
-uint32_t agefile_export_encrypt_passphrase(
-    const uint8_t *plain, size_t plain_len, const uint8_t *pass, size_t pass_len, uint8_t work,
-    const uint8_t seed[AGEFILE_LEAST 48], uint8_t *out, size_t out_len, agefile_report *report)
-    __asm__("agefile_encrypt_passphrase");
-uint32_t agefile_export_encrypt_key(
-    const uint8_t *plain, size_t plain_len, const uint8_t key[AGEFILE_LEAST 32],
-    const uint8_t seed[AGEFILE_LEAST 48], uint8_t *out, size_t out_len, agefile_report *report)
-    __asm__("agefile_encrypt_key");
 uint32_t agefile_export_inspect(
     const uint8_t *front, size_t front_len, agefile_summary *summary, agefile_report *report)
     __asm__("agefile_inspect");
-uint32_t agefile_export_stanza(
-    const uint8_t *front, size_t front_len, uint64_t index, uint8_t *args, size_t args_len,
-    agefile_stanza_summary *stanza, agefile_report *report) __asm__("agefile_stanza");
 uint32_t agefile_export_stanzas(
     const uint8_t *front, size_t front_len, agefile_stanza_summary *stanzas, size_t stanzas_len,
     uint8_t *text, size_t text_len, agefile_report *report) __asm__("agefile_stanzas");
@@ -452,33 +378,6 @@ uint32_t agefile_export_unlock_passphrase(
 uint32_t agefile_export_unlock_key(
     const uint8_t *front, size_t front_len, const uint8_t key[AGEFILE_LEAST 32],
     uint8_t file_key[AGEFILE_LEAST 16], agefile_report *report) __asm__("agefile_unlock_key");
-uint32_t agefile_export_reader_open_passphrase(
-    const uint8_t *front, size_t front_len, const uint8_t *pass, size_t pass_len, uint8_t max_work,
-    agefile_reader *reader, agefile_report *report) __asm__("agefile_reader_open_passphrase");
-uint32_t agefile_export_reader_open_key(
-    const uint8_t *front, size_t front_len, const uint8_t key[AGEFILE_LEAST 32],
-    agefile_reader *reader, agefile_report *report) __asm__("agefile_reader_open_key");
-uint32_t agefile_export_reader_chunk(
-    agefile_reader *reader, uint8_t *chunk, size_t chunk_len, bool last, agefile_report *report)
-    __asm__("agefile_reader_chunk");
-uint32_t agefile_export_writer_open_passphrase(
-    const uint8_t *pass, size_t pass_len, uint8_t work, const uint8_t seed[AGEFILE_LEAST 48],
-    uint8_t *out, size_t out_len, agefile_writer *writer, agefile_report *report)
-    __asm__("agefile_writer_open_passphrase");
-uint32_t agefile_export_writer_open_key(
-    const uint8_t key[AGEFILE_LEAST 32], const uint8_t seed[AGEFILE_LEAST 48], uint8_t *out,
-    size_t out_len, agefile_writer *writer, agefile_report *report)
-    __asm__("agefile_writer_open_key");
-uint32_t agefile_export_writer_chunk(
-    agefile_writer *writer, uint8_t *chunk, size_t chunk_len, bool last, agefile_report *report)
-    __asm__("agefile_writer_chunk");
-uint32_t agefile_export_ranges_open_passphrase(
-    const uint8_t *front, size_t front_len, uint64_t file_len, const uint8_t *pass, size_t pass_len,
-    uint8_t max_work, agefile_ranges *ranges, agefile_report *report)
-    __asm__("agefile_ranges_open_passphrase");
-uint32_t agefile_export_ranges_open_key(
-    const uint8_t *front, size_t front_len, uint64_t file_len, const uint8_t key[AGEFILE_LEAST 32],
-    agefile_ranges *ranges, agefile_report *report) __asm__("agefile_ranges_open_key");
 uint32_t agefile_export_ranges_last(
     agefile_ranges *ranges, uint8_t *chunk, size_t chunk_len, agefile_report *report)
     __asm__("agefile_ranges_last");
@@ -490,18 +389,18 @@ uint32_t agefile_export_wrap_passphrase(
     const uint8_t salt[AGEFILE_LEAST 16], uint8_t *out, size_t out_len, agefile_report *report)
     __asm__("agefile_wrap_passphrase");
 uint32_t agefile_export_wrap_key(
-    const uint8_t file_key[AGEFILE_LEAST 16], const uint8_t key[AGEFILE_LEAST 32], const uint8_t
-    salt[AGEFILE_LEAST 16], uint8_t *out, size_t out_len, agefile_report *report)
+    const uint8_t file_key[AGEFILE_LEAST 16], const uint8_t key[AGEFILE_LEAST 32],
+    const uint8_t salt[AGEFILE_LEAST 16], uint8_t *out, size_t out_len, agefile_report *report)
     __asm__("agefile_wrap_key");
 uint32_t agefile_export_wrap(
     const uint8_t *args, size_t args_len, const uint8_t *body, size_t body_len, uint8_t *out,
     size_t out_len, agefile_report *report) __asm__("agefile_wrap");
 uint32_t agefile_export_header(
-    const uint8_t *stanzas, size_t stanzas_len, const uint8_t file_key[AGEFILE_LEAST 16], uint8_t
-    *out, size_t out_len, agefile_report *report) __asm__("agefile_header");
+    const uint8_t *stanzas, size_t stanzas_len, const uint8_t file_key[AGEFILE_LEAST 16],
+    uint8_t *out, size_t out_len, agefile_report *report) __asm__("agefile_header");
 uint32_t agefile_export_begin(
-    const uint8_t *stanzas, size_t stanzas_len, const uint8_t file_key[AGEFILE_LEAST 16], const
-    uint8_t nonce[AGEFILE_LEAST 16], uint8_t *out, size_t out_len, agefile_payload *payload,
+    const uint8_t *stanzas, size_t stanzas_len, const uint8_t file_key[AGEFILE_LEAST 16],
+    const uint8_t nonce[AGEFILE_LEAST 16], uint8_t *out, size_t out_len, agefile_payload *payload,
     agefile_report *report) __asm__("agefile_begin");
 uint32_t agefile_export_open(
     const uint8_t *front, size_t front_len, const uint8_t file_key[AGEFILE_LEAST 16],
@@ -519,15 +418,16 @@ uint32_t agefile_export_part_seal_next(
     agefile_part *part, uint8_t *chunk, size_t chunk_len, agefile_report *report)
     __asm__("agefile_part_seal_next");
 uint32_t agefile_export_ranges_open(
-    const uint8_t *front, size_t front_len, uint64_t file_len, const uint8_t file_key[AGEFILE_LEAST
-    16], agefile_ranges *ranges, agefile_report *report) __asm__("agefile_ranges_open");
+    const uint8_t *front, size_t front_len, uint64_t file_len,
+    const uint8_t file_key[AGEFILE_LEAST 16], agefile_ranges *ranges, agefile_report *report)
+    __asm__("agefile_ranges_open");
 uint32_t agefile_export_decrypt(
     const uint8_t *file, size_t file_len, const uint8_t file_key[AGEFILE_LEAST 16], uint8_t *out,
     size_t out_len, agefile_report *report) __asm__("agefile_decrypt");
 uint32_t agefile_export_encrypt(
-    const uint8_t *plain, size_t plain_len, const uint8_t *stanzas, size_t stanzas_len, const
-    uint8_t file_key[AGEFILE_LEAST 16], const uint8_t nonce[AGEFILE_LEAST 16], uint8_t *out, size_t
-    out_len, agefile_report *report) __asm__("agefile_encrypt");
+    const uint8_t *plain, size_t plain_len, const uint8_t *stanzas, size_t stanzas_len,
+    const uint8_t file_key[AGEFILE_LEAST 16], const uint8_t nonce[AGEFILE_LEAST 16], uint8_t *out,
+    size_t out_len, agefile_report *report) __asm__("agefile_encrypt");
 
 static inline bool agefile_is_missing(const void *first, size_t len)
 {
@@ -553,66 +453,12 @@ static inline uint8_t *agefile_output(uint8_t *bytes)
     return bytes != NULL ? bytes : &none;
 }
 
-static inline uint32_t agefile_decrypt_passphrase(
-    const uint8_t *file, size_t file_len, const uint8_t *pass, size_t pass_len, uint8_t max_work,
-    uint8_t *out, size_t out_len, agefile_report *report)
-{
-    if (agefile_is_missing(file, file_len) || agefile_is_missing(pass, pass_len) ||
-        agefile_is_missing(out, out_len))
-        return agefile_null_pointer(report);
-    return agefile_export_decrypt_passphrase(
-        agefile_input(file), file_len, agefile_input(pass), pass_len, max_work, agefile_output(out),
-        out_len, report);
-}
-
-static inline uint32_t agefile_decrypt_key(
-    const uint8_t *file, size_t file_len, const uint8_t key[AGEFILE_LEAST 32], uint8_t *out,
-    size_t out_len, agefile_report *report)
-{
-    if (agefile_is_missing(file, file_len) || agefile_is_missing(out, out_len))
-        return agefile_null_pointer(report);
-    return agefile_export_decrypt_key(
-        agefile_input(file), file_len, key, agefile_output(out), out_len, report);
-}
-
-static inline uint32_t agefile_encrypt_passphrase(
-    const uint8_t *plain, size_t plain_len, const uint8_t *pass, size_t pass_len, uint8_t work,
-    const uint8_t seed[AGEFILE_LEAST 48], uint8_t *out, size_t out_len, agefile_report *report)
-{
-    if (agefile_is_missing(plain, plain_len) || agefile_is_missing(pass, pass_len) ||
-        agefile_is_missing(out, out_len))
-        return agefile_null_pointer(report);
-    return agefile_export_encrypt_passphrase(
-        agefile_input(plain), plain_len, agefile_input(pass), pass_len, work, seed,
-        agefile_output(out), out_len, report);
-}
-
-static inline uint32_t agefile_encrypt_key(
-    const uint8_t *plain, size_t plain_len, const uint8_t key[AGEFILE_LEAST 32],
-    const uint8_t seed[AGEFILE_LEAST 48], uint8_t *out, size_t out_len, agefile_report *report)
-{
-    if (agefile_is_missing(plain, plain_len) || agefile_is_missing(out, out_len))
-        return agefile_null_pointer(report);
-    return agefile_export_encrypt_key(
-        agefile_input(plain), plain_len, key, seed, agefile_output(out), out_len, report);
-}
-
 static inline uint32_t agefile_inspect(
     const uint8_t *front, size_t front_len, agefile_summary *summary, agefile_report *report)
 {
     if (agefile_is_missing(front, front_len))
         return agefile_null_pointer(report);
     return agefile_export_inspect(agefile_input(front), front_len, summary, report);
-}
-
-static inline uint32_t agefile_stanza(
-    const uint8_t *front, size_t front_len, uint64_t index, uint8_t *args, size_t args_len,
-    agefile_stanza_summary *stanza, agefile_report *report)
-{
-    if (agefile_is_missing(front, front_len) || agefile_is_missing(args, args_len))
-        return agefile_null_pointer(report);
-    return agefile_export_stanza(
-        agefile_input(front), front_len, index, agefile_output(args), args_len, stanza, report);
 }
 
 static inline uint32_t agefile_stanzas(
@@ -647,99 +493,6 @@ static inline uint32_t agefile_unlock_key(
     return agefile_export_unlock_key(agefile_input(front), front_len, key, file_key, report);
 }
 
-static inline uint32_t agefile_reader_open_passphrase(
-    const uint8_t *front, size_t front_len, const uint8_t *pass, size_t pass_len, uint8_t max_work,
-    agefile_reader *reader, agefile_report *report)
-{
-    static const agefile_reader closed = {{0}, 0, 0};
-    if (agefile_is_missing(front, front_len) || agefile_is_missing(pass, pass_len)) {
-        *reader = closed;
-        return agefile_null_pointer(report);
-    }
-    return agefile_export_reader_open_passphrase(
-        agefile_input(front), front_len, agefile_input(pass), pass_len, max_work, reader, report);
-}
-
-static inline uint32_t agefile_reader_open_key(
-    const uint8_t *front, size_t front_len, const uint8_t key[AGEFILE_LEAST 32],
-    agefile_reader *reader, agefile_report *report)
-{
-    static const agefile_reader closed = {{0}, 0, 0};
-    if (agefile_is_missing(front, front_len)) {
-        *reader = closed;
-        return agefile_null_pointer(report);
-    }
-    return agefile_export_reader_open_key(agefile_input(front), front_len, key, reader, report);
-}
-
-static inline uint32_t agefile_reader_chunk(
-    agefile_reader *reader, uint8_t *chunk, size_t chunk_len, bool last, agefile_report *report)
-{
-    if (agefile_is_missing(chunk, chunk_len))
-        return agefile_null_pointer(report);
-    return agefile_export_reader_chunk(reader, agefile_output(chunk), chunk_len, last, report);
-}
-
-static inline uint32_t agefile_writer_open_passphrase(
-    const uint8_t *pass, size_t pass_len, uint8_t work, const uint8_t seed[AGEFILE_LEAST 48],
-    uint8_t *out, size_t out_len, agefile_writer *writer, agefile_report *report)
-{
-    static const agefile_writer closed = {{0}, 0, 0};
-    if (agefile_is_missing(pass, pass_len) || agefile_is_missing(out, out_len)) {
-        *writer = closed;
-        return agefile_null_pointer(report);
-    }
-    return agefile_export_writer_open_passphrase(
-        agefile_input(pass), pass_len, work, seed, agefile_output(out), out_len, writer, report);
-}
-
-static inline uint32_t agefile_writer_open_key(
-    const uint8_t key[AGEFILE_LEAST 32], const uint8_t seed[AGEFILE_LEAST 48], uint8_t *out,
-    size_t out_len, agefile_writer *writer, agefile_report *report)
-{
-    static const agefile_writer closed = {{0}, 0, 0};
-    if (agefile_is_missing(out, out_len)) {
-        *writer = closed;
-        return agefile_null_pointer(report);
-    }
-    return agefile_export_writer_open_key(key, seed, agefile_output(out), out_len, writer, report);
-}
-
-static inline uint32_t agefile_writer_chunk(
-    agefile_writer *writer, uint8_t *chunk, size_t chunk_len, bool last, agefile_report *report)
-{
-    if (agefile_is_missing(chunk, chunk_len))
-        return agefile_null_pointer(report);
-    return agefile_export_writer_chunk(writer, agefile_output(chunk), chunk_len, last, report);
-}
-
-static inline uint32_t agefile_ranges_open_passphrase(
-    const uint8_t *front, size_t front_len, uint64_t file_len, const uint8_t *pass, size_t pass_len,
-    uint8_t max_work, agefile_ranges *ranges, agefile_report *report)
-{
-    static const agefile_ranges closed = {{0}, 0, 0, 0};
-    if (agefile_is_missing(front, front_len) || agefile_is_missing(pass, pass_len)) {
-        *ranges = closed;
-        return agefile_null_pointer(report);
-    }
-    return agefile_export_ranges_open_passphrase(
-        agefile_input(front), front_len, file_len, agefile_input(pass), pass_len, max_work, ranges,
-        report);
-}
-
-static inline uint32_t agefile_ranges_open_key(
-    const uint8_t *front, size_t front_len, uint64_t file_len, const uint8_t key[AGEFILE_LEAST 32],
-    agefile_ranges *ranges, agefile_report *report)
-{
-    static const agefile_ranges closed = {{0}, 0, 0, 0};
-    if (agefile_is_missing(front, front_len)) {
-        *ranges = closed;
-        return agefile_null_pointer(report);
-    }
-    return agefile_export_ranges_open_key(
-        agefile_input(front), front_len, file_len, key, ranges, report);
-}
-
 static inline uint32_t agefile_ranges_last(
     agefile_ranges *ranges, uint8_t *chunk, size_t chunk_len, agefile_report *report)
 {
@@ -768,8 +521,8 @@ static inline uint32_t agefile_wrap_passphrase(
 }
 
 static inline uint32_t agefile_wrap_key(
-    const uint8_t file_key[AGEFILE_LEAST 16], const uint8_t key[AGEFILE_LEAST 32], const uint8_t
-    salt[AGEFILE_LEAST 16], uint8_t *out, size_t out_len, agefile_report *report)
+    const uint8_t file_key[AGEFILE_LEAST 16], const uint8_t key[AGEFILE_LEAST 32],
+    const uint8_t salt[AGEFILE_LEAST 16], uint8_t *out, size_t out_len, agefile_report *report)
 {
     if (agefile_is_missing(out, out_len))
         return agefile_null_pointer(report);
@@ -789,8 +542,8 @@ static inline uint32_t agefile_wrap(
 }
 
 static inline uint32_t agefile_header(
-    const uint8_t *stanzas, size_t stanzas_len, const uint8_t file_key[AGEFILE_LEAST 16], uint8_t
-    *out, size_t out_len, agefile_report *report)
+    const uint8_t *stanzas, size_t stanzas_len, const uint8_t file_key[AGEFILE_LEAST 16],
+    uint8_t *out, size_t out_len, agefile_report *report)
 {
     if (agefile_is_missing(stanzas, stanzas_len) || agefile_is_missing(out, out_len))
         return agefile_null_pointer(report);
@@ -799,8 +552,8 @@ static inline uint32_t agefile_header(
 }
 
 static inline uint32_t agefile_begin(
-    const uint8_t *stanzas, size_t stanzas_len, const uint8_t file_key[AGEFILE_LEAST 16], const
-    uint8_t nonce[AGEFILE_LEAST 16], uint8_t *out, size_t out_len, agefile_payload *payload,
+    const uint8_t *stanzas, size_t stanzas_len, const uint8_t file_key[AGEFILE_LEAST 16],
+    const uint8_t nonce[AGEFILE_LEAST 16], uint8_t *out, size_t out_len, agefile_payload *payload,
     agefile_report *report)
 {
     static const agefile_payload closed = {{0}, 0, 0, {0}};
@@ -858,8 +611,8 @@ static inline uint32_t agefile_part_seal_next(
 }
 
 static inline uint32_t agefile_ranges_open(
-    const uint8_t *front, size_t front_len, uint64_t file_len, const uint8_t file_key[AGEFILE_LEAST
-    16], agefile_ranges *ranges, agefile_report *report)
+    const uint8_t *front, size_t front_len, uint64_t file_len,
+    const uint8_t file_key[AGEFILE_LEAST 16], agefile_ranges *ranges, agefile_report *report)
 {
     static const agefile_ranges closed = {{0}, 0, 0, 0};
     if (agefile_is_missing(front, front_len)) {
@@ -881,9 +634,9 @@ static inline uint32_t agefile_decrypt(
 }
 
 static inline uint32_t agefile_encrypt(
-    const uint8_t *plain, size_t plain_len, const uint8_t *stanzas, size_t stanzas_len, const
-    uint8_t file_key[AGEFILE_LEAST 16], const uint8_t nonce[AGEFILE_LEAST 16], uint8_t *out, size_t
-    out_len, agefile_report *report)
+    const uint8_t *plain, size_t plain_len, const uint8_t *stanzas, size_t stanzas_len,
+    const uint8_t file_key[AGEFILE_LEAST 16], const uint8_t nonce[AGEFILE_LEAST 16], uint8_t *out,
+    size_t out_len, agefile_report *report)
 {
     if (agefile_is_missing(plain, plain_len) || agefile_is_missing(stanzas, stanzas_len) ||
         agefile_is_missing(out, out_len))
@@ -891,6 +644,63 @@ static inline uint32_t agefile_encrypt(
     return agefile_export_encrypt(
         agefile_input(plain), plain_len, agefile_input(stanzas), stanzas_len, file_key, nonce,
         agefile_output(out), out_len, report);
+}
+
+static inline uint32_t agefile_decrypt_passphrase(
+    const uint8_t *file, size_t file_len, const uint8_t *pass, size_t pass_len, uint8_t max_work,
+    uint8_t *out, size_t out_len, agefile_report *report)
+{
+    uint8_t file_key[16];
+    uint32_t code;
+    if (agefile_is_missing(out, out_len))
+        return agefile_null_pointer(report);
+    code = agefile_unlock_passphrase(file, file_len, pass, pass_len, max_work, file_key, report);
+    return code == AGEFILE_OK ? agefile_decrypt(file, file_len, file_key, out, out_len, report)
+                              : code;
+}
+
+static inline uint32_t agefile_decrypt_key(
+    const uint8_t *file, size_t file_len, const uint8_t key[AGEFILE_LEAST 32], uint8_t *out,
+    size_t out_len, agefile_report *report)
+{
+    uint8_t file_key[16];
+    uint32_t code;
+    if (agefile_is_missing(out, out_len))
+        return agefile_null_pointer(report);
+    code = agefile_unlock_key(file, file_len, key, file_key, report);
+    return code == AGEFILE_OK ? agefile_decrypt(file, file_len, file_key, out, out_len, report)
+                              : code;
+}
+
+static inline uint32_t agefile_encrypt_passphrase(
+    const uint8_t *plain, size_t plain_len, const uint8_t *pass, size_t pass_len, uint8_t work,
+    const uint8_t seed[AGEFILE_LEAST 48], uint8_t *out, size_t out_len, agefile_report *report)
+{
+    uint8_t stanza[AGEFILE_STANZA_ROOM];
+    uint32_t code;
+    if (agefile_is_missing(plain, plain_len) || agefile_is_missing(out, out_len))
+        return agefile_null_pointer(report);
+    code = agefile_wrap_passphrase(
+        seed, pass, pass_len, work, seed + 32, stanza, sizeof stanza, report);
+    return code == AGEFILE_OK
+        ? agefile_encrypt(
+              plain, plain_len, stanza, report->len, seed, seed + 16, out, out_len, report)
+        : code;
+}
+
+static inline uint32_t agefile_encrypt_key(
+    const uint8_t *plain, size_t plain_len, const uint8_t key[AGEFILE_LEAST 32],
+    const uint8_t seed[AGEFILE_LEAST 48], uint8_t *out, size_t out_len, agefile_report *report)
+{
+    uint8_t stanza[AGEFILE_STANZA_ROOM];
+    uint32_t code;
+    if (agefile_is_missing(plain, plain_len) || agefile_is_missing(out, out_len))
+        return agefile_null_pointer(report);
+    code = agefile_wrap_key(seed, key, seed + 32, stanza, sizeof stanza, report);
+    return code == AGEFILE_OK
+        ? agefile_encrypt(
+              plain, plain_len, stanza, report->len, seed, seed + 16, out, out_len, report)
+        : code;
 }
 
 #undef AGEFILE_CALL

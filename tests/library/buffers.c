@@ -18,7 +18,7 @@ static void whole_files(void)
         report = unset_report();
         CHECK(agefile_decrypt_key(file, file_len, other_key, back, len, &report) == AGEFILE_WRONG_KEY);
         CHECK(has_fields(&report, 0, 0, 0));
-        free(file);
+        release(file);
         CHECK(agefile_encrypt_passphrase(text, len, pass, pass_len, work, seed, out, most, &report) == AGEFILE_OK);
         file = copy_of(out, report.len);
         file_len = report.len;
@@ -26,10 +26,10 @@ static void whole_files(void)
         CHECK(has_fields(&report, len, 0, 0) && are_equal(text, back, len));
         CHECK(agefile_decrypt_passphrase(file, file_len, pass, pass_len - 1, work, back, len, &report) == AGEFILE_WRONG_KEY);
         CHECK(agefile_decrypt_key(file, file_len, key, back, len, &report) == AGEFILE_NO_MATCH);
-        free(file);
-        free(text);
-        free(out);
-        free(back);
+        release(file);
+        release(text);
+        release(out);
+        release(back);
     }
 }
 
@@ -55,10 +55,10 @@ static void small_buffers(void)
                 CHECK(has_fields(&report, len, 0, 0) && are_all(back, len, 0xEE));
             }
         }
-        free(file.bytes);
-        free(text);
-        free(out);
-        free(back);
+        release(file.bytes);
+        release(text);
+        release(out);
+        release(back);
     }
 }
 
@@ -74,9 +74,9 @@ static void great_buffers(void)
     memset(out, 0xEE, 80000);
     CHECK(agefile_encrypt_key(text, 70000, key, seed, out, 80000, &report) == AGEFILE_OK && report.len == file.len);
     CHECK(are_equal(out, file.bytes, file.len) && are_all(out + file.len, 80000 - file.len, 0xEE));
-    free(file.bytes);
-    free(out);
-    free(text);
+    release(file.bytes);
+    release(out);
+    release(text);
 }
 
 static void damage(void)
@@ -99,9 +99,9 @@ static void damage(void)
         CHECK(are_equal(back, text, report.len) && are_all(back + report.len, len - report.len, 0xEE));
         file.bytes[at] ^= 1;
     }
-    free(file.bytes);
-    free(text);
-    free(back);
+    release(file.bytes);
+    release(text);
+    release(back);
 }
 
 static void truncation(void)
@@ -121,20 +121,18 @@ static void truncation(void)
         else
             CHECK((code == AGEFILE_CHUNK_SHORT || code == AGEFILE_BAD_CHUNK || code == AGEFILE_EMPTY_FINAL) &&
                   report.len == report.place * AGEFILE_TEXT_CHUNK && report.place <= chunk && are_equal(back, text, report.len));
-        free(part);
+        release(part);
     }
-    free(file.bytes);
-    free(text);
-    free(back);
+    release(file.bytes);
+    release(text);
+    release(back);
 }
 
 static void work_factors(void)
 {
     uint8_t out[1000];
     agefile_report report;
-    agefile_reader reader;
-    agefile_writer writer;
-    agefile_ranges ranges;
+    uint8_t file_key[16] = {0};
     static const uint8_t bad[] = {0, 31, 64, 255};
     CHECK(agefile_encrypt_passphrase(pass, 4, pass, pass_len, 3, seed, out, sizeof out, &report) == AGEFILE_OK);
     size_t len = report.len;
@@ -148,9 +146,12 @@ static void work_factors(void)
         report = unset_report();
         CHECK(agefile_decrypt_passphrase(file, len, pass, pass_len, bad[i], back, sizeof back, &report) == AGEFILE_WORK_FACTOR);
         CHECK(has_fields(&report, 0, 0, 0) && are_all(back, sizeof back, 0xEE));
-        CHECK(agefile_reader_open_passphrase(file, len, pass, pass_len, bad[i], &reader, &report) == AGEFILE_WORK_FACTOR);
-        CHECK(agefile_writer_open_passphrase(pass, pass_len, bad[i], seed, back, sizeof back, &writer, &report) == AGEFILE_WORK_FACTOR);
-        CHECK(agefile_ranges_open_passphrase(file, len, len, pass, pass_len, bad[i], &ranges, &report) == AGEFILE_WORK_FACTOR);
+        report = unset_report();
+        CHECK(agefile_unlock_passphrase(file, len, pass, pass_len, bad[i], file_key, &report) == AGEFILE_WORK_FACTOR);
+        CHECK(has_fields(&report, 0, 0, 0) && are_all(file_key, sizeof file_key, 0));
+        report = unset_report();
+        CHECK(agefile_wrap_passphrase(seed, pass, pass_len, bad[i], seed + 32, back, sizeof back, &report) == AGEFILE_WORK_FACTOR);
+        CHECK(has_fields(&report, 0, 0, 0));
         CHECK(are_all(back, sizeof back, 0xEE));
     }
     report = unset_report();
@@ -174,30 +175,19 @@ static void sizes_suffice(void)
 
 static void headers(void)
 {
-    uint8_t out[1000], args[100];
+    uint8_t out[1000];
     agefile_report report = unset_report();
     agefile_summary summary;
-    agefile_stanza_summary stanza;
     CHECK(agefile_encrypt_passphrase(pass, 4, pass, pass_len, 10, seed, out, sizeof out, &report) == AGEFILE_OK);
     size_t len = report.len;
     report = unset_report();
     CHECK(agefile_inspect(out, len, &summary, &report) == AGEFILE_OK && has_fields(&report, 0, 0, 0));
     CHECK(summary.header_len == 150 && summary.stanzas == 1);
-    CHECK(agefile_stanza(out, len, 0, args, sizeof args, &stanza, &report) == AGEFILE_OK);
-    CHECK(stanza.args == 3 && stanza.body_len == 32 && stanza.args_len == 32 && report.len == 32);
-    CHECK(are_equal(args, (const uint8_t *)"scrypt ", 7) && are_equal(args + 29, (const uint8_t *)" 10", 3));
-    memset(args, 0xEE, sizeof args);
-    CHECK(agefile_stanza(out, len, 0, args, 31, &stanza, &report) == AGEFILE_TOO_SMALL);
-    CHECK(report.len == 32 && are_all(args, sizeof args, 0xEE));
-    CHECK(agefile_stanza(out, len, 1, args, sizeof args, &stanza, &report) == AGEFILE_OUT_OF_ORDER);
-    CHECK(agefile_stanza(out, len, UINT64_MAX, args, sizeof args, &stanza, &report) == AGEFILE_OUT_OF_ORDER);
-    CHECK(are_all(args, sizeof args, 0xEE));
     static const char *const bad = "age-encryption.org/v1\nbad\n";
     report = unset_report();
     CHECK(agefile_inspect((const uint8_t *)bad, strlen(bad), &summary, &report) == AGEFILE_BAD_LINE && has_fields(&report, 0, 2, 0));
-    report = unset_report();
-    CHECK(agefile_stanza((const uint8_t *)bad, strlen(bad), 0, args, sizeof args, &stanza, &report) == AGEFILE_BAD_LINE);
     CHECK(agefile_inspect((const uint8_t *)"hello", 5, &summary, &report) == AGEFILE_NOT_AGE && has_fields(&report, 0, 0, 0));
+    CHECK(summary.header_len == 150);
     for (size_t cut = 0; cut < 150; cut++)
         CHECK(agefile_inspect(out, cut, &summary, &report) == AGEFILE_HEADER_TRUNCATED && has_fields(&report, 0, 0, 0));
 }
@@ -209,14 +199,16 @@ static void long_headers(void)
     uint8_t *file = room(len);
     agefile_report report = unset_report();
     agefile_summary summary;
-    agefile_reader reader;
+    agefile_payload payload;
+    uint8_t file_key[16];
     memset(file, 'a', len);
     memcpy(file, front, strlen(front));
     CHECK(agefile_inspect(file, len, &summary, &report) == AGEFILE_HEADER_TOO_LARGE && has_fields(&report, 0, 0, 0));
     CHECK(agefile_inspect(file, AGEFILE_FRONT, &summary, &report) == AGEFILE_HEADER_TOO_LARGE);
     CHECK(agefile_decrypt_key(file, len, key, NULL, 0, &report) == AGEFILE_HEADER_TOO_LARGE);
-    CHECK(agefile_reader_open_key(file, AGEFILE_FRONT, key, &reader, &report) == AGEFILE_HEADER_TOO_LARGE);
-    free(file);
+    CHECK(agefile_unlock_key(file, AGEFILE_FRONT, key, file_key, &report) == AGEFILE_HEADER_TOO_LARGE);
+    CHECK(agefile_open(file, AGEFILE_FRONT, seed, &payload, &report) == AGEFILE_HEADER_TOO_LARGE && payload.state == AGEFILE_CLOSED);
+    release(file);
 }
 
 static const struct {
@@ -230,7 +222,7 @@ static const struct {
     {"files that were cut", truncation},
     {"work factors out of range", work_factors},
     {"the sizes suffice, at their limits too", sizes_suffice},
-    {"headers and their stanzas", headers},
+    {"what a header is", headers},
     {"headers beyond the limit", long_headers},
 };
 

@@ -1,10 +1,15 @@
-// What the C programs beside it share: checks that count, and a text, a key and a seed that are always the same.
+// What the C programs beside it share: checks that count, memory with faulting pages around it, and a
+// text, a key and a seed that are always the same.
 #ifndef CHECK_H
 #define CHECK_H
+#ifndef _GNU_SOURCE
+#define _GNU_SOURCE
+#endif
 #include <agefile.h>
 #include <stdio.h>
 #include <stdlib.h>
 #include <string.h>
+#include <sys/mman.h>
 
 static int failed;
 
@@ -30,13 +35,27 @@ static inline bool has_fields(const agefile_report *report, uint64_t len, uint64
     return report->len == len && report->place == place && report->detail == detail;
 }
 
-// Memory of exactly this size, so that a sanitizer sees one byte too many.
+// Memory of exactly this size between two pages that no access may touch, at the end of its own pages
+// or, with the variable AT_START, at their start. The library is not instrumented, so a sanitizer
+// doesn't see what it reads and writes. Two pages before lies how long all that is.
+static const size_t page = 4096;
+
 static inline uint8_t *room(size_t len)
 {
-    uint8_t *bytes = (uint8_t *)malloc(len);
-    if (bytes == NULL && len > 0)
+    size_t own = (len + page - 1) / page * page, all = own + 3 * page;
+    uint8_t *map = (uint8_t *)mmap(NULL, all, PROT_READ | PROT_WRITE, MAP_PRIVATE | MAP_ANONYMOUS, -1, 0);
+    if (map == MAP_FAILED || mprotect(map + page, page, PROT_NONE) != 0 || mprotect(map + 2 * page + own, page, PROT_NONE) != 0)
         exit(3);
-    return bytes;
+    memcpy(map, &all, sizeof all);
+    return map + 2 * page + (getenv("AT_START") == NULL ? own - len : 0);
+}
+
+static inline void release(uint8_t *bytes)
+{
+    size_t all;
+    uint8_t *map = bytes - (uintptr_t)bytes % page - 2 * page;
+    memcpy(&all, map, sizeof all);
+    munmap(map, all);
 }
 
 static inline uint8_t *text_of(size_t len)
@@ -97,9 +116,36 @@ static inline made_file made(size_t len)
     made_file file = {copy_of(out, report.len), report.len, 0};
     CHECK(agefile_inspect(file.bytes, file.len, &summary, &report) == AGEFILE_OK);
     file.front = summary.header_len + 16;
-    free(text);
-    free(out);
+    release(text);
+    release(out);
     return file;
+}
+
+// Opens a payload with the key: both steps, with the code of the one that fails.
+static inline uint32_t open_with(const uint8_t *file, size_t len, const uint8_t *with, agefile_payload *payload, agefile_report *report)
+{
+    uint8_t file_key[16];
+    memset(payload, 0, sizeof *payload);
+    uint32_t code = agefile_unlock_key(file, len, with, file_key, report);
+    return code == AGEFILE_OK ? agefile_open(file, len, file_key, payload, report) : code;
+}
+
+// Begins a file for the key, whose stanza and nonce are those of the seed.
+static inline uint32_t begin_with(uint8_t *out, size_t len, agefile_payload *payload, agefile_report *report)
+{
+    uint8_t stanza[AGEFILE_STANZA_ROOM];
+    uint32_t code = agefile_wrap_key(seed, key, seed + 32, stanza, sizeof stanza, report);
+    CHECK(code == AGEFILE_OK);
+    return agefile_begin(stanza, report->len, seed, seed + 16, out, len, payload, report);
+}
+
+// Opens ranges with the key.
+static inline uint32_t ranges_with(const uint8_t *file, size_t len, uint64_t file_len, agefile_ranges *ranges, agefile_report *report)
+{
+    uint8_t file_key[16];
+    memset(ranges, 0, sizeof *ranges);
+    uint32_t code = agefile_unlock_key(file, len, key, file_key, report);
+    return code == AGEFILE_OK ? agefile_ranges_open(file, len, file_len, file_key, ranges, report) : code;
 }
 
 static inline size_t front_of(size_t file_len)

@@ -42,18 +42,28 @@ static uint32_t decrypt_whole(void)
     return code;
 }
 
+static uint32_t unlock(uint8_t file_key[16])
+{
+    size_t front = front_of(input_len);
+    return is_keyed ? agefile_unlock_key(input, front, secret, file_key, &report)
+                    : agefile_unlock_passphrase(input, front, secret, secret_len, 22, file_key, &report);
+}
+
 static uint32_t encrypt_steps(void)
 {
-    agefile_writer writer;
-    uint32_t code = is_keyed ? agefile_writer_open_key(secret, fresh, output, most, &writer, &report)
-                             : agefile_writer_open_passphrase(secret, secret_len, factor, fresh, output, most, &writer, &report);
+    agefile_payload payload;
+    uint8_t stanza[AGEFILE_STANZA_ROOM];
+    uint32_t code = is_keyed ? agefile_wrap_key(fresh, secret, fresh + 32, stanza, sizeof stanza, &report)
+                             : agefile_wrap_passphrase(fresh, secret, secret_len, factor, fresh + 32, stanza, sizeof stanza, &report);
+    if (code == AGEFILE_OK)
+        code = agefile_begin(stanza, report.len, fresh, fresh + 16, output, most, &payload, &report);
     output_len = report.len;
     size_t at = 0;
     for (bool last = false; code == AGEFILE_OK && !last;) {
         last = input_len - at <= AGEFILE_TEXT_CHUNK;
         size_t len = last ? input_len - at : AGEFILE_TEXT_CHUNK;
         memcpy(output + output_len, input + at, len);
-        code = agefile_writer_chunk(&writer, output + output_len, len + tag, last, &report);
+        code = agefile_seal_next(&payload, output + output_len, len + tag, last, &report);
         output_len += len + tag;
         at += len;
     }
@@ -62,15 +72,16 @@ static uint32_t encrypt_steps(void)
 
 static uint32_t decrypt_steps(void)
 {
-    agefile_reader reader;
-    size_t front = front_of(input_len);
-    uint32_t code = is_keyed ? agefile_reader_open_key(input, front, secret, &reader, &report)
-                             : agefile_reader_open_passphrase(input, front, secret, secret_len, 22, &reader, &report);
+    agefile_payload payload;
+    uint8_t file_key[16];
+    uint32_t code = unlock(file_key);
+    if (code == AGEFILE_OK)
+        code = agefile_open(input, front_of(input_len), file_key, &payload, &report);
     size_t at = report.len;
     for (bool last = false; code == AGEFILE_OK && !last;) {
         last = input_len - at <= AGEFILE_SEALED_CHUNK;
         size_t len = last ? input_len - at : AGEFILE_SEALED_CHUNK;
-        code = agefile_reader_chunk(&reader, input + at, len, last, &report);
+        code = agefile_open_next(&payload, input + at, len, last, &report);
         if (code == AGEFILE_OK)
             memcpy(output + output_len, input + at, report.len);
         output_len += report.len;
@@ -83,9 +94,10 @@ static uint32_t decrypt_ranges(void)
 {
     static uint8_t chunk[AGEFILE_SEALED_CHUNK];
     agefile_ranges ranges;
-    size_t front = front_of(input_len);
-    uint32_t code = is_keyed ? agefile_ranges_open_key(input, front, input_len, secret, &ranges, &report)
-                             : agefile_ranges_open_passphrase(input, front, input_len, secret, secret_len, 22, &ranges, &report);
+    uint8_t file_key[16];
+    uint32_t code = unlock(file_key);
+    if (code == AGEFILE_OK)
+        code = agefile_ranges_open(input, front_of(input_len), input_len, file_key, &ranges, &report);
     if (code != AGEFILE_OK)
         return code;
     memcpy(chunk, input + report.place, report.len);
@@ -105,11 +117,11 @@ static uint32_t decrypt_ranges(void)
 int main(int argc, char **argv)
 {
     if (argc == 2 && strcmp(argv[1], "messages") == 0) {
-        for (uint32_t code = 0; code <= AGEFILE_NULL_POINTER; code++)
+        for (uint32_t code = 0; code <= AGEFILE_BAD_ARGUMENTS; code++)
             printf("%u %s\n", (unsigned)code, agefile_message(code));
         for (uint64_t detail = 1; detail <= 5; detail++)
             printf("detail %u %s\n", (unsigned)detail, agefile_detail(detail));
-        return strcmp(agefile_message(AGEFILE_NULL_POINTER + 1), "unknown code") != 0 || strcmp(agefile_detail(0), "other") != 0 ||
+        return strcmp(agefile_message(AGEFILE_BAD_ARGUMENTS + 1), "unknown code") != 0 || strcmp(agefile_detail(0), "other") != 0 ||
                strcmp(agefile_detail(6), "other") != 0 || strcmp(agefile_detail(UINT64_MAX), "other") != 0;
     }
     if (argc < 5)

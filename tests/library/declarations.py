@@ -4,6 +4,7 @@
 
 The exports and structs of the crate, those of agefile.h, of bindings/python/agefile/_library.py and of
 bindings/rust/src/ffi.rs are brought into one form, a line for each function and each field, and compared.
+The header's own functions over several exports are compared with their bodies.
 Where two differ the difference is printed, and the status is 1. ROOT is the repository.
 """
 
@@ -233,10 +234,11 @@ def header_lines(root):
 
 
 class Header:
-    """What agefile.h declares: calls of this header, their bodies, exports, attributes, structs."""
+    """What agefile.h declares: its calls of exports, its own functions over several of these, the bodies
+    of both, exports, attributes, structs."""
 
     def __init__(self, root):
-        self.calls, self.bodies, self.exports, self.structs = {}, {}, {}, {}
+        self.calls, self.own, self.bodies, self.exports, self.structs = {}, {}, {}, {}, {}
         self.nonnull, self.used = {}, set()
         tokens = Tokens(tokens_of(header_lines(root)))
         while tokens.peek() is not None:
@@ -268,7 +270,7 @@ class Header:
         if not is_static:
             self.exports[label or name] = function
         if is_static or label is None:
-            self.calls[name] = function
+            (self.own if is_static and label is None else self.calls)[name] = function
             self.attribute(name, Tokens(attributes))
 
     def attribute(self, name, tokens):
@@ -394,16 +396,16 @@ def nonnull_of(parameters):
 def compare_header(root, functions, layouts):
     header = Header(root)
     expected = function_lines(functions)
-    wrapped = {name: function for name, function in functions.items() if has_length(function)}
+    wrapped = {name: function for name, function in functions.items() if has_length(function)} | header.own
     bodies = {name: function for name, function in header.bodies.items() if name != "agefile_null_pointer"}
-    pointers = {name: nonnull_of(function[0]) for name, function in functions.items()}
+    pointers = {name: nonnull_of(function[0]) for name, function in (functions | header.own).items()}
     rows = [f"{name} {places}" for name, places in sorted(pointers.items()) if places]
     return [
         is_same("exports", expected, "bindings/c/agefile.h", function_lines(header.exports)),
         is_same("calls", expected, "bindings/c/agefile.h", function_lines(header.calls)),
         is_same("calls that check pointers", function_lines(wrapped), "bindings/c/agefile.h", function_lines(bodies)),
         is_same("pointers not null", rows, "bindings/c/agefile.h", [f"{name} {places}" for name, places in sorted(header.nonnull.items())]),
-        is_same("results that are used", sorted(functions), "bindings/c/agefile.h", sorted(header.used)),
+        is_same("results that are used", sorted(functions | header.own), "bindings/c/agefile.h", sorted(header.used)),
         is_same("structs", struct_lines(layouts), "bindings/c/agefile.h", struct_lines(compiled(root, header.structs))),
     ]
 

@@ -103,26 +103,108 @@ static void lists(void)
             CHECK(has_fields(&report, expected_len, count, 0) && are_unset(0, 0));
         }
     }
-    free(body);
+    release(body);
 }
 
-static void one_by_one(void)
+// Each front that holds the header gives the same, and each shorter one says so.
+static void fronts(void)
 {
-    static uint8_t args[100];
-    agefile_stanza_summary stanza;
+    agefile_summary summary, first;
     begin();
     add_stanza("kind of one", pass, 5);
-    add_stanza("Y", pass, 0);
     add_stanza("Z z", pass, 13);
     end();
-    reset();
-    CHECK(agefile_stanzas(header, header_len, stanzas, 3, text, sizeof text, &report) == AGEFILE_OK && is_same_list());
-    const uint8_t *at = text;
-    for (uint64_t i = 0; i < 3; i++) {
-        CHECK(agefile_stanza(header, header_len, i, args, sizeof args, &stanza, &report) == AGEFILE_OK);
-        CHECK(memcmp(&stanza, stanzas + i, sizeof stanza) == 0 && are_equal(args, at, report.len));
-        at += stanza.args_len + stanza.body_len;
+    size_t end_of_header = header_len;
+    memset(header + header_len, '-', 300);
+    for (size_t len = 0; len < end_of_header + 300; len++) {
+        uint32_t expected_code = len < end_of_header ? AGEFILE_HEADER_TRUNCATED : AGEFILE_OK;
+        reset();
+        CHECK(agefile_stanzas(header, len, stanzas, 3, text, sizeof text, &report) == expected_code);
+        CHECK(expected_code == AGEFILE_OK ? is_same_list() : has_fields(&report, 0, 0, 0) && are_unset(0, 0));
+        CHECK(agefile_inspect(header, len, len == end_of_header ? &first : &summary, &report) == expected_code);
+        CHECK(len <= end_of_header || memcmp(&first, &summary, sizeof first) == 0);
     }
+    CHECK(first.header_len == end_of_header && first.stanzas == 2 && are_all(first.mac, 32, 0));
+}
+
+// What wrap writes, and the header of what it wrote, one behind the other: the lines that are written here.
+static void made_of_stanzas(void)
+{
+    static const uint8_t file_key[17] = "sixteen bytes...";
+    static uint8_t lines[most], out[most];
+    static const char *const args[] = {"X", "kind of one", "~!\" #"};
+    static const size_t lens[] = {0, 1, 47, 48, 49, 96, 500};
+    uint8_t *body = text_of(500);
+    begin();
+    size_t lines_len = 0;
+    for (size_t i = 0; i < 21; i++) {
+        size_t before = header_len, len = lens[i % 7];
+        add_stanza(args[i % 3], body, len);
+        report = unset_report();
+        CHECK(agefile_wrap((const uint8_t *)args[i % 3], strlen(args[i % 3]), body, len, lines + lines_len, header_len - before, &report) == AGEFILE_OK);
+        CHECK(has_fields(&report, header_len - before, 0, 0) && are_equal(lines + lines_len, header + before, report.len));
+        memset(out, 0xEE, sizeof out);
+        CHECK(agefile_wrap((const uint8_t *)args[i % 3], strlen(args[i % 3]), body, len, out, header_len - before - 1, &report) == AGEFILE_TOO_SMALL);
+        CHECK(has_fields(&report, header_len - before, 0, 0) && are_all(out, sizeof out, 0xEE));
+        lines_len += header_len - before;
+    }
+    for (size_t size = header_len + 47; size < header_len + 50; size++) {
+        memset(out, 0xEE, sizeof out);
+        report = unset_report();
+        bool fits = size >= header_len + 48;
+        CHECK(agefile_header(lines, lines_len, file_key, out, size, &report) == (fits ? AGEFILE_OK : AGEFILE_TOO_SMALL));
+        CHECK(has_fields(&report, header_len + 48, 0, 0) && are_all(out + (fits ? header_len + 48 : 0), 100, 0xEE));
+        CHECK(!fits || (are_equal(out, header, header_len) && are_equal(out + header_len, (const uint8_t *)"--- ", 4)));
+    }
+    CHECK(agefile_header(lines, lines_len, file_key, out, sizeof out, &report) == AGEFILE_OK);
+    size_t len = report.len;
+    agefile_payload payload;
+    memset(out + len, 0, 16);
+    CHECK(agefile_open(out, len + 16, file_key, &payload, &report) == AGEFILE_OK && has_fields(&report, len + 16, 0, 0));
+    CHECK(agefile_open(out, len + 16, key, &payload, &report) == AGEFILE_BAD_MAC && payload.state == AGEFILE_CLOSED);
+    release(body);
+}
+
+// Texts that are no stanzas, none, one too many, and arguments that are no words.
+static void refused_stanzas(void)
+{
+    static const uint8_t file_key[17] = "sixteen bytes...";
+    static uint8_t lines[most], out[200];
+    static const struct {
+        const char *text;
+        uint32_t code;
+        uint64_t place;
+    } rows[] = {
+        {"", AGEFILE_NO_RECIPIENTS, 0},
+        {"-> a\n\n-> b\n\n", AGEFILE_OK, 0},
+        {"-> a\n\n-> b\n", AGEFILE_BAD_LINE, 4},
+        {"-> a\n\n-> b", AGEFILE_HEADER_TRUNCATED, 0},
+        {"-> a\n\n-> b\n\nc\n", AGEFILE_BAD_LINE, 5},
+        {"-> a\n=\n", AGEFILE_BAD_LINE, 2},
+        {"age-encryption.org/v1\n-> a\n\n", AGEFILE_BAD_LINE, 1},
+        {"-> a\n\n--- AAAA\n", AGEFILE_BAD_LINE, 3},
+        {"-> scrypt x 1\n\n", AGEFILE_OK, 0},
+        {"-> scrypt x 1\n\n-> a\n\n", AGEFILE_MIXED_PASSPHRASE, 0},
+        {"-> a\n\n-> scrypt x 1\n\n", AGEFILE_MIXED_PASSPHRASE, 0},
+    };
+    static const char *const no_words[] = {"", " ", "a ", " a", "a  b", "a\n", "\t", "\x7f", "a\xc3\xa4", "\xff"};
+    for (size_t i = 0; i < sizeof rows / sizeof *rows; i++) {
+        memset(out, 0xEE, sizeof out);
+        report = unset_report();
+        CHECK(agefile_header((const uint8_t *)rows[i].text, strlen(rows[i].text), file_key, out, sizeof out, &report) == rows[i].code);
+        CHECK(rows[i].code == AGEFILE_OK || (has_fields(&report, 0, rows[i].place, 0) && are_all(out, sizeof out, 0xEE)));
+    }
+    for (size_t i = 0; i < sizeof no_words / sizeof *no_words; i++) {
+        report = unset_report();
+        CHECK(agefile_wrap((const uint8_t *)no_words[i], strlen(no_words[i]), pass, 5, out, sizeof out, &report) == AGEFILE_BAD_ARGUMENTS);
+        CHECK(has_fields(&report, 0, 0, 0));
+    }
+    for (size_t i = 0; i < most / 6; i++)
+        memcpy(lines + 6 * i, "-> x\n\n", 6);
+    static uint8_t whole[most];
+    CHECK(agefile_header(lines, 6 * (size_t)most_stanzas, file_key, whole, most, &report) == AGEFILE_OK && report.len == 65536);
+    CHECK(agefile_header(lines, 6 * (size_t)(most_stanzas + 1), file_key, whole, most, &report) == AGEFILE_HEADER_TOO_LARGE);
+    CHECK(has_fields(&report, 0, 0, 0));
 }
 
 static void no_header(void)
@@ -149,23 +231,25 @@ static void unlocks(void)
     size_t header_end = file.front - 16;
     memset(kept, 0xEE, sizeof kept);
     for (size_t at = 0; at <= file.len; at++) {
-        agefile_reader reader;
+        agefile_payload payload;
         memset(file_key, 0xEE, sizeof file_key);
         report = unset_report();
         uint32_t code = agefile_unlock_key(file.bytes, at, key, file_key, &report);
         CHECK(code == (at < header_end ? AGEFILE_HEADER_TRUNCATED : AGEFILE_OK) && has_fields(&report, code == AGEFILE_OK ? header_end : 0, 0, 0));
         CHECK(are_equal(file_key, code == AGEFILE_OK ? seed : kept, 16) && file_key[16] == 0xEE);
-        uint32_t other = agefile_reader_open_key(file.bytes, at, key, &reader, &report);
+        uint32_t other = agefile_open(file.bytes, at, seed, &payload, &report);
         CHECK(other == (at >= header_end && at < file.front ? AGEFILE_NONCE_TRUNCATED : code));
+        CHECK(has_fields(&report, other == AGEFILE_OK ? file.front : 0, 0, 0));
     }
     for (size_t at = 0; at < header_end; at++) {
         agefile_report opening = unset_report();
-        agefile_reader reader;
+        agefile_payload payload;
         memset(file_key, 0xEE, sizeof file_key);
         file.bytes[at] ^= 1;
         uint32_t code = agefile_unlock_key(file.bytes, file.len, key, file_key, &report);
         CHECK(code != AGEFILE_OK && are_equal(file_key, kept, sizeof kept));
-        CHECK(agefile_reader_open_key(file.bytes, file.len, key, &reader, &opening) == code && memcmp(&report, &opening, sizeof report) == 0);
+        CHECK(agefile_decrypt_key(file.bytes, file.len, key, NULL, 0, &opening) == code && memcmp(&report, &opening, sizeof report) == 0);
+        CHECK(agefile_open(file.bytes, file.len, seed, &payload, &opening) >= AGEFILE_NOT_AGE && payload.state == AGEFILE_CLOSED);
         file.bytes[at] ^= 1;
     }
     CHECK(agefile_unlock_key(file.bytes, file.len, other_key, file_key, &report) == AGEFILE_WRONG_KEY);
@@ -181,7 +265,7 @@ static void unlocks(void)
     }
     CHECK(agefile_unlock_passphrase(text, len, pass, 4, work, file_key, &report) == AGEFILE_WRONG_KEY);
     CHECK(agefile_unlock_key(text, len, key, file_key, &report) == AGEFILE_NO_MATCH);
-    free(file.bytes);
+    release(file.bytes);
 }
 
 // The header of the most stanzas: 6 bytes each.
@@ -219,7 +303,9 @@ static const struct {
     void (*run)(void);
 } tests[] = {
     {"stanzas and their bodies, in buffers of their size, and one too small", lists},
-    {"the list has what a call for each stanza returns", one_by_one},
+    {"each front that holds the header", fronts},
+    {"stanzas that wrap writes, and their header", made_of_stanzas},
+    {"texts that are no stanzas, and arguments that are no words", refused_stanzas},
     {"what is no header", no_header},
     {"from a secret to the file key", unlocks},
     {"10,911 stanzas, in less than a tenth of a second", most_of_all},

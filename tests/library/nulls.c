@@ -3,13 +3,15 @@
 #include "check.h"
 
 static uint8_t file[400], plain[16], out[400], chunk[AGEFILE_SEALED_CHUNK], old_out[400], old_chunk[AGEFILE_SEALED_CHUNK];
-static size_t file_len, front_len;
+static size_t file_len, front_len, stanza_len;
 static agefile_report report;
 static agefile_summary summary, old_summary;
 static agefile_stanza_summary stanza, old_stanza;
-static agefile_reader reader, old_reader;
-static agefile_writer writer, old_writer;
+static agefile_payload payload, old_payload, writing, old_writing;
+static agefile_part part, old_part;
 static agefile_ranges ranges, old_ranges;
+// The file key, nonce and salt are those of the seed.
+static const uint8_t *const file_key = seed, *const nonce = seed + 16, *const salt = seed + 32;
 
 // Sets all that a call may write, and keeps a copy.
 static void reset(void)
@@ -18,12 +20,13 @@ static void reset(void)
     memset(chunk, 0xEE, sizeof chunk);
     memset(&summary, 0xEE, sizeof summary);
     memset(&stanza, 0xEE, sizeof stanza);
-    CHECK(agefile_reader_open_key(file, file_len, key, &reader, &report) == AGEFILE_OK);
-    CHECK(agefile_writer_open_key(key, seed, old_out, sizeof old_out, &writer, &report) == AGEFILE_OK);
-    CHECK(agefile_ranges_open_key(file, file_len, file_len, key, &ranges, &report) == AGEFILE_OK);
+    CHECK(open_with(file, file_len, key, &payload, &report) == AGEFILE_OK);
+    CHECK(agefile_take_part(&payload, 2, &part, &report) == AGEFILE_OK);
+    CHECK(begin_with(old_out, sizeof old_out, &writing, &report) == AGEFILE_OK);
+    CHECK(ranges_with(file, file_len, file_len, &ranges, &report) == AGEFILE_OK);
     memcpy(old_out, out, sizeof out);
     memcpy(old_chunk, chunk, sizeof chunk);
-    old_summary = summary, old_stanza = stanza, old_reader = reader, old_writer = writer, old_ranges = ranges;
+    old_summary = summary, old_stanza = stanza, old_payload = payload, old_writing = writing, old_part = part, old_ranges = ranges;
     report = unset_report();
 }
 
@@ -35,8 +38,8 @@ static bool are_kept(void)
 
 static bool are_states_kept(void)
 {
-    return memcmp(&reader, &old_reader, sizeof reader) == 0 && memcmp(&writer, &old_writer, sizeof writer) == 0 &&
-           memcmp(&ranges, &old_ranges, sizeof ranges) == 0;
+    return memcmp(&payload, &old_payload, sizeof payload) == 0 && memcmp(&writing, &old_writing, sizeof writing) == 0 &&
+           memcmp(&part, &old_part, sizeof part) == 0 && memcmp(&ranges, &old_ranges, sizeof ranges) == 0;
 }
 
 static bool is_zero(const void *bytes, size_t len)
@@ -86,27 +89,35 @@ static void with_a_length(void)
         REFUSES(agefile_encrypt_key(NULL, n, key, seed, out, sizeof out, &report));
         REFUSES(agefile_encrypt_key(plain, sizeof plain, key, seed, NULL, n, &report));
         REFUSES(agefile_inspect(NULL, n, &summary, &report));
-        REFUSES(agefile_stanza(NULL, n, 0, out, sizeof out, &stanza, &report));
-        REFUSES(agefile_stanza(file, file_len, 0, NULL, n, &stanza, &report));
         REFUSES(agefile_stanzas(NULL, n, &stanza, 1, out, sizeof out, &report));
         REFUSES(agefile_stanzas(file, file_len, NULL, n, out, sizeof out, &report));
         REFUSES(agefile_stanzas(file, file_len, &stanza, 1, NULL, n, &report));
         REFUSES(agefile_unlock_passphrase(NULL, n, pass, pass_len, work, out, &report));
         REFUSES(agefile_unlock_passphrase(file, file_len, NULL, n, work, out, &report));
         REFUSES(agefile_unlock_key(NULL, n, key, out, &report));
-        REFUSES(agefile_reader_chunk(&reader, NULL, n, true, &report));
-        REFUSES(agefile_writer_chunk(&writer, NULL, n, true, &report));
+        REFUSES(agefile_wrap_passphrase(file_key, NULL, n, work, salt, out, sizeof out, &report));
+        REFUSES(agefile_wrap_passphrase(file_key, pass, pass_len, 0, salt, NULL, n, &report));
+        REFUSES(agefile_wrap_key(file_key, key, salt, NULL, n, &report));
+        REFUSES(agefile_wrap(NULL, n, plain, sizeof plain, out, sizeof out, &report));
+        REFUSES(agefile_wrap(plain, 0, NULL, n, out, sizeof out, &report));
+        REFUSES(agefile_wrap(plain, 0, plain, sizeof plain, NULL, n, &report));
+        REFUSES(agefile_header(NULL, n, file_key, out, sizeof out, &report));
+        REFUSES(agefile_header(plain, sizeof plain, file_key, NULL, n, &report));
+        REFUSES(agefile_open_next(&payload, NULL, n, true, &report));
+        REFUSES(agefile_seal_next(&writing, NULL, n, true, &report));
+        REFUSES(agefile_part_open_next(&part, NULL, n, &report));
+        REFUSES(agefile_part_seal_next(&part, NULL, n, &report));
         REFUSES(agefile_ranges_last(&ranges, NULL, n, &report));
         REFUSES(agefile_ranges_chunk(&ranges, 0, NULL, n, &report));
-        STAYS_CLOSED(agefile_reader_open_passphrase(NULL, n, pass, pass_len, work, &reader, &report), reader);
-        STAYS_CLOSED(agefile_reader_open_passphrase(file, file_len, NULL, n, work, &reader, &report), reader);
-        STAYS_CLOSED(agefile_reader_open_key(NULL, n, key, &reader, &report), reader);
-        STAYS_CLOSED(agefile_writer_open_passphrase(NULL, n, work, seed, out, sizeof out, &writer, &report), writer);
-        STAYS_CLOSED(agefile_writer_open_passphrase(pass, pass_len, work, seed, NULL, n, &writer, &report), writer);
-        STAYS_CLOSED(agefile_writer_open_key(key, seed, NULL, n, &writer, &report), writer);
-        STAYS_CLOSED(agefile_ranges_open_passphrase(NULL, n, file_len, pass, pass_len, work, &ranges, &report), ranges);
-        STAYS_CLOSED(agefile_ranges_open_passphrase(file, file_len, file_len, NULL, n, work, &ranges, &report), ranges);
-        STAYS_CLOSED(agefile_ranges_open_key(NULL, n, file_len, key, &ranges, &report), ranges);
+        REFUSES(agefile_decrypt(NULL, n, file_key, out, sizeof out, &report));
+        REFUSES(agefile_decrypt(plain, 0, file_key, NULL, n, &report));
+        REFUSES(agefile_encrypt(NULL, n, plain, 0, file_key, nonce, out, sizeof out, &report));
+        REFUSES(agefile_encrypt(plain, sizeof plain, NULL, n, file_key, nonce, out, sizeof out, &report));
+        REFUSES(agefile_encrypt(plain, sizeof plain, plain, 0, file_key, nonce, NULL, n, &report));
+        STAYS_CLOSED(agefile_begin(NULL, n, file_key, nonce, out, sizeof out, &writing, &report), writing);
+        STAYS_CLOSED(agefile_begin(plain, 0, file_key, nonce, NULL, n, &writing, &report), writing);
+        STAYS_CLOSED(agefile_open(NULL, n, file_key, &payload, &report), payload);
+        STAYS_CLOSED(agefile_ranges_open(NULL, n, file_len, file_key, &ranges, &report), ranges);
     }
 }
 
@@ -126,8 +137,6 @@ static void without_a_length(void)
     TAKES(agefile_encrypt_key(plain, sizeof plain, key, seed, NULL, 0, &report), AGEFILE_TOO_SMALL);
     CHECK(has_fields(&report, file_len, 0, 0));
     TAKES(agefile_inspect(NULL, 0, &summary, &report), AGEFILE_HEADER_TRUNCATED);
-    TAKES(agefile_stanza(NULL, 0, 0, out, sizeof out, &stanza, &report), AGEFILE_HEADER_TRUNCATED);
-    TAKES(agefile_stanza(file, file_len, 0, NULL, 0, &stanza, &report), AGEFILE_TOO_SMALL);
     TAKES(agefile_stanzas(NULL, 0, &stanza, 1, out, sizeof out, &report), AGEFILE_HEADER_TRUNCATED);
     TAKES(agefile_stanzas(file, file_len, NULL, 0, out, sizeof out, &report), AGEFILE_TOO_SMALL);
     CHECK(report.place == 1 && are_kept());
@@ -136,18 +145,29 @@ static void without_a_length(void)
     TAKES(agefile_unlock_passphrase(NULL, 0, pass, pass_len, work, out, &report), AGEFILE_HEADER_TRUNCATED);
     TAKES(agefile_unlock_passphrase(file, file_len, NULL, 0, work, out, &report), AGEFILE_NO_MATCH);
     TAKES(agefile_unlock_key(NULL, 0, key, out, &report), AGEFILE_HEADER_TRUNCATED);
-    TAKES(agefile_reader_open_passphrase(NULL, 0, pass, pass_len, work, &reader, &report), AGEFILE_HEADER_TRUNCATED);
-    TAKES(agefile_reader_open_passphrase(file, file_len, NULL, 0, work, &reader, &report), AGEFILE_NO_MATCH);
-    TAKES(agefile_reader_open_key(NULL, 0, key, &reader, &report), AGEFILE_HEADER_TRUNCATED);
-    TAKES(agefile_reader_chunk(&reader, NULL, 0, true, &report), AGEFILE_CHUNK_SHORT);
-    TAKES(agefile_writer_open_passphrase(NULL, 0, work, seed, out, sizeof out, &writer, &report), AGEFILE_OK);
-    TAKES(agefile_writer_open_passphrase(pass, pass_len, work, seed, NULL, 0, &writer, &report), AGEFILE_TOO_SMALL);
-    TAKES(agefile_writer_open_key(key, seed, NULL, 0, &writer, &report), AGEFILE_TOO_SMALL);
+    TAKES(agefile_wrap_passphrase(file_key, NULL, 0, work, salt, out, sizeof out, &report), AGEFILE_OK);
+    TAKES(agefile_wrap_passphrase(file_key, pass, pass_len, work, salt, NULL, 0, &report), AGEFILE_TOO_SMALL);
+    TAKES(agefile_wrap_key(file_key, key, salt, NULL, 0, &report), AGEFILE_TOO_SMALL);
+    TAKES(agefile_wrap(NULL, 0, plain, sizeof plain, out, sizeof out, &report), AGEFILE_BAD_ARGUMENTS);
+    TAKES(agefile_wrap(pass, 7, NULL, 0, out, sizeof out, &report), AGEFILE_OK);
+    TAKES(agefile_wrap(pass, 7, NULL, 0, NULL, 0, &report), AGEFILE_TOO_SMALL);
+    TAKES(agefile_header(NULL, 0, file_key, out, sizeof out, &report), AGEFILE_NO_RECIPIENTS);
+    TAKES(agefile_header(file + 22, stanza_len, file_key, NULL, 0, &report), AGEFILE_TOO_SMALL);
+    CHECK(report.len == front_len - 16);
+    TAKES(agefile_begin(NULL, 0, file_key, nonce, out, sizeof out, &writing, &report), AGEFILE_NO_RECIPIENTS);
+    TAKES(agefile_begin(file + 22, stanza_len, file_key, nonce, NULL, 0, &writing, &report), AGEFILE_TOO_SMALL);
     CHECK(report.len == front_len);
-    TAKES(agefile_writer_chunk(&writer, NULL, 0, true, &report), AGEFILE_OUT_OF_ORDER);
-    TAKES(agefile_ranges_open_passphrase(NULL, 0, file_len, pass, pass_len, work, &ranges, &report), AGEFILE_HEADER_TRUNCATED);
-    TAKES(agefile_ranges_open_passphrase(file, file_len, file_len, NULL, 0, work, &ranges, &report), AGEFILE_NO_MATCH);
-    TAKES(agefile_ranges_open_key(NULL, 0, file_len, key, &ranges, &report), AGEFILE_HEADER_TRUNCATED);
+    TAKES(agefile_open(NULL, 0, file_key, &payload, &report), AGEFILE_HEADER_TRUNCATED);
+    TAKES(agefile_open_next(&payload, NULL, 0, true, &report), AGEFILE_CHUNK_SHORT);
+    TAKES(agefile_seal_next(&writing, NULL, 0, true, &report), AGEFILE_OUT_OF_ORDER);
+    TAKES(agefile_part_open_next(&part, NULL, 0, &report), AGEFILE_OUT_OF_ORDER);
+    TAKES(agefile_part_seal_next(&part, NULL, 0, &report), AGEFILE_OUT_OF_ORDER);
+    TAKES(agefile_decrypt(NULL, 0, file_key, NULL, 0, &report), AGEFILE_HEADER_TRUNCATED);
+    TAKES(agefile_decrypt(file, file_len, file_key, NULL, 0, &report), AGEFILE_TOO_SMALL);
+    TAKES(agefile_encrypt(NULL, 0, file + 22, stanza_len, file_key, nonce, out, sizeof out, &report), AGEFILE_OK);
+    TAKES(agefile_encrypt(plain, sizeof plain, NULL, 0, file_key, nonce, out, sizeof out, &report), AGEFILE_NO_RECIPIENTS);
+    TAKES(agefile_encrypt(plain, sizeof plain, file + 22, stanza_len, file_key, nonce, NULL, 0, &report), AGEFILE_TOO_SMALL);
+    TAKES(agefile_ranges_open(NULL, 0, file_len, file_key, &ranges, &report), AGEFILE_HEADER_TRUNCATED);
     TAKES(agefile_ranges_last(&ranges, NULL, 0, &report), AGEFILE_OUT_OF_ORDER);
     TAKES(agefile_ranges_chunk(&ranges, 0, NULL, 0, &report), AGEFILE_OUT_OF_ORDER);
 }
@@ -188,7 +208,7 @@ static void in_the_language(void)
     TAKES(agefile_inspect((const uint8_t[]){'x', 'y'}, 2, &(agefile_summary){0, 0, {0}}, &report), AGEFILE_NOT_AGE);
     TAKES(agefile_encrypt_key((const uint8_t[]){1, 2}, 2, (const uint8_t[32]){1, 2, 3}, (const uint8_t[48]){4, 5, 6}, (uint8_t[400]){0, 0}, 400, &report),
           AGEFILE_OK);
-    TAKES(agefile_writer_chunk(&(agefile_writer){{1, 2}, 0, 1}, (uint8_t[17]){7, 8}, 17, true, &report), AGEFILE_OK);
+    TAKES(agefile_seal_next(&(agefile_payload){{1, 2}, 0, AGEFILE_WRITING, {0, 0}}, (uint8_t[17]){7, 8}, 17, true, &report), AGEFILE_OK);
 }
 #endif
 
@@ -214,6 +234,7 @@ int main(int argc, char **argv)
     if (agefile_inspect(file, file_len, &summary, &report) != AGEFILE_OK)
         return 2;
     front_len = summary.header_len + 16;
+    stanza_len = summary.header_len - 22 - 48;
     for (size_t i = 0; i < sizeof tests / sizeof *tests; i++)
         if (argc < 2)
             puts(tests[i].name);

@@ -1,17 +1,14 @@
-// Tests of reading, writing and ranges in steps. Without an argument it lists its tests, with one it runs the test of that name.
+// Tests of payloads, parts and ranges in steps. Without an argument it lists its tests, with one it runs the test of that name.
 #include "check.h"
 
-// The file of a text, written in steps; its length goes to `len`.
-static uint8_t *written(const uint8_t *text, size_t text_len, bool is_keyed, size_t *len)
+// The file of a text, sealed in steps; its length goes to `len`.
+static uint8_t *written(const uint8_t *text, size_t text_len, size_t *len)
 {
-    agefile_writer writer;
+    agefile_payload payload;
     agefile_report report = unset_report();
     uint8_t *file = room(agefile_sealed_len(text_len)), *chunk = room(AGEFILE_SEALED_CHUNK);
-    if (is_keyed)
-        CHECK(agefile_writer_open_key(key, seed, file, AGEFILE_HEADER_ROOM, &writer, &report) == AGEFILE_OK);
-    else
-        CHECK(agefile_writer_open_passphrase(pass, pass_len, work, seed, file, AGEFILE_HEADER_ROOM, &writer, &report) == AGEFILE_OK);
-    CHECK(has_fields(&report, report.len, 0, 0) && writer.state == 1 && writer.number == 0);
+    CHECK(begin_with(file, AGEFILE_HEADER_ROOM, &payload, &report) == AGEFILE_OK);
+    CHECK(has_fields(&report, report.len, 0, 0) && payload.state == AGEFILE_WRITING && payload.number == 0);
     *len = report.len;
     for (bool last = false; !last;) {
         last = text_len <= AGEFILE_TEXT_CHUNK;
@@ -19,50 +16,49 @@ static uint8_t *written(const uint8_t *text, size_t text_len, bool is_keyed, siz
         if (n > 0)
             memcpy(chunk, text, n);
         uint8_t *exact = copy_of(chunk, n + tag);
-        CHECK(agefile_writer_chunk(&writer, exact, n + tag, last, &report) == AGEFILE_OK);
+        CHECK(agefile_seal_next(&payload, exact, n + tag, last, &report) == AGEFILE_OK);
         CHECK(has_fields(&report, n + tag, 0, 0));
         memcpy(file + *len, exact, n + tag);
-        free(exact);
+        release(exact);
         *len += n + tag;
         text += n;
         text_len -= n;
     }
-    CHECK(writer.state == 2);
-    free(chunk);
+    CHECK(payload.state == AGEFILE_ENDED);
+    release(chunk);
     return file;
 }
 
-// The text of a file, read in steps; its length goes to `len`. Returns the first code that is not 0.
-static uint32_t read_back(const uint8_t *file, size_t file_len, bool is_keyed, uint8_t *text, size_t *len)
+// The text of a file, opened in steps; its length goes to `len`. Returns the first code that is not 0.
+static uint32_t read_back(const uint8_t *file, size_t file_len, uint8_t *text, size_t *len)
 {
-    agefile_reader reader;
+    agefile_payload payload;
     agefile_report report = unset_report();
     *len = 0;
-    uint32_t code = is_keyed ? agefile_reader_open_key(file, front_of(file_len), key, &reader, &report)
-                             : agefile_reader_open_passphrase(file, front_of(file_len), pass, pass_len, work, &reader, &report);
+    uint32_t code = open_with(file, front_of(file_len), key, &payload, &report);
     if (code != AGEFILE_OK) {
-        CHECK(reader.state != 1);
+        CHECK(are_all((const uint8_t *)&payload, sizeof payload, 0));
         return code;
     }
-    CHECK(reader.state == 1 && reader.number == 0 && report.place == 0 && report.detail == 0);
+    CHECK(payload.state == AGEFILE_READING && payload.number == 0 && report.place == 0 && report.detail == 0);
     size_t at = report.len;
     for (uint64_t i = 0;; i++) {
         bool last = file_len - at <= AGEFILE_SEALED_CHUNK;
         size_t n = last ? file_len - at : AGEFILE_SEALED_CHUNK;
         uint8_t *chunk = copy_of(file + at, n);
         report = unset_report();
-        code = agefile_reader_chunk(&reader, chunk, n, last, &report);
+        code = agefile_open_next(&payload, chunk, n, last, &report);
         if (code != AGEFILE_OK) {
-            CHECK(has_fields(&report, 0, i, 0) && are_equal(chunk, file + at, n) && reader.state == 3);
-            free(chunk);
+            CHECK(has_fields(&report, 0, i, 0) && are_equal(chunk, file + at, n) && payload.state == AGEFILE_FAILED);
+            release(chunk);
             return code;
         }
-        CHECK(has_fields(&report, n - tag, 0, 0) && reader.number == i + 1 && reader.state == (last ? 2 : 1));
+        CHECK(has_fields(&report, n - tag, 0, 0) && payload.number == i + 1 && payload.state == (last ? AGEFILE_ENDED : AGEFILE_READING));
         if (report.len > 0)
             memcpy(text + *len, chunk, report.len);
         *len += report.len;
         at += n;
-        free(chunk);
+        release(chunk);
         if (last)
             return AGEFILE_OK;
     }
@@ -70,22 +66,20 @@ static uint32_t read_back(const uint8_t *file, size_t file_len, bool is_keyed, u
 
 static void the_same_files(void)
 {
-    for (int i = 0; i < size_count; i++)
-        for (int is_keyed = 0; is_keyed < 2; is_keyed++) {
-            size_t len = sizes[i], most = agefile_sealed_len(len), file_len, back_len;
-            uint8_t *text = text_of(len), *out = room(most), *back = room(len);
-            agefile_report report;
-            uint8_t *file = written(text, len, is_keyed, &file_len);
-            uint32_t code = is_keyed ? agefile_encrypt_key(text, len, key, seed, out, most, &report)
-                                     : agefile_encrypt_passphrase(text, len, pass, pass_len, work, seed, out, most, &report);
-            CHECK(code == AGEFILE_OK && report.len == file_len && are_equal(out, file, file_len));
-            CHECK(read_back(file, file_len, is_keyed, back, &back_len) == AGEFILE_OK);
-            CHECK(back_len == len && are_equal(back, text, len));
-            free(file);
-            free(text);
-            free(out);
-            free(back);
-        }
+    for (int i = 0; i < size_count; i++) {
+        size_t len = sizes[i], most = agefile_sealed_len(len), file_len, back_len;
+        uint8_t *text = text_of(len), *out = room(most), *back = room(len);
+        agefile_report report;
+        uint8_t *file = written(text, len, &file_len);
+        CHECK(agefile_encrypt_key(text, len, key, seed, out, most, &report) == AGEFILE_OK);
+        CHECK(report.len == file_len && are_equal(out, file, file_len));
+        CHECK(read_back(file, file_len, back, &back_len) == AGEFILE_OK);
+        CHECK(back_len == len && are_equal(back, text, len));
+        release(file);
+        release(text);
+        release(out);
+        release(back);
+    }
 }
 
 // The same code as that of the whole buffer, after the same text.
@@ -98,13 +92,13 @@ static void damage(void)
     for (size_t at = 0; at < file.len; at += at < file.front + 20 ? 1 : 1021) {
         file.bytes[at] ^= 1;
         uint32_t code = agefile_decrypt_key(file.bytes, file.len, key, whole, len, &report);
-        CHECK(read_back(file.bytes, file.len, true, back, &back_len) == code && code != AGEFILE_OK);
+        CHECK(read_back(file.bytes, file.len, back, &back_len) == code && code != AGEFILE_OK);
         CHECK(back_len == report.len && are_equal(back, whole, back_len));
         file.bytes[at] ^= 1;
     }
-    free(file.bytes);
-    free(back);
-    free(whole);
+    release(file.bytes);
+    release(back);
+    release(whole);
 }
 
 static void truncation(void)
@@ -116,134 +110,227 @@ static void truncation(void)
     for (size_t cut = 0; cut < file.len; cut += cut < file.front + 40 ? 1 : 509) {
         uint8_t *part = copy_of(file.bytes, cut);
         uint32_t code = agefile_decrypt_key(part, cut, key, whole, len, &report);
-        CHECK(read_back(part, cut, true, back, &back_len) == code && code != AGEFILE_OK);
+        CHECK(read_back(part, cut, back, &back_len) == code && code != AGEFILE_OK);
         CHECK(back_len == report.len && are_equal(back, whole, back_len));
-        free(part);
+        release(part);
     }
-    free(file.bytes);
-    free(back);
-    free(whole);
+    release(file.bytes);
+    release(back);
+    release(whole);
 }
 
-// Whether a call of a reader in this state is refused, with the chunk as it was.
-static bool is_refused(agefile_reader reader, size_t len, bool last)
+// Whether this call is refused as out of order, with payload and chunk as they were.
+static bool is_refused(uint32_t (*call)(agefile_payload *, uint8_t *, size_t, bool, agefile_report *), agefile_payload payload, size_t len, bool last)
 {
     uint8_t *chunk = text_of(len), *old = copy_of(chunk, len);
     agefile_report report = unset_report();
-    agefile_reader before = reader;
-    uint32_t code = agefile_reader_chunk(&reader, chunk, len, last, &report);
-    bool is_same = are_equal(chunk, old, len) && memcmp(&reader, &before, sizeof reader) == 0;
-    free(chunk);
-    free(old);
+    agefile_payload before = payload;
+    uint32_t code = call(&payload, chunk, len, last, &report);
+    bool is_same = are_equal(chunk, old, len) && memcmp(&payload, &before, sizeof payload) == 0;
+    release(chunk);
+    release(old);
     return code == AGEFILE_OUT_OF_ORDER && is_same && has_fields(&report, 0, 0, 0);
 }
 
-static void reader_out_of_order(void)
+static bool opens_nothing(agefile_payload payload, size_t len, bool last)
+{
+    return is_refused(agefile_open_next, payload, len, last);
+}
+
+static bool seals_nothing(agefile_payload payload, size_t len, bool last)
+{
+    return is_refused(agefile_seal_next, payload, len, last);
+}
+
+// Whether in this state neither a chunk nor a last one is opened or sealed, and no part is taken.
+static bool accepts_nothing(agefile_payload payload)
+{
+    agefile_report report = unset_report();
+    agefile_payload before = payload;
+    agefile_part part;
+    memset(&part, 0xEE, sizeof part);
+    uint32_t code = agefile_take_part(&payload, 1, &part, &report);
+    return code == AGEFILE_OUT_OF_ORDER && has_fields(&report, 0, 0, 0) && memcmp(&payload, &before, sizeof payload) == 0 &&
+           are_all((const uint8_t *)&part, sizeof part, 0) && opens_nothing(payload, AGEFILE_SEALED_CHUNK, false) && opens_nothing(payload, 100, true) &&
+           seals_nothing(payload, AGEFILE_SEALED_CHUNK, false) && seals_nothing(payload, 100, true);
+}
+
+static void reading_out_of_order(void)
 {
     made_file file = made(70000);
-    agefile_reader reader;
+    agefile_payload payload;
     agefile_report report;
-    memset(&reader, 0, sizeof reader);
-    CHECK(is_refused(reader, AGEFILE_SEALED_CHUNK, false) && is_refused(reader, 100, true));
-    CHECK(agefile_reader_open_key(file.bytes, front_of(file.len), other_key, &reader, &report) == AGEFILE_WRONG_KEY);
-    CHECK(is_refused(reader, AGEFILE_SEALED_CHUNK, false));
-    CHECK(agefile_reader_open_key(file.bytes, front_of(file.len), key, &reader, &report) == AGEFILE_OK);
-    CHECK(is_refused(reader, AGEFILE_SEALED_CHUNK - 1, false) && is_refused(reader, AGEFILE_SEALED_CHUNK + 1, false));
-    CHECK(is_refused(reader, AGEFILE_SEALED_CHUNK + 1, true) && is_refused(reader, 0, false));
-    agefile_reader bad = reader;
-    for (uint64_t state = 4; state != 0; state <<= 3) {
+    memset(&payload, 0, sizeof payload);
+    CHECK(accepts_nothing(payload));
+    CHECK(open_with(file.bytes, front_of(file.len), other_key, &payload, &report) == AGEFILE_WRONG_KEY && accepts_nothing(payload));
+    memset(&payload, 0xEE, sizeof payload);
+    CHECK(agefile_open(file.bytes, file.len, other_key, &payload, &report) == AGEFILE_BAD_MAC && has_fields(&report, 0, 0, 0));
+    CHECK(are_all((const uint8_t *)&payload, sizeof payload, 0));
+    CHECK(open_with(file.bytes, front_of(file.len), key, &payload, &report) == AGEFILE_OK);
+    CHECK(opens_nothing(payload, AGEFILE_SEALED_CHUNK - 1, false) && opens_nothing(payload, AGEFILE_SEALED_CHUNK + 1, false));
+    CHECK(opens_nothing(payload, AGEFILE_SEALED_CHUNK + 1, true) && opens_nothing(payload, 0, false));
+    CHECK(seals_nothing(payload, AGEFILE_SEALED_CHUNK, false) && seals_nothing(payload, 100, true)); // its nonces were used
+    agefile_payload bad = payload;
+    for (uint64_t state = 5; state != 0; state <<= 3) {
         bad.state = state;
-        CHECK(is_refused(bad, AGEFILE_SEALED_CHUNK, false));
+        CHECK(accepts_nothing(bad));
     }
     uint8_t *chunks = file.bytes + file.front;
-    CHECK(agefile_reader_chunk(&reader, chunks, AGEFILE_SEALED_CHUNK, false, &report) == AGEFILE_OK);
-    CHECK(agefile_reader_chunk(&reader, chunks + AGEFILE_SEALED_CHUNK, 70000 + tag - AGEFILE_TEXT_CHUNK, true, &report) == AGEFILE_OK);
-    CHECK(is_refused(reader, AGEFILE_SEALED_CHUNK, false) && is_refused(reader, 100, true));
-    free(file.bytes);
+    CHECK(agefile_open_next(&payload, chunks, AGEFILE_SEALED_CHUNK, false, &report) == AGEFILE_OK);
+    CHECK(agefile_open_next(&payload, chunks + AGEFILE_SEALED_CHUNK, 70000 + tag - AGEFILE_TEXT_CHUNK, true, &report) == AGEFILE_OK);
+    CHECK(accepts_nothing(payload));
+    release(file.bytes);
 }
 
 // A chunk that is opened with the wrong flag, or as another one, is refused, and so is all after it.
-static void reader_fails(void)
+static void reading_fails(void)
 {
     made_file file = made(140000);
     uint8_t *chunks = file.bytes + file.front, *end = chunks + 2 * AGEFILE_SEALED_CHUNK;
     size_t rest = file.len - file.front - 2 * AGEFILE_SEALED_CHUNK;
-    agefile_reader opened, reader;
+    agefile_payload opened, payload;
     agefile_report report;
-    CHECK(agefile_reader_open_key(file.bytes, front_of(file.len), key, &opened, &report) == AGEFILE_OK);
-    reader = opened;
-    CHECK(agefile_reader_chunk(&reader, chunks, AGEFILE_SEALED_CHUNK, true, &report) == AGEFILE_BAD_CHUNK && has_fields(&report, 0, 0, 0));
-    CHECK(reader.state == 3 && is_refused(reader, AGEFILE_SEALED_CHUNK, false));
-    reader = opened;
-    CHECK(agefile_reader_chunk(&reader, chunks + AGEFILE_SEALED_CHUNK, AGEFILE_SEALED_CHUNK, false, &report) == AGEFILE_BAD_CHUNK);
-    reader = opened;
-    CHECK(agefile_reader_chunk(&reader, end, rest, true, &report) == AGEFILE_BAD_CHUNK);
-    reader = opened;
-    CHECK(agefile_reader_chunk(&reader, chunks, AGEFILE_SEALED_CHUNK, false, &report) == AGEFILE_OK);
+    CHECK(open_with(file.bytes, front_of(file.len), key, &opened, &report) == AGEFILE_OK);
+    payload = opened;
+    CHECK(agefile_open_next(&payload, chunks, AGEFILE_SEALED_CHUNK, true, &report) == AGEFILE_BAD_CHUNK && has_fields(&report, 0, 0, 0));
+    CHECK(payload.state == AGEFILE_FAILED && accepts_nothing(payload));
+    payload = opened;
+    CHECK(agefile_open_next(&payload, chunks + AGEFILE_SEALED_CHUNK, AGEFILE_SEALED_CHUNK, false, &report) == AGEFILE_BAD_CHUNK);
+    payload = opened;
+    CHECK(agefile_open_next(&payload, end, rest, true, &report) == AGEFILE_BAD_CHUNK);
+    payload = opened;
+    CHECK(agefile_open_next(&payload, chunks, AGEFILE_SEALED_CHUNK, false, &report) == AGEFILE_OK);
     report = unset_report();
-    CHECK(agefile_reader_chunk(&reader, end, rest, true, &report) == AGEFILE_BAD_CHUNK && has_fields(&report, 0, 1, 0));
-    reader = opened;
+    CHECK(agefile_open_next(&payload, end, rest, true, &report) == AGEFILE_BAD_CHUNK && has_fields(&report, 0, 1, 0));
     for (size_t len = 0; len < tag; len++) {
-        reader = opened;
-        CHECK(agefile_reader_chunk(&reader, end, len, true, &report) == AGEFILE_CHUNK_SHORT && has_fields(&report, 0, 0, 0));
+        payload = opened;
+        CHECK(agefile_open_next(&payload, end, len, true, &report) == AGEFILE_CHUNK_SHORT && has_fields(&report, 0, 0, 0));
     }
-    free(file.bytes);
+    release(file.bytes);
 }
 
-static bool is_refused_writing(agefile_writer writer, size_t len, bool last)
-{
-    uint8_t *chunk = text_of(len), *old = copy_of(chunk, len);
-    agefile_report report = unset_report();
-    uint32_t code = agefile_writer_chunk(&writer, chunk, len, last, &report);
-    bool is_same = are_equal(chunk, old, len);
-    free(chunk);
-    free(old);
-    return code == AGEFILE_OUT_OF_ORDER && is_same && has_fields(&report, 0, 0, 0);
-}
-
-static void writer_out_of_order(void)
+static void writing_out_of_order(void)
 {
     uint8_t *chunk = text_of(AGEFILE_SEALED_CHUNK), header[AGEFILE_HEADER_ROOM];
-    agefile_writer writer;
+    agefile_payload payload;
     agefile_report report;
-    memset(&writer, 0, sizeof writer);
-    CHECK(is_refused_writing(writer, AGEFILE_SEALED_CHUNK, false) && is_refused_writing(writer, 100, true));
-    CHECK(agefile_writer_open_key(key, seed, header, sizeof header, &writer, &report) == AGEFILE_OK);
-    CHECK(is_refused_writing(writer, AGEFILE_SEALED_CHUNK - 1, false) && is_refused_writing(writer, AGEFILE_SEALED_CHUNK + 1, false));
-    CHECK(is_refused_writing(writer, AGEFILE_SEALED_CHUNK + 1, true) && is_refused_writing(writer, 0, false));
-    CHECK(is_refused_writing(writer, tag - 1, true) && is_refused_writing(writer, 0, true));
-    agefile_writer bad = writer;
-    for (uint64_t state = 4; state != 0; state <<= 3) {
-        bad.state = state;
-        CHECK(is_refused_writing(bad, AGEFILE_SEALED_CHUNK, false));
-    }
-    CHECK(agefile_writer_chunk(&writer, chunk, AGEFILE_SEALED_CHUNK, false, &report) == AGEFILE_OK && writer.number == 1);
-    CHECK(is_refused_writing(writer, tag, true)); // an empty chunk is the only one of its file
-    CHECK(agefile_writer_chunk(&writer, chunk, 100, true, &report) == AGEFILE_OK && writer.state == 2);
-    CHECK(is_refused_writing(writer, AGEFILE_SEALED_CHUNK, false) && is_refused_writing(writer, 100, true));
-    free(chunk);
+    CHECK(begin_with(header, sizeof header, &payload, &report) == AGEFILE_OK);
+    CHECK(seals_nothing(payload, AGEFILE_SEALED_CHUNK - 1, false) && seals_nothing(payload, AGEFILE_SEALED_CHUNK + 1, false));
+    CHECK(seals_nothing(payload, AGEFILE_SEALED_CHUNK + 1, true) && seals_nothing(payload, 0, false));
+    CHECK(seals_nothing(payload, tag - 1, true) && seals_nothing(payload, 0, true));
+    CHECK(opens_nothing(payload, AGEFILE_SEALED_CHUNK, false) && opens_nothing(payload, 100, true));
+    CHECK(agefile_seal_next(&payload, chunk, AGEFILE_SEALED_CHUNK, false, &report) == AGEFILE_OK && payload.number == 1);
+    CHECK(seals_nothing(payload, tag, true)); // an empty chunk is the only one of its file
+    CHECK(agefile_seal_next(&payload, chunk, 100, true, &report) == AGEFILE_OK && accepts_nothing(payload));
+    payload.state = AGEFILE_WRITING;
+    payload.number = UINT64_MAX;
+    report = unset_report();
+    CHECK(agefile_seal_next(&payload, chunk, 100, true, &report) == AGEFILE_TOO_MANY_CHUNKS && has_fields(&report, 0, 0, 0));
+    CHECK(accepts_nothing(payload));
+    release(chunk);
 }
 
 static void small_header_rooms(void)
 {
     uint8_t out[AGEFILE_HEADER_ROOM];
-    agefile_writer writer;
+    agefile_payload payload;
     agefile_report report;
-    CHECK(agefile_writer_open_key(key, seed, out, sizeof out, &writer, &report) == AGEFILE_OK);
+    CHECK(begin_with(out, sizeof out, &payload, &report) == AGEFILE_OK);
     size_t len = report.len;
     for (size_t small = 0; small < len; small++) {
         memset(out, 0xEE, sizeof out);
         report = unset_report();
-        CHECK(agefile_writer_open_key(key, seed, out, small, &writer, &report) == AGEFILE_TOO_SMALL);
-        CHECK(has_fields(&report, len, 0, 0) && are_all(out, sizeof out, 0xEE) && writer.state != 1);
+        CHECK(begin_with(out, small, &payload, &report) == AGEFILE_TOO_SMALL);
+        CHECK(has_fields(&report, len, 0, 0) && are_all(out, sizeof out, 0xEE) && accepts_nothing(payload));
     }
+}
+
+// Seals or opens all of a file's chunks in place, the first `count` by a part and the others by the payload. The part goes last where that
+// is wanted. Returns whether each call returned 0 and both ended.
+static bool goes_by_parts(agefile_payload *payload, uint8_t *const *chunks, size_t chunk_count, size_t last_len, size_t count, bool is_part_last)
+{
+    bool is_sealing = payload->state == AGEFILE_WRITING, is_good = true;
+    agefile_part part;
+    agefile_report report = unset_report();
+    if (agefile_take_part(payload, count, &part, &report) != AGEFILE_OK || !has_fields(&report, 0, 0, 0))
+        return false;
+    for (int turn = 0; turn < 2; turn++)
+        if ((turn == 1) == is_part_last)
+            for (size_t i = 0; i < count; i++)
+                is_good &= (is_sealing ? agefile_part_seal_next : agefile_part_open_next)(&part, chunks[i], AGEFILE_SEALED_CHUNK, &report) == AGEFILE_OK;
+        else
+            for (size_t i = count; i < chunk_count; i++) {
+                bool is_last = i == chunk_count - 1;
+                size_t len = is_last ? last_len : AGEFILE_SEALED_CHUNK;
+                is_good &= (is_sealing ? agefile_seal_next : agefile_open_next)(payload, chunks[i], len, is_last, &report) == AGEFILE_OK;
+            }
+    report = unset_report();
+    bool is_over = agefile_part_open_next(&part, chunks[0], AGEFILE_SEALED_CHUNK, &report) == AGEFILE_OUT_OF_ORDER &&
+                   agefile_part_seal_next(&part, chunks[0], AGEFILE_SEALED_CHUNK, &report) == AGEFILE_OUT_OF_ORDER;
+    return is_good && is_over && part.state == AGEFILE_ENDED && part.left == 0 && payload->state == AGEFILE_ENDED;
+}
+
+static void parts_of_a_file(void)
+{
+    enum { chunk_count = 4, last_len = 200 + tag };
+    size_t len = 3 * AGEFILE_TEXT_CHUNK + 200;
+    made_file file = made(len);
+    uint8_t *text = text_of(len), *chunks[chunk_count], header[AGEFILE_HEADER_ROOM];
+    for (size_t i = 0; i < chunk_count; i++)
+        chunks[i] = room(i == chunk_count - 1 ? last_len : AGEFILE_SEALED_CHUNK);
+    for (size_t turn = 0; turn < 2 * (chunk_count - 1); turn++) {
+        agefile_payload payload;
+        agefile_report report;
+        size_t count = turn / 2 + 1;
+        for (size_t i = 0; i < chunk_count; i++)
+            memcpy(chunks[i], text + i * AGEFILE_TEXT_CHUNK, i == chunk_count - 1 ? 200 : AGEFILE_TEXT_CHUNK);
+        CHECK(begin_with(header, sizeof header, &payload, &report) == AGEFILE_OK);
+        CHECK(goes_by_parts(&payload, chunks, chunk_count, last_len, count, turn % 2));
+        for (size_t i = 0; i < chunk_count; i++)
+            CHECK(are_equal(chunks[i], file.bytes + file.front + i * AGEFILE_SEALED_CHUNK, i == chunk_count - 1 ? last_len : AGEFILE_SEALED_CHUNK));
+        CHECK(open_with(file.bytes, front_of(file.len), key, &payload, &report) == AGEFILE_OK);
+        CHECK(goes_by_parts(&payload, chunks, chunk_count, last_len, count, turn % 2));
+        for (size_t i = 0; i < chunk_count; i++)
+            CHECK(are_equal(chunks[i], text + i * AGEFILE_TEXT_CHUNK, i == chunk_count - 1 ? 200 : AGEFILE_TEXT_CHUNK));
+    }
+    for (size_t i = 0; i < chunk_count; i++)
+        release(chunks[i]);
+    release(text);
+    release(file.bytes);
+}
+
+// A part accepts its own chunks in order, of their length and in its direction, and fails as a payload does.
+static void parts_out_of_order(void)
+{
+    made_file file = made(3 * AGEFILE_TEXT_CHUNK);
+    uint8_t *first = file.bytes + file.front, *chunk = copy_of(first, AGEFILE_SEALED_CHUNK);
+    agefile_payload payload;
+    agefile_part part, taken;
+    agefile_report report = unset_report();
+    CHECK(open_with(file.bytes, front_of(file.len), key, &payload, &report) == AGEFILE_OK);
+    CHECK(agefile_take_part(&payload, 0, &part, &report) == AGEFILE_OUT_OF_ORDER && part.state == AGEFILE_CLOSED && payload.number == 0);
+    CHECK(agefile_take_part(&payload, 2, &taken, &report) == AGEFILE_OK && payload.number == 2);
+    CHECK(taken.number == 0 && taken.left == 2 && taken.state == AGEFILE_READING && taken.spare == 0);
+    part = taken;
+    CHECK(agefile_part_seal_next(&part, chunk, AGEFILE_SEALED_CHUNK, &report) == AGEFILE_OUT_OF_ORDER);
+    CHECK(agefile_part_open_next(&part, chunk, AGEFILE_SEALED_CHUNK - 1, &report) == AGEFILE_OUT_OF_ORDER);
+    CHECK(memcmp(&part, &taken, sizeof part) == 0 && are_equal(chunk, first, AGEFILE_SEALED_CHUNK));
+    memcpy(chunk, first + AGEFILE_SEALED_CHUNK, AGEFILE_SEALED_CHUNK);
+    CHECK(agefile_part_open_next(&part, chunk, AGEFILE_SEALED_CHUNK, &report) == AGEFILE_BAD_CHUNK && has_fields(&report, 0, 0, 0));
+    CHECK(part.state == AGEFILE_FAILED && agefile_part_open_next(&part, chunk, AGEFILE_SEALED_CHUNK, &report) == AGEFILE_OUT_OF_ORDER);
+    payload.number = UINT64_MAX - 1;
+    report = unset_report();
+    CHECK(agefile_take_part(&payload, 2, &part, &report) == AGEFILE_TOO_MANY_CHUNKS && has_fields(&report, 0, 0, 0));
+    CHECK(part.state == AGEFILE_CLOSED && payload.number == UINT64_MAX - 1);
+    release(chunk);
+    release(file.bytes);
 }
 
 // Opens a file for ranges, and verifies its last chunk. Returns the first code that is not 0.
 static uint32_t open_ranges(const uint8_t *file, size_t len, agefile_ranges *ranges, uint64_t *text_len)
 {
     agefile_report report = unset_report();
-    uint32_t code = agefile_ranges_open_key(file, front_of(len), len, key, ranges, &report);
+    uint32_t code = ranges_with(file, front_of(len), len, ranges, &report);
     if (code != AGEFILE_OK)
         return code;
     CHECK(ranges->state == 1 && report.place + report.len == len && report.len <= AGEFILE_SEALED_CHUNK && report.detail == 0);
@@ -256,8 +343,8 @@ static uint32_t open_ranges(const uint8_t *file, size_t len, agefile_ranges *ran
     else
         CHECK(ranges->state != 2 && are_equal(last, old, chunk_len) && report.len == 0);
     *text_len = report.len;
-    free(last);
-    free(old);
+    release(last);
+    release(old);
     return code;
 }
 
@@ -278,8 +365,8 @@ static uint32_t look(const agefile_ranges *ranges, const made_file *file, const 
         CHECK(has_fields(&report, end - at, at - begin, 0) && are_equal(chunk + report.place, text + at, report.len));
     else
         CHECK(has_fields(&report, 0, at / AGEFILE_TEXT_CHUNK, 0) && are_equal(chunk, old, chunk_len));
-    free(chunk);
-    free(old);
+    release(chunk);
+    release(old);
     return code;
 }
 
@@ -297,8 +384,8 @@ static void ranges_of_each_place(void)
         CHECK(agefile_ranges_locate(&ranges, UINT64_MAX, &report) == AGEFILE_OUT_OF_ORDER);
         for (size_t at = 0; at < len; at += at % AGEFILE_TEXT_CHUNK < 3 || at % AGEFILE_TEXT_CHUNK > 65530 ? 1 : 5003)
             CHECK(look(&ranges, &file, text, len, at) == AGEFILE_OK);
-        free(file.bytes);
-        free(text);
+        release(file.bytes);
+        release(text);
     }
 }
 
@@ -322,10 +409,10 @@ static void ranges_and_damage(void)
     for (size_t cut = 0; cut < file.len; cut += cut < file.front + 40 ? 1 : 509) {
         uint8_t *part = copy_of(file.bytes, cut);
         CHECK(open_ranges(part, cut, &ranges, &told) != AGEFILE_OK && ranges.state != 2);
-        free(part);
+        release(part);
     }
-    free(file.bytes);
-    free(text);
+    release(file.bytes);
+    release(text);
 }
 
 // Another chunk's bytes are refused: of the same file, and of the same place in another file.
@@ -340,8 +427,8 @@ static void ranges_with_other_bytes(void)
     CHECK(agefile_ranges_chunk(&ranges, 0, second, AGEFILE_SEALED_CHUNK, &report) == AGEFILE_BAD_CHUNK && report.place == 0);
     CHECK(agefile_ranges_chunk(&ranges, 131072, second, AGEFILE_SEALED_CHUNK, &report) == AGEFILE_BAD_CHUNK && report.place == 2);
     CHECK(agefile_ranges_chunk(&ranges, 70000, second, AGEFILE_SEALED_CHUNK, &report) == AGEFILE_OK && report.place == 70000 - 65536);
-    free(second);
-    free(file.bytes);
+    release(second);
+    release(file.bytes);
 }
 
 static void ranges_out_of_order(void)
@@ -354,7 +441,7 @@ static void ranges_out_of_order(void)
     CHECK(agefile_ranges_last(&ranges, chunk, 100, &report) == AGEFILE_OUT_OF_ORDER);
     CHECK(agefile_ranges_locate(&ranges, 0, &report) == AGEFILE_OUT_OF_ORDER);
     CHECK(agefile_ranges_chunk(&ranges, 0, chunk, AGEFILE_SEALED_CHUNK, &report) == AGEFILE_OUT_OF_ORDER);
-    CHECK(agefile_ranges_open_key(file.bytes, front_of(file.len), file.len, key, &ranges, &report) == AGEFILE_OK);
+    CHECK(ranges_with(file.bytes, front_of(file.len), file.len, &ranges, &report) == AGEFILE_OK);
     size_t place = report.place, len = report.len;
     CHECK(agefile_ranges_locate(&ranges, 0, &report) == AGEFILE_OUT_OF_ORDER);
     CHECK(agefile_ranges_chunk(&ranges, 0, chunk, AGEFILE_SEALED_CHUNK, &report) == AGEFILE_OUT_OF_ORDER);
@@ -377,8 +464,8 @@ static void ranges_out_of_order(void)
         CHECK(agefile_ranges_locate(&bad, UINT64_MAX - number, &report) <= AGEFILE_OUT_OF_ORDER);
         bad = ranges;
     }
-    free(file.bytes);
-    free(chunk);
+    release(file.bytes);
+    release(chunk);
 }
 
 static const struct {
@@ -388,10 +475,12 @@ static const struct {
     {"steps write the whole buffer's file, and read it back", the_same_files},
     {"damage: steps end with the whole buffer's code after its text", damage},
     {"files that were cut: steps end with the whole buffer's code after its text", truncation},
-    {"reader: calls out of order", reader_out_of_order},
-    {"reader: a chunk at a wrong place or with a wrong flag", reader_fails},
-    {"writer: calls out of order", writer_out_of_order},
-    {"writer: a header that does not fit", small_header_rooms},
+    {"reading: calls out of order", reading_out_of_order},
+    {"reading: a chunk at a wrong place or with a wrong flag", reading_fails},
+    {"writing: calls out of order", writing_out_of_order},
+    {"writing: a header that does not fit", small_header_rooms},
+    {"parts: a file by a part and a payload, in both orders", parts_of_a_file},
+    {"parts: calls out of order", parts_out_of_order},
     {"ranges: each place", ranges_of_each_place},
     {"ranges: damage and files that were cut", ranges_and_damage},
     {"ranges: the bytes of another chunk", ranges_with_other_bytes},

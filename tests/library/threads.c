@@ -1,4 +1,4 @@
-// Four threads that call the library at once, each on a stack of 32 KiB, and a forked child; and which signals' handlers it changes. Prints
+// Eight threads that call the library at once, each on a stack of 32 KiB, and a forked child; and which signals' handlers it changes. Prints
 // how much stack the calls took at most.
 #include "check.h"
 #include <pthread.h>
@@ -6,7 +6,7 @@
 #include <sys/wait.h>
 #include <unistd.h>
 
-enum { threads = 4, turns = 20, stack_size = 32 * 1024 };
+enum { threads = 8, turns = 10, stack_size = 32 * 1024 };
 
 static const size_t len = 140000;
 static made_file file;
@@ -31,24 +31,29 @@ static void whole_buffers(const uint8_t *text)
     fail_if(agefile_encrypt_passphrase(text, 100, pass, pass_len, 8, seed, out, file.len, &report) != AGEFILE_OK);
     uint8_t *locked = copy_of(out, report.len);
     fail_if(agefile_decrypt_passphrase(locked, report.len, pass, pass_len, 8, out, len, &report) != AGEFILE_OK || report.len != 100);
-    free(locked);
-    free(out);
+    release(locked);
+    release(out);
 }
 
 static void steps(const uint8_t *text)
 {
-    agefile_reader reader;
+    agefile_payload payload;
+    agefile_part part;
     agefile_ranges ranges;
     agefile_report report;
-    uint8_t *chunk = copy_of(file.bytes + file.front, AGEFILE_SEALED_CHUNK);
-    fail_if(agefile_reader_open_key(file.bytes, front_of(file.len), key, &reader, &report) != AGEFILE_OK);
-    fail_if(agefile_reader_chunk(&reader, chunk, AGEFILE_SEALED_CHUNK, false, &report) != AGEFILE_OK);
+    uint8_t *chunk = copy_of(file.bytes + file.front, AGEFILE_SEALED_CHUNK), header[AGEFILE_HEADER_ROOM];
+    fail_if(open_with(file.bytes, front_of(file.len), key, &payload, &report) != AGEFILE_OK);
+    fail_if(agefile_open_next(&payload, chunk, AGEFILE_SEALED_CHUNK, false, &report) != AGEFILE_OK);
     fail_if(!are_equal(chunk, text, AGEFILE_TEXT_CHUNK));
-    free(chunk);
-    fail_if(agefile_ranges_open_key(file.bytes, front_of(file.len), file.len, key, &ranges, &report) != AGEFILE_OK);
+    fail_if(begin_with(header, sizeof header, &payload, &report) != AGEFILE_OK);
+    fail_if(agefile_take_part(&payload, 1, &part, &report) != AGEFILE_OK);
+    fail_if(agefile_part_seal_next(&part, chunk, AGEFILE_SEALED_CHUNK, &report) != AGEFILE_OK);
+    fail_if(!are_equal(chunk, file.bytes + file.front, AGEFILE_SEALED_CHUNK));
+    release(chunk);
+    fail_if(ranges_with(file.bytes, front_of(file.len), file.len, &ranges, &report) != AGEFILE_OK);
     chunk = copy_of(file.bytes + report.place, report.len);
     fail_if(agefile_ranges_last(&ranges, chunk, report.len, &report) != AGEFILE_OK || report.len != len);
-    free(chunk);
+    release(chunk);
 }
 
 static void *run(void *unused)
@@ -58,7 +63,7 @@ static void *run(void *unused)
         whole_buffers(text);
         steps(text);
     }
-    free(text);
+    release(text);
     return unused;
 }
 

@@ -3,6 +3,7 @@
 from __future__ import annotations
 
 import ctypes
+import mmap
 import os
 import pathlib
 from typing import Any, Callable
@@ -94,8 +95,6 @@ _SIGNATURES: dict[str, tuple[Any, ...]] = {
     "ranges_last": (_pointer(Ranges), *_bytes, _report),
     "ranges_locate": (_pointer(Ranges), number, _report),
     "ranges_chunk": (_pointer(Ranges), number, *_bytes, _report),
-    "decrypt": (*_bytes, address, *_bytes, _report),
-    "encrypt": (*_bytes, *_bytes, address, address, *_bytes, _report),
 }
 
 
@@ -213,6 +212,18 @@ _new_bytes.argtypes = [address, ctypes.c_ssize_t]
 _new_bytes.restype = ctypes.py_object
 
 
+# Great pages, where the system has them: a fault for each page of 4 KiB takes as long as the cipher.
+_advise = getattr(ctypes.CDLL(None), "madvise", None)
+_GREAT, _PAGE = 1 << 22, mmap.PAGESIZE
+_ADVICE = getattr(mmap, "MADV_HUGEPAGE", 14)
+
+
 def fresh_bytes(length: int) -> bytes:
     """Bytes of this length that nobody else holds yet: the library may write them once."""
-    return _new_bytes(None, length)  # type: ignore[no-any-return]
+    made: bytes = _new_bytes(None, length)
+    if length >= _GREAT and _advise is not None:
+        with Bytes(made) as memory:
+            begin = (memory.address + _PAGE - 1) // _PAGE * _PAGE
+            end = (memory.address + length) // _PAGE * _PAGE
+            _advise(address(begin), size(end - begin), _ADVICE)
+    return made

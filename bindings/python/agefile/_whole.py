@@ -4,13 +4,12 @@ from __future__ import annotations
 
 import ctypes
 import io
-import os
 from typing import Any, BinaryIO, cast
 
 from . import _library as lib
 from ._errors import AgeError, Code
-from ._payload import OPENING, SEALING, Behind, begin, open_source, rewrapped, run
-from ._secrets import Header, Identities, Recipients, new_header, read_header, stanzas_text, unlock
+from ._payload import OPENING, SEALING, Behind, Chunk, begin, open_source, rewrapped, run
+from ._secrets import Header, Identities, Recipients, read_header, unlock
 from ._sources import Front, write_all
 
 
@@ -39,61 +38,74 @@ def _file_key_of(data: lib.Bytes, identities: Identities) -> tuple[bytes, Header
 def encrypt(data: Any, *, recipients: Recipients, threads: int = 1) -> bytes:
     """The age file of a plaintext, any bytes-like object, for one recipient or for several."""
     with lib.Bytes(data) as plain:
-        if threads > 1:
-            front, payload = begin(recipients)
-            chunks = max((plain.len + lib.TEXT_CHUNK - 1) // lib.TEXT_CHUNK, 1)
-            sink = _Collector(len(front) + plain.len + chunks * lib.TAG)
-            sink.write(memoryview(front))
+        front, payload = begin(recipients)
+        sink = _Collector(len(front) + _sealed_len(plain.len))
+        sink.write(memoryview(front))
+        if threads == 1:
+            with lib.Bytes(sink.out) as memory:
+                _seal_all(payload, plain, memory.pair[0] + len(front))
+        else:
             run(SEALING, payload, cast(BinaryIO, Behind(_view(plain), io.BytesIO())), sink, threads)
-            return sink.out
-        return _encrypt(plain, recipients)
+        return sink.out
 
 
 def _view(data: lib.Bytes) -> Any:
     return memoryview((ctypes.c_char * data.len).from_address(data.pair[0])).cast("B")
 
 
-def _encrypt(plain: lib.Bytes, recipients: Recipients) -> bytes:
-    file_key, nonce = os.urandom(lib.FILE_KEY), os.urandom(lib.NONCE)
-    text = stanzas_text(recipients, file_key)
-    header = len(new_header_of(text, file_key))
-    chunks = max((plain.len + lib.TEXT_CHUNK - 1) // lib.TEXT_CHUNK, 1)
-    out = lib.fresh_bytes(header + lib.NONCE + plain.len + chunks * lib.TAG)
-    with lib.Bytes(text) as stanzas, lib.Bytes(file_key) as key, lib.Bytes(nonce) as fresh:
-        with lib.Bytes(out) as memory:
-            lib.check("encrypt", *plain.pair, *stanzas.pair, key.address, fresh.address, *memory.pair)
-    return out
+def _sealed_len(length: int) -> int:
+    """The length of all sealed chunks of a plaintext."""
+    return length + lib.TAG * max((length + lib.TEXT_CHUNK - 1) // lib.TEXT_CHUNK, 1)
 
 
-def new_header_of(text: bytes, file_key: bytes) -> bytes:
-    """The header of a text of stanzas."""
-    out = bytearray(len(text) + 128)
-    with lib.Bytes(text) as stanzas, lib.Bytes(file_key) as key, lib.Bytes(out, True) as memory:
-        report = lib.check("header", *stanzas.pair, key.address, *memory.pair)
-    return bytes(out[: report.len])
+def _opened_len(length: int) -> int:
+    """The most that sealed chunks of this length in all open to."""
+    full, rest = divmod(length, lib.SEALED_CHUNK)
+    return full * lib.TEXT_CHUNK + max(rest - lib.TAG, 0)
+
+
+def _seal_all(payload: lib.Payload, plain: lib.Bytes, out: int) -> None:
+    """Seals each chunk where it belongs, from the address `out` on."""
+    at, is_last = 0, False
+    while not is_last:
+        length = min(plain.len - at, lib.TEXT_CHUNK)
+        is_last = at + length == plain.len
+        ctypes.memmove(out, plain.pair[0] + at, length)
+        lib.check("seal_next", ctypes.byref(payload), out, length + lib.TAG, is_last)
+        at, out = at + length, out + length + lib.TAG
+
+
+def _open_all(payload: lib.Payload, file: lib.Bytes, at: int, out: lib.Bytes) -> None:
+    """Opens each chunk where its text belongs. The next text overwrites its tag; a chunk behind
+    which there is no room for the tag is opened elsewhere."""
+    spare, done, is_last = Chunk(), 0, False
+    while not is_last:
+        length = min(file.len - at, lib.SEALED_CHUNK)
+        is_last = at + length == file.len
+        is_inside = done + length <= out.len
+        place = out.pair[0] + done if is_inside else spare.address(0)
+        ctypes.memmove(place, file.pair[0] + at, length)
+        report = lib.check("open_next", ctypes.byref(payload), place, length, is_last)
+        if not is_inside:
+            ctypes.memmove(out.pair[0] + done, place, report.len)
+        at, done = at + length, done + report.len
 
 
 def decrypt(data: Any, *, identities: Identities, threads: int = 1) -> bytes:
     """The plaintext of an age file in memory. Of a file with a fault nothing is returned."""
     with lib.Bytes(data) as file:
-        file_key, header = _file_key_of(file, identities)
-        sealed = max(file.len - header.length - lib.NONCE, 0)
-        chunks = (sealed + lib.SEALED_CHUNK - 1) // lib.SEALED_CHUNK
-        out = lib.fresh_bytes(max(sealed - chunks * lib.TAG, 0))
-        if threads > 1:
-            return _decrypt_on_threads(file, file_key, len(out), threads)
-        with lib.Bytes(file_key) as key, lib.Bytes(out) as memory:
-            lib.check("decrypt", *file.pair, key.address, *memory.pair)
-        return out
-
-
-def _decrypt_on_threads(file: lib.Bytes, file_key: bytes, length: int, threads: int) -> bytes:
-    payload, sink = lib.Payload(), _Collector(length)
-    with lib.Bytes(file_key) as key:
-        report = lib.check("open", *file.pair, key.address, ctypes.byref(payload))
-    source = Behind(_view(file)[report.len :], io.BytesIO())
-    run(OPENING, payload, cast(BinaryIO, source), sink, threads)
-    return sink.out
+        file_key, _ = _file_key_of(file, identities)
+        payload = lib.Payload()
+        with lib.Bytes(file_key) as key:
+            first = lib.check("open", *file.pair, key.address, ctypes.byref(payload)).len
+        sink = _Collector(_opened_len(file.len - first))
+        if threads == 1:
+            with lib.Bytes(sink.out) as memory:
+                _open_all(payload, file, first, memory)
+        else:
+            source = Behind(_view(file)[first:], io.BytesIO())
+            run(OPENING, payload, cast(BinaryIO, source), sink, threads)
+        return sink.out
 
 
 def inspect(data: Any) -> Header:

@@ -1,0 +1,127 @@
+#!/usr/bin/env python3
+"""Measures the library from C and Python beside agep and age, and prints one table.
+
+usage: bench/library.py PREFIX [--mib 1024] [--runs 3] [--only WORD]
+
+PREFIX is where ./install --library put the library; `agep` has to be built, and it needs a C compiler and
+age. Each command runs in turn, as often as --runs says. The table has the best times, on the clock and
+of the processor, the ratio of processor time to that of agep, and the most memory. TMPDIR names the
+folder of the files, which takes four times the size; --only leaves out the rows without this word.
+"""
+
+import argparse
+import math
+import os
+import re
+import subprocess
+import sys
+import tempfile
+import time
+from pathlib import Path
+
+ROOT = Path(__file__).resolve().parent.parent
+AGEP = ROOT / "crates/agep/out/agep"
+
+PYTHON = {
+    "Python, copyfileobj from open": "with agefile.open(name, identities=KEY) as source: shutil.copyfileobj(source, SINK)",
+    "Python, open().read()": "with agefile.open(name, identities=KEY) as source: source.read()",
+    "Python, decrypt(file.read())": "agefile.decrypt(open(name, 'rb').read(), identities=KEY)",
+    "Python, copy": "agefile.copy(open(name, 'rb', 0), SINK, identities=KEY)",
+    "Python, copy, threads=4": "agefile.copy(open(name, 'rb', 0), SINK, identities=KEY, threads=4)",
+    "Python, file.read()": "open(name, 'rb').read()",
+}
+SEALING = {
+    "Python, copyfileobj to open": "with agefile.open(SINK, 'wb', recipients=KEY) as sink: shutil.copyfileobj(open(name, 'rb'), sink)",
+    "Python, encrypt(file.read())": "agefile.encrypt(open(name, 'rb').read(), recipients=KEY)",
+    "Python, copy": "agefile.copy(open(name, 'rb', 0), SINK, recipients=KEY)",
+    "Python, copy, threads=4": "agefile.copy(open(name, 'rb', 0), SINK, recipients=KEY, threads=4)",
+}
+BEGIN = "import agefile, shutil, sys; KEY = agefile.Key(open('key', 'rb').read()); SINK = open('/dev/null', 'wb', 0); name = sys.argv[1]\n"
+
+
+def measured(words, folder, environment):
+    """The seconds on the clock and of the processor, and the most memory in MiB, of a command."""
+    began = time.monotonic()
+    process = subprocess.Popen([str(word) for word in words], cwd=folder, env=environment, stdout=subprocess.DEVNULL)
+    _, status, usage = os.wait4(process.pid, 0)
+    process.returncode = os.waitstatus_to_exitcode(status)
+    if process.returncode != 0:
+        sys.exit(f"{words}: status {process.returncode}")
+    return time.monotonic() - began, usage.ru_utime + usage.ru_stime, usage.ru_maxrss / 1024
+
+
+def built(name, prefix, folder):
+    words = ["cc", "-O2", "-pthread", f"-I{prefix}/include", "-o", folder / name, ROOT / f"bindings/c/examples/{name}.c", prefix / "lib/libagefile.a"]
+    subprocess.run([str(word) for word in words], check=True)
+    return folder / name
+
+
+def rows_of(prefix, folder):
+    """Pairs of a title and a command; those that seal, and those that open."""
+    stream, parallel = built("stream", prefix, folder), built("parallel", prefix, folder)
+    to_null = ["sh", "-c", '"$@" <plain >/dev/null', "sh"]
+    from_made = ["sh", "-c", '"$@" <made >/dev/null', "sh"]
+    public = subprocess.check_output(["age-keygen", "-y", folder / "identity"], text=True).strip()
+    sealing = [
+        ("agep", [AGEP, "encrypt", "-k", "key", "plain"]), ("age", ["age", "-r", public, "plain"]), ("C, stream.c", to_null + [stream, "-e", "key"]),
+        *((f"C, parallel.c, {n} threads", [parallel, "-e", "key", n, "plain", "made.other"]) for n in (1, 4)),
+        *((title, [sys.executable, "-c", BEGIN + code, "plain"]) for title, code in SEALING.items()),
+    ]
+    opening = [
+        ("agep", [AGEP, "decrypt", "-k", "key", "made"]), ("age", ["age", "-d", "-i", "identity", "made.age"]), ("C, stream.c", from_made + [stream, "key"]),
+        *((f"C, parallel.c, {n} threads", [parallel, "key", n, "made", "plain.other"]) for n in (1, 4)),
+        *((title, [sys.executable, "-c", BEGIN + code, "made"]) for title, code in PYTHON.items()),
+    ]
+    return {"seal": sealing, "open": opening}
+
+
+def prepare(folder, mib):
+    """The plaintext, its files of agep and of age, and the keys."""
+    (folder / "key").write_bytes(os.urandom(32))
+    block = os.urandom(1 << 20)
+    with open(folder / "plain", "wb") as file:
+        for _ in range(mib):
+            file.write(block)
+    subprocess.run([AGEP, "encrypt", "-k", "key", "-o", "made", "plain"], cwd=folder, check=True)
+    subprocess.run(["age-keygen", "-o", "identity"], cwd=folder, check=True, capture_output=True)
+    public = subprocess.check_output(["age-keygen", "-y", "identity"], cwd=folder, text=True).strip()
+    subprocess.run(["age", "-r", public, "-o", "made.age", "plain"], cwd=folder, check=True)
+
+
+def headers(environment):
+    """How long the header of 10,911 stanzas takes."""
+    code = (
+        "import agefile, time; head = b'age-encryption.org/v1\\n' + b'-> a\\n\\n' * 10911 + b'--- ' + b'A' * 43 + b'\\n'\n"
+        "times = []\nfor _ in range(7):\n    began = time.process_time(); found = agefile.inspect(head); times.append(time.process_time() - began)\n"
+        "assert len(found.stanzas) == 10911; print(f'{1000 * min(times):.0f} ms')"
+    )
+    return subprocess.check_output([sys.executable, "-c", code], env=environment, text=True).strip()
+
+
+def main():
+    parser = argparse.ArgumentParser(description=__doc__.splitlines()[0])
+    parser.add_argument("prefix", type=Path)
+    parser.add_argument("--mib", type=int, default=1024)
+    parser.add_argument("--runs", type=int, default=3)
+    parser.add_argument("--only", default="")
+    args = parser.parse_args()
+    environment = os.environ | {"AGEFILE_LIBRARY": f"{args.prefix.resolve()}/lib/libagefile.so.1", "PYTHONPATH": str(ROOT / "bindings/python")}
+    processor = re.search(r"model name\s*: (.*)", Path("/proc/cpuinfo").read_text())[1]
+    print(f"{processor}, {os.cpu_count()} cores; load {os.getloadavg()[0]:.1f} at the start")
+    with tempfile.TemporaryDirectory() as name:
+        folder = Path(name)
+        prepare(folder, args.mib)
+        print(f"\n| {args.mib} MiB | Clock, s | CPU, s | CPU to agep | MiB of memory |\n|---|---|---|---|---|")
+        for work, rows in rows_of(args.prefix.resolve(), folder).items():
+            rows = [row for row in rows if args.only in f"{work}: {row[0]}" or row[0] == "agep"]
+            found = {title: (math.inf,) * 3 for title, _ in rows}
+            for _ in range(args.runs):
+                for title, words in rows:
+                    found[title] = tuple(map(min, found[title], measured(words, folder, environment)))
+            for title, (clock, cpu, memory) in found.items():
+                print(f"| {work}: {title} | {clock:.2f} | {cpu:.2f} | {cpu / found['agep'][1]:.2f} | {memory:.0f} |")
+    print(f"\ninspect of 10,911 stanzas in Python: {headers(environment)}; load {os.getloadavg()[0]:.1f} at the end")
+
+
+if __name__ == "__main__":
+    main()

@@ -1,0 +1,324 @@
+// Makes the calls that random_calls.py asks for, one after another, and tells what they returned and
+// wrote. Each pointer's memory lies between two pages that no access may touch. A call that is so
+// marked is first made with each allocation refused in turn, and on eight threads at once. Linked
+// with --wrap=malloc, --wrap=realloc and --wrap=free.
+//
+// A request, in the byte order of the machine: the call's index in random_calls.py, flags, the number
+// of arguments, a byte each; then of each argument its kind and its shift, a byte each, a number of 8
+// bytes, and for a buffer as many bytes. The answer: the result, 8 bytes; 1 if the call kept what it
+// had to, else 0, a byte; the report; the bytes of all buffers.
+#include <agefile.h>
+#include <pthread.h>
+#include <stdio.h>
+#include <stdlib.h>
+#include <string.h>
+#include <sys/mman.h>
+
+enum { most_arguments = 16, thread_count = 8, canary = 0xC7, unset = 0xEE };
+enum kind { NUMBER, BUFFER, NULL_POINTER };
+enum flag { AT_START = 1, REFUSING = 2, THREADS = 4 };
+static const size_t page = 4096;
+
+void *__real_malloc(size_t size);
+void *__real_realloc(void *old, size_t size);
+void __real_free(void *old);
+
+// Of this thread: allocations since the call began, the one that is refused, and blocks not freed.
+static __thread long allocations, refused, live;
+static __thread bool is_counting;
+
+static bool is_refused(void)
+{
+    return is_counting && ++allocations == refused;
+}
+
+void *__wrap_malloc(size_t size)
+{
+    if (is_refused())
+        return NULL;
+    live += is_counting;
+    return __real_malloc(size);
+}
+
+void *__wrap_realloc(void *old, size_t size)
+{
+    if (is_refused())
+        return NULL;
+    live += is_counting && old == NULL;
+    return __real_realloc(old, size);
+}
+
+void __wrap_free(void *old)
+{
+    live -= is_counting && old != NULL;
+    __real_free(old);
+}
+
+// An argument: a number, or a buffer with the bytes that it had at first.
+struct argument {
+    uint8_t kind, shift;
+    uint64_t number;
+    uint8_t *first;
+};
+
+struct call {
+    uint8_t index, flags, count;
+    struct argument arguments[most_arguments];
+};
+
+// The memory of one making of a call.
+struct memory {
+    uint8_t *maps[most_arguments + 1], *pointers[most_arguments + 1];
+};
+
+static void give_up(const char *why)
+{
+    fprintf(stderr, "driver: %s\n", why);
+    exit(3);
+}
+
+static size_t own_pages(size_t len, size_t shift)
+{
+    return (len + shift + page - 1) / page * page;
+}
+
+// Maps a buffer between two pages without access; what surrounds it on its own pages is known.
+static void map_buffer(struct memory *memory, int i, const uint8_t *bytes, size_t len, size_t shift, bool at_start)
+{
+    size_t own = own_pages(len, shift);
+    uint8_t *map = mmap(NULL, own + 2 * page, PROT_READ | PROT_WRITE, MAP_PRIVATE | MAP_ANONYMOUS, -1, 0);
+    if (map == MAP_FAILED || mprotect(map, page, PROT_NONE) != 0 || mprotect(map + page + own, page, PROT_NONE) != 0)
+        give_up("no memory");
+    memset(map + page, canary, own);
+    memory->maps[i] = map;
+    memory->pointers[i] = map + page + (at_start ? shift : own - len - shift);
+    if (len > 0)
+        memcpy(memory->pointers[i], bytes, len);
+}
+
+// Whether what surrounds a buffer is as it was.
+static bool is_surrounding_kept(const struct memory *memory, int i, size_t len, size_t shift)
+{
+    const uint8_t *own = memory->maps[i] + page;
+    size_t size = own_pages(len, shift), at = (size_t)(memory->pointers[i] - own);
+    for (size_t j = 0; j < size; j++)
+        if ((j < at || j >= at + len) && own[j] != canary)
+            return false;
+    return true;
+}
+
+static void map_all(struct memory *memory, const struct call *call)
+{
+    uint8_t report[sizeof(agefile_report)];
+    memset(report, unset, sizeof report);
+    for (int i = 0; i < call->count; i++) {
+        const struct argument *a = &call->arguments[i];
+        memory->maps[i] = memory->pointers[i] = NULL;
+        if (a->kind == BUFFER)
+            map_buffer(memory, i, a->first, a->number, a->shift, call->flags & AT_START);
+    }
+    map_buffer(memory, call->count, report, sizeof report, 0, call->flags & AT_START);
+}
+
+static void unmap_all(struct memory *memory, const struct call *call)
+{
+    for (int i = 0; i < call->count; i++)
+        if (memory->maps[i] != NULL)
+            munmap(memory->maps[i], own_pages(call->arguments[i].number, call->arguments[i].shift) + 2 * page);
+    munmap(memory->maps[call->count], own_pages(sizeof(agefile_report), 0) + 2 * page);
+}
+
+static bool are_surroundings_kept(const struct memory *memory, const struct call *call)
+{
+    for (int i = 0; i < call->count; i++)
+        if (memory->maps[i] != NULL && !is_surrounding_kept(memory, i, call->arguments[i].number, call->arguments[i].shift))
+            return false;
+    return is_surrounding_kept(memory, call->count, sizeof(agefile_report), 0);
+}
+
+static uint64_t make(const struct call *call, const struct memory *m)
+{
+    const struct argument *a = call->arguments;
+    agefile_report *report = (agefile_report *)(void *)m->pointers[call->count];
+#define B(i) m->pointers[i], a[i].number
+#define P(i) m->pointers[i]
+#define N(i) a[i].number
+#define S(i, type) (agefile_##type *)(void *)m->pointers[i]
+    switch (call->index) {
+    case 0: return agefile_inspect(B(0), S(1, summary), report);
+    case 1: return agefile_stanzas(B(0), S(1, stanza_summary), N(1) / sizeof(agefile_stanza_summary), B(2), report);
+    case 2: return agefile_unlock_passphrase(B(0), B(1), (uint8_t)N(2), P(3), report);
+    case 3: return agefile_unlock_key(B(0), P(1), P(2), report);
+    case 4: return agefile_wrap_passphrase(P(0), B(1), (uint8_t)N(2), P(3), B(4), report);
+    case 5: return agefile_wrap_key(P(0), P(1), P(2), B(3), report);
+    case 6: return agefile_wrap(B(0), B(1), B(2), report);
+    case 7: return agefile_header(B(0), P(1), B(2), report);
+    case 8: return agefile_begin(B(0), P(1), P(2), B(3), S(4, payload), report);
+    case 9: return agefile_open(B(0), P(1), S(2, payload), report);
+    case 10: return agefile_open_next(S(0, payload), B(1), N(2) != 0, report);
+    case 11: return agefile_seal_next(S(0, payload), B(1), N(2) != 0, report);
+    case 12: return agefile_take_part(S(0, payload), N(1), S(2, part), report);
+    case 13: return agefile_part_open_next(S(0, part), B(1), report);
+    case 14: return agefile_part_seal_next(S(0, part), B(1), report);
+    case 15: return agefile_ranges_open(B(0), N(1), P(2), S(3, ranges), report);
+    case 16: return agefile_ranges_last(S(0, ranges), B(1), report);
+    case 17: return agefile_ranges_locate(S(0, ranges), N(1), report);
+    case 18: return agefile_ranges_chunk(S(0, ranges), N(1), B(2), report);
+    case 19: return agefile_decrypt(B(0), P(1), B(2), report);
+    case 20: return agefile_encrypt(B(0), B(1), P(2), P(3), B(4), report);
+    case 21: return agefile_decrypt_passphrase(B(0), B(1), (uint8_t)N(2), B(3), report);
+    case 22: return agefile_decrypt_key(B(0), P(1), B(2), report);
+    case 23: return agefile_encrypt_passphrase(B(0), B(1), (uint8_t)N(2), P(3), B(4), report);
+    case 24: return agefile_encrypt_key(B(0), P(1), P(2), B(3), report);
+    case 25: return agefile_sealed_len(N(0));
+    case 26: return agefile_plain_len_at_most(N(0));
+    case 27: return agefile_file_len(N(0), N(1));
+    case 28: return agefile_version();
+    default: give_up("no such call");
+    }
+    return 0;
+}
+
+// The argument of a call that is a struct to be opened: after a refusal it is closed.
+static int opened_by(uint8_t index)
+{
+    return index == 8 ? 4 : index == 9 ? 2 : index == 15 ? 3 : -1;
+}
+
+// Whether after a refused allocation everything is as it was, and what was to be opened is closed.
+static bool is_kept(const struct memory *memory, const struct call *call)
+{
+    static const uint8_t zeros[sizeof(agefile_payload) + sizeof(agefile_ranges)];
+    for (int i = 0; i < call->count; i++) {
+        const struct argument *a = &call->arguments[i];
+        const uint8_t *expected = i == opened_by(call->index) ? zeros : a->first;
+        if (a->kind == BUFFER && a->number > 0 && memcmp(memory->pointers[i], expected, a->number) != 0)
+            return false;
+    }
+    return memcmp(memory->pointers[call->count], zeros, sizeof(agefile_report)) == 0;
+}
+
+struct turn {
+    const struct call *call;
+    struct memory memory;
+    uint64_t result;
+    bool is_well;
+};
+
+static void *on_a_thread(void *argument)
+{
+    struct turn *turn = argument;
+    map_all(&turn->memory, turn->call);
+    turn->result = make(turn->call, &turn->memory);
+    turn->is_well = are_surroundings_kept(&turn->memory, turn->call);
+    return NULL;
+}
+
+static bool is_same_turn(const struct turn *a, const struct turn *b)
+{
+    const struct call *call = a->call;
+    for (int i = 0; i < call->count; i++)
+        if (call->arguments[i].kind == BUFFER && call->arguments[i].number > 0 &&
+            memcmp(a->memory.pointers[i], b->memory.pointers[i], call->arguments[i].number) != 0)
+            return false;
+    return a->result == b->result && memcmp(a->memory.pointers[call->count], b->memory.pointers[call->count], sizeof(agefile_report)) == 0;
+}
+
+// Makes the call with each allocation refused in turn, until none is. Whether each was out of memory, or
+// got on with less and did what it does otherwise.
+static bool refuses_each(const struct turn *usual)
+{
+    const struct call *call = usual->call;
+    for (long number = 1;; number++) {
+        struct turn turn = {.call = call};
+        map_all(&turn.memory, call);
+        refused = number, allocations = live = 0, is_counting = true;
+        turn.result = make(call, &turn.memory);
+        is_counting = false;
+        bool was_refused = allocations >= number;
+        bool is_out = was_refused && turn.result == AGEFILE_OUT_OF_MEMORY && is_kept(&turn.memory, call);
+        bool is_well = live == 0 && are_surroundings_kept(&turn.memory, call) && (is_out || is_same_turn(usual, &turn));
+        unmap_all(&turn.memory, call);
+        if (!is_well)
+            fprintf(stderr, "driver: allocation %ld of call %d: code %d, %ld blocks left\n", number, call->index, (int)turn.result, live);
+        if (!is_well || !was_refused)
+            return is_well;
+    }
+}
+
+// Makes the call on eight threads at once. Whether all did the same as this turn.
+static bool agrees_on_threads(const struct turn *first)
+{
+    pthread_t ids[thread_count];
+    struct turn turns[thread_count];
+    bool is_well = true;
+    for (int i = 0; i < thread_count; i++) {
+        turns[i].call = first->call;
+        if (pthread_create(&ids[i], NULL, on_a_thread, &turns[i]) != 0)
+            give_up("no thread");
+    }
+    for (int i = 0; i < thread_count; i++) {
+        pthread_join(ids[i], NULL);
+        is_well &= turns[i].is_well && is_same_turn(first, &turns[i]);
+        unmap_all(&turns[i].memory, first->call);
+    }
+    return is_well;
+}
+
+static void get(void *bytes, size_t len)
+{
+    if (fread(bytes, 1, len, stdin) != len)
+        give_up("a request ends early");
+}
+
+static void put(const void *bytes, size_t len)
+{
+    if (len > 0 && fwrite(bytes, 1, len, stdout) != len)
+        give_up("no answer");
+}
+
+// Reads a request; false at the end.
+static bool get_call(struct call *call)
+{
+    if (fread(&call->index, 1, 1, stdin) != 1)
+        return false;
+    get(&call->flags, 1);
+    get(&call->count, 1);
+    if (call->count > most_arguments)
+        give_up("too many arguments");
+    for (int i = 0; i < call->count; i++) {
+        struct argument *a = &call->arguments[i];
+        get(&a->kind, 1);
+        get(&a->shift, 1);
+        get(&a->number, 8);
+        a->first = NULL;
+        if (a->kind == BUFFER) {
+            a->first = __real_malloc(a->number + 1);
+            if (a->first == NULL)
+                give_up("no memory");
+            get(a->first, a->number);
+        }
+    }
+    return true;
+}
+
+int main(void)
+{
+    struct call call;
+    while (get_call(&call)) {
+        struct turn turn = {.call = &call};
+        on_a_thread(&turn);
+        uint8_t is_well = turn.is_well && (!(call.flags & REFUSING) || refuses_each(&turn)) && (!(call.flags & THREADS) || agrees_on_threads(&turn));
+        put(&turn.result, sizeof turn.result);
+        put(&is_well, 1);
+        put(turn.memory.pointers[call.count], sizeof(agefile_report));
+        for (int i = 0; i < call.count; i++) {
+            if (call.arguments[i].kind == BUFFER)
+                put(turn.memory.pointers[i], call.arguments[i].number);
+            __real_free(call.arguments[i].first);
+        }
+        fflush(stdout);
+        unmap_all(&turn.memory, &call);
+    }
+    return 0;
+}

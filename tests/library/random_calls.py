@@ -1,0 +1,449 @@
+#!/usr/bin/env python3
+"""Makes random calls of the library for C, and compares all that they return and write with model.py.
+
+usage: tests/library/random_calls.py DRIVER [COUNT [SEED]]
+
+DRIVER is tests/library/driver.c, built with the library. Files, headers, structs, lengths and numbers are
+right or wrong in many ways; structs come from earlier calls, or are random. Each buffer lies at the end
+or at the start of its pages, shifted by up to 15 bytes. Some calls are made with each allocation refused
+in turn, some on eight threads at once. Prints how many calls returned which code; with a difference it
+prints the call, and the status is 1.
+"""
+
+import collections
+import os
+import random
+import struct
+import subprocess
+import sys
+
+sys.dont_write_bytecode = True
+sys.path.insert(0, os.path.join(os.path.dirname(os.path.abspath(__file__)), ".."))
+
+import model
+import reference
+from model import MOST, NULL, SEALED, TAG, TEXT
+
+AT_START, REFUSING, THREADS = 1, 2, 4
+VERSION = 0x000400
+# In the order of driver.c. Of each argument: a struct's size, or "n" for a number, "b" for bytes with a length,
+# "o" for bytes that are written, "s" for an array of structs.
+CALLS = {
+    "inspect": ("b", 48), "stanzas": ("b", "s", "o"), "unlock_passphrase": ("b", "b", "n", 16), "unlock_key": ("b", 32, 16),
+    "wrap_passphrase": (16, "b", "n", 16, "o"), "wrap_key": (16, 32, 16, "o"), "wrap": ("b", "b", "o"), "header": ("b", 16, "o"),
+    "begin": ("b", 16, 16, "o", 64), "open": ("b", 16, 64), "open_next": (64, "o", "n"), "seal_next": (64, "o", "n"),
+    "take_part": (64, "n", 64), "part_open_next": (64, "o"), "part_seal_next": (64, "o"), "ranges_open": ("b", "n", 16, 56),
+    "ranges_last": (56, "o"), "ranges_locate": (56, "n"), "ranges_chunk": (56, "n", "o"), "decrypt": ("b", 16, "o"),
+    "encrypt": ("b", "b", 16, 16, "o"), "decrypt_passphrase": ("b", "b", "n", "o"), "decrypt_key": ("b", 32, "o"),
+    "encrypt_passphrase": ("b", "b", "n", 48, "o"), "encrypt_key": ("b", 32, 48, "o"), "sealed_len": ("n",),
+    "plain_len_at_most": ("n",), "file_len": ("n", "n"), "version": (),
+}
+INDEX = {name: index for index, name in enumerate(CALLS)}
+# Those that allocate nothing.
+CHUNKS = ("open_next", "seal_next", "take_part", "part_open_next", "part_seal_next", "ranges_last", "ranges_locate", "ranges_chunk")
+NUMBERS = ("sealed_len", "plain_len_at_most", "file_len", "version")
+# Those that open a struct, and which argument it is.
+OPENING = {"begin": 4, "open": 2, "ranges_open": 3}
+
+
+class Driver:
+    def __init__(self, program):
+        self.process = subprocess.Popen([program], stdin=subprocess.PIPE, stdout=subprocess.PIPE)
+
+    def read(self, count):
+        data = self.process.stdout.read(count)
+        if len(data) != count:
+            raise SystemExit(f"the driver ended with status {self.process.wait()}")
+        return data
+
+    def call(self, name, flags, arguments, shifts):
+        """The result, whether the driver found nothing wrong, the report, and what the buffers then hold."""
+        parts = [bytes((INDEX[name], flags, len(arguments)))]
+        for argument, shift in zip(arguments, shifts):
+            if isinstance(argument, int):
+                parts.append(struct.pack("<BBQ", 0, 0, argument))
+            elif isinstance(argument, NULL):
+                parts.append(struct.pack("<BBQ", 2, 0, argument.length))
+            else:
+                parts += [struct.pack("<BBQ", 1, shift, len(argument)), bytes(argument)]
+        self.process.stdin.write(b"".join(parts))
+        self.process.stdin.flush()
+        result, is_well, *report = struct.unpack("<QB3Q", self.read(33))
+        after = [self.read(len(a)) if isinstance(a, bytearray) else None for a in arguments]
+        return result, is_well, tuple(report), after
+
+
+class Maker:
+    """Random arguments of calls."""
+
+    def __init__(self, seed):
+        self.random = random.Random(seed)
+        self.file_keys = [self.bytes(16) for _ in range(3)]
+        self.keys = [self.bytes(32) for _ in range(3)]
+        self.passphrases = [b"", b"x", b"correct horse", self.bytes(200)]
+        self.files = []
+        self.payloads = {64: [], 56: []}
+        self.chunks = []
+
+    def bytes(self, count):
+        return self.random.randbytes(count)
+
+    def is_rare(self, one_in):
+        return self.random.randrange(one_in) == 0
+
+    def choice(self, *values):
+        return self.random.choice(values)
+
+    def length(self):
+        """Of a plaintext: mostly short, since the model is slow."""
+        if self.is_rare(400):
+            return self.choice(TEXT - 1, TEXT, TEXT + 1, 2 * TEXT, 2 * TEXT + 5)
+        return self.choice(0, 0, 1, 15, 16, 17, 63, 64, 65, self.random.randrange(600))
+
+    def number(self):
+        return self.choice(
+            0, 1, 2, 3, 4, 16, 255, TEXT, SEALED, 2**32, 2**32 + 1, 2**63, MOST - 200, MOST - 1, MOST,
+            self.random.randrange(2**16), self.random.getrandbits(64), 1 << self.random.randrange(64),
+        )
+
+    def work(self):
+        return self.choice(1, 1, 2, 2, 3, 0, 31, 255) if self.is_rare(4) else self.choice(1, 2, 3)
+
+    def words(self):
+        words = [self.choice("x", "X25519", "scrypt-", "grease~!", "a" * self.random.randrange(1, 90)) for _ in range(self.random.randrange(1, 4))]
+        return " ".join(words).encode()
+
+    def body(self):
+        return self.bytes(self.choice(0, 1, 2, 3, 31, 32, 47, 48, 49, 95, 96, 97, self.random.randrange(300)))
+
+    def arguments(self):
+        text = self.words()
+        if self.is_rare(5):
+            text = self.damaged(text) if self.is_rare(2) else self.choice(b"", b" ", b"a ", b" a", b"a  b", "ä".encode(), b"\n", b"a\x7f")
+        return text
+
+    def stanza(self, file_key):
+        """A stanza's text: grease, for one of the keys or passphrases, or malformed."""
+        salt = self.bytes(16)
+        kind = self.random.randrange(7)
+        if kind < 3:
+            arguments, wrap = reference.key_stanza(self.choice(*self.keys), salt)
+            body = reference.sealed(wrap, bytes(12), file_key)
+        elif kind < 5:
+            work = self.choice(1, 2, 3)
+            passphrase = self.choice(*self.passphrases)
+            arguments = [b"scrypt", reference.signs(salt), str(work).encode()]
+            body = reference.sealed(model.scrypt(passphrase, salt, work), bytes(12), file_key)
+        else:
+            arguments, body = self.words().split(b" "), self.body()
+        if self.is_rare(12):
+            arguments = list(arguments)
+            arguments[self.random.randrange(len(arguments))] = self.choice(b"scrypt", b"example.org/key", b"015", b"30", b"0", b"x", b"1" * 40)
+        if self.is_rare(12):
+            body = self.body()
+        return model.lines_of(arguments, body)
+
+    def stanzas(self, file_key):
+        count = self.choice(1, 1, 1, 2, 3)
+        if self.is_rare(300):
+            count = self.choice(200, 10911, 10912)
+            return model.lines_of([b"x"], b"") * count
+        return b"".join(self.stanza(file_key) for _ in range(count))
+
+    def damaged(self, data):
+        """Bytes that are nearly these."""
+        data, way = bytearray(data), self.random.randrange(6)
+        at = self.random.randrange(len(data) + 1)
+        if way == 0:
+            return bytes(data[:at])
+        if way == 1:
+            return bytes(data) + self.bytes(self.choice(1, 16, 70))
+        if way == 2:
+            data[at:at] = self.choice(b"\n", b" ", b"\0", b"=", b"-> x\n\n", b"--- " + b"A" * 43 + b"\n", self.bytes(3))
+        elif way == 3:
+            del data[at : at + self.choice(1, 2, 16, 64)]
+        elif at < len(data):
+            data[at] ^= 1 << self.random.randrange(8) if way == 4 else self.random.randrange(256)
+        return bytes(data)
+
+    def new_file(self):
+        """A file key and the file of a random plaintext, whole or damaged."""
+        file_key, nonce = self.choice(*self.file_keys), self.bytes(16)
+        text = self.stanzas(file_key)
+        try:
+            header = model.made_header(text, file_key)
+        except model.Fault:
+            header = model.VERSION + text + b"--- " + reference.signs(self.bytes(32)) + b"\n"
+        key = reference.hkdf(file_key, nonce, b"payload")
+        chunks = reference.chunks_of(self.bytes(self.length()), self.is_rare(20))
+        sealed = [reference.sealed_chunk(key, i, i == len(chunks) - 1, chunk) for i, chunk in enumerate(chunks)]
+        data = header + nonce + b"".join(sealed)
+        if len(data) < 5000 and self.is_rare(3):
+            data = self.damaged(data)
+        return file_key, data
+
+    def file(self):
+        """A file of those that were made; now and then a new one."""
+        if len(self.files) < 20 or self.is_rare(10):
+            self.files.append(self.new_file())
+            del self.files[:-60]
+        file_key, data = self.choice(*self.files)
+        if self.is_rare(40):
+            data = self.bytes(self.random.randrange(200)) if self.is_rare(2) else self.damaged(data)
+        return (self.choice(*self.file_keys) if self.is_rare(8) else file_key), data
+
+    def front(self):
+        file_key, data = self.file()
+        if self.is_rare(3):
+            data = data[: self.choice(SEALED, self.random.randrange(400), max(len(data) - 16, 0))]
+        return file_key, data
+
+    def room(self, needed):
+        """A buffer of about this size."""
+        size = self.choice(needed, needed, needed + 1, needed + 100, max(needed - 1, 0), needed // 2, 0, self.random.randrange(needed + 1))
+        return bytes([0xEE]) * size
+
+    def struct(self, size):
+        """The struct of an earlier call, or any."""
+        known = self.payloads[size]
+        if known and not self.is_rare(6):
+            kept = bytearray(self.choice(*known))
+            if self.is_rare(6):
+                at = 32 + 8 * self.random.randrange((size - 32) // 8)
+                kept[at : at + 8] = struct.pack("<Q", self.number())
+            return kept
+        fields = [self.number() for _ in range((size - 32) // 8)]
+        state = self.choice(0, 1, 2, 3, 4, 2**32 + 1, MOST)
+        fields[2 if size == 56 else 1] = state
+        return struct.pack(f"<32s{len(fields)}Q", self.choice(bytes(32), self.bytes(32)), *fields)
+
+    def chunk(self, is_opening, key, number):
+        """A chunk, mostly one that fits, and whether it is the last one."""
+        is_last = not self.is_rare(20)
+        length = self.length() if is_last else TEXT
+        if not is_last and not self.is_rare(4):
+            length = self.choice(0, TEXT - 1, TEXT + 1)
+        text = self.bytes(length)
+        if self.is_rare(6):
+            return bytes(self.random.randrange(2 * TAG)), int(is_last)
+        if not is_opening or number > MOST:
+            return text + bytes(TAG), int(is_last)
+        sealed = reference.sealed_chunk(key, number, is_last, text)
+        return (self.damaged(sealed) if self.is_rare(5) else sealed), int(is_last)
+
+    # The arguments of each call.
+
+    def for_inspect(self):
+        return self.front()[1], bytes([0xEE]) * 48
+
+    def for_stanzas(self):
+        data = self.front()[1]
+        try:
+            found = model.header_of(data)[0]
+        except model.Fault:
+            found = []
+        text = sum(len(b" ".join(arguments)) + len(body) for arguments, body in found)
+        sizes = bytes([0xEE]) * (24 * self.choice(len(found), len(found), len(found) + 1, max(len(found) - 1, 0), 0))
+        return data, sizes, self.room(text)
+
+    def for_unlock_passphrase(self):
+        return self.front()[1], self.choice(*self.passphrases), self.work(), bytes(16)
+
+    def for_unlock_key(self):
+        return self.front()[1], self.choice(*self.keys), bytes(16)
+
+    def for_wrap_passphrase(self):
+        return self.bytes(16), self.choice(*self.passphrases), self.work(), self.bytes(16), self.room(80)
+
+    def for_wrap_key(self):
+        return self.bytes(16), self.choice(*self.keys), self.bytes(16), self.room(86)
+
+    def for_wrap(self):
+        arguments, body = self.arguments(), self.body()
+        return arguments, body, self.room(len(model.lines_of([arguments], body)))
+
+    def text(self):
+        file_key = self.choice(*self.file_keys)
+        text = self.stanzas(file_key)
+        if self.is_rare(4):
+            text = self.choice(b"", self.damaged(text), self.damaged(text), self.bytes(30))
+        return text, file_key
+
+    def for_header(self):
+        text, file_key = self.text()
+        return text, file_key, self.room(len(text) + 70)
+
+    def for_begin(self):
+        text, file_key = self.text()
+        return text, file_key, self.bytes(16), self.room(len(text) + 86), self.bytes(64)
+
+    def for_open(self):
+        file_key, data = self.front()
+        return data, file_key, self.bytes(64)
+
+    def for_open_next(self, is_opening=True):
+        payload = self.struct(64)
+        chunk, is_last = self.chunk(is_opening, bytes(payload[:32]), struct.unpack_from("<Q", payload, 32)[0])
+        return payload, chunk, (1 - is_last if self.is_rare(8) else is_last)
+
+    def for_seal_next(self):
+        return self.for_open_next(False)
+
+    def for_take_part(self):
+        return self.struct(64), self.choice(1, 2, 3, self.number()), self.bytes(64)
+
+    def for_part_open_next(self, is_opening=True):
+        part = self.struct(64)
+        if self.is_rare(3):
+            sealed = bytes(SEALED) if not is_opening else reference.sealed_chunk(self.keys[0], self.random.randrange(3), False, bytes(TEXT))
+            left = self.choice(1, 2, MOST)
+            part = struct.pack("<32s4Q", self.keys[0], self.random.randrange(3), left, model.READING if is_opening else model.WRITING, 0)
+            return part, self.choice(sealed, sealed, sealed[:-1])
+        return part, bytes(self.choice(0, 16, 100))
+
+    def for_part_seal_next(self):
+        return self.for_part_open_next(False)
+
+    def for_ranges_open(self):
+        file_key, data = self.front()
+        return data, self.choice(len(data), len(data), self.number()), file_key, self.bytes(56)
+
+    def ranges(self):
+        """A struct of ranges, and the file that it is of, if there is one."""
+        file_key, data = self.file()
+        try:
+            key, first = model.started(data, file_key)
+        except model.Fault:
+            return self.struct(56), data
+        sealed = max(len(data) - first, 0)
+        if self.is_rare(6):
+            return self.struct(56), data
+        return struct.pack("<32s3Q", key, first, sealed, self.choice(1, 2, 2, 2)), data
+
+    def piece(self, ranges, data, index):
+        """The bytes of a piece, about."""
+        first, sealed = struct.unpack_from("<2Q", ranges, 32)
+        length = model.piece_length(sealed, index)
+        piece = data[first + SEALED * index : first + SEALED * index + min(length, SEALED)] if first < len(data) else b""
+        return self.damaged(piece) if self.is_rare(8) else piece
+
+    def for_ranges_last(self):
+        ranges, data = self.ranges()
+        return ranges, self.piece(ranges, data, model.last_index(struct.unpack_from("<Q", ranges, 40)[0]))
+
+    def offset(self, ranges):
+        plain = model.plain_length(struct.unpack_from("<Q", ranges, 40)[0])
+        return self.choice(self.number(), self.random.randrange(plain + 1), max(plain - 1, 0), 0)
+
+    def for_ranges_locate(self):
+        ranges, _ = self.ranges()
+        return ranges, self.offset(ranges)
+
+    def for_ranges_chunk(self):
+        ranges, data = self.ranges()
+        at = self.offset(ranges)
+        return ranges, at, self.piece(ranges, data, at // TEXT)
+
+    def for_decrypt(self):
+        file_key, data = self.file()
+        return data, file_key, self.room(model.plain_len_at_most(len(data)))
+
+    def for_encrypt(self):
+        text, file_key = self.text()
+        plain = self.bytes(self.length())
+        return plain, text, file_key, self.bytes(16), self.room(len(text) + 86 + model.sealed_length(len(plain)))
+
+    def for_decrypt_passphrase(self):
+        data = self.file()[1]
+        return data, self.choice(*self.passphrases), self.work(), self.room(model.plain_len_at_most(len(data)))
+
+    def for_decrypt_key(self):
+        data = self.file()[1]
+        return data, self.choice(*self.keys), self.room(model.plain_len_at_most(len(data)))
+
+    def for_encrypt_passphrase(self):
+        plain = self.bytes(self.length())
+        return plain, self.choice(*self.passphrases), self.work(), self.bytes(48), self.room(model.sealed_len(len(plain)))
+
+    def for_encrypt_key(self):
+        plain = self.bytes(self.length())
+        return plain, self.choice(*self.keys), self.bytes(48), self.room(model.sealed_len(len(plain)))
+
+    def for_sealed_len(self):
+        return (self.number(),)
+
+    for_plain_len_at_most = for_sealed_len
+
+    def for_file_len(self):
+        return self.number(), self.number()
+
+    def for_version(self):
+        return ()
+
+    def call(self):
+        """The name of a call, its flags, arguments and shifts."""
+        name = self.choice(*CALLS)
+        arguments = [a if isinstance(a, int) else bytearray(a) for a in getattr(self, "for_" + name)()]
+        kinds = CALLS[name]
+        if self.is_rare(60) and any(kind in ("b", "o", "s") for kind in kinds):
+            at = self.choice(*(i for i, kind in enumerate(kinds) if kind in ("b", "o", "s")))
+            arguments[at] = NULL(self.choice(0, 0, 24, 2**40 // 24 * 24))
+        # Structs are aligned.
+        shifts = [0 if isinstance(kind, int) and kind > 48 or kind in ("s", 48) else self.choice(0, 0, self.random.randrange(16)) for kind in kinds]
+        flags = self.random.randrange(2) | (THREADS if self.is_rare(16) else 0)
+        # A header of 10,911 stanzas makes as many allocations: refusing each takes too long.
+        if self.is_rare(8) and (name in CHUNKS or sum(len(a) for a in arguments if isinstance(a, bytearray)) < 10000):
+            flags |= REFUSING
+        return name, flags, arguments, shifts
+
+    def learn(self, name, code, after):
+        """Keeps the structs that a call left, for the calls after it."""
+        for argument, size in zip(after, CALLS[name]):
+            if size in self.payloads and argument is not None and (code == 0 or self.is_rare(4)):
+                self.payloads[size].append(argument)
+                del self.payloads[size][:-40]
+
+
+def expected(name, arguments):
+    """What the model says: the result, the report, and what the buffers then hold."""
+    if name in NUMBERS:
+        return (VERSION if name == "version" else getattr(model, name)(*arguments)), None, []
+    if any(isinstance(a, NULL) and a.length > 0 for a in arguments):
+        after = [bytearray(a) if isinstance(a, bytearray) else a for a in arguments]
+        if name in OPENING:
+            model.zero(after[OPENING[name]])
+        return model.NULL_POINTER, (0, 0, 0), after
+    after = [bytearray(b"" if isinstance(a, NULL) else a) if not isinstance(a, int) else a for a in arguments]
+    try:
+        code, report = getattr(model, name)(*after)
+    except model.Fault as fault:
+        code, report = fault.code, fault.report
+    return code, report, after
+
+
+def main(program, count=2000, seed=1):
+    maker, driver, codes = Maker(seed), Driver(program), collections.Counter()
+    for number in range(count):
+        name, flags, arguments, shifts = maker.call()
+        result, is_well, report, after = driver.call(name, flags, arguments, shifts)
+        code, wanted_report, wanted = expected(name, arguments)
+        wanted = [bytes(w) if isinstance(a, bytearray) else None for w, a in zip(wanted, arguments)] or after
+        if (result, is_well, after) != (code, 1, wanted) or (wanted_report is not None and report != wanted_report):
+            different = [i for i, (found, right) in enumerate(zip(after, wanted)) if found != right]
+            print(f"call {number} of seed {seed}: {name}, flags {flags}: code {result}, not {code}; report {report}, not {wanted_report};")
+            print(f"well {is_well}; arguments that differ: {different}; arguments:")
+            for argument in arguments:
+                print(argument.hex() if isinstance(argument, bytearray) else getattr(argument, "length", argument))
+            return 1
+        codes[result if name not in NUMBERS else "a number"] += 1
+        maker.learn(name, result, after)
+    driver.process.stdin.close()
+    if driver.process.wait() != 0:
+        print("the driver ended with an error")
+        return 1
+    print(f"{count} calls; " + ", ".join(f"{code}: {times}" for code, times in sorted(codes.items(), key=str)))
+    return 0
+
+
+if __name__ == "__main__":
+    sys.exit(main(sys.argv[1], *map(int, sys.argv[2:])))

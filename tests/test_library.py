@@ -1,0 +1,574 @@
+"""Builds and installs the library for C, and runs it from C under sanitizers: its names, its codes, its
+calls, refused allocations, threads, memory, and files that go to the program and to `age` and back.
+tests/test_packages.py runs the packages for Python and Rust over it."""
+
+import functools
+import os
+import re
+import shutil
+import subprocess
+import sys
+import tempfile
+import unittest
+from pathlib import Path
+
+sys.path.append(str(Path(__file__).resolve().parent.parent / "share/generate"))
+import codes
+
+from program import AGEP, version
+
+
+ROOT = Path(__file__).resolve().parent.parent
+TESTS = ROOT / "tests/library"
+HEADER = ROOT / "bindings/c/agefile.h"
+EXAMPLES = ROOT / "bindings/c/examples"
+SONAME = "libagefile.so.1"
+WARNINGS = ("-Wall", "-Wextra", "-Wpedantic", "-Werror")
+REFUSING = ("-Wl,--wrap=malloc,--wrap=realloc,--wrap=free",)
+SIZES = (0, 1, 65535, 65536, 65537, 131072, 131073, 200000)
+USAGE = """usage: ./install [--uninstall] [PREFIX]
+       ./install --library [--libdir=DIR] [--v3] [--uninstall] [PREFIX]
+"""
+# How many random calls are made here. 100,000 take a quarter of an hour:
+# tests/library/random_calls.py DRIVER 100000
+RANDOM_CALLS = 2000
+
+
+def run(*words, **options):
+    """Runs a command, and returns how it ended; with `status` another end is a failure."""
+    status = options.pop("status", None)
+    done = subprocess.run([str(word) for word in words], capture_output=True, **options)
+    if status is not None and done.returncode != status:
+        raise AssertionError(f"{words}: status {done.returncode}\n{done.stdout[-3000:]!r}\n{done.stderr.decode(errors='replace')}")
+    return done
+
+
+def said(*words, **options):
+    """What a command prints that ends well."""
+    return run(*words, status=0, **options).stdout.decode()
+
+
+def needs(*tools):
+    missing = [tool for tool in tools if shutil.which(tool) is None]
+    return unittest.skipIf(missing, f"{' and '.join(missing)} missing")
+
+
+def setUpModule():
+    if shutil.which("cc") is None or shutil.which("objcopy") is None:
+        raise unittest.SkipTest("there is no C compiler, or no objcopy")
+
+
+@functools.cache
+def work():
+    """The folder of this run, with a key, a passphrase and a seed."""
+    folder = Path(tempfile.mkdtemp())
+    unittest.addModuleCleanup(shutil.rmtree, folder)
+    (folder / "key").write_bytes(os.urandom(32))
+    (folder / "seed").write_bytes(os.urandom(48))
+    (folder / "pass").write_bytes(b"correct horse")
+    return folder
+
+
+@functools.cache
+def prefix():
+    """Where the library is installed: its folder has a file of somebody else's before."""
+    folder = work() / "prefix"
+    (folder / "include").mkdir(parents=True)
+    (folder / "include/other.h").touch(0o644)
+    done = run(ROOT / "install", "--library", folder, umask=0o077, status=0)
+    building = b"install: building the library; its proofs are checked first\n"
+    if done.stderr not in (b"", building):
+        raise AssertionError(done.stderr)
+    return folder
+
+
+def archive():
+    return prefix() / "lib/libagefile.a"
+
+
+def files_of(folder):
+    """The paths under a folder, with the modes of files and the targets of links."""
+    paths = (path for path in sorted(folder.rglob("*")) if path.is_symlink() or path.is_file())
+    return [
+        f"{path.relative_to(folder)} -> {os.readlink(path)}" if path.is_symlink() else f"{path.stat().st_mode & 0o777:o} {path.relative_to(folder)}"
+        for path in paths
+    ]
+
+
+@functools.cache
+def sanitizers():
+    words = ("-fsanitize=address,undefined", "-fno-sanitize-recover=all")
+    done = run("cc", *words, "-x", "c", "-o", work() / "empty_sanitized", "-", input=b"int main(void) { return 0; }")
+    if done.returncode != 0:
+        print("skipped: sanitizers, which this C compiler lacks")
+    return words if done.returncode == 0 else ()
+
+
+@functools.cache
+def built(name, *flags, source=None, compiler="cc", library=None):
+    """A program of tests/library/, built without a warning: `name` is what it is called here."""
+    source = source or TESTS / f"{name}.c"
+    made = work() / "-".join([name, compiler, *re.findall(r"\w+", "".join(flags))])[:200]
+    language = ("-x", "c++", "-std=c++11") if compiler == "c++" else ()
+    words = (*flags, *WARNINGS, f"-I{prefix()}/include", *language, source, *(("-x", "none") if language else ()))
+    run(compiler, "-g", "-pthread", "-o", made, *words, *(library or (archive(),)), status=0)
+    return made
+
+
+def names_in(*words):
+    return sorted(line.split()[-1] for line in said("nm", *words).splitlines() if line and not line.endswith(":"))
+
+
+class Installing(unittest.TestCase):
+    def test_files(self):
+        """./install --library puts the library, its header and its pkg-config file under PREFIX."""
+        self.assertEqual(files_of(prefix()), [
+            "644 include/agefile.h", "644 include/other.h", "644 lib/libagefile.a", f"lib/libagefile.so -> {SONAME}", f"755 lib/{SONAME}",
+            "644 lib/pkgconfig/agefile.pc",
+        ])
+        for folder in ("lib", "lib/pkgconfig"):
+            self.assertEqual((prefix() / folder).stat().st_mode & 0o777, 0o755, folder)
+        self.assertEqual((prefix() / "include/agefile.h").read_bytes(), HEADER.read_bytes())
+
+    def test_versions(self):
+        """agefile.pc, the header and the crate for Rust have the newest version of the change log."""
+        self.assertIn(f"Version: {version()}\n", (prefix() / "lib/pkgconfig/agefile.pc").read_text())
+        self.assertIn(f'\nversion = "{version()}"\n', (ROOT / "bindings/rust/Cargo.toml").read_text())
+        major, minor, patch = map(int, version().split("."))
+        self.assertIn(f"#define AGEFILE_VERSION 0x{major:02x}{minor:02x}{patch:02x} ", HEADER.read_text())
+
+    def test_uninstalling(self):
+        """--uninstall removes just these files, and the folders that it leaves empty."""
+        other = work() / "other"
+        shutil.copytree(prefix(), other, symlinks=True)
+        self.assertEqual(run(ROOT / "install", "--library", "--uninstall", other, status=0).stderr, b"")
+        self.assertEqual(files_of(other), ["644 include/other.h"])
+        self.assertFalse((other / "lib").exists())
+
+    def test_refused_words(self):
+        """Words that ./install --library refuses."""
+        rows = [["--other"], [""]] + [[word, "refused"] for word in (
+            "--libdir=", "--libdir=/lib", "--libdir=../lib", "--libdir=lib/..", "--libdir=a b", "--libdir=lib/", "--v2")]
+        for words in rows:
+            with self.subTest(" ".join(words)):
+                done = run(ROOT / "install", "--library", *words, cwd=work(), status=2)
+                self.assertEqual((done.stdout, done.stderr.decode()), (b"", USAGE))
+                self.assertFalse((work() / "refused").exists())
+        done = run(ROOT / "install", "--library", "--help", status=0)
+        self.assertEqual((done.stdout.decode(), done.stderr), (USAGE, b""))
+
+
+class Names(unittest.TestCase):
+    def test_names(self):
+        """Archive and shared library have just the names of the header."""
+        declared = re.findall(r"^uint(?:32|64)_t agefile_(?:export_)?(\w+)\(", HEADER.read_text(), re.M)
+        expected = sorted("agefile_" + name for name in declared)
+        self.assertEqual(len(expected), 25)
+        self.assertEqual(names_in("-g", "--defined-only", archive()), expected)
+        versioned = sorted([f"{name}@@AGEFILE_1" for name in expected] + ["AGEFILE_1"])
+        self.assertEqual(names_in("-D", "--defined-only", prefix() / "lib" / SONAME), versioned)
+        symbols = (ROOT / "share/debian/libagefile.symbols").read_text()
+        self.assertEqual(sorted(re.findall(r"^ (agefile_\w+)@", symbols, re.M)), expected)
+
+    def test_what_they_need(self):
+        """They need malloc, realloc, free and functions on memory, and libc alone."""
+        needed = {"free", "malloc", "realloc", "memcpy", "memmove", "memset", "memcmp"}
+        self.assertLessEqual(set(names_in("-u", archive())), needed)
+        text = said("readelf", "-Wdl", prefix() / "lib" / SONAME)
+        self.assertIn(f"[{SONAME}]", text)
+        self.assertRegex(text, "BIND_NOW")
+        self.assertRegex(text, "GNU_RELRO")
+        self.assertNotRegex(text, "TEXTREL")
+        self.assertEqual(re.findall(r"\(NEEDED\).*\[(.*)\]", text), ["libc.so.6"])
+
+
+class Folders(unittest.TestCase):
+    """An installation for a package, in a folder of libraries for one architecture."""
+
+    def setUp(self):
+        self.staged = work() / "staged"
+        self.libraries = self.staged / "usr/lib/x86_64-linux-gnu"
+        self.second = self.libraries / "glibc-hwcaps/x86-64-v3" / SONAME
+        self.environment = os.environ | {"DESTDIR": str(self.staged)}
+
+    def install(self, *words):
+        return run(ROOT / "install", "--library", "--libdir=lib/x86_64-linux-gnu", *words, "/usr", env=self.environment, status=0)
+
+    def loaded(self, program, *words):
+        loader = re.search(r"interpreter: (.*)\]", said("readelf", "-Wl", program))[1]
+        return re.search(rf"{SONAME} => (.*) \(", said(loader, *words, "--list", program))[1]
+
+    def test_folders(self):
+        """DESTDIR, --libdir and --v3: the files, and which library the loader takes."""
+        self.install("--v3")
+        folder = "lib/x86_64-linux-gnu"
+        self.assertEqual(files_of(self.staged / "usr"), [
+            "644 include/agefile.h", f"755 {folder}/glibc-hwcaps/x86-64-v3/{SONAME}", f"644 {folder}/libagefile.a", f"{folder}/libagefile.so -> {SONAME}",
+            f"755 {folder}/{SONAME}", f"644 {folder}/pkgconfig/agefile.pc",
+        ])
+        self.assertIn("%ymm", said("objdump", "-d", self.second))
+        self.assertNotIn("%ymm", said("objdump", "-d", self.libraries / SONAME))
+        names = [names_in("-D", "--defined-only", path) for path in (self.second, self.libraries / SONAME, prefix() / "lib" / SONAME)]
+        self.assertEqual(names, [names[0]] * 3)
+        self.loads()
+        self.assertEqual(self.install("--uninstall").stderr, b"")
+        self.assertEqual(list((self.staged / "usr").iterdir()), [])
+
+    def loads(self):
+        stream = with_pkg_config("staged_stream", self.libraries)
+        self.assertIn("agefile_seal_next@AGEFILE_1", said("nm", "-D", stream))
+        loader = re.search(r"interpreter: (.*)\]", said("readelf", "-Wl", stream))[1]
+        if "--glibc-hwcaps-mask" not in said(loader, "--help"):
+            return
+        self.assertEqual(self.loaded(stream, "--glibc-hwcaps-mask", "x86-64-v2"), str(self.libraries / SONAME))
+        if run("sh", "-c", f'root={ROOT}; . "$root/share/build.sh"; has_v3').returncode == 0:
+            self.assertEqual(self.loaded(stream), str(self.second))
+            self.assertEqual(opened_by(stream, sealed_by(stream, b"text")), b"text")
+
+
+def with_pkg_config(name, libraries):
+    """The example, linked with the shared library of a folder."""
+    if shutil.which("pkg-config"):
+        flags = said("pkg-config", "--cflags", "--libs", "agefile", env=os.environ | {"PKG_CONFIG_PATH": str(libraries / "pkgconfig")}).split()
+    else:
+        flags = [f"-I{prefix()}/include", f"-L{libraries}", "-lagefile"]
+    run("cc", "-O2", "-o", work() / name, EXAMPLES / "stream.c", *flags, f"-Wl,-rpath,{libraries}", status=0)
+    return work() / name
+
+
+def sealed_by(stream, plain):
+    return run(stream, "-e", work() / "key", input=plain, status=0).stdout
+
+
+def opened_by(stream, file):
+    return run(stream, work() / "key", input=file, status=0).stdout
+
+
+class Languages(unittest.TestCase):
+    def test_standards(self):
+        """The header is C99, C11, C17 and C++ from 98 to 20, and it links."""
+        for compiler in ("gcc", "clang", "g++", "clang++"):
+            if shutil.which(compiler) is None:
+                continue
+            plus = compiler.endswith("++")
+            for standard in ("c++98", "c++11", "c++20") if plus else ("c99", "c11", "c17"):
+                with self.subTest(f"{compiler} {standard}"):
+                    words = (*WARNINGS, "-Wno-long-long", f"-std={standard}", f"-I{prefix()}/include", "-x", "c++" if plus else "c", "-", "-x", "none")
+                    source = b"#include <agefile.h>\nint main(void) { return *agefile_message(agefile_version() == 0); }\n"
+                    run(compiler, *words, archive(), "-o", work() / "language", input=source, status=0)
+
+
+class Declarations(unittest.TestCase):
+    def compared(self, root):
+        environment = os.environ | {"AGEFILE_LIBRARY": str(prefix() / "lib" / SONAME), "PYTHONDONTWRITEBYTECODE": "1"}
+        return run(sys.executable, TESTS / "declarations.py", root, env=environment)
+
+    def test_they_agree(self):
+        """The exports, agefile.h, _library.py and ffi.rs declare the same functions and structs."""
+        done = self.compared(ROOT)
+        self.assertEqual((done.stdout.decode(), done.stderr.decode(), done.returncode), ("25 functions, 6 structs\n", "", 0))
+
+    def test_differences_are_found(self):
+        """Each difference is found, and shown as one of its file."""
+        header, python, rust = "bindings/c/agefile.h", "bindings/python/agefile/_library.py", "bindings/rust/src/ffi.rs"
+        rows = [
+            ("a parameter of an export", "crates/agefile/src/opening.rt", "file_len: u64", "file_len: u32", header),
+            ("a field of an export", "crates/agefile/src/report.rt", "pub detail: u64", "pub detail: u32", header),
+            ("a slice of an export", "crates/agefile/src/listing.rt", "stanzas: &mut [StanzaSummary]", "stanzas: &mut [u8]", header),
+            ("a type in the header", header, "uint64_t count", "uint32_t count", header),
+            ("an order in the header", header, "const agefile_ranges *ranges, uint64_t at", "uint64_t at, const agefile_ranges *ranges", header),
+            ("an export behind a call", header, '__asm__("agefile_open_next")', '__asm__("agefile_seal_next")', header),
+            ("a parameter that may be null", header, 'AGEFILE_CALL("decrypt", (3, 6))', 'AGEFILE_CALL("decrypt", (3))', header),
+            ("a convenience's parameter that may be null", header, "AGEFILE_NONNULL((3, 4, 7))", "AGEFILE_NONNULL((3, 7))", header),
+            ("a struct's size in the header", header, "uint8_t mac[32]", "uint8_t mac[24]", header),
+            ("a struct's order in the header", header, "    uint64_t first;      /* the offset of the first sealed chunk */\n", "", header),
+            ("a type in Python", python, '"ranges_locate": (_pointer(Ranges), number,', '"ranges_locate": (_pointer(Ranges), byte,', python),
+            ("a field in Python", python, '("first", number)', '("first", byte)', python),
+            ("a type in Rust", rust, "last: bool", "last: u8", rust),
+            ("a field in Rust", rust, "pub header_len: u64", "pub header_len: u32", rust),
+        ]
+        for title, name, old, new, shown in rows:
+            with self.subTest(title), tempfile.TemporaryDirectory() as folder:
+                shutil.copytree(ROOT / "crates/agefile/src", f"{folder}/crates/agefile/src")
+                shutil.copytree(ROOT / "bindings", f"{folder}/bindings", ignore=shutil.ignore_patterns("target"))
+                path = Path(folder, name)
+                text = path.read_text()
+                self.assertIn(old, text)
+                path.write_text(text.replace(old, new))
+                done = self.compared(folder)
+                self.assertEqual(done.returncode, 1, done.stderr)
+                self.assertRegex(done.stdout.decode(), rf"(?m)^\+\+\+ {re.escape(shown)}.*\n(.*\n)*[+-][^+-]")
+
+
+class Diagnoses(unittest.TestCase):
+    CALL = "agefile_open(front, 9, file_key, &payload, &report)"
+
+    def diagnosis(self, compiler, body):
+        source = (
+            "#include <agefile.h>\nuint8_t key[32], file_key[16], front[9], seed[48], short_key[15];\nagefile_payload payload;\n"
+            f"agefile_report report;\nuint32_t call(void);\nuint32_t call(void) {{ {body} }}\n"
+        )
+        language = "c++" if compiler.endswith("++") else "c"
+        words = (*WARNINGS, f"-I{prefix()}/include", "-O2", "-c", "-o", work() / "call.o", "-x", language, "-")
+        done = run(compiler, *words, input=source.encode())
+        self.assertEqual(done.returncode != 0, done.stderr != b"")
+        return done.stderr.decode()
+
+    def test_diagnoses(self):
+        """Results that are ignored, null pointers without a length, and short keys."""
+        whole = "agefile_decrypt_key(front, 9, key, front, 9, &report)"
+        for compiler in ("gcc", "clang", "g++", "clang++"):
+            if shutil.which(compiler) is None:
+                continue
+            with self.subTest(compiler):
+                self.assertEqual(self.diagnosis(compiler, f"return {self.CALL};"), "")
+                self.assertEqual(self.diagnosis(compiler, f"return {whole};"), "")
+                for call in (self.CALL, whole):
+                    self.assertRegex(self.diagnosis(compiler, f"{call}; return 0;"), "unused-result")
+                    self.assertRegex(self.diagnosis(compiler, f"return {call.replace('&report', 'NULL')};"), "nonnull")
+                for pointer in ("&payload", "file_key"):
+                    self.assertRegex(self.diagnosis(compiler, f"return {self.CALL.replace(pointer, 'NULL')};"), "nonnull")
+                if not compiler.endswith("++"):
+                    text = self.diagnosis(compiler, f"return {self.CALL.replace('file_key', 'short_key')};")
+                    self.assertRegex(text, "array-bounds|stringop-overflow|stringop-overread|array-parameter")
+
+
+def number_in(name, constant):
+    """The number that a file gives a constant of this name, in C, Rust or Python."""
+    found = re.search(rf"^(?:#define |(?:pub(?:\(crate\))? )?const )?{constant}(?:: \w+)?(?: =)? (\d[\d_]*)\b", (ROOT / name).read_text(), re.M)
+    return int(found[1].replace("_", ""))
+
+
+class Constants(unittest.TestCase):
+    def test_codes(self):
+        """The header's codes, messages and details are those of the crates."""
+        text, expected = HEADER.read_text(), codes.texts(ROOT)
+        for name in ("codes", "messages", "details"):
+            with self.subTest(name):
+                self.assertIn(expected[name], text)
+        self.assertEqual([fault.code for fault in codes.faults(ROOT)], list(range(26)))
+        self.assertEqual(sorted(codes.parts(ROOT)), [1, 2, 3, 4, 5])
+
+    def test_unknown_codes(self):
+        """convert prints the message of each code and detail, and ends well only if others have the default."""
+        lines = said(built("convert"), "messages").splitlines()
+        faults = [f"{fault.code} {fault.message}" for fault in codes.faults(ROOT)]
+        self.assertEqual(lines, faults + [f"detail {number} {text}" for number, text in codes.parts(ROOT).items()])
+
+    def test_lengths(self):
+        """The lengths in the header, in Python and in Rust are the crates'."""
+        chunk, tag = (number_in("crates/age_stream/src/sizes.rt", name) for name in ("CHUNK_SIZE", "TAG_SIZE"))
+        front = number_in("crates/agefile/src/limits.rt", "MAX_HEADER") + 16
+        header, python, rust = "bindings/c/agefile.h", "bindings/python/agefile/_library.py", "bindings/rust/src/ffi.rs"
+        for name, before in ((header, "AGEFILE_"), (python, ""), (rust, "")):
+            found = [number_in(name, before + constant) for constant in ("TEXT_CHUNK", "SEALED_CHUNK", "FRONT")]
+            self.assertEqual(found, [chunk, chunk + tag, front], name)
+        self.assertEqual([number_in(name, "TAG") for name in (python, rust)], [tag, tag])
+        self.assertGreaterEqual(number_in(header, "AGEFILE_HEADER_ROOM"), number_in("crates/agefile/src/sizes.rt", "FRONT"))
+
+
+class Calls(unittest.TestCase):
+    """The tests in C, each with faulting pages around its buffers, at their end and at their start."""
+
+    def each_test(self, program, title=""):
+        for name in said(program).splitlines():
+            for placing in ({}, {"AT_START": "1"}):
+                with self.subTest(f"{title or program.name}: {name}{', at the start of pages' if placing else ''}"):
+                    done = run(program, name, env=os.environ | placing)
+                    self.assertEqual((done.returncode, done.stderr), (0, b""), done.stdout.decode() + done.stderr.decode())
+
+    def test_buffers(self):
+        self.each_test(built("buffers", *sanitizers()), "buffers")
+
+    def test_steps(self):
+        self.each_test(built("steps", *sanitizers()), "steps")
+
+    def test_headers(self):
+        self.each_test(built("headers", *sanitizers()), "headers")
+
+    def test_refused_allocations(self):
+        self.each_test(built("refuse", *sanitizers(), *REFUSING), "refuse")
+
+    def test_null_pointers(self):
+        self.each_test(built("nulls", *sanitizers()), "nulls")
+        self.each_test(built("nulls", "-O2"), "nulls, inlined")
+        if shutil.which("c++"):
+            self.each_test(built("nulls", *sanitizers(), compiler="c++"), "nulls in C++")
+        done = run(built("passed", "-Wno-unused-parameter", library=("-g",)))
+        self.assertEqual((done.returncode, done.stdout), (0, b""))
+
+    def test_headers_of_age(self):
+        """The stanzas of files of age are listed as the lines that they were."""
+        for path in sorted((ROOT / "tests/data").glob("*.age")):
+            with self.subTest(path.name):
+                header = re.match(rb"age-encryption.org/v1\n((?:.*\n)*?)--- ", path.read_bytes())[1]
+                self.assertEqual(run(built("headers", *sanitizers()), "stanzas", input=path.read_bytes(), status=0).stdout, header)
+
+    def test_second_compiler(self):
+        """The archive as Rattle's own compiler makes it: a fault of one of the two compilers shows."""
+        made, kept, second = ROOT / "crates/agefile/out/libagefile.a", work() / "kept.a", work() / "second.a"
+        shutil.copy2(made, kept)
+        try:
+            run("rt", "lib", "--backend", "rattle", cwd=ROOT / "crates/agefile", status=0)
+            shutil.move(made, second)
+        finally:
+            shutil.copy2(kept, made)
+        library = (second, Path(said("rt", "doc").strip()).parent / "c/liblibc_c.a")
+        for name in ("buffers", "steps", "headers"):
+            self.each_test(built(name, "-O1", library=library), f"{name}, second compiler")
+
+    def test_random_calls(self):
+        """Random calls agree with a model of the library in Python."""
+        driver = built("driver", *sanitizers(), *REFUSING)
+        done = run(sys.executable, TESTS / "random_calls.py", driver, RANDOM_CALLS)
+        self.assertEqual((done.returncode, done.stderr), (0, b""), done.stdout.decode() + done.stderr.decode())
+        self.assertIn(f"{RANDOM_CALLS} calls; ", done.stdout.decode())
+
+    def test_a_wrong_library_is_found(self):
+        """Random calls tell a library that seals one byte wrongly from a right one."""
+        source = work() / "wrong.c"
+        text = (TESTS / "driver.c").read_text()
+        right = "case 5: return agefile_wrap_key(P(0), P(1), P(2), B(3), report);"
+        self.assertIn(right, text)
+        source.write_text(text.replace(right, "case 5: P(2)[15] ^= 1; return agefile_wrap_key(P(0), P(1), P(2), B(3), report);"))
+        done = run(sys.executable, TESTS / "random_calls.py", built("wrong", *REFUSING, source=source), 400)
+        self.assertEqual(done.returncode, 1)
+        self.assertIn(": wrap_key, flags ", done.stdout.decode())
+
+    def test_threads(self):
+        """Eight threads at once and a forked child; at most 24 of 32 KiB of stack, no signal's handler changed."""
+        self.assertGreater(int(said(built("threads", "-O2"))), 0)
+
+
+class WithTheProgram(unittest.TestCase):
+    """Files go to agep and back."""
+
+    def agep(self, *words, **options):
+        return run(AGEP, *words, cwd=work(), **options)
+
+    def convert(self, *words, **options):
+        return run(built("convert", "-O2"), *words, cwd=work(), **options)
+
+    def test_both_ways(self):
+        """Whole buffers, steps and ranges make and open the files of agep, of each size."""
+        for size in SIZES:
+            plain = b"".join(b"%d\n" % i for i in range(40000))[:size]
+            for secret, work_factor in ((("-k", "key"), ()), (("-p", "pass"), ("-w", "3"))):
+                with self.subTest(f"{size} bytes, {secret[1]}"):
+                    made = self.agep("encrypt", *secret, *work_factor, "-s", "seed", input=plain, status=0).stdout
+                    for kind in ("whole", "steps", "ranges"):
+                        self.assertEqual(self.convert(kind, "decrypt", *secret, input=made, status=0).stdout, plain, kind)
+                    for kind in ("whole", "steps"):
+                        self.assertEqual(self.convert(kind, "encrypt", *secret, "3", "seed", input=plain, status=0).stdout, made, kind)
+                        fresh = self.convert(kind, "encrypt", *secret, "3", input=plain, status=0).stdout
+                        self.assertEqual(self.agep("decrypt", *secret, input=fresh, status=0).stdout, plain, kind)
+
+    def test_examples(self):
+        """stream.c and parallel.c make and open the files of agep."""
+        stream = built("stream", *sanitizers(), source=EXAMPLES / "stream.c")
+        parallel = built("parallel", "-O2", source=EXAMPLES / "parallel.c")
+        for size in SIZES:
+            plain = os.urandom(size)
+            with self.subTest(f"{size} bytes"):
+                made = self.agep("encrypt", "-k", "key", input=plain, status=0).stdout
+                self.assertEqual(opened_by(stream, made), plain)
+                self.assertEqual(self.agep("decrypt", "-k", "key", input=sealed_by(stream, plain), status=0).stdout, plain)
+                (work() / "plain").write_bytes(plain)
+                for count in ("1", "3", "64"):
+                    run(parallel, "-e", work() / "key", count, work() / "plain", work() / "made", status=0)
+                    self.assertEqual(self.agep("decrypt", "-k", "key", "made", status=0).stdout, plain)
+                    run(parallel, work() / "key", count, work() / "made", work() / "back", status=0)
+                    self.assertEqual((work() / "back").read_bytes(), plain)
+
+    def agrees(self, file, line):
+        """Whole buffers and steps end on a file as agep does, after the same text."""
+        done = self.agep("decrypt", "-k", "key", input=file, status=1)
+        self.assertEqual(done.stderr.decode(), f"agep: {line}\n")
+        for kind in ("whole", "steps"):
+            converted = self.convert(kind, "decrypt", "-k", "key", input=file)
+            message = re.sub(r"^chunk (.*) (\d+)$", r"chunk \2 \1", converted.stderr.decode().rstrip("\n"))
+            self.assertEqual((converted.stdout, re.sub(" 0$", "", message)), (done.stdout, line))
+            self.assertNotEqual(converted.returncode, 0)
+
+    def test_faults(self):
+        """Files that were cut or damaged, or are for another: as with agep."""
+        made = self.agep("encrypt", "-k", "key", "-s", "seed", input=os.urandom(200000), status=0).stdout
+        rows = [
+            (0, "header is cut short"), (100, "header is cut short"), (160, "payload nonce is cut short"), (180, "chunk 0 is cut short"),
+            (65724, "chunk 0 is damaged"), (65730, "chunk 1 is cut short"), (200000, "chunk 3 is damaged"), (200235, "chunk 3 is damaged"),
+        ]
+        for length, line in rows:
+            with self.subTest(f"cut to {length} bytes"):
+                self.agrees(made[:length], line)
+        self.agrees(made[:70000] + bytes(byte ^ 255 for byte in made[70000:70002]) + made[70002:], "chunk 1 is damaged")
+        self.agrees((ROOT / "tests/data/one_recipient.age").read_bytes(), "no key fits this file")
+        (work() / "key.other").write_bytes(os.urandom(32))
+        other = self.agep("encrypt", "-k", "key.other", input=b"text", status=0).stdout
+        self.agrees(other, "wrong passphrase or key")
+        done = run(built("stream", *sanitizers(), source=EXAMPLES / "stream.c"), work() / "key", input=other, status=1)
+        self.assertEqual((done.stdout, done.stderr), (b"", b"stream: wrong passphrase or key (0)\n"))
+
+    def test_inputs_that_fail(self):
+        """The example makes no file of an input that fails midway, nor of a folder."""
+        stream = built("stream", *sanitizers(), source=EXAMPLES / "stream.c")
+        folder = os.open(work(), os.O_RDONLY)
+        self.addCleanup(os.close, folder)
+        self.makes_no_file(run(stream, "-e", work() / "key", stdin=folder))
+        for length in (0, 10, 65535, 65536, 65537, 131072, 131073):
+            with self.subTest(f"{length} bytes"):
+                self.makes_no_file(run(built("breaks", "-O2"), length, stream, "-e", work() / "key"))
+
+    def makes_no_file(self, done):
+        self.assertEqual((done.returncode, done.stderr), (1, b"stream: read failed\n"))
+        self.assertNotEqual(self.agep("decrypt", "-k", "key", input=done.stdout).returncode, 0)
+
+    @needs("age")
+    def test_age(self):
+        """Files of age open, and age opens those of the library."""
+        typing = ("timeout", "60", ROOT / "tests/type_passphrase.py", "pass", "age")
+        for size in (1, 65537):
+            with self.subTest(f"{size} bytes"):
+                plain = os.urandom(size)
+                (work() / "plain").write_bytes(plain)
+                (work() / "made").unlink(missing_ok=True)
+                run(*typing, "-p", "-o", "made", "plain", cwd=work(), status=0)
+                for kind in ("whole", "steps", "ranges"):
+                    self.assertEqual(self.convert(kind, "decrypt", "-p", "pass", input=(work() / "made").read_bytes(), status=0).stdout, plain)
+                for kind in ("whole", "steps"):
+                    (work() / "made").write_bytes(self.convert(kind, "encrypt", "-p", "pass", "10", input=plain, status=0).stdout)
+                    (work() / "back").unlink(missing_ok=True)
+                    run(*typing, "-d", "-o", "back", "made", cwd=work(), status=0)
+                    self.assertEqual((work() / "back").read_bytes(), plain)
+
+    def test_memory(self):
+        """A GiB through the example and back takes at most 4 MiB of memory."""
+        stream, peak = with_pkg_config("stream_shared", prefix() / "lib"), built("peak", "-O2")
+        words = f"head -c 1073741824 /dev/zero | {peak} sealing {stream} -e key | {peak} opening {stream} key | cmp - <(head -c 1073741824 /dev/zero)"
+        run("bash", "-o", "pipefail", "-c", words, cwd=work(), status=0)
+        for name in ("sealing", "opening"):
+            self.assertIn(int((work() / name).read_text()), range(1, 4097), name)
+
+
+class Document(unittest.TestCase):
+    def test_program(self):
+        """The program in docs/C.md decrypts, by both lines that compile it, and says what is wrong."""
+        text = (ROOT / "docs/C.md").read_text()
+        (work() / "program.c").write_text(re.search(r"```c\n(.*?)```", text, re.S)[1])
+        lines = re.findall(r"^cc .* program\.c .*", text, re.M)
+        self.assertEqual(len(lines), 2)
+        file = run(built("convert", "-O2"), "whole", "encrypt", "-p", "pass", "3", input=b"some text\n", cwd=work(), status=0).stdout
+        environment = os.environ | {"PKG_CONFIG_PATH": f"{prefix()}/lib/pkgconfig", "LD_LIBRARY_PATH": f"{prefix()}/lib"}
+        for line in lines:
+            if "pkg-config" in line and shutil.which("pkg-config") is None:
+                continue
+            with self.subTest(line):
+                line = line.replace("/usr/local", str(prefix())).replace("cc ", "cc -Wall -Wextra -Werror ", 1)
+                run("bash", "-c", line, cwd=work(), env=environment, status=0)
+                words = ("./program", "correct horse")
+                self.assertEqual(run(*words, input=file, cwd=work(), env=environment, status=0).stdout, b"some text\n")
+                done = run(*words, input=file[:150], cwd=work(), env=environment, status=1)
+                self.assertEqual((done.stdout, done.stderr), (b"", b"payload nonce is cut short\n"))
+
+
+if __name__ == "__main__":
+    unittest.main()
