@@ -132,6 +132,18 @@ class Packages(unittest.TestCase):
         self.assertEqual(opened.stdout, b"text")
         self.assertIn("libagefile.so", run("ldd", self.work / "stream"))
 
+    @needs("cc")
+    def test_layout(self):
+        """Structs, codes and states are those that programs of earlier releases were compiled with."""
+        lines = (ROOT / "share/debian/libagefile.layout").read_text().splitlines()
+        rows = [line.rsplit(" ", 1) for line in lines if not line.startswith("#")]
+        self.assertEqual(len({name for name, _ in rows if name.startswith("sizeof")}), 6)
+        source = self.work / "layout.c"
+        asserts = [f'_Static_assert({name} == {value}, "{name}");' for name, value in rows]
+        source.write_text("\n".join(["#include <agefile.h>", "#include <stddef.h>", *asserts]) + "\n")
+        include = self.unpacked("libagefile-dev*.deb") / "usr/include"
+        run("cc", "-std=c11", "-fsyntax-only", f"-I{include}", source)
+
     def test_the_wheel(self):
         place = self.work / "venv"
         run(sys.executable, "-m", "venv", place)

@@ -9,6 +9,8 @@ returns-in-Ok g c =
     let empty : c.new-file.result.out.items ≡ [] = search rules in
     let out : c.encrypt.new.out.out.items ≡ c.into_vec.result.items = cc (c.into_vec.ensures) in
     record {
-      file = file_of_one c.args.limits.now c.args.fresh.now _ ((goal.Recipient-dyn g (c.args.recipient.vtable, c.args.recipient.value)).the_labels c.args.recipient.value ∷ []) c.args.plain.now c.into_vec.result.items c.in-Ok.field-0
+      file = file_of_one c.args.limits.now c.args.fresh.now _
+          ((goal.Recipient-dyn g (c.args.recipient.vtable, c.args.recipient.value)).the_labels c.args.recipient.value
+          ∷ []) c.args.plain.now c.into_vec.result.items c.in-Ok.field-0
           (rw (list, come, empty, out) at c.in-Ok.ensures.encrypts);
     }
