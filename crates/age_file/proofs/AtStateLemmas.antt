@@ -1,8 +1,7 @@
 -- A source read from its first byte on.
 use Rattle.std.proofs.Common.{◌≡◌, ℕ, ◌++◌, ◌+◌, ◌-◌, ◌^◌, ◌<◌, ◌≤◌, length, take, drop, min, option_map, sym, ◌∙◌, ap, arith, subst, Option, Some, None, Result, Ok}
 use Rattle.std.proofs.lemmas.List.{length-drop, length-take, length-take-le, drop-drop, drop_all, take-append-drop}
-use Rattle.age_kdf.specs.Bytes.{Bytes}
-use Rattle.age_header.specs.Device.{Gives, Known}
+use Rattle.age_header.specs.Device.{Bytes, Gives, Known}
 use Rattle.age_file.specs.Ranges.{IsWithin}
 use Rattle.age_stream.specs.Places.{GivesAt, HasPlaces}
 

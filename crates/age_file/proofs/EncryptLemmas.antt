@@ -4,8 +4,7 @@ use Rattle.std.proofs.lemmas.List.{append-nil, length-append}
 use Rattle.std.specs.List.{concat}
 use Rattle.std.specs.Io.KnownBytes.{Appends}
 use Rattle.std.proofs.KnownBytes.{Appends-nil, Appends-trans}
-use Rattle.age_kdf.specs.Bytes.{Bytes}
-use Rattle.age_header.specs.Device.{GaveAtMost, MayGive, WritesPart, Known}
+use Rattle.age_header.specs.Device.{Bytes, GaveAtMost, MayGive, WritesPart, Known}
 use Rattle.age_header.specs.Header.{StanzaParts, Head}
 use Rattle.age_header.specs.Mac.{header_mac}
 use Rattle.age_header.proofs.MayGiveLemmas.{may-more, may-some}

@@ -2,8 +2,6 @@
 use Rattle.std.proofs.Common.{◌≡◌, ◌∙◌, ℕ, List, [], ◌∷◌, ◌++◌, map, sym, ap, subst, arith, Some, None, Result, Ok, Err}
 use Rattle.std.proofs.lemmas.List.{append-nil}
 use Rattle.std.proofs.lemmas.Option.{none-some}
-use Rattle.age_kdf.specs.Bytes.{Bytes}
-use Rattle.age_header.specs.Device.{Known}
 use Rattle.age_file.specs.declared.fault.Fault.{Fault}
 use Rattle.age_file.specs.declared.fault.Fault.TheVariants.{NotAge, BadLine, HeaderTruncated, HeaderTooLarge, MixedPassphrase, NoMatch, WrongKey, Malformed, BadMac, NonceTruncated, ChunkShort, EmptyFinal, BadChunk, TooManyChunks, Read, Write, OutOfMemory, NoRecipients, Refused, IncompatibleRecipients}
 use Rattle.age_file.specs.declared.limits.Fresh.{Fresh}
@@ -12,7 +10,7 @@ use Rattle.age_file.specs.Decrypt.{Decrypts, GivesVerdict}
 use Rattle.age_file.specs.Device.{CountsRead}
 use Rattle.age_file.specs.NewFile.{EncryptsText, Gathered}
 use Rattle.age_file.specs.Verdict.{Answering, IsVerdict}
-use Rattle.age_file.specs.Words.{Done, Labels, Reading, StanzaParts, Unwrapped, whole}
+use Rattle.age_file.specs.Words.{Bytes, Done, Known, Labels, Reading, StanzaParts, Unwrapped, whole}
 use Rattle.round_trip.specs.Losses.{IsMemoryFault}
 
 -- what one recipient gives is what all give
