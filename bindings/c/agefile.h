@@ -57,6 +57,7 @@ extern "C" {
 #define AGEFILE_TEXT_CHUNK 65536   /* bytes of a full chunk of the plaintext */
 #define AGEFILE_SEALED_CHUNK 65552 /* the same with its tag */
 #define AGEFILE_FRONT 65552        /* bytes from a file's start that hold its header and nonce */
+/* generated: version of the header, one line */
 #define AGEFILE_VERSION 0x000400   /* 0.4.0: major, minor and patch, a byte each */
 #define AGEFILE_STANZA_ROOM 128    /* bytes that hold a stanza of agefile_wrap_passphrase or _key */
 #define AGEFILE_HEADER_ROOM 256    /* bytes that hold a new file's header and nonce */
@@ -64,6 +65,7 @@ extern "C" {
 /* A code is never reused. 15, 16, 19 and 20 are faults of files and of other recipients; no
  * call here returns them. AGEFILE_NULL_POINTER comes before every other code: a payload or ranges
  * that was to be opened is closed, and otherwise only the report is written. */
+/* generated: codes */
 enum agefile_code {
     AGEFILE_OK = 0,
     AGEFILE_NOT_AGE = 1,
@@ -92,11 +94,13 @@ enum agefile_code {
     AGEFILE_NULL_POINTER = 24,
     AGEFILE_BAD_ARGUMENTS = 25
 };
+/* end of codes */
 
 /* The message of a code: the text of the program `agep`, without its numbers. The report's
  * `place` has the line or the chunk. */
 static inline const char *agefile_message(uint32_t code)
 {
+    /* generated: messages */
     switch (code) {
     case AGEFILE_OK: return "no fault";
     case AGEFILE_NOT_AGE: return "not an age file";
@@ -126,12 +130,14 @@ static inline const char *agefile_message(uint32_t code)
     case AGEFILE_BAD_ARGUMENTS: return "stanza arguments are not words";
     default: return "unknown code";
     }
+    /* end of messages */
 }
 
 /* The part of a stanza that is malformed, by the detail of a report on AGEFILE_MALFORMED: the text
  * that `agep` prints after "malformed stanza: ". */
 static inline const char *agefile_detail(uint64_t detail)
 {
+    /* generated: details */
     switch (detail) {
     case 1: return "argument count";
     case 2: return "salt";
@@ -140,6 +146,7 @@ static inline const char *agefile_detail(uint64_t detail)
     case 5: return "body length";
     default: return "other";
     }
+    /* end of details */
 }
 
 /* What a call returns in addition to its code. */
@@ -365,6 +372,7 @@ static inline uint32_t agefile_encrypt_key(
  * names of their own here, and the calls above, which are functions of this header, check the
  * pointers and call them. A null pointer with the length 0 is replaced by the address of a byte or
  * struct that is neither read nor written. */
+/* generated: exports */
 uint32_t agefile_export_inspect(
     const uint8_t *front, size_t front_len, agefile_summary *summary, agefile_report *report)
     __asm__("agefile_inspect");
@@ -378,12 +386,6 @@ uint32_t agefile_export_unlock_passphrase(
 uint32_t agefile_export_unlock_key(
     const uint8_t *front, size_t front_len, const uint8_t key[AGEFILE_LEAST 32],
     uint8_t file_key[AGEFILE_LEAST 16], agefile_report *report) __asm__("agefile_unlock_key");
-uint32_t agefile_export_ranges_last(
-    agefile_ranges *ranges, uint8_t *chunk, size_t chunk_len, agefile_report *report)
-    __asm__("agefile_ranges_last");
-uint32_t agefile_export_ranges_chunk(
-    const agefile_ranges *ranges, uint64_t at, uint8_t *chunk, size_t chunk_len,
-    agefile_report *report) __asm__("agefile_ranges_chunk");
 uint32_t agefile_export_wrap_passphrase(
     const uint8_t file_key[AGEFILE_LEAST 16], const uint8_t *pass, size_t pass_len, uint8_t work,
     const uint8_t salt[AGEFILE_LEAST 16], uint8_t *out, size_t out_len, agefile_report *report)
@@ -421,6 +423,12 @@ uint32_t agefile_export_ranges_open(
     const uint8_t *front, size_t front_len, uint64_t file_len,
     const uint8_t file_key[AGEFILE_LEAST 16], agefile_ranges *ranges, agefile_report *report)
     __asm__("agefile_ranges_open");
+uint32_t agefile_export_ranges_last(
+    agefile_ranges *ranges, uint8_t *chunk, size_t chunk_len, agefile_report *report)
+    __asm__("agefile_ranges_last");
+uint32_t agefile_export_ranges_chunk(
+    const agefile_ranges *ranges, uint64_t at, uint8_t *chunk, size_t chunk_len,
+    agefile_report *report) __asm__("agefile_ranges_chunk");
 uint32_t agefile_export_decrypt(
     const uint8_t *file, size_t file_len, const uint8_t file_key[AGEFILE_LEAST 16], uint8_t *out,
     size_t out_len, agefile_report *report) __asm__("agefile_decrypt");
@@ -428,6 +436,7 @@ uint32_t agefile_export_encrypt(
     const uint8_t *plain, size_t plain_len, const uint8_t *stanzas, size_t stanzas_len,
     const uint8_t file_key[AGEFILE_LEAST 16], const uint8_t nonce[AGEFILE_LEAST 16], uint8_t *out,
     size_t out_len, agefile_report *report) __asm__("agefile_encrypt");
+/* end of exports */
 
 static inline bool agefile_is_missing(const void *first, size_t len)
 {
@@ -453,6 +462,7 @@ static inline uint8_t *agefile_output(uint8_t *bytes)
     return bytes != NULL ? bytes : &none;
 }
 
+/* generated: calls of exports */
 static inline uint32_t agefile_inspect(
     const uint8_t *front, size_t front_len, agefile_summary *summary, agefile_report *report)
 {
@@ -493,23 +503,6 @@ static inline uint32_t agefile_unlock_key(
     return agefile_export_unlock_key(agefile_input(front), front_len, key, file_key, report);
 }
 
-static inline uint32_t agefile_ranges_last(
-    agefile_ranges *ranges, uint8_t *chunk, size_t chunk_len, agefile_report *report)
-{
-    if (agefile_is_missing(chunk, chunk_len))
-        return agefile_null_pointer(report);
-    return agefile_export_ranges_last(ranges, agefile_output(chunk), chunk_len, report);
-}
-
-static inline uint32_t agefile_ranges_chunk(
-    const agefile_ranges *ranges, uint64_t at, uint8_t *chunk, size_t chunk_len,
-    agefile_report *report)
-{
-    if (agefile_is_missing(chunk, chunk_len))
-        return agefile_null_pointer(report);
-    return agefile_export_ranges_chunk(ranges, at, agefile_output(chunk), chunk_len, report);
-}
-
 static inline uint32_t agefile_wrap_passphrase(
     const uint8_t file_key[AGEFILE_LEAST 16], const uint8_t *pass, size_t pass_len, uint8_t work,
     const uint8_t salt[AGEFILE_LEAST 16], uint8_t *out, size_t out_len, agefile_report *report)
@@ -537,8 +530,8 @@ static inline uint32_t agefile_wrap(
         agefile_is_missing(out, out_len))
         return agefile_null_pointer(report);
     return agefile_export_wrap(
-        agefile_input(args), args_len, agefile_input(body), body_len, agefile_output(out),
-        out_len, report);
+        agefile_input(args), args_len, agefile_input(body), body_len, agefile_output(out), out_len,
+        report);
 }
 
 static inline uint32_t agefile_header(
@@ -562,8 +555,8 @@ static inline uint32_t agefile_begin(
         return agefile_null_pointer(report);
     }
     return agefile_export_begin(
-        agefile_input(stanzas), stanzas_len, file_key, nonce, agefile_output(out), out_len,
-        payload, report);
+        agefile_input(stanzas), stanzas_len, file_key, nonce, agefile_output(out), out_len, payload,
+        report);
 }
 
 static inline uint32_t agefile_open(
@@ -623,6 +616,23 @@ static inline uint32_t agefile_ranges_open(
         agefile_input(front), front_len, file_len, file_key, ranges, report);
 }
 
+static inline uint32_t agefile_ranges_last(
+    agefile_ranges *ranges, uint8_t *chunk, size_t chunk_len, agefile_report *report)
+{
+    if (agefile_is_missing(chunk, chunk_len))
+        return agefile_null_pointer(report);
+    return agefile_export_ranges_last(ranges, agefile_output(chunk), chunk_len, report);
+}
+
+static inline uint32_t agefile_ranges_chunk(
+    const agefile_ranges *ranges, uint64_t at, uint8_t *chunk, size_t chunk_len,
+    agefile_report *report)
+{
+    if (agefile_is_missing(chunk, chunk_len))
+        return agefile_null_pointer(report);
+    return agefile_export_ranges_chunk(ranges, at, agefile_output(chunk), chunk_len, report);
+}
+
 static inline uint32_t agefile_decrypt(
     const uint8_t *file, size_t file_len, const uint8_t file_key[AGEFILE_LEAST 16], uint8_t *out,
     size_t out_len, agefile_report *report)
@@ -645,6 +655,7 @@ static inline uint32_t agefile_encrypt(
         agefile_input(plain), plain_len, agefile_input(stanzas), stanzas_len, file_key, nonce,
         agefile_output(out), out_len, report);
 }
+/* end of calls of exports */
 
 static inline uint32_t agefile_decrypt_passphrase(
     const uint8_t *file, size_t file_len, const uint8_t *pass, size_t pass_len, uint8_t max_work,

@@ -76,8 +76,9 @@ def _pointer(struct: type[ctypes.Structure]) -> Any:
 _report = _pointer(Report)
 _bytes = (address, size)
 _SIGNATURES: dict[str, tuple[Any, ...]] = {
+    # generated: signatures
     "inspect": (*_bytes, _pointer(Summary), _report),
-    "stanzas": (*_bytes, ctypes.POINTER(StanzaSummary), size, *_bytes, _report),
+    "stanzas": (*_bytes, _pointer(StanzaSummary), size, *_bytes, _report),
     "unlock_passphrase": (*_bytes, *_bytes, byte, address, _report),
     "unlock_key": (*_bytes, address, address, _report),
     "wrap_passphrase": (address, *_bytes, byte, address, *_bytes, _report),
@@ -95,6 +96,9 @@ _SIGNATURES: dict[str, tuple[Any, ...]] = {
     "ranges_last": (_pointer(Ranges), *_bytes, _report),
     "ranges_locate": (_pointer(Ranges), number, _report),
     "ranges_chunk": (_pointer(Ranges), number, *_bytes, _report),
+    "decrypt": (*_bytes, address, *_bytes, _report),
+    "encrypt": (*_bytes, *_bytes, address, address, *_bytes, _report),
+    # end of signatures
 }
 
 

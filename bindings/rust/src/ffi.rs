@@ -63,8 +63,13 @@ pub struct Ranges {
     state: u64,
 }
 
+#[allow(dead_code)]
 #[rustfmt::skip]
 extern "C" {
+    // generated: functions of the library
+    fn agefile_sealed_len(plain_len: u64) -> u64;
+    fn agefile_plain_len_at_most(file_len: u64) -> u64;
+    fn agefile_file_len(header_len: u64, plain_len: u64) -> u64;
     fn agefile_version() -> u32;
     fn agefile_inspect(front: *const u8, front_len: usize, summary: *mut Summary, report: *mut Report) -> u32;
     fn agefile_stanzas(front: *const u8, front_len: usize, stanzas: *mut StanzaSummary, stanzas_len: usize, text: *mut u8, text_len: usize, report: *mut Report) -> u32;
@@ -90,7 +95,7 @@ extern "C" {
     fn agefile_ranges_chunk(ranges: *const Ranges, at: u64, chunk: *mut u8, chunk_len: usize, report: *mut Report) -> u32;
     fn agefile_decrypt(file: *const u8, file_len: usize, file_key: *const [u8; 16], out: *mut u8, out_len: usize, report: *mut Report) -> u32;
     fn agefile_encrypt(plain: *const u8, plain_len: usize, stanzas: *const u8, stanzas_len: usize, file_key: *const [u8; 16], nonce: *const [u8; 16], out: *mut u8, out_len: usize, report: *mut Report) -> u32;
-    fn agefile_file_len(header_len: u64, plain_len: u64) -> u64;
+    // end of functions of the library
     fn getrandom(buf: *mut u8, len: usize, flags: u32) -> isize;
 }
 
