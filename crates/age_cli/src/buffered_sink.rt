@@ -28,8 +28,8 @@ impl Start for Brand {
     ghost contents = { None };
 }
 
-/// A sink over a writer that gathers small pieces; longer ones pass its buffer by. It keeps the reason of its last failed write. No
-/// write is tried again.
+/// A sink over a writer that gathers small pieces; longer ones pass its buffer by. It keeps the
+/// reason of its last failed write. No write is tried again.
 pub(crate) struct BufferedSink<'a, W: Write, K: Start> {
     out: &'a mut W,
     /// The bytes that are taken and not yet written.

@@ -12,8 +12,8 @@ use Rattle.agefile.specs.Giving.{Gives, GivesUp}
 use Rattle.agefile.specs.Heading.{MakesHeader, Refuses}
 use Rattle.agefile.specs.Limits.{limits}
 
--- The file of a plaintext that has a header of this text of stanzas, and the payload under this file
--- key and nonce.
+-- The file of a plaintext that has a header of this text of stanzas, and the payload under this
+-- file key and nonce.
 abbrev pub IsNewFile : (stanzas file_key nonce plain file : Bytes) → Type 0
 IsNewFile stanzas file_key nonce plain file =
     let k : FileKey = record { 0 = file_key } in
