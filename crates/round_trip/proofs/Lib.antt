@@ -1,1 +1,2 @@
+mod OwnHeaders
 mod TripLemmas
