@@ -1,2 +1,3 @@
 mod OwnHeaders
+mod RewrapLemmas
 mod TripLemmas

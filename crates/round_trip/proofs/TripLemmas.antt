@@ -14,7 +14,7 @@ use Rattle.age_file.specs.Verdict.{Answering, IsVerdict}
 use Rattle.age_file.specs.Words.{Done, Labels, Reading, StanzaParts, Unwrapped, whole}
 use Rattle.round_trip.specs.Losses.{IsLoss, IsMemoryFault, IsUnwritten, none}
 use Rattle.round_trip.specs.declared.pairs.Lost.{Lost}
-use Rattle.round_trip.specs.declared.pairs.Lost.TheVariants.{Unpaired, Memory, Encrypting, Decrypting}
+use Rattle.round_trip.specs.declared.pairs.Lost.TheVariants.{Unpaired, Memory, Encrypting, Rewrapping, Decrypting}
 
 -- what one recipient gives is what all give
 pub gathered_one : (wrapped : Result (List StanzaParts) ℕ) (meant : List Labels) (stanzas : List StanzaParts) → Gathered (wrapped ∷ []) meant (Ok stanzas) → wrapped ≡ Ok stanzas
@@ -112,13 +112,18 @@ unwritten_of_one limits fresh wraps labels xs x a plain fault old new list come 
     (subst (λ z. EncryptsText limits fresh (Gathered (map wraps z) (map labels z)) a old new (Err fault)) list h))
 
 -- a loss where no header is refused
+pub no_refusal : (refuses : Fault → Type 0) (limits : Bounds) (plain : List ℕ) (fault : Fault) → ((fault : Fault) → refuses fault → ⊥)
+    → IsUnwritten refuses limits plain fault → IsUnwritten none limits plain fault
+no_refusal refuses limits plain fault never (inl memory) = inl memory
+no_refusal refuses limits plain fault never (inr (inl long)) = inr (inl long)
+no_refusal refuses limits plain fault never (inr (inr refused)) = absurd (never fault refused)
+
 no_loss : (refuses : Fault → Type 0) (limits : Bounds) (plain : List ℕ) (lost : Lost) → ((fault : Fault) → refuses fault → ⊥)
     → IsLoss refuses limits plain lost → IsLoss none limits plain lost
 no_loss refuses limits plain (Unpaired error) never loss = tt
 no_loss refuses limits plain Memory never loss = tt
-no_loss refuses limits plain (Encrypting fault) never (inl memory) = inl memory
-no_loss refuses limits plain (Encrypting fault) never (inr (inl long)) = inr (inl long)
-no_loss refuses limits plain (Encrypting fault) never (inr (inr refused)) = absurd (never fault refused)
+no_loss refuses limits plain (Encrypting fault) never loss = no_refusal refuses limits plain fault never loss
+no_loss refuses limits plain (Rewrapping fault) never loss = no_refusal refuses limits plain fault never loss
 no_loss refuses limits plain (Decrypting fault) never loss = loss
 
 pub without_refusal : {A : Type 0} (refuses : Fault → Type 0) (limits : Bounds) (plain : List ℕ) (r : Result A Lost) → ((fault : Fault) → refuses fault → ⊥)

@@ -11,8 +11,10 @@
 
 mod file;
 mod pairs;
+mod rewrapping;
 #[cfg(test)]
 mod tests;
 
 pub use file::{decrypted, encrypted};
 pub use pairs::{Lost, key_there_and_back, pass_there_and_back, there_and_back};
+pub use rewrapping::{key_rewrapped_and_back, rewrapped, rewrapped_and_back};

@@ -22,6 +22,8 @@ pub enum Lost {
     Memory,
     /// Encrypting failed.
     Encrypting(Fault),
+    /// Rewrapping failed.
+    Rewrapping(Fault),
     /// Decrypting failed.
     Decrypting(Fault),
 }
@@ -66,14 +68,14 @@ pub fn there_and_back<M: Matched>(
 }
 
 /// A file key has 16 bytes: its type says so, and here a contract.
-fn has_sixteen_bytes(key: FileKey)
+pub(crate) fn has_sixteen_bytes(key: FileKey)
     ensures { IsFileKey key }
 {
     let FileKey(_bytes) = key;
 }
 
 /// Limits are in their ranges: their type says so, and here a contract.
-fn are_bounds(limits: &Limits)
+pub(crate) fn are_bounds(limits: &Limits)
     ensures { IsBounds limits.now }
 {
     let _ = limits.max_chunks();
