@@ -65,7 +65,7 @@ impl Limits {
     }
 
     /// The maximum size of a header in bytes.
-    pub(crate) fn max_header(&self) -> usize
+    pub fn max_header(&self) -> usize
         ensures value { result ≡ self.now.max_header }
         ensures range { IsBounds self.now }
     {
@@ -73,7 +73,7 @@ impl Limits {
     }
 
     /// The maximum number of chunks of a payload.
-    pub(crate) fn max_chunks(&self) -> u128
+    pub fn max_chunks(&self) -> u128
         ensures value { result ≡ self.now.max_chunks }
         ensures range { IsBounds self.now }
     {

@@ -1,6 +1,7 @@
 //! Whole files through callers' devices, recipients and identities.
 
 mod callers;
+mod constructors;
 mod devices;
 mod failing;
 mod objects;
@@ -13,7 +14,7 @@ use age_header::{MemSink, MemSource};
 use age_recipient::{
     FileKey, Identity, KeyIdentity, KeyRecipient, PassIdentity, PassRecipient, Recipient,
 };
-use devices::{FailingSource, LimitedSink};
+use devices::{FailingSink, FailingSource};
 use objects::ForeignRecipient;
 use std::alloc::{AllocError, Global};
 use std::test::Fail;
@@ -124,7 +125,7 @@ fn encrypt_and_decrypt_work_byte_by_byte(rt: HostRuntime) -> Result<(), Fail> {
     assert!(rt; answer == done);
     assert_eq!(rt; file.len(), 65_718);
     let mut source = FailingSource::new(plain.as_slice(), 1, 0);
-    let mut sink = LimitedSink::new(Vec::new(alloc), 100_000);
+    let mut sink = FailingSink::new(Vec::new(alloc), 100_000);
     let answer = encrypt(
         alloc,
         &mut source,
@@ -137,7 +138,7 @@ fn encrypt_and_decrypt_work_byte_by_byte(rt: HostRuntime) -> Result<(), Fail> {
     assert!(rt; sink.bytes == file);
     let identities = passphrase_identities(alloc)?;
     let mut source = FailingSource::new(file.as_slice(), 1, 0);
-    let mut sink = LimitedSink::new(Vec::new(alloc), 100_000);
+    let mut sink = FailingSink::new(Vec::new(alloc), 100_000);
     let answer = decrypt(
         alloc,
         &mut source,

@@ -1,12 +1,13 @@
 //! Payloads that are written piece by piece, and read chunk by chunk.
 
+mod constructors;
 mod devices;
 mod ranges;
 
 use crate::{ChunkBuf, Done, StreamFault, StreamReader, StreamWriter, chunk_nonce};
 use age_header::{MemSink, MemSource, Sink};
 use age_recipient::FileKey;
-use devices::{LimitedSink, ShortReads};
+use devices::{FailingSink, FailingSource};
 use std::alloc::{AllocError, Global};
 use std::test::Fail;
 
@@ -70,7 +71,7 @@ fn written(
 /// The plaintext of a payload, read from a source that gives this many bytes at a time, and the
 /// number of its chunks.
 fn read(alloc: Global, payload: &[u8], most: usize) -> Result<(Vec<u8>, u64), Fail> {
-    let mut source = ShortReads::new(payload, most);
+    let mut source = FailingSource::new(payload, most, 0);
     let mut reader = StreamReader::new(alloc, &KEY, &mut source, MOST)?;
     let mut text = Vec::new(alloc);
     for chunks in 0..u64::MAX {
@@ -187,12 +188,12 @@ fn chunks_are_counted_at_their_ends(rt: HostRuntime) -> Result<(), Fail> {
     Ok(())
 }
 
-/// A failed write is returned again, and the sink isn't asked again.
+/// A failed write is returned again, and the sink, which would take the next, isn't called again.
 #[test]
 fn writer_returns_a_failed_write_again(rt: HostRuntime) -> Result<(), Fail> {
     let alloc = rt.alloc();
     let plain = sevens(alloc, 65_537)?;
-    let mut sink = LimitedSink::new(16);
+    let mut sink = FailingSink::new(2);
     let mut writer = StreamWriter::new(alloc, &KEY, &NONCE, &mut sink, MOST)?;
     let first = writer.write_piece(plain.as_slice());
     let second = writer.write_piece(plain.as_slice());
@@ -200,7 +201,7 @@ fn writer_returns_a_failed_write_again(rt: HostRuntime) -> Result<(), Fail> {
     assert!(rt; first == Err(StreamFault::Write));
     assert!(rt; second == Err(StreamFault::Write));
     assert!(rt; last == Err(StreamFault::Write));
-    assert_eq!(rt; sink.asked, 2);
+    assert_eq!(rt; sink.calls, 2);
     assert_eq!(rt; sink.failures(), 1);
     Ok(())
 }

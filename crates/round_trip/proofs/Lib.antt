@@ -1,1 +1,3 @@
+mod OwnHeaders
+mod RewrapLemmas
 mod TripLemmas

@@ -1,23 +1,41 @@
--- What may keep a plaintext from coming back once its file was written.
-use Rattle.std.specs.Prelude.{⊤}
+-- What may keep a plaintext from coming back.
+use Rattle.std.specs.Prelude.{◌≡◌, ◌<◌, ◌⊎◌, ⊤, length}
+use Rattle.age_stream.specs.Payload.{chunks}
 use Rattle.age_file.specs.declared.fault.Fault.{Fault}
-use Rattle.age_file.specs.declared.fault.Fault.TheVariants.{OutOfMemory, Write}
-use Rattle.age_file.specs.Words.{IsPassError}
+use Rattle.age_file.specs.declared.fault.Fault.TheVariants.{OutOfMemory, TooManyChunks, Write}
+use Rattle.age_file.specs.AgeFile.{Bounds}
+use Rattle.age_file.specs.Words.{Bytes, IsPassError}
 use Rattle.round_trip.specs.declared.pairs.Lost.{Lost}
-use Rattle.round_trip.specs.declared.pairs.Lost.TheVariants.{Unpaired, Memory, Encrypting, Decrypting}
+use Rattle.round_trip.specs.declared.pairs.Lost.TheVariants.{Unpaired, Memory, Encrypting, Rewrapping, Decrypting}
 
 -- an allocation was refused; where it was one of the sink, the result is `Write`
 abbrev pub IsMemoryFault : Fault → Type 0
-IsMemoryFault OutOfMemory = ⊤
-IsMemoryFault Write = ⊤
-IsMemoryFault _ = ⊥
+IsMemoryFault fault = (fault ≡ OutOfMemory) ⊎ (fault ≡ Write)
 
--- no file was written, or an allocation was refused after it
-abbrev pub IsLoss : Lost → Type 0
-IsLoss (Unpaired error) = ⊤
-IsLoss Memory = ⊤
-IsLoss (Encrypting fault) = ⊤
-IsLoss (Decrypting fault) = IsMemoryFault fault
+-- the plaintext has more chunks than are allowed
+abbrev pub IsTooLong : (limits : Bounds) (plain : Bytes) (fault : Fault) → Type 0
+IsTooLong limits plain fault =
+    (fault ≡ TooManyChunks) × (limits.max_chunks < length (chunks plain))
+
+-- why no file was written: an allocation was refused, the plaintext is too long, or no header was
+-- made, with the faults that `refuses` allows
+abbrev pub IsUnwritten : (refuses : Fault → Type 0) (limits : Bounds) (plain : Bytes)
+    (fault : Fault) → Type 0
+IsUnwritten refuses limits plain fault =
+    IsMemoryFault fault ⊎ (IsTooLong limits plain fault ⊎ refuses fault)
+
+-- no file was written, or an allocation was refused
+abbrev pub IsLoss : (refuses : Fault → Type 0) (limits : Bounds) (plain : Bytes) (lost : Lost)
+    → Type 0
+IsLoss refuses limits plain (Unpaired error) = ⊤
+IsLoss refuses limits plain Memory = ⊤
+IsLoss refuses limits plain (Encrypting fault) = IsUnwritten refuses limits plain fault
+IsLoss refuses limits plain (Rewrapping fault) = IsUnwritten refuses limits plain fault
+IsLoss refuses limits plain (Decrypting fault) = IsMemoryFault fault
+
+-- no header is refused
+abbrev pub none : Fault → Type 0
+none fault = ⊥
 
 -- the pair could be made
 abbrev pub IsPaired : Lost → Type 0

@@ -2,9 +2,10 @@
 
 ghost use Rattle.std.specs.Prelude.{◌≡◌, List, [], ◌∷◌, Ok, IfOk, IfErr};
 ghost use Rattle.age_file.specs.AgeFile.{AgeFile};
+ghost use Rattle.age_file.specs.NewFile.{Gathered, IsRefusal};
 ghost use Rattle.age_file.specs.Verdict.{IsVerdict};
 ghost use Rattle.age_file.specs.Words.{Bytes, StanzaParts, whole};
-ghost use Rattle.round_trip.specs.Losses.{IsMemoryFault};
+ghost use Rattle.round_trip.specs.Losses.{IsMemoryFault, IsUnwritten};
 
 use age_file::{
     Fault, Fresh, Identity, Limits, MemSink, MemSource, Recipient, decrypt, encrypt, laws,
@@ -14,7 +15,8 @@ use std::alloc::Global;
 /// Encrypts a plaintext for one recipient.
 ///
 /// # Errors
-/// Those of `encrypt`.
+/// Those of `encrypt`: a refusal of the header, `TooManyChunks`, `OutOfMemory`, or `Write` if the
+/// allocation was the sink's.
 pub fn encrypted(
     alloc: Global,
     recipient: Box<dyn Recipient>,
@@ -25,6 +27,9 @@ pub fn encrypted(
     ensures file { IfOk result (λ file. (stanzas : List StanzaParts)
         × (wraps recipient fresh.now.file_key ≡ Ok stanzas)
         × AgeFile limits.now fresh.now.file_key stanzas plain.now file.items) }
+    ensures lost { let refuses = IsRefusal limits.now fresh.now.file_key
+        (Gathered (wraps recipient fresh.now.file_key ∷ []) (the_labels recipient ∷ [])) in
+        IfErr result (IsUnwritten refuses limits.now plain.now) }
 {
     let mut recipients: Vec<Box<dyn Recipient>> = Vec::new(alloc);
     if recipients.push(recipient).is_err() {

@@ -1,8 +1,10 @@
 //! Encrypting and decrypting, for the pairs.
 
-ghost use Rattle.std.specs.Prelude.{◌≡◌, IfOk, IfErr, MatchResult};
+ghost use Rattle.std.specs.Prelude.{◌≡◌, [], ◌∷◌, IfOk, IfErr, MatchResult};
+ghost use Rattle.age_file.specs.AgeFile.{IsBounds};
+ghost use Rattle.age_file.specs.NewFile.{Gathered, IsRefusal};
 ghost use Rattle.age_file.specs.Words.{IsFileKey, PairFits};
-ghost use Rattle.round_trip.specs.Losses.{IsLoss, IsPaired, IsPairedIf};
+ghost use Rattle.round_trip.specs.Losses.{IsLoss, IsPaired, IsPairedIf, none};
 
 use crate::file::{decrypted, encrypted};
 use age_file::{
@@ -20,6 +22,8 @@ pub enum Lost {
     Memory,
     /// Encrypting failed.
     Encrypting(Fault),
+    /// Rewrapping failed.
+    Rewrapping(Fault),
     /// Decrypting failed.
     Decrypting(Fault),
 }
@@ -45,7 +49,10 @@ pub fn there_and_back<M: Matched>(
     requires identity { (⟦<dyn Identity as Identity>⟧ identity.vtable).meaning identity.value
         ≡ M.I.meaning (M.the_identity pair.now) }
     ensures back { IfOk result (λ text. text.items ≡ plain.now) }
-    ensures lost { IfErr result IsLoss }
+    ensures lost { let refuses = IsRefusal limits.now fresh.now.file_key
+        (Gathered (M.R.wraps (M.the_recipient pair.now) fresh.now.file_key ∷ [])
+        ((⟦<dyn Recipient as Recipient>⟧ recipient.vtable).the_labels recipient.value ∷ [])) in
+        IfErr result (IsLoss refuses limits.now plain.now) }
     ensures paired { IfErr result IsPaired }
 {
     laws::pair_opens(pair);
@@ -61,16 +68,24 @@ pub fn there_and_back<M: Matched>(
 }
 
 /// A file key has 16 bytes: its type says so, and here a contract.
-fn has_sixteen_bytes(key: FileKey)
+pub(crate) fn has_sixteen_bytes(key: FileKey)
     ensures { IsFileKey key }
 {
     let FileKey(_bytes) = key;
 }
 
+/// Limits are in their ranges: their type says so, and here a contract.
+pub(crate) fn are_bounds(limits: &Limits)
+    ensures { IsBounds limits.now }
+{
+    let _ = limits.max_chunks();
+}
+
 /// The same for the pair of a passphrase, as `PassPair::new` makes it.
 ///
 /// # Errors
-/// `Unpaired` as `PassPair::new` says, else those of `there_and_back`.
+/// `Unpaired` as `PassPair::new` says, else those of `there_and_back`; of `Encrypting` only
+/// `TooManyChunks`, `OutOfMemory`, or `Write` if the allocation was the sink's.
 pub fn pass_there_and_back(
     alloc: Global,
     pass: &[u8],
@@ -82,7 +97,7 @@ pub fn pass_there_and_back(
     limits: &Limits,
 ) -> Result<Vec<u8>, Lost>
     ensures back { IfOk result (λ text. text.items ≡ plain.now) }
-    ensures lost { IfErr result IsLoss }
+    ensures lost { IfErr result (IsLoss none limits.now plain.now) }
     ensures paired { MatchResult result (λ _. PairFits work max)
         (IsPairedIf (PairFits work max)) }
 {
@@ -102,13 +117,16 @@ pub fn pass_there_and_back(
     else {
         return Err(Lost::Memory);
     };
+    are_bounds(limits);
+    has_sixteen_bytes(fresh.file_key);
     there_and_back(alloc, &pair, recipient, identity, plain, fresh, limits)
 }
 
 /// The same for the pair of a key.
 ///
 /// # Errors
-/// Those of `there_and_back`.
+/// Those of `there_and_back`; of `Encrypting` only `TooManyChunks`, `OutOfMemory`, or `Write` if
+/// the allocation was the sink's.
 pub fn key_there_and_back(
     alloc: Global,
     key: [u8; 32],
@@ -118,7 +136,7 @@ pub fn key_there_and_back(
     limits: &Limits,
 ) -> Result<Vec<u8>, Lost>
     ensures back { IfOk result (λ text. text.items ≡ plain.now) }
-    ensures lost { IfErr result IsLoss }
+    ensures lost { IfErr result (IsLoss none limits.now plain.now) }
     ensures paired { IfErr result IsPaired }
 {
     let pair = KeyPair::new(key, salt);
@@ -127,5 +145,7 @@ pub fn key_there_and_back(
     let (Ok(recipient), Ok(identity)) = (recipient, identity) else {
         return Err(Lost::Memory);
     };
+    are_bounds(limits);
+    has_sixteen_bytes(fresh.file_key);
     there_and_back(alloc, &pair, recipient, identity, plain, fresh, limits)
 }

@@ -1,6 +1,6 @@
 //! These calls succeed where memory is ample, which no contract says.
 
-use crate::{Lost, key_there_and_back, pass_there_and_back};
+use crate::{Lost, key_rewrapped_and_back, key_there_and_back, pass_there_and_back};
 use age_file::{FileKey, Fresh, Limits, PassError};
 use std::process::Abort;
 use std::test::Fail;
@@ -49,6 +49,16 @@ fn passphrase_round_trip_returns_the_plaintext(rt: HostRuntime) -> Result<(), Fa
 fn key_round_trip_returns_the_plaintext(rt: HostRuntime) -> Result<(), Fail> {
     let limits = Limits::default();
     let back = key_there_and_back(rt.alloc(), [4; 32], [3; 16], b"hello", &FRESH, &limits);
+    assert!(rt; is_hello(&back));
+    Ok(())
+}
+
+#[test]
+fn file_rewrapped_to_a_key_returns_the_plaintext(rt: HostRuntime) -> Result<(), Fail> {
+    let limits = Limits::default();
+    let salt = [3; 16];
+    let (old, new) = ([4; 32], [5; 32]);
+    let back = key_rewrapped_and_back(rt.alloc(), old, new, salt, b"hello", &FRESH, &limits);
     assert!(rt; is_hello(&back));
     Ok(())
 }

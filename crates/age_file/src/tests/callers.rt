@@ -18,14 +18,14 @@ use std::cell::Cell;
 use std::rc::Rc;
 use std::test::Fail;
 
-const VERSION: &[u8] = b"age-encryption.org/v1\n";
+pub(super) const VERSION: &[u8] = b"age-encryption.org/v1\n";
 
-const PASSPHRASE_STANZA: &[u8] =
+pub(super) const PASSPHRASE_STANZA: &[u8] =
     b"-> scrypt AAAAAAAAAAAAAAAAAAAAAA 10\nAAAAAAAAAAAAAAAAAAAAAAAAAAAAAAAAAAAAAAAAAAA\n";
 
-const OTHER_STANZA: &[u8] = b"-> x\n\n";
+pub(super) const OTHER_STANZA: &[u8] = b"-> x\n\n";
 
-const END: &[u8] = b"--- AAAAAAAAAAAAAAAAAAAAAAAAAAAAAAAAAAAAAAAAAAA\n";
+pub(super) const END: &[u8] = b"--- AAAAAAAAAAAAAAAAAAAAAAAAAAAAAAAAAAAAAAAAAAA\n";
 
 /// What a caller's identity makes of the stanzas, with the right identity after it: what decrypting
 /// returns, and what it writes.

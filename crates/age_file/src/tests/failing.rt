@@ -1,15 +1,15 @@
 //! Devices that fail, each read and each write in turn.
 
-use super::devices::{FailingSource, LimitedSink, TakesNothing};
+use super::devices::{FailingSink, FailingSource, TakesNothing};
 use super::{
     FRESH, Identities, Recipients, SALT, encrypted, key_identities, key_recipients,
     passphrase_identities, passphrase_recipients, sevens,
 };
 use crate::{
-    Decryptor, Encryptor, Fault, Limits, MemAt, StreamFault, WriteSink, decrypt, encrypt,
-    open_ranges,
+    Decryptor, Encryptor, Fault, Limits, MemAt, RangeReader, ReadAt, StreamFault, StreamReader,
+    StreamWriter, WriteSink, decrypt, encrypt, open_ranges,
 };
-use age_header::{MemSink, MemSource};
+use age_header::{MemSink, MemSource, Sink};
 use age_recipient::{KeyIdentity, KeyRecipient};
 use std::alloc::Global;
 use std::test::Fail;
@@ -55,7 +55,7 @@ fn reads_until(
     failing: u64,
 ) -> Result<(u64, bool), Fail> {
     let mut source = FailingSource::new(file, 1_000, failing);
-    let mut sink = LimitedSink::new(Vec::new(alloc), 100_000);
+    let mut sink = FailingSink::new(Vec::new(alloc), 100_000);
     let answer = decrypt(
         alloc,
         &mut source,
@@ -101,7 +101,7 @@ fn failing_plaintext_leaves_a_beginning_of_the_file(rt: HostRuntime) -> Result<(
     let (_, whole) = encrypted(alloc, plain.as_slice(), &recipients, &limits);
     for (failing, len) in [(1, 0), (66, 0), (67, 172), (68, 172 + 65_552)] {
         let mut source = FailingSource::new(plain.as_slice(), 1_000, failing);
-        let mut sink = LimitedSink::new(Vec::new(alloc), 100_000);
+        let mut sink = FailingSink::new(Vec::new(alloc), 100_000);
         let answer = encrypt(
             alloc,
             &mut source,
@@ -157,7 +157,7 @@ fn devices_at_their_limits_return_their_fault(rt: HostRuntime) -> Result<(), Fai
         &limits,
     );
     assert!(rt; answer == Err(Fault::Write));
-    let mut sink = LimitedSink::new(Vec::new(alloc), 0);
+    let mut sink = FailingSink::new(Vec::new(alloc), 0);
     sink.failures = u64::MAX;
     let answer = encrypt(
         alloc,
@@ -170,7 +170,7 @@ fn devices_at_their_limits_return_their_fault(rt: HostRuntime) -> Result<(), Fai
     assert!(rt; answer == Err(Fault::Write) && sink.failures == u64::MAX);
     let mut source = FailingSource::new(b"", 1, 1);
     source.failures = u64::MAX;
-    let mut sink = LimitedSink::new(Vec::new(alloc), 0);
+    let mut sink = FailingSink::new(Vec::new(alloc), 0);
     let answer = decrypt(
         alloc,
         &mut source,
@@ -183,8 +183,80 @@ fn devices_at_their_limits_return_their_fault(rt: HostRuntime) -> Result<(), Fai
 }
 
 /// The file of the empty plaintext for the key of 32 bytes 3, by tests/reference.py.
-const FILE: &[u8] =
+pub(super) const FILE: &[u8] =
     b"age-encryption.org/v1\n-> example.org/key ICEiIyQlJicoKSorLC0uLw\nV4z9dcExmsj4rOYyl6enYhk5Msw0sZuovpzKf+BEY6Y\n--- vTjtX063xQZt7OcXF0O+SrfCT1OR+JXStLMiFO1M3/E\n\x10\x11\x12\x13\x14\x15\x16\x17\x18\x19\x1a\x1b\x1c\x1d\x1e\x1f\x50\x15\x09\x65\x52\xfe\x30\x35\x66\x48\x70\x85\x54\xcb\x9c\x28";
+
+/// Whether starting a file writes its front, or is out of memory with nothing written. A write
+/// fails where the sink's own allocation was refused.
+fn starts_or_starves(alloc: Global, recipients: &Recipients, limits: &Limits) -> bool {
+    let mut out = MemSink::new(Vec::new(alloc));
+    let started = match Encryptor::new(alloc, recipients.as_slice(), &FRESH, limits) {
+        Ok(encryptor) => match encryptor.start(alloc, &mut out) {
+            Ok(writer) => Ok(writer.abandon()),
+            Err(fault) => Err(fault),
+        },
+        Err(fault) => Err(fault),
+    };
+    let failures = out.failures();
+    let written = out.into_vec();
+    match started {
+        Ok(()) => FILE.starts_with(written.as_slice()) && written.len() == 172,
+        Err(Fault::Write) => failures == 1,
+        Err(fault) => fault == Fault::OutOfMemory && written.is_empty(),
+    }
+}
+
+/// Whether a file is unlocked and its chunk read, or out of memory with no more read than its
+/// header: the payload has 32 bytes.
+fn reads_or_starves(alloc: Global, identities: &Identities, limits: &Limits) -> bool {
+    let mut source = MemSource::new(FILE);
+    let decryptor = match Decryptor::new(alloc, &mut source, limits) {
+        Ok(decryptor) => decryptor,
+        Err(fault) => return fault == Fault::OutOfMemory && source.rest().len() >= 32,
+    };
+    let read = match decryptor.unlock(alloc, identities.as_slice()) {
+        Ok(mut reader) => Ok(matches!(reader.next_chunk(), Ok(Some(&[])))),
+        Err(fault) => Err(fault),
+    };
+    match read {
+        Ok(is_empty) => is_empty,
+        Err(fault) => fault == Fault::OutOfMemory && source.rest().len() == 32,
+    }
+}
+
+/// Whether a file opens for ranges, or is out of memory with no more read than its header.
+fn opens_or_starves(alloc: Global, identities: &Identities, limits: &Limits) -> bool {
+    let mut dev = MemAt::new(FILE);
+    let opened = match open_ranges(alloc, &mut dev, identities.as_slice(), limits) {
+        Ok(reader) => Ok(reader.plain_len()),
+        Err(fault) => Err(fault),
+    };
+    opened == Ok(0) || opened == Err(Fault::OutOfMemory) && dev.given() <= 156
+}
+
+/// Whether each of a payload's constructors succeeds, or is out of memory with nothing written or
+/// read.
+fn payload_or_starves(alloc: Global) -> bool {
+    let (key, nonce, payload) = (&FRESH.file_key, &FRESH.nonce, &FILE[156..]);
+    let mut out = MemSink::new(Vec::new(alloc));
+    let written = match StreamWriter::new(alloc, key, nonce, &mut out, 1) {
+        Ok(writer) => Ok(writer.abandon()),
+        Err(fault) => Err(fault),
+    };
+    let failures = out.failures();
+    let writes = match written {
+        Ok(()) => out.into_vec().as_slice() == nonce.as_slice(),
+        Err(StreamFault::Write) => failures == 1,
+        Err(fault) => fault == StreamFault::Memory && out.into_vec().is_empty(),
+    };
+    let mut source = MemSource::new(payload);
+    let read = StreamReader::new(alloc, key, &mut source, 1).err();
+    let reads = read.is_none() || read == Some(StreamFault::Memory) && source.rest().len() == 32;
+    let mut dev = MemAt::new(payload);
+    let opened = RangeReader::open(alloc, key, &mut dev, 0, 1).err();
+    let opens = opened.is_none() || opened == Some(StreamFault::Memory) && dev.given() == 0;
+    writes && reads && opens
+}
 
 /// The calls in steps are Ok or out of memory, and nothing else; their set-up may be out of memory
 /// too. tests/test_libraries.py refuses each in turn.
@@ -203,29 +275,9 @@ fn whole_or_out_of_memory(rt: HostRuntime) -> Result<(), Fail> {
     if recipients.push(recipient).is_err() || identities.push(identity).is_err() {
         return Ok(());
     }
-    let mut fault = None;
-    let mut out = MemSink::new(Vec::new(alloc));
-    match Encryptor::new(alloc, recipients.as_slice(), &FRESH, &limits) {
-        Ok(encryptor) => match encryptor.start(alloc, &mut out) {
-            Ok(writer) => writer.abandon(),
-            Err(Fault::Write) => {}
-            Err(met) => fault = Some(met),
-        },
-        Err(met) => fault = Some(met),
-    }
-    assert!(rt; fault.is_none_or(|fault| fault == Fault::OutOfMemory));
-    let mut source = MemSource::new(FILE);
-    match Decryptor::new(alloc, &mut source, &limits) {
-        Ok(decryptor) => match decryptor.unlock(alloc, identities.as_slice()) {
-            Ok(mut reader) => assert!(rt; matches!(reader.next_chunk(), Ok(Some(&[])))),
-            Err(met) => assert!(rt; met == Fault::OutOfMemory),
-        },
-        Err(met) => assert!(rt; met == Fault::OutOfMemory),
-    }
-    let mut dev = MemAt::new(FILE);
-    match open_ranges(alloc, &mut dev, identities.as_slice(), &limits) {
-        Ok(reader) => assert_eq!(rt; reader.plain_len(), 0),
-        Err(met) => assert!(rt; met == Fault::OutOfMemory),
-    }
+    assert!(rt; starts_or_starves(alloc, &recipients, &limits));
+    assert!(rt; reads_or_starves(alloc, &identities, &limits));
+    assert!(rt; opens_or_starves(alloc, &identities, &limits));
+    assert!(rt; payload_or_starves(alloc));
     Ok(())
 }

@@ -1,6 +1,6 @@
 //! Files with another header: what is written, what it opens to, and what is refused.
 
-use super::devices::{FailingSource, LimitedSink};
+use super::devices::{FailingSink, FailingSource};
 use super::{
     Identities, Recipients, decrypted, encrypted, key_identities, key_recipients,
     passphrase_identities, passphrase_recipients, sevens,
@@ -139,7 +139,7 @@ fn failing_devices_leave_a_beginning_of_the_rewrapped_file(rt: HostRuntime) -> R
     assert_eq!(rt; whole.len(), 191);
     for failing in 1..200 {
         let mut source = FailingSource::new(file.as_slice(), 1, failing);
-        let mut sink = LimitedSink::new(Vec::new(alloc), 1_000);
+        let mut sink = FailingSink::new(Vec::new(alloc), 1_000);
         let answer = rewrap(
             alloc,
             &mut source,
@@ -163,7 +163,7 @@ fn failing_devices_leave_a_beginning_of_the_rewrapped_file(rt: HostRuntime) -> R
     }
     for most in 0..191 {
         let mut source = MemSource::new(file.as_slice());
-        let mut sink = LimitedSink::new(Vec::new(alloc), most);
+        let mut sink = FailingSink::new(Vec::new(alloc), most);
         let answer = rewrap(
             alloc,
             &mut source,

@@ -1,4 +1,4 @@
-//! Sources that give less than they are asked for, or fail, and a sink that gets full.
+//! Devices that count their calls, give less than they are asked for, or fail once.
 
 use crate::{MemAt, ReadAt};
 use age_header::{DeviceFault, Sink, Source};
@@ -6,27 +6,42 @@ use std::cell::Cell;
 use std::io;
 use std::io::{ErrorKind, Read, Seek, SeekFrom};
 
-/// Gives at most `most` of these bytes at a time. Its contents are not known to proofs.
+/// Gives at most `most` of these bytes at a time, counts its reads, and fails at the read with this
+/// number, counted from 1. Its contents are not known to proofs.
 #[derive(Drop)]
-pub(super) struct ShortReads<'a> {
-    rest: &'a [u8],
+pub(super) struct FailingSource<'a> {
+    pub(super) rest: &'a [u8],
     most: usize,
+    failing: u64,
+    pub(super) reads: u64,
+    failures: u64,
 }
 
-impl<'a> ShortReads<'a> {
-    pub(super) fn new(bytes: &'a [u8], most: usize) -> ShortReads<'a> {
-        ShortReads { rest: bytes, most }
+impl<'a> FailingSource<'a> {
+    pub(super) fn new(bytes: &'a [u8], most: usize, failing: u64) -> FailingSource<'a> {
+        FailingSource {
+            rest: bytes,
+            most,
+            failing,
+            reads: 0,
+            failures: 0,
+        }
     }
 }
 
-impl<'a> Source for ShortReads<'a> {
+impl<'a> Source for FailingSource<'a> {
     ghost use Rattle.std.specs.Prelude.{None};
 
-    ghost failed = { λ _. 0 };
+    ghost failed = { λ s. s.failures };
 
     ghost to_come = { λ _. None };
 
     fn read(&mut self, buf: &mut [u8]) -> Result<usize, DeviceFault> {
+        self.reads = self.reads.wrapping_add(1);
+        if self.reads == self.failing {
+            self.failures = self.failures.saturating_add(1);
+            return Err(DeviceFault);
+        }
         let n = self.rest.len().min(buf.len()).min(self.most);
         let (front, rest) = self.rest.split_at(n);
         buf[..n].copy_from_slice(front);
@@ -35,30 +50,30 @@ impl<'a> Source for ShortReads<'a> {
     }
 
     fn failures(&self) -> u64 {
-        0
+        self.failures
     }
 }
 
-/// Takes pieces while there is room for this many bytes, and counts how often it is asked. Its
-/// contents are not known to proofs.
+/// Takes each piece whole, counts its calls, and fails at the call with this number, counted from
+/// 1. Its contents are not known to proofs.
 #[derive(Drop)]
-pub(super) struct LimitedSink {
-    room: usize,
-    pub(super) asked: u64,
+pub(super) struct FailingSink {
+    failing: u64,
+    pub(super) calls: u64,
     failures: u64,
 }
 
-impl LimitedSink {
-    pub(super) fn new(room: usize) -> LimitedSink {
-        LimitedSink {
-            room,
-            asked: 0,
+impl FailingSink {
+    pub(super) fn new(failing: u64) -> FailingSink {
+        FailingSink {
+            failing,
+            calls: 0,
             failures: 0,
         }
     }
 }
 
-impl Sink for LimitedSink {
+impl Sink for FailingSink {
     ghost use Rattle.std.specs.Prelude.{None};
 
     ghost failed = { λ s. s.failures };
@@ -66,12 +81,11 @@ impl Sink for LimitedSink {
     ghost taken = { λ _. None };
 
     fn write(&mut self, piece: &[u8]) -> Result<usize, DeviceFault> {
-        self.asked = self.asked.saturating_add(1);
-        if piece.len() > self.room {
+        self.calls = self.calls.wrapping_add(1);
+        if self.calls == self.failing {
             self.failures = self.failures.saturating_add(1);
             return Err(DeviceFault);
         }
-        self.room -= piece.len();
         Ok(piece.len())
     }
 

@@ -12,7 +12,7 @@ use std::process::Abort;
 use std::test::Fail;
 
 /// Nine other bytes, and then the payload of `len` bytes; byte i of these is i modulo 251.
-fn payload_of(alloc: Global, len: usize) -> Result<Vec<u8>, Fail> {
+pub(super) fn payload_of(alloc: Global, len: usize) -> Result<Vec<u8>, Fail> {
     let plain = plain_of(alloc, len)?;
     let (_, payload) = written(alloc, plain.as_slice(), len)?;
     let mut bytes = Vec::from_slice(alloc, b"ninebytes")?;

@@ -1,6 +1,8 @@
 use Rattle.std.proofs.Common.{◌∙◌, [], ◌∷◌, sym, ap, subst}
+use Rattle.age_file.specs.NewFile.{Gathered, IsRefusal}
 use Rattle.age_file.specs.Verdict.{IsVerdict}
 use Rattle.age_file.specs.Words.{whole}
+use Rattle.round_trip.specs.Losses.{IsUnwritten}
 use Rattle.round_trip.proofs.pairs.there_and_back.Goals as goal
 
 pub returns-in-Ok-decrypted-clause-back : goal.returns-in-Ok-decrypted-clause-back
@@ -22,3 +24,11 @@ returns-clause-lost g c =
     let is = subst (λ m. IsVerdict c.args.limits.now (λ s. m s ∷ []) c.in-Ok.file.items (whole c.args.plain.now))
         (sym c.requires.identity) opens in
     c.in-Err-decrypted.ensures.lost c.args.plain.now (rw c.as_slice.ensures.value is)
+
+pub returns-in-Err-clause-lost : goal.returns-in-Err-clause-lost
+returns-in-Err-clause-lost g c =
+    let labels = (goal.Recipient-dyn g (c.args.recipient.vtable, c.args.recipient.value)).the_labels
+        c.args.recipient.value in
+    let k = c.args.fresh.now.file_key in
+    subst (λ wraps. IsUnwritten (IsRefusal c.args.limits.now k (Gathered (wraps k ∷ []) (labels ∷ [])))
+        c.args.limits.now c.args.plain.now c.in-Err.fault) c.requires.recipient c.in-Err.ensures.lost
