@@ -4,6 +4,7 @@ import array
 import copy
 import functools
 import io
+import itertools
 import mmap
 import multiprocessing
 import os
@@ -132,6 +133,24 @@ class Wrong(unittest.TestCase):
                 error = caught.exception
                 self.assertEqual((error.code, error.place, str(error)), (code, place, message))
                 self.assertIsInstance(error, ValueError)
+
+    def test_cut_files(self):
+        """A file that was cut, at each end of a piece: the same chunk, by one thread and by two."""
+        file = agefile.encrypt(text(3 * 65536), recipients=KEY)
+        first = agefile.inspect(file).length + 16
+        for chunk, rest in itertools.product(range(3), (0, 1, 15, 16, 17, 65551)):
+            code, place = Code.BAD_CHUNK, chunk
+            if 0 < rest < 16 or (chunk, rest) == (0, 0):
+                code = Code.CHUNK_SHORT
+            elif rest == 16 and chunk > 0:
+                code = Code.EMPTY_FINAL
+            elif rest == 0:
+                place = chunk - 1
+            for threads in (1, 2):
+                with self.subTest(f"chunk {chunk}, {rest} bytes, {threads} threads"):
+                    with self.assertRaises(AgeError) as caught:
+                        agefile.decrypt(file[: first + 65552 * chunk + rest], identities=KEY, threads=threads)
+                    self.assertEqual((caught.exception.code, caught.exception.place), (code, place))
 
     def test_front_of_a_damaged_file(self):
         plain = text(50 * 65536)
