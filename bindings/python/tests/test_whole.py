@@ -1,8 +1,10 @@
 """Files in memory and from source to sink: what comes back, and how what goes wrong arrives."""
 
 import array
+import contextlib
 import copy
 import functools
+import gc
 import io
 import itertools
 import mmap
@@ -11,6 +13,7 @@ import os
 import pickle
 import tempfile
 import threading
+import traceback
 import unittest
 
 import agefile
@@ -106,6 +109,26 @@ class Round(unittest.TestCase):
 
         file = agefile.encrypt(Liar(b"text"), recipients=KEY)
         self.assertEqual(agefile.decrypt(Liar(file), identities=KEY), b"text")
+
+
+    def test_memory_that_a_traceback_names(self):
+        """After an error on threads the views in its frames keep the caller's bytes where they are."""
+        file = bytearray(agefile.encrypt(bytes(200 * 65536), recipients=KEY))
+        file[1000] ^= 1
+        kept = bytes(file)
+        try:
+            agefile.decrypt(file, identities=KEY, threads=2)
+        except AgeError as error:
+            frames = [frame for frame, _ in traceback.walk_tb(error.__traceback__)]
+        with contextlib.suppress(BufferError):
+            file.clear()
+        values = [value for frame in frames for value in frame.f_locals.values()]
+        views = [getattr(value, "_first", value) for value in values]
+        seen = [bytes(view) for view in views if isinstance(view, memoryview)]
+        self.assertTrue(any(found and kept.endswith(found) for found in seen))
+        del frames, values, views
+        gc.collect()
+        file.clear()
 
 
 class Wrong(unittest.TestCase):
