@@ -119,7 +119,7 @@ class Round(unittest.TestCase):
         try:
             agefile.decrypt(file, identities=KEY, threads=2)
         except AgeError as error:
-            frames = [frame for frame, _ in traceback.walk_tb(error.__traceback__)]
+            frames = [frame for frame, _ in traceback.walk_tb(error.__traceback__.tb_next)]
         with contextlib.suppress(BufferError):
             file.clear()
         values = [value for frame in frames for value in frame.f_locals.values()]
