@@ -22,32 +22,49 @@ from pathlib import Path
 ROOT = Path(__file__).resolve().parent.parent
 AGEP = ROOT / "crates/agep/out/agep"
 
-PYTHON = {
+OPENING = {
     "Python, copyfileobj from open": "with agefile.open(name, identities=KEY) as source: shutil.copyfileobj(source, SINK)",
     "Python, open().read()": "with agefile.open(name, identities=KEY) as source: source.read()",
-    "Python, decrypt(file.read())": "agefile.decrypt(open(name, 'rb').read(), identities=KEY)",
+    "Python, decrypt": "agefile.decrypt(data, identities=KEY)",
+    "Python, decrypt, threads=4": "agefile.decrypt(data, identities=KEY, threads=4)",
     "Python, copy": "agefile.copy(open(name, 'rb', 0), SINK, identities=KEY)",
     "Python, copy, threads=4": "agefile.copy(open(name, 'rb', 0), SINK, identities=KEY, threads=4)",
-    "Python, file.read()": "open(name, 'rb').read()",
+    "Python, read() of a file that is not encrypted": "open(name, 'rb').read()",
 }
 SEALING = {
     "Python, copyfileobj to open": "with agefile.open(SINK, 'wb', recipients=KEY) as sink: shutil.copyfileobj(open(name, 'rb'), sink)",
-    "Python, encrypt(file.read())": "agefile.encrypt(open(name, 'rb').read(), recipients=KEY)",
+    "Python, encrypt": "agefile.encrypt(data, recipients=KEY)",
     "Python, copy": "agefile.copy(open(name, 'rb', 0), SINK, recipients=KEY)",
     "Python, copy, threads=4": "agefile.copy(open(name, 'rb', 0), SINK, recipients=KEY, threads=4)",
 }
-BEGIN = "import agefile, shutil, sys; KEY = agefile.Key(open('key', 'rb').read()); SINK = open('/dev/null', 'wb', 0); name = sys.argv[1]\n"
+# The time of a Python row is that of its call alone, without the interpreter's start, and without what
+# reads the file into memory first where the call takes bytes.
+SCRIPT = """import agefile, shutil, sys, time
+KEY, name = agefile.Key(open('key', 'rb').read()), sys.argv[1]
+SINK, data = open('/dev/null', 'wb', 0), open(name, 'rb').read() if {takes_data} else None
+clock, cpu = time.monotonic(), time.process_time()
+{code}
+print(time.monotonic() - clock, time.process_time() - cpu, file=sys.stderr)
+"""
 
 
 def measured(words, folder, environment):
     """The seconds on the clock and of the processor, and the most memory in MiB, of a command."""
     began = time.monotonic()
-    process = subprocess.Popen([str(word) for word in words], cwd=folder, env=environment, stdout=subprocess.DEVNULL)
+    words = [str(word) for word in words]
+    process = subprocess.Popen(words, cwd=folder, env=environment, stdout=subprocess.DEVNULL, stderr=subprocess.PIPE, text=True)
+    said = process.stderr.read()
     _, status, usage = os.wait4(process.pid, 0)
     process.returncode = os.waitstatus_to_exitcode(status)
     if process.returncode != 0:
-        sys.exit(f"{words}: status {process.returncode}")
-    return time.monotonic() - began, usage.ru_utime + usage.ru_stime, usage.ru_maxrss / 1024
+        sys.exit(f"{words}: status {process.returncode}: {said}")
+    clock, cpu = map(float, said.split()) if said else (time.monotonic() - began, usage.ru_utime + usage.ru_stime)
+    return clock, cpu, usage.ru_maxrss / 1024
+
+
+def in_python(rows, name):
+    for title, code in rows.items():
+        yield title, [sys.executable, "-c", SCRIPT.format(code=code, takes_data="(data" in code), name]
 
 
 def built(name, prefix, folder):
@@ -65,12 +82,12 @@ def rows_of(prefix, folder):
     sealing = [
         ("agep", [AGEP, "encrypt", "-k", "key", "plain"]), ("age", ["age", "-r", public, "plain"]), ("C, stream.c", to_null + [stream, "-e", "key"]),
         *((f"C, parallel.c, {n} threads", [parallel, "-e", "key", n, "plain", "made.other"]) for n in (1, 4)),
-        *((title, [sys.executable, "-c", BEGIN + code, "plain"]) for title, code in SEALING.items()),
+        *in_python(SEALING, "plain"),
     ]
     opening = [
         ("agep", [AGEP, "decrypt", "-k", "key", "made"]), ("age", ["age", "-d", "-i", "identity", "made.age"]), ("C, stream.c", from_made + [stream, "key"]),
         *((f"C, parallel.c, {n} threads", [parallel, "key", n, "made", "plain.other"]) for n in (1, 4)),
-        *((title, [sys.executable, "-c", BEGIN + code, "made"]) for title, code in PYTHON.items()),
+        *in_python(OPENING, "made"),
     ]
     return {"seal": sealing, "open": opening}
 

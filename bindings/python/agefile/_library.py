@@ -207,6 +207,13 @@ class Bytes:
         return self.address or _nothing, self.len
 
 
+def view_of(memory: Bytes, owner: Any) -> memoryview:
+    """A view of the bytes of some memory, which keeps its owner from moving them."""
+    array = (ctypes.c_char * memory.len).from_address(memory.pair[0])
+    array.owner = memoryview(owner)  # type: ignore[attr-defined]
+    return memoryview(array).cast("B")
+
+
 # An address of no bytes: the library's functions take no null pointer.
 _empty = ctypes.create_string_buffer(16)
 _nothing = ctypes.addressof(_empty)

@@ -203,7 +203,7 @@ def run(step: _Step, payload: lib.Payload, source: BinaryIO, sink: Any, threads:
 class Behind:
     """A source behind bytes that were read of it."""
 
-    def __init__(self, first: bytes, source: BinaryIO) -> None:
+    def __init__(self, first: bytes | memoryview, source: BinaryIO) -> None:
         self._first, self._source = memoryview(first), source
 
     def readinto(self, out: memoryview) -> int:

@@ -137,8 +137,7 @@ class _Plaintext(io.RawIOBase):
         left = max(self.length - self._position, 0)
         out = lib.fresh_bytes(left)
         with lib.Bytes(out) as memory:
-            room = (ctypes.c_char * left).from_address(memory.pair[0])
-            count = self.readinto(memoryview(room))
+            count = self.readinto(lib.view_of(memory, out))
         return out if count == left else out[:count]
 
     def seek(self, offset: int, whence: int = os.SEEK_SET) -> int:

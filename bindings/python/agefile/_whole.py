@@ -45,12 +45,8 @@ def encrypt(data: Any, *, recipients: Recipients, threads: int = 1) -> bytes:
             with lib.Bytes(sink.out) as memory:
                 _seal_all(payload, plain, memory.pair[0] + len(front))
         else:
-            run(SEALING, payload, cast(BinaryIO, Behind(_view(plain), io.BytesIO())), sink, threads)
+            run(SEALING, payload, cast(BinaryIO, Behind(lib.view_of(plain, data), io.BytesIO())), sink, threads)
         return sink.out
-
-
-def _view(data: lib.Bytes) -> Any:
-    return memoryview((ctypes.c_char * data.len).from_address(data.pair[0])).cast("B")
 
 
 def _sealed_len(length: int) -> int:
@@ -103,7 +99,7 @@ def decrypt(data: Any, *, identities: Identities, threads: int = 1) -> bytes:
             with lib.Bytes(sink.out) as memory:
                 _open_all(payload, file, first, memory)
         else:
-            source = Behind(_view(file)[first:], io.BytesIO())
+            source = Behind(lib.view_of(file, data)[first:], io.BytesIO())
             run(OPENING, payload, cast(BinaryIO, source), sink, threads)
         return sink.out
 

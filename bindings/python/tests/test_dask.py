@@ -1,23 +1,39 @@
-"""An encrypted table through fsspec and Dask: each worker opens the chunks of its own blocks."""
+"""An encrypted table through fsspec and Dask: each worker opens the chunks of its own blocks. The
+variable AGEFILE_DASK_ROWS is the number of rows; 42,000,000 make a gigabyte."""
 
 import os
 import pickle
+import sys
 import tempfile
 import unittest
+from unittest import mock
 
 import agefile
 
+sys.path.insert(0, os.path.join(os.path.dirname(os.path.abspath(__file__)), "../examples"))
 try:
-    import dask.dataframe
     import dask.distributed
+    import dask_sum
     import fsspec
-
-    import agefile.fsspec
 except ImportError as error:
     raise unittest.SkipTest(str(error)) from error
 
+from agefile import _reader
+
 SECRET = agefile.Passphrase("correct horse", work=10)
 ROWS = int(os.environ.get("AGEFILE_DASK_ROWS", 400_000))
+SEALED, TEXT = 65552, 65536
+# A block of 16 chunks.
+BLOCK = 1 << 20
+
+
+def failure_of(block):
+    """The error with which a task ends, as text."""
+    try:
+        block.compute(scheduler="synchronous")
+    except agefile.AgeError as error:
+        return str(error)
+    return None
 
 
 class Tables(unittest.TestCase):
@@ -26,24 +42,22 @@ class Tables(unittest.TestCase):
         folder = tempfile.TemporaryDirectory()
         cls.addClassCleanup(folder.cleanup)
         cls.name = os.path.join(folder.name, "table.csv.age")
-        with agefile.open(cls.name, "w", recipients=SECRET) as file:
-            file.write("number,square\n")
-            for number in range(ROWS):
-                file.write(f"{number},{number * number}\n")
+        with agefile.open(cls.name, "wb", recipients=SECRET) as file:
+            file.write(b"number,square\n")
+            for begin in range(0, ROWS, 10000):
+                rows = range(begin, min(begin + 10000, ROWS))
+                file.write("".join(f"{number},{number * number}\n" for number in rows).encode())
         cls.options = {"fs": fsspec.filesystem("file"), "identities": SECRET}
-
-    def table(self, name):
-        return dask.dataframe.read_csv(
-            f"age://{name}", storage_options=self.options, blocksize=1 << 20
-        )
+        cls.length = agefile.open(cls.name, identities=SECRET).length
 
     def test_sizes_and_bytes(self):
         system = fsspec.filesystem("age", **self.options)
         with agefile.open(self.name, identities=SECRET) as file:
-            plain = file.read()
-        self.assertEqual(system.info(self.name)["size"], len(plain))
+            plain = file.read(300000)
+        self.assertEqual(system.info(self.name)["size"], self.length)
         self.assertEqual(system.cat_file(self.name, start=70000, end=70100), plain[70000:70100])
-        self.assertEqual(pickle.loads(pickle.dumps(system)).cat_file(self.name), plain)
+        again = pickle.loads(pickle.dumps(system))
+        self.assertEqual(again.cat_file(self.name, start=0, end=300000), plain)
         self.assertIn(self.name, system.ls(os.path.dirname(self.name), detail=False))
 
     def test_an_opener(self):
@@ -54,30 +68,49 @@ class Tables(unittest.TestCase):
                 self.assertEqual(again.read(4), b"0,0\n")
 
     def test_a_sum_on_two_processes(self):
-        with dask.distributed.LocalCluster(n_workers=2, threads_per_worker=1, dashboard_address=None) as cluster:
-            with dask.distributed.Client(cluster):
-                table = self.table(self.name)
-                self.assertGreater(table.npartitions, 4)
-                found = table.sum().compute()
+        found = dask_sum.sums(self.name, SECRET, workers=2, blocksize=max(BLOCK, self.length // 64))
         self.assertEqual(int(found["number"]), ROWS * (ROWS - 1) // 2)
-        self.assertEqual(int(found["square"]), (ROWS - 1) * ROWS * (2 * ROWS - 1) // 6)
+        # Of 64 bits, as the numbers of the table.
+        square = (ROWS - 1) * ROWS * (2 * ROWS - 1) // 6
+        self.assertEqual(int(found["square"]) % 2**64, square % 2**64)
+
+    def test_one_block_reads_its_own_chunks(self):
+        """A task reads the chunks of its block, the next ones up to a line's end, and the last one of the file."""
+        blocks = dask_sum.table(self.name, SECRET, BLOCK).to_delayed()
+        offsets, read_at = [], _reader._Source.read_at
+
+        def counting(source, offset, room):
+            offsets.append(offset)
+            return read_at(source, offset, room)
+
+        with mock.patch.object(_reader._Source, "read_at", counting):
+            blocks[3].compute(scheduler="synchronous")
+        with open(self.name, "rb") as file:
+            first = agefile.inspect(file.read(1000)).length + 16
+        chunks = {(offset - first) // SEALED for offset in offsets}
+        # From both ends of its block it looks for the end of a line, in pieces of 64 KiB.
+        own = set(range(3 * 16 - 1, 4 * 16 + 2))
+        self.assertLessEqual(chunks, own | {(self.length - 1) // TEXT})
+        self.assertGreaterEqual(chunks, set(range(3 * 16, 4 * 16)))
 
     def test_damage_in_one_block(self):
+        """Damage fails the task of its block alone, with its chunk's number."""
         damaged = self.name + ".damaged.age"
-        with open(self.name, "rb") as file:
-            data = bytearray(file.read())
-        data[agefile.inspect(data).length + 16 + 40 * 65552] ^= 1
-        with open(damaged, "wb") as file:
-            file.write(data)
-        blocks = self.table(damaged).to_delayed()
-        failed = []
-        for index, block in enumerate(blocks):
-            try:
-                block.compute(scheduler="synchronous")
-            except agefile.AgeError as error:
-                failed.append((index, str(error)))
+        self.addCleanup(os.remove, damaged)
+        with open(self.name, "rb") as file, open(damaged, "wb") as copy:
+            at = agefile.inspect(file.read(1000)).length + 16 + 40 * SEALED
+            file.seek(0)
+            while piece := file.read(1 << 20):
+                copy.write(piece)
+        with open(damaged, "r+b") as file:
+            file.seek(at)
+            byte = file.read(1)
+            file.seek(at)
+            file.write(bytes((byte[0] ^ 1,)))
+        blocks = dask_sum.table(damaged, SECRET, BLOCK).to_delayed()
+        failures = {index: failure_of(block) for index, block in enumerate(blocks[:8])}
         # A block of 1 MiB has 16 chunks: chunk 40 is in block 2.
-        self.assertEqual(failed, [(2, "chunk 40 is damaged")])
+        self.assertEqual({index: text for index, text in failures.items() if text}, {2: "chunk 40 is damaged"})
 
 
 if __name__ == "__main__":

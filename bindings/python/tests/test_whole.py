@@ -1,15 +1,22 @@
 """Files in memory and from source to sink: what comes back, and how what goes wrong arrives."""
 
 import array
+import contextlib
 import copy
 import functools
+import gc
 import io
+import itertools
 import mmap
 import multiprocessing
 import os
 import pickle
+import subprocess
+import sys
 import tempfile
 import threading
+import time
+import traceback
 import unittest
 
 import agefile
@@ -107,6 +114,26 @@ class Round(unittest.TestCase):
         self.assertEqual(agefile.decrypt(Liar(file), identities=KEY), b"text")
 
 
+    def test_memory_that_a_traceback_names(self):
+        """After an error on threads the views in its frames keep the caller's bytes where they are."""
+        file = bytearray(agefile.encrypt(bytes(200 * 65536), recipients=KEY))
+        file[1000] ^= 1
+        kept = bytes(file)
+        try:
+            agefile.decrypt(file, identities=KEY, threads=2)
+        except AgeError as error:
+            frames = [frame for frame, _ in traceback.walk_tb(error.__traceback__.tb_next)]
+        with contextlib.suppress(BufferError):
+            file.clear()
+        values = [value for frame in frames for value in frame.f_locals.values()]
+        views = [getattr(value, "_first", value) for value in values]
+        seen = [bytes(view) for view in views if isinstance(view, memoryview)]
+        self.assertTrue(any(found and kept.endswith(found) for found in seen))
+        del frames, values, views
+        gc.collect()
+        file.clear()
+
+
 class Wrong(unittest.TestCase):
     def test_codes(self):
         file = agefile.encrypt(text(200000), recipients=KEY)
@@ -132,6 +159,24 @@ class Wrong(unittest.TestCase):
                 error = caught.exception
                 self.assertEqual((error.code, error.place, str(error)), (code, place, message))
                 self.assertIsInstance(error, ValueError)
+
+    def test_cut_files(self):
+        """A file that was cut, at each end of a piece: the same chunk, by one thread and by two."""
+        file = agefile.encrypt(text(3 * 65536), recipients=KEY)
+        first = agefile.inspect(file).length + 16
+        for chunk, rest in itertools.product(range(3), (0, 1, 15, 16, 17, 65551)):
+            code, place = Code.BAD_CHUNK, chunk
+            if 0 < rest < 16 or (chunk, rest) == (0, 0):
+                code = Code.CHUNK_SHORT
+            elif rest == 16 and chunk > 0:
+                code = Code.EMPTY_FINAL
+            elif rest == 0:
+                place = chunk - 1
+            for threads in (1, 2):
+                with self.subTest(f"chunk {chunk}, {rest} bytes, {threads} threads"):
+                    with self.assertRaises(AgeError) as caught:
+                        agefile.decrypt(file[: first + 65552 * chunk + rest], identities=KEY, threads=threads)
+                    self.assertEqual((caught.exception.code, caught.exception.place), (code, place))
 
     def test_front_of_a_damaged_file(self):
         plain = text(50 * 65536)
@@ -271,6 +316,72 @@ class Processes(unittest.TestCase):
             waiting = pool.map_async(fails, range(4))
             with self.assertRaisesRegex(AgeError, "^not an age file$"):
                 waiting.get(timeout=20)
+
+
+# Prints by how many KiB a call raises the most memory that its process had. The call may use `key`, and
+# `name` and `data`: a file and its bytes.
+PEAK = """
+import agefile, re, shutil, sys
+key, name = agefile.Key(bytes(range(32))), sys.argv[1]
+data = open(name, "rb").read() if "(data" in sys.argv[2] else None
+peak = lambda: int(re.search(r"VmHWM:\\s*(\\d+)", open("/proc/self/status").read())[1])
+before = peak()
+exec(sys.argv[2])
+print(peak() - before)
+"""
+
+
+class Costs(unittest.TestCase):
+    MIB = 64
+
+    @classmethod
+    def setUpClass(cls):
+        folder = tempfile.TemporaryDirectory()
+        cls.addClassCleanup(folder.cleanup)
+        cls.plain, cls.made = folder.name + "/plain", folder.name + "/made"
+        with open(cls.plain, "wb") as file:
+            file.write(bytes(cls.MIB << 20))
+        with open(cls.plain, "rb") as source, open(cls.made, "wb") as sink:
+            agefile.copy(source, sink, recipients=KEY)
+
+    def peak_of(self, name, code):
+        done = subprocess.run([sys.executable, "-c", PEAK, name, code], capture_output=True, text=True, check=True)
+        return int(done.stdout) / 1024
+
+    def test_one_copy_of_the_result(self):
+        """Whole buffers take the memory of their result, and less than 16 MiB besides, also on threads."""
+        for name, code in (
+            (self.made, "agefile.decrypt(data, identities=key)"), (self.made, "agefile.decrypt(data, identities=key, threads=2)"),
+            (self.plain, "agefile.encrypt(data, recipients=key)"), (self.plain, "agefile.encrypt(data, recipients=key, threads=2)"),
+            (self.made, "agefile.open(name, identities=key).read()"),
+        ):
+            with self.subTest(code):
+                self.assertLess(self.peak_of(name, code), self.MIB + 16)
+
+    def test_constant_memory(self):
+        """Streams take less than 16 MiB, whatever their length, also from and to pipes."""
+        for name, code in (
+            (self.made, "shutil.copyfileobj(agefile.open(name, identities=key), open('/dev/null', 'wb'))"),
+            (self.plain, "shutil.copyfileobj(open(name, 'rb'), agefile.open('/dev/null', 'wb', recipients=key))"),
+            (self.plain, "agefile.copy(open(name, 'rb'), open('/dev/null', 'wb'), recipients=key)"),
+            (self.made, "agefile.copy(open(name, 'rb'), open('/dev/null', 'wb'), identities=key)"),
+            (self.made, "agefile.copy(open(name, 'rb'), open('/dev/null', 'wb'), identities=key, threads=2)"),
+            (self.made, "import subprocess; agefile.copy(subprocess.Popen(['cat', name], stdout=subprocess.PIPE).stdout, "
+                "subprocess.Popen('cat >/dev/null', shell=True, stdin=subprocess.PIPE).stdin, identities=key)"),
+        ):
+            with self.subTest(code):
+                self.assertLess(self.peak_of(name, code), 16)
+
+    def test_a_great_header(self):
+        """The 10,911 stanzas of a header are listed in a tenth of a second."""
+        head = b"age-encryption.org/v1\n" + b"-> a\n\n" * 10911 + b"--- " + b"A" * 43 + b"\n"
+        times = []
+        for _ in range(5):
+            began = time.process_time()
+            found = agefile.inspect(head)
+            times.append(time.process_time() - began)
+        self.assertEqual((len(found.stanzas), found.length, found.mac), (10911, len(head), bytes(32)))
+        self.assertLess(min(times), 0.1)
 
 
 def fails(_):

@@ -1,5 +1,6 @@
 """The example of X25519 recipients, both ways with `age`."""
 
+import io
 import os
 import shutil
 import subprocess
@@ -48,17 +49,62 @@ class WithAge(unittest.TestCase):
         for path, _, _ in self.pairs:
             self.assertEqual(age("-d", "-i", path, data=file), PLAIN)
 
-    def test_several_recipients_and_grease(self):
-        (_, one, _), (_, two, secret) = self.pairs
+    def test_several_recipients(self):
+        """Each of several recipients opens a file of age, as a whole and by ranges, and each finds its own stanza."""
+        (_, one, first), (_, two, second) = self.pairs
         file = age("-r", one, "-r", two, data=PLAIN)
-        self.assertEqual(agefile.decrypt(file, identities=x25519.X25519Identity(secret)), PLAIN)
+        kinds = [stanza.args[0] for stanza in agefile.inspect(file).stanzas]
+        self.assertEqual([kind for kind in kinds if not kind.endswith("-grease")], ["X25519", "X25519"])
+        for secret in (first, second):
+            identity = x25519.X25519Identity(secret)
+            self.assertEqual(agefile.decrypt(file, identities=identity), PLAIN)
+            with agefile.open(io.BytesIO(file), identities=identity) as opened:
+                opened.seek(70000)
+                self.assertEqual(opened.read(10), PLAIN[70000:70010])
+
+    def test_grease(self):
+        """Stanzas that nobody knows, before, between and behind the others, in both directions."""
+
+        class Grease:
+            def wrap(self, file_key):
+                return [agefile.Stanza((f"{os.urandom(3).hex()}-grease", "a~!", "b"), os.urandom(length)) for length in (0, 47, 48, 100)]
+
+        grease, recipients = Grease(), [x25519.X25519Recipient(public) for _, public, _ in self.pairs]
+        file = agefile.encrypt(PLAIN, recipients=[grease, recipients[0], grease, recipients[1], grease])
+        self.assertEqual(len(agefile.inspect(file).stanzas), 14)
+        for path, _, secret in self.pairs:
+            self.assertEqual(age("-d", "-i", path, data=file), PLAIN)
+            self.assertEqual(agefile.decrypt(file, identities=x25519.X25519Identity(secret)), PLAIN)
+
+    def test_rewrapped_for_age(self):
+        """A file of age for one is rewrapped for another, which age then opens."""
+        (first_path, one, first), (second_path, two, _) = self.pairs
+        identity, recipient = x25519.X25519Identity(first), x25519.X25519Recipient(two)
+        file = agefile.rewrap(age("-r", one, data=PLAIN), identities=identity, recipients=recipient)
+        self.assertEqual(age("-d", "-i", second_path, data=file), PLAIN)
+        self.assertRaises(subprocess.CalledProcessError, age, "-d", "-i", first_path, data=file)
 
     def test_wrong_keys(self):
-        (_, one, _), (_, _, secret) = self.pairs
+        (first_path, one, _), (_, two, secret) = self.pairs
         file = age("-r", one, data=PLAIN)
-        with self.assertRaises(agefile.AgeError) as caught:
-            agefile.decrypt(file, identities=x25519.X25519Identity(secret))
-        self.assertEqual(caught.exception.code, agefile.Code.NO_MATCH)
+        for identities in (x25519.X25519Identity(secret), [x25519.X25519Identity(secret), agefile.Key(bytes(32))]):
+            with self.assertRaises(agefile.AgeError) as caught:
+                agefile.decrypt(file, identities=identities)
+            self.assertEqual(caught.exception.code, agefile.Code.NO_MATCH)
+        other = agefile.encrypt(PLAIN, recipients=x25519.X25519Recipient(two))
+        self.assertRaises(subprocess.CalledProcessError, age, "-d", "-i", first_path, data=other)
+
+    def test_malformed_stanzas(self):
+        """A share of low order, and shares and bodies of other lengths, are refused as age refuses them."""
+        path, _, secret = self.pairs[0]
+        for args, body in ((("X25519", "A" * 43), bytes(32)), (("X25519", "A" * 42), bytes(32)), (("X25519",), bytes(32)), (("X25519", "A" * 43), bytes(31))):
+            class Bad:
+                def wrap(self, file_key):
+                    return [agefile.Stanza(args, body)]
+
+            file = agefile.encrypt(b"", recipients=Bad())
+            self.assertRaises(ValueError, agefile.decrypt, file, identities=x25519.X25519Identity(secret))
+            self.assertRaises(subprocess.CalledProcessError, age, "-d", "-i", path, data=file)
 
     def test_texts_that_are_refused(self):
         _, public, secret = self.pairs[0]

@@ -4,7 +4,7 @@
 use std::io;
 use std::thread;
 
-use crate::ffi::{self, Part, Payload, NONCE, SEALED_CHUNK, TAG, TEXT_CHUNK};
+use crate::ffi::{self, Part, Payload, NONCE, SEALED_CHUNK, TEXT_CHUNK};
 use crate::header::{header_of, inspect, stanzas_text, unlock};
 use crate::whole::text_len;
 use crate::{Error, FileKey, Identity, Recipient};
@@ -82,6 +82,5 @@ fn in_parts<'a, 'b>(
         let done: Vec<_> = running.into_iter().map(|thread| thread.join().expect("no panic")).collect();
         done.into_iter().collect::<Result<(), Error>>()
     })?;
-    debug_assert!(last.len() + TAG <= take + TAG);
     Ok((last, rest))
 }

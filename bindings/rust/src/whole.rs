@@ -2,7 +2,7 @@
 
 use std::io;
 
-use crate::ffi::{self, NONCE, SEALED_CHUNK, TAG};
+use crate::ffi::{self, NONCE, SEALED_CHUNK, TAG, TEXT_CHUNK};
 use crate::header::{header_of, inspect, stanzas_text, unlock};
 use crate::{Error, FileKey, Identity, Recipient};
 
@@ -22,9 +22,9 @@ pub fn encrypt(plain: &[u8], recipients: &[&dyn Recipient]) -> io::Result<Vec<u8
     Ok(out)
 }
 
-/// The length of the plaintext of sealed chunks, if they are those of a file.
+/// The most that sealed chunks of this length in all open to.
 pub(crate) fn text_len(sealed: usize) -> usize {
-    sealed.saturating_sub(TAG * sealed.div_ceil(SEALED_CHUNK))
+    sealed / SEALED_CHUNK * TEXT_CHUNK + (sealed % SEALED_CHUNK).saturating_sub(TAG)
 }
 
 /// The plaintext of an age file. Of a file with a fault nothing is returned.

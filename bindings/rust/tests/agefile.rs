@@ -105,6 +105,54 @@ fn threads_make_the_same_files() {
     }
 }
 
+/// What a call of each kind makes of a file that was cut.
+fn cut_file(file: &[u8]) -> Vec<Result<Vec<u8>, Error>> {
+    let mut text = Vec::new();
+    let read = Reader::new(file, &[&key()]).and_then(|mut reader| reader.read_to_end(&mut text)).map_err(fault);
+    let mut found = vec![decrypt(file, &[&key()]), read.map(|_| text)];
+    #[cfg(feature = "parallel")]
+    found.extend([1, 2, 3].map(|threads| agefile::parallel::decrypt(file, &[&key()], threads)));
+    found
+}
+
+#[test]
+fn cut_files_end_at_the_same_chunk() {
+    let file = encrypt(&text(3 * 65536), &[&key()]).unwrap();
+    let front = inspect(&file).unwrap().text().len() + 16;
+    for chunk in 0..4 {
+        for rest in [0, 1, 15, 16, 17, 65551] {
+            let len = front + chunk * 65552 + rest;
+            if len >= file.len() {
+                continue;
+            }
+            let expected = match (chunk, rest) {
+                (0, 0) => Error::ChunkShort(0),
+                (_, 0) => Error::BadChunk(chunk as u64 - 1),
+                (_, 1..=15) => Error::ChunkShort(chunk as u64),
+                (1.., 16) => Error::EmptyFinal(chunk as u64),
+                _ => Error::BadChunk(chunk as u64),
+            };
+            for found in cut_file(&file[..len]) {
+                assert_eq!(found, Err(expected), "chunk {chunk}, {rest} bytes of it");
+            }
+        }
+    }
+}
+
+#[test]
+fn great_header_is_listed_in_a_tenth_of_a_second() {
+    let stanzas = b"-> a\n\n".repeat(10911);
+    let mac = [b"--- ", "A".repeat(43).as_bytes(), b"\n"].concat();
+    let header = [b"age-encryption.org/v1\n", &stanzas[..], &mac].concat();
+    let times = (0..10).map(|_| {
+        let began = std::time::Instant::now();
+        assert_eq!(inspect(&header).unwrap().stanzas().len(), 10911);
+        began.elapsed()
+    });
+    let least = times.min().unwrap();
+    assert!(least.as_millis() < 100, "{least:?}");
+}
+
 #[test]
 fn ranges_are_slices() {
     for plain in SIZES.map(text) {
