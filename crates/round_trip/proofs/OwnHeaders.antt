@@ -8,7 +8,7 @@ use Rattle.age_file.specs.Words.{Bytes}
 use Rattle.age_cipher.proofs.OpeningLemmas.{length-sealed}
 use Rattle.age_header.specs.Base64.{IsBase64, base64_of}
 use Rattle.age_header.specs.Header.{Head, IsFullLine, IsStanza, StanzaParts, argument_line, line, version_line}
-use Rattle.age_header.proofs.LengthLemmas.{line_size, version_size}
+use Rattle.age_header.proofs.LengthLemmas.{line_size, length-version_line}
 use Rattle.age_header.proofs.TextLemmas.{signs_size}
 use Rattle.age_header.specs.Mac.{header_mac}
 use Rattle.age_recipient.specs.declared.key.FileKey.{FileKey}
@@ -66,7 +66,7 @@ header_size s mac text size h =
     let end = line_size (codes "--- " ++ h.characters) in
     ap length h.spelled ∙ omega (
       arith,
-      version_size,
+      length-version_line,
       length-append h.stanza_text.0 h.stanza_text.1,
       length-append (codes "--- ") h.characters,
       length-append (version_line ++ h.body) (line (codes "--- " ++ h.characters)),
