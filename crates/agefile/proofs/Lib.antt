@@ -1,5 +1,5 @@
+mod DecryptingLemmas
 mod FrontLemmas
-mod GivesPlainLemmas
 mod HeaderLemmas
 mod ListLemmas
 mod PlainSizes
@@ -11,6 +11,7 @@ pub mod SizeLemmas
 mod StartLemmas
 mod StepsReadLemmas
 mod UnlockLemmas
+mod SealingLemmas
 mod SealsRunLemmas
 mod HeadingLemmas
 mod WrapLemmas
