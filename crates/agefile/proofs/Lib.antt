@@ -1,3 +1,4 @@
+mod AnyFront
 mod DecryptingLemmas
 mod FrontLemmas
 mod HeaderLemmas
@@ -17,3 +18,5 @@ mod HeadingLemmas
 mod WrapLemmas
 mod GroupLemmas
 mod OpeningLaws
+mod OpenGroupLemmas
+mod RewrapLemmas
