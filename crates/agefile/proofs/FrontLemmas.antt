@@ -1,7 +1,8 @@
 -- What is found in a file's front of 65,552 bytes is what is found in the file.
-use Rattle.std.proofs.Common.{◌≡◌, ℕ, ◌+◌, ◌-◌, ◌<◌, ◌≤◌, List, length, take, drop, nat_lt, cond, sym, ◌∙◌, ap, refl, subst, arith, inl, inr, length-take, length-drop, Result, Ok, Err}
+use Rattle.std.proofs.Common.{◌≡◌, ℕ, ◌+◌, ◌-◌, ◌<◌, ◌≤◌, length, take, drop, nat_lt, cond, sym, ◌∙◌, ap, refl, subst, arith, inl, inr, length-take, length-drop, Result, Ok, Err}
 use Rattle.std.proofs.lemmas.Bool.{cases_lt, lt-ltb, le-ltb}
 use Rattle.std.proofs.lemmas.List.{take-take, drop-take}
+use Rattle.age_kdf.specs.Bytes.{Bytes}
 use Rattle.age_header.specs.declared.fault.HeaderFault.{HeaderFault}
 use Rattle.age_header.specs.declared.fault.HeaderFault.TheVariants as header
 use Rattle.age_header.specs.Verdict.{BeginsAsAge, Decides, Found, HeaderVerdict, IsUndecided}
@@ -17,10 +18,11 @@ use Rattle.agefile.specs.Limits.{limits}
 use Rattle.agefile.specs.Start.{IsStart, start_under}
 
 -- the first 65,552 bytes of a file have its header verdict
-cut_front : (b : List ℕ) → take 65536 (take 65552 b) ≡ take 65536 b
+cut_front : (b : Bytes) → take 65536 (take 65552 b) ≡ take 65536 b
 cut_front b = take-take 65536 65552 b (omega arith)
 
-pub whole_verdict : (b : List ℕ) (r : Result Found HeaderFault) → HeaderVerdict (take 65552 b) limits.max_header r → HeaderVerdict b limits.max_header r
+pub whole_verdict : (b : Bytes) (r : Result Found HeaderFault) → HeaderVerdict (take 65552 b) limits.max_header r
+    → HeaderVerdict b limits.max_header r
 whole_verdict b (Ok found) h = record {
   lines = h.lines;
   begun = subst BeginsAsAge (cut_front b) h.begun;
@@ -29,10 +31,12 @@ whole_verdict b (Ok found) h = record {
   head = h.head;
 }
 whole_verdict b (Err header.NotAge) h = λ begins. h (subst BeginsAsAge (sym (cut_front b)) begins)
-whole_verdict b (Err (header.BadLine n)) h = (subst BeginsAsAge (cut_front b) h.0, (h.1.0, h.1.1, subst (Decides h.1.0) (cut_front b) h.1.2, h.1.3))
+whole_verdict b (Err (header.BadLine n)) h =
+    (subst BeginsAsAge (cut_front b) h.0, (h.1.0, h.1.1, subst (Decides h.1.0) (cut_front b) h.1.2, h.1.3))
 whole_verdict b (Err header.Truncated) h =
     let short : length (take 65552 b) < 65536 = h.2 in
-    (subst BeginsAsAge (cut_front b) h.0, subst IsUndecided (cut_front b) h.1, omega (arith, short, length-take 65552 b))
+    (subst BeginsAsAge (cut_front b) h.0, subst IsUndecided (cut_front b) h.1,
+        omega (arith, short, length-take 65552 b))
 whole_verdict b (Err header.TooLarge) h =
     let long : 65536 ≤ length (take 65552 b) = h.2 in
     (subst BeginsAsAge (cut_front b) h.0, subst IsUndecided (cut_front b) h.1, omega (arith, long, length-take 65552 b))
@@ -40,12 +44,14 @@ whole_verdict b (Err header.Read) h = absurd h
 whole_verdict b (Err header.Memory) h = absurd h
 
 -- sixteen bytes after the header
-nonce-front : (b : List ℕ) (n : ℕ) → n ≤ 65536 → take 16 (drop n (take 65552 b)) ≡ take 16 (drop n b)
+nonce-front : (b : Bytes) (n : ℕ) → n ≤ 65536 → take 16 (drop n (take 65552 b)) ≡ take 16 (drop n b)
 nonce-front b n le =
     let whole : n + (65552 - n) ≡ 65552 = omega arith in
-    ap (λ k. take 16 (drop n (take k b))) (sym whole) ∙ ap (take 16) (drop-take n (65552 - n) b) ∙ take-take 16 (65552 - n) (drop n b) (omega arith)
+    ap (λ k. take 16 (drop n (take k b))) (sym whole) ∙ ap (take 16) (drop-take n (65552 - n) b)
+        ∙ take-take 16 (65552 - n) (drop n b) (omega arith)
 
-nonce-there : (b : List ℕ) (n : ℕ) → n ≤ 65536 → nat_lt (length (drop n (take 65552 b))) 16 ≡ nat_lt (length (drop n b)) 16
+nonce-there : (b : Bytes) (n : ℕ) → n ≤ 65536
+    → nat_lt (length (drop n (take 65552 b))) 16 ≡ nat_lt (length (drop n b)) 16
 nonce-there b n le =
     let front : length (drop n (take 65552 b)) ≡ length (take 65552 b) - n = length-drop n (take 65552 b) in
     let all : length (drop n b) ≡ length b - n = length-drop n b in
@@ -54,13 +60,17 @@ nonce-there b n le =
       | inr ge ↦ le-ltb _ 16 (omega (arith, ge, front, all, length-take 65552 b)) ∙ sym (le-ltb _ 16 ge)
     ]
 
-start-under-front : (b : List ℕ) (n : ℕ) (key : Result FileKey Fault) → n ≤ 65536 → start_under n (drop n (take 65552 b)) key ≡ start_under n (drop n b) key
+start-under-front : (b : Bytes) (n : ℕ) (key : Result FileKey Fault) → n ≤ 65536
+    → start_under n (drop n (take 65552 b)) key ≡ start_under n (drop n b) key
 start-under-front b n (Err fault) le = refl
 start-under-front b n (Ok k) le =
-    ap (λ t. cond t (Err NonceTruncated) (Ok (record { first = n + 16; key = payload_key k (take 16 (drop n (take 65552 b))) }))) (nonce-there b n le)
-    ∙ ap (λ x. cond (nat_lt (length (drop n b)) 16) (Err NonceTruncated) (Ok (record { first = n + 16; key = payload_key k x }))) (nonce-front b n le)
+    ap (λ t. cond t (Err NonceTruncated)
+        (Ok (record { first = n + 16; key = payload_key k (take 16 (drop n (take 65552 b))) }))) (nonce-there b n le)
+    ∙ ap (λ x. cond (nat_lt (length (drop n b)) 16) (Err NonceTruncated)
+    (Ok (record { first = n + 16; key = payload_key k x }))) (nonce-front b n le)
 
-pub whole-start : (answers : Answering) (b : List ℕ) (start : Result Start Fault) → IsStart answers (take 65552 b) start → IsStart answers b start
+pub whole-start : (answers : Answering) (b : Bytes) (start : Result Start Fault) → IsStart answers (take 65552 b) start
+    → IsStart answers b start
 whole-start answers b start (Err e, verdict, is) = (Err e, whole_verdict b (Err e) verdict, is)
 whole-start answers b start (Ok found, verdict, is) =
     let there = whole_verdict b (Ok found) verdict in

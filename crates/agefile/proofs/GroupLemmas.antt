@@ -2,6 +2,7 @@
 use Rattle.std.proofs.Common.{◌≡◌, ℕ, ◌+◌, ◌-◌, Bool, true, false, List, [], ◌∷◌, ◌++◌, length, take, sym, ◌∙◌, ap, refl, subst, arith, inl, inr, append_assoc, length-append}
 use Rattle.std.specs.List.{concat}
 use Rattle.std.proofs.lemmas.List.{append-nil, take_at}
+use Rattle.age_kdf.specs.Bytes.{Bytes}
 use Rattle.age_cipher.specs.Sealing.{sealed}
 use Rattle.age_stream.specs.Payload.{chunk_nonce, is_end, sealed_from}
 use Rattle.agefile.specs.declared.part.Part.{Part}
@@ -11,90 +12,116 @@ use Rattle.agefile.specs.Groups.{PartSeals, SealsGroups, SealsSome, all_of, seal
 use Rattle.agefile.specs.Part as part
 use Rattle.agefile.specs.Payload.{SealsNext}
 
-text_of : (text room : List ℕ) → length room ≡ 16 → take (length (text ++ room) - 16) (text ++ room) ≡ text
+text_of : (text room : Bytes) → length room ≡ 16 → take (length (text ++ room) - 16) (text ++ room) ≡ text
 text_of text room len = take_at text room (length (text ++ room) - 16) (omega (arith, len, length-append text room))
 
-part_step : (p new : Part) (text room after : List ℕ) (report : Report) → length room ≡ 16 → part.SealsNext p new (text ++ room) after report 0
+part_step : (p new : Part) (text room after : Bytes) (report : Report) → length room ≡ 16
+    → part.SealsNext p new (text ++ room) after report 0
     → (after ≡ sealed p.key (chunk_nonce p.number false) [] text) × ((new.key ≡ p.key) × (new.number ≡ p.number + 1))
-part_step p new text room after report len (inl (_, out)) = let bad : ◌≡◌ {A = ℕ} 0 23 = out.returned in absurd (omega arith)
+part_step p new text room after report len (inl (_, out)) = let bad : ◌≡◌ {A = ℕ} 0 23 = out.returned in
+    absurd (omega arith)
 part_step p new text room after report len (inr (_, inr (many, bad, reported, kept), is)) = absurd (omega (arith, bad))
 part_step p new text room after report len (inr (_, inl (few, zero_is, reported, gives), is)) =
-    (gives ∙ ap (sealed p.key (chunk_nonce p.number false) []) (text_of text room len), (ap (λ (q : Part). q.key) is, ap (λ (q : Part). q.number) is))
+    (gives ∙ ap (sealed p.key (chunk_nonce p.number false) []) (text_of text room len),
+        (ap (λ (q : Part). q.key) is, ap (λ (q : Part). q.number) is))
 
-pub payload_step : (p new : Payload) (text room after : List ℕ) (last : Bool) (report : Report) → length room ≡ 16 → SealsNext p new (text ++ room) after last report 0
+pub payload_step : (p new : Payload) (text room after : Bytes) (last : Bool) (report : Report) → length room ≡ 16
+    → SealsNext p new (text ++ room) after last report 0
     → (after ≡ sealed p.key (chunk_nonce p.number last) [] text) × ((new.key ≡ p.key) × (new.number ≡ p.number + 1))
-payload_step p new text room after last report len (inl (_, out)) = let bad : ◌≡◌ {A = ℕ} 0 23 = out.returned in absurd (omega arith)
-payload_step p new text room after last report len (inr (_, inr (many, bad, reported, kept), is)) = absurd (omega (arith, bad))
+payload_step p new text room after last report len (inl (_, out)) = let bad : ◌≡◌ {A = ℕ} 0 23 = out.returned in
+    absurd (omega arith)
+payload_step p new text room after last report len (inr (_, inr (many, bad, reported, kept), is)) =
+    absurd (omega (arith, bad))
 payload_step p new text room after last report len (inr (_, inl (few, zero_is, reported, gives), is)) =
-    (gives ∙ ap (sealed p.key (chunk_nonce p.number last) []) (text_of text room len), (ap (λ (q : Payload). q.key) is, ap (λ (q : Payload). q.number) is))
+    (gives ∙ ap (sealed p.key (chunk_nonce p.number last) []) (text_of text room len),
+        (ap (λ (q : Payload). q.key) is, ap (λ (q : Payload). q.number) is))
 
-part_seals : (p : Part) (texts : List (List ℕ)) (out : List ℕ) → PartSeals p texts out → out ≡ concat (sealed_open p.key p.number texts)
+part_seals : (p : Part) (texts : List Bytes) (out : Bytes) → PartSeals p texts out
+    → out ≡ concat (sealed_open p.key p.number texts)
 part_seals p [] out h = h
 part_seals p (text ∷ more) out (new, room, len, after, report, step, (rest, joined, run)) =
     let s = part_step p new text room after report len step in
     let tail : rest ≡ concat (sealed_open p.key (p.number + 1) more) =
-    part_seals new more rest run ∙ ap (λ k. concat (sealed_open k new.number more)) s.1.0 ∙ ap (λ n. concat (sealed_open p.key n more)) s.1.1 in
+    part_seals new more rest run ∙ ap (λ k. concat (sealed_open k new.number more)) s.1.0
+        ∙ ap (λ n. concat (sealed_open p.key n more)) s.1.1 in
     joined ∙ ap (λ a. a ++ rest) s.0 ∙ ap (λ r. sealed p.key (chunk_nonce p.number false) [] text ++ r) tail
 
 -- what some chunks come to
-abbrev Sealed : (old new : Payload) (texts : List (List ℕ)) (out : List ℕ) → Type 0
-Sealed old new texts out = (out ≡ concat (sealed_open old.key old.number texts)) × ((new.key ≡ old.key) × (new.number ≡ old.number + length texts))
+abbrev Sealed : (old new : Payload) (texts : List Bytes) (out : Bytes) → Type 0
+Sealed old new texts out = (out ≡ concat (sealed_open old.key old.number texts))
+    × ((new.key ≡ old.key) × (new.number ≡ old.number + length texts))
 
-some_seals : (old new : Payload) (texts : List (List ℕ)) (out : List ℕ) → SealsSome old new texts out → Sealed old new texts out
+some_seals : (old new : Payload) (texts : List Bytes) (out : Bytes) → SealsSome old new texts out
+    → Sealed old new texts out
 some_seals old new texts out (inl (text, room, one, len, (report, step))) =
     let s = payload_step old new text room out false report len step in
-    subst (λ ts. Sealed old new ts out) (sym one) (s.0 ∙ sym (append-nil (sealed old.key (chunk_nonce old.number false) [] text)), s.1)
+    subst (λ ts. Sealed old new ts out) (sym one)
+        (s.0 ∙ sym (append-nil (sealed old.key (chunk_nonce old.number false) [] text)), s.1)
 some_seals old new texts out (inr (given, report, inl (_, bad, reported, kept), run)) = absurd (omega (arith, bad))
-some_seals old new texts out (inr (given, report, inr (_, inl (many, bad, reported, kept)), run)) = absurd (omega (arith, bad))
+some_seals old new texts out (inr (given, report, inr (_, inl (many, bad, reported, kept)), run)) =
+    absurd (omega (arith, bad))
 some_seals old new texts out (inr (given, report, inr (_, inr taken), run)) = (
   part_seals given texts out run ∙ ap (λ (q : Part). concat (sealed_open q.key q.number texts)) taken.given,
   (ap (λ (q : Payload). q.key) taken.payload, ap (λ (q : Payload). q.number) taken.payload),
 )
 
-concat_append : (xs ys : List (List ℕ)) → concat (xs ++ ys) ≡ concat xs ++ concat ys
+concat_append : (xs ys : List Bytes) → concat (xs ++ ys) ≡ concat xs ++ concat ys
 concat_append [] ys = refl
 concat_append (x ∷ xs) ys = ap (λ t. x ++ t) (concat_append xs ys) ∙ sym (append_assoc x (concat xs) (concat ys))
 
-open_append : (key : List ℕ) (i : ℕ) (xs ys : List (List ℕ)) → sealed_open key i (xs ++ ys) ≡ sealed_open key i xs ++ sealed_open key (i + length xs) ys
+open_append : (key : Bytes) (i : ℕ) (xs ys : List Bytes)
+    → sealed_open key i (xs ++ ys) ≡ sealed_open key i xs ++ sealed_open key (i + length xs) ys
 open_append key i [] ys = ap (λ n. sealed_open key n ys) (omega arith)
 open_append key i (x ∷ xs) ys =
     let next : i + 1 + length xs ≡ i + length (x ∷ xs) = omega arith in
-    ap (λ t. sealed key (chunk_nonce i false) [] x ∷ t) (open_append key (i + 1) xs ys ∙ ap (λ n. sealed_open key (i + 1) xs ++ sealed_open key n ys) next)
+    ap (λ t. sealed key (chunk_nonce i false) [] x ∷ t)
+        (open_append key (i + 1) xs ys ∙ ap (λ n. sealed_open key (i + 1) xs ++ sealed_open key n ys) next)
 
-pub groups_seal : (old new : Payload) (groups : List (List (List ℕ))) (out : List ℕ) → SealsGroups old new groups out → Sealed old new (all_of groups) out
-groups_seal old new [] out (same, none) = (none, (ap (λ (q : Payload). q.key) same, ap (λ (q : Payload). q.number) same ∙ omega arith))
+pub groups_seal : (old new : Payload) (groups : List (List Bytes)) (out : Bytes) → SealsGroups old new groups out
+    → Sealed old new (all_of groups) out
+groups_seal old new [] out (same, none) =
+    (none, (ap (λ (q : Payload). q.key) same, ap (λ (q : Payload). q.number) same ∙ omega arith))
 groups_seal old new (texts ∷ more) out (mid, mine, rest, joined, some, on) =
     let s = some_seals old mid texts mine some in
     let g = groups_seal mid new more rest on in
     let tail : rest ≡ concat (sealed_open old.key (old.number + length texts) (all_of more)) =
-    g.0 ∙ ap (λ k. concat (sealed_open k mid.number (all_of more))) s.1.0 ∙ ap (λ n. concat (sealed_open old.key n (all_of more))) s.1.1 in
+    g.0 ∙ ap (λ k. concat (sealed_open k mid.number (all_of more))) s.1.0
+        ∙ ap (λ n. concat (sealed_open old.key n (all_of more))) s.1.1 in
     let all : out ≡ concat (sealed_open old.key old.number (texts ++ all_of more)) =
     joined ∙ ap (λ m. m ++ rest) s.0 ∙ ap (λ r. concat (sealed_open old.key old.number texts) ++ r) tail
-    ∙ sym (concat_append (sealed_open old.key old.number texts) (sealed_open old.key (old.number + length texts) (all_of more)))
+    ∙ sym (concat_append (sealed_open old.key old.number texts)
+    (sealed_open old.key (old.number + length texts) (all_of more)))
     ∙ ap concat (sym (open_append old.key old.number texts (all_of more))) in
     (all, (g.1.0 ∙ s.1.0, omega (arith, g.1.1, s.1.1, length-append texts (all_of more))))
 
 -- ---- with the last chunk
 
-is_end_more : (cs : List (List ℕ)) (text : List ℕ) → is_end (cs ++ text ∷ []) ≡ false
+is_end_more : (cs : List Bytes) (text : Bytes) → is_end (cs ++ text ∷ []) ≡ false
 is_end_more [] text = refl
 is_end_more (c ∷ cs) text = refl
 
-with_last : (key : List ℕ) (i : ℕ) (cs : List (List ℕ)) (text : List ℕ)
-    → sealed_from key i (cs ++ text ∷ []) ≡ sealed_open key i cs ++ (sealed key (chunk_nonce (i + length cs) true) [] text ∷ [])
+with_last : (key : Bytes) (i : ℕ) (cs : List Bytes) (text : Bytes)
+    → sealed_from key i (cs ++ text ∷ [])
+    ≡ sealed_open key i cs ++ (sealed key (chunk_nonce (i + length cs) true) [] text ∷ [])
 with_last key i [] text = ap (λ n. sealed key (chunk_nonce n true) [] text ∷ []) (omega arith)
 with_last key i (c ∷ cs) text =
     let next : i + 1 + length cs ≡ i + length (c ∷ cs) = omega arith in
     ap (λ b. sealed key (chunk_nonce i b) [] c ∷ sealed_from key (i + 1) (cs ++ text ∷ [])) (is_end_more cs text)
     ∙ ap (λ t. sealed key (chunk_nonce i false) [] c ∷ t)
-    (with_last key (i + 1) cs text ∙ ap (λ n. sealed_open key (i + 1) cs ++ (sealed key (chunk_nonce n true) [] text ∷ [])) next)
+    (with_last key (i + 1) cs text ∙ ap
+        (λ n. sealed_open key (i + 1) cs ++ (sealed key (chunk_nonce n true) [] text ∷ [])) next)
 
-pub groups_end : (old mid new : Payload) (groups : List (List (List ℕ))) (out text room after : List ℕ) (report : Report) → SealsGroups old mid groups out → length room ≡ 16
-    → SealsNext mid new (text ++ room) after true report 0 → out ++ after ≡ concat (sealed_from old.key old.number (all_of groups ++ text ∷ []))
+pub groups_end : (old mid new : Payload) (groups : List (List Bytes)) (out text room after : Bytes) (report : Report)
+    → SealsGroups old mid groups out → length room ≡ 16
+    → SealsNext mid new (text ++ room) after true report 0
+    → out ++ after ≡ concat (sealed_from old.key old.number (all_of groups ++ text ∷ []))
 groups_end old mid new groups out text room after report run len step =
     let g = groups_seal old mid groups out run in
     let s = payload_step mid new text room after true report len step in
-    let end : List ℕ = sealed old.key (chunk_nonce (old.number + length (all_of groups)) true) [] text in
-    let last : after ≡ end = s.0 ∙ ap (λ k. sealed k (chunk_nonce mid.number true) [] text) g.1.0 ∙ ap (λ n. sealed old.key (chunk_nonce n true) [] text) g.1.1 in
-    ap (λ o. o ++ after) g.0 ∙ ap (λ a. concat (sealed_open old.key old.number (all_of groups)) ++ a) (last ∙ sym (append-nil end))
-    ∙ sym (concat_append (sealed_open old.key old.number (all_of groups)) (end ∷ [])) ∙ ap concat (sym (with_last old.key old.number (all_of groups) text))
+    let end : Bytes = sealed old.key (chunk_nonce (old.number + length (all_of groups)) true) [] text in
+    let last : after ≡ end = s.0 ∙ ap (λ k. sealed k (chunk_nonce mid.number true) [] text) g.1.0
+        ∙ ap (λ n. sealed old.key (chunk_nonce n true) [] text) g.1.1 in
+    ap (λ o. o ++ after) g.0 ∙ ap (λ a. concat (sealed_open old.key old.number (all_of groups)) ++ a)
+        (last ∙ sym (append-nil end))
+    ∙ sym (concat_append (sealed_open old.key old.number (all_of groups)) (end ∷ []))
+    ∙ ap concat (sym (with_last old.key old.number (all_of groups) text))

@@ -1,9 +1,11 @@
 -- The header in front of bytes that lie in memory.
-use Rattle.std.proofs.Common.{◌≡◌, ℕ, ◌≤◌, ◌-◌, ◌^◌, List, [], ◌∷◌, ◌++◌, length, take, map, flat_map, min, ◌∙◌, sym, ap, refl, subst, inl, inr, arith, Option, Some, None, Result, Ok, Err}
+use Rattle.std.proofs.Common.{◌≡◌, ℕ, ◌≤◌, ◌-◌, ◌^◌, List, [], ◌∷◌, ◌++◌, length, take, map, flat_map, min, ◌∙◌, sym, ap, refl, subst, inl, inr, arith, Some, None, Result, Ok, Err}
 use Rattle.std.specs.Prelude.{String, IfOk}
 use Rattle.std.specs.Global.{Global}
 use Rattle.std.specs.String.{string_bytes}
 use Rattle.std.specs.List.{join_by}
+use Rattle.age_kdf.specs.Bytes.{Bytes}
+use Rattle.age_header.specs.Device.{Known}
 use Rattle.age_header.specs.declared.fault.HeaderFault.{HeaderFault}
 use Rattle.age_header.specs.declared.fault.HeaderFault.TheVariants as header
 use Rattle.age_header.specs.Header.{Head, HeaderParts, StanzaParts}
@@ -24,31 +26,38 @@ use Rattle.agefile.specs.Limits.{limits}
 use Rattle.agefile.proofs.FrontLemmas.{whole_verdict}
 
 -- what a reader returned
-of_answer : (b : List ℕ) (after : Option (List ℕ)) (r : Result HeaderParts Fault) (answer : Result HeaderParts HeaderFault) → r ≡ file_result answer
+of_answer : (b : Bytes) (after : Known) (r : Result HeaderParts Fault) (answer : Result HeaderParts HeaderFault)
+    → r ≡ file_result answer
     → CountsRead 0 0 r → ReadsHeaderOf b (Some b) after limits.max_header answer → HeaderOf b r
 of_answer b after r (Ok h) same count (text, verdict, taken) = subst (HeaderOf b) (sym same) (text, verdict)
 of_answer b after r (Err header.Memory) same count h = subst (HeaderOf b) (sym same) (inl refl)
-of_answer b after r (Err header.Read) same count h = let rises = subst (CountsRead 0 0) same count in absurd (omega arith)
+of_answer b after r (Err header.Read) same count h = let rises = subst (CountsRead 0 0) same count in
+    absurd (omega arith)
 of_answer b after r (Err reason) same count h = subst (HeaderOf b) (sym same) (inr (reason, h, refl))
 
-pub header_found : (l : Bounds) (b : List ℕ) (come after : Option (List ℕ)) (r : Result HeaderParts Fault) → l ≡ limits → come ≡ Some b
+pub header_found : (l : Bounds) (b : Bytes) (come after : Known) (r : Result HeaderParts Fault) → l ≡ limits
+    → come ≡ Some b
     → CountsRead 0 0 r → Inspects l come after r → HeaderOf b r
 header_found l b come after r at source count h =
-    let inspects = subst (λ (s : Option (List ℕ)). Inspects limits s after r) source (subst (λ bounds. Inspects bounds come after r) at h) in
+    let inspects = subst (λ (s : Known). Inspects limits s after r) source
+        (subst (λ bounds. Inspects bounds come after r) at h) in
     of_answer b after r inspects.0 inspects.1 count inspects.2
 
 -- the first 65,552 bytes of a file have its header
-whole_of : (b : List ℕ) (r : Result HeaderParts Fault) → HeaderOf (take 65552 b) r → HeaderOf b r
-whole_of b (Ok h) (text, found) = (text, whole_verdict b (Ok (record { stanzas = h.stanzas; mac = h.mac; text = text })) found)
+whole_of : (b : Bytes) (r : Result HeaderParts Fault) → HeaderOf (take 65552 b) r → HeaderOf b r
+whole_of b (Ok h) (text, found) = (text,
+    whole_verdict b (Ok (record { stanzas = h.stanzas; mac = h.mac; text = text })) found)
 whole_of b (Err fault) (inl memory) = inl memory
 whole_of b (Err fault) (inr (reason, found, is)) = inr (reason, whole_verdict b (Err reason) found, is)
 
-pub found_whole : (b front : List ℕ) (r : Result HeaderParts Fault) → front ≡ take 65552 b → HeaderOf front r → HeaderOf b r
+pub found_whole : (b front : Bytes) (r : Result HeaderParts Fault) → front ≡ take 65552 b → HeaderOf front r
+    → HeaderOf b r
 found_whole b front r same h = whole_of b r (subst (λ f. HeaderOf f r) same h)
 
 -- the length of a header that was found is that of its text
-pub found_len : (b text h : List ℕ) (ss : List StanzaParts) (mac : List ℕ) (len : ℕ)
-    → HeaderVerdict b limits.max_header (Ok (record { stanzas = ss; mac = mac; text = text })) → Head ss mac h → len ≡ min (length h) (2 ^ 64 - 1) → len ≡ length text
+pub found_len : (b text h : Bytes) (ss : List StanzaParts) (mac : Bytes) (len : ℕ)
+    → HeaderVerdict b limits.max_header (Ok (record { stanzas = ss; mac = mac; text = text })) → Head ss mac h
+    → len ≡ min (length h) (2 ^ 64 - 1) → len ≡ length text
 found_len b text h ss mac len found head is =
     let front = begins_found b limits.max_header (record { stanzas = ss; mac = mac; text = text }) found in
     let fits : length text ≤ 65536 = front.fits in
@@ -56,8 +65,10 @@ found_len b text h ss mac len found head is =
     omega arith
 
 -- what a caller is given of a header
-pub inspected : (b h : List ℕ) (header : HeaderParts) (old : Summary) (report : Report) (len stanzas : ℕ) (mac : List ℕ) → HeaderOf b (Ok header) → report ≡ report_of 0 None
-    → Head header.stanzas header.mac h → len ≡ min (length h) (2 ^ 64 - 1) → stanzas ≡ length header.stanzas → mac ≡ header.mac
+pub inspected : (b h : Bytes) (header : HeaderParts) (old : Summary) (report : Report) (len stanzas : ℕ) (mac : Bytes)
+    → HeaderOf b (Ok header) → report ≡ report_of 0 None
+    → Head header.stanzas header.mac h → len ≡ min (length h) (2 ^ 64 - 1) → stanzas ≡ length header.stanzas
+    → mac ≡ header.mac
     → Inspected b old (record { header_len = len; stanzas = stanzas; mac = mac }) report 0
 inspected b h header old report len stanzas mac (text, found) none head is count same =
     inr (
@@ -66,22 +77,25 @@ inspected b h header old report len stanzas mac (text, found) none head is count
       (refl, none, rw (found_len b text h header.stanzas header.mac len found head is, count, same) refl),
     )
 
-pub inspected_fault : (b : List ℕ) (old : Summary) (report : Report) (code : ℕ) (fault : Fault) → HeaderOf b (Err fault) → report ≡ report_of 0 (Some fault) → code ≡ fault_code fault
+pub inspected_fault : (b : Bytes) (old : Summary) (report : Report) (code : ℕ) (fault : Fault) → HeaderOf b (Err fault)
+    → report ≡ report_of 0 (Some fault) → code ≡ fault_code fault
     → Inspected b old old report code
 inspected_fault b old report code fault (inl memory) place returned =
     inl (returned ∙ ap fault_code memory, place ∙ ap (λ f. report_of 0 (Some f)) memory, refl)
 inspected_fault b old report code fault (inr (reason, found, same)) place returned =
     inr (Err reason, found, ((returned ∙ ap fault_code same, place ∙ ap (λ f. report_of 0 (Some f)) same), refl))
 
-join_map : {X : Type 0} (f : X → List ℕ) (xs : List X) → flat_map (λ x. 32 ∷ [] ++ f x) xs ≡ flat_map (λ a. 32 ∷ [] ++ a) (map f xs)
+join_map : {X : Type 0} (f : X → Bytes) (xs : List X)
+    → flat_map (λ x. 32 ∷ [] ++ f x) xs ≡ flat_map (λ a. 32 ∷ [] ++ a) (map f xs)
 join_map f [] = refl
 join_map f (x ∷ xs) = ap (λ t. (32 ∷ [] ++ f x) ++ t) (join_map f xs)
 
-joined_map : {X : Type 0} (f : X → List ℕ) (xs : List X) → join_by f (32 ∷ []) xs ≡ joined (map f xs)
+joined_map : {X : Type 0} (f : X → Bytes) (xs : List X) → join_by f (32 ∷ []) xs ≡ joined (map f xs)
 joined_map f [] = refl
 joined_map f (x ∷ xs) = ap (λ t. f x ++ t) (join_map f xs)
 
-pub joined_text : {X E : Type 0} (f : X → List ℕ) (xs : List X) (args : List (List ℕ)) (r : Result (String Global) E) → map f xs ≡ args
+pub joined_text : {X E : Type 0} (f : X → Bytes) (xs : List X) (args : List Bytes) (r : Result (String Global) E)
+    → map f xs ≡ args
     → IfOk r (λ t. string_bytes t ≡ join_by f (32 ∷ []) xs) → IfOk r (λ t. string_bytes t ≡ joined args)
 joined_text f xs args (Ok t) same h = h ∙ joined_map f xs ∙ ap joined same
 joined_text f xs args (Err e) same h = tt

@@ -5,12 +5,13 @@ use Rattle.std.specs.Global.{Global}
 use Rattle.std.specs.String.{string_bytes}
 use Rattle.std.proofs.lemmas.Bool.{cases_lt, le-ltb, lt-ltb, cond-false, cond-true}
 use Rattle.std.proofs.lemmas.List.{append-nil, drop_at, nil_from_length, take_at}
+use Rattle.age_kdf.specs.Bytes.{Bytes}
 use Rattle.age_header.specs.declared.fault.HeaderFault.{HeaderFault}
 use Rattle.age_header.specs.Base64.{IsBase64, base64_of}
 use Rattle.age_header.specs.Header.{AreStanzas, Head, HeaderParts, StanzaParts, line, version_line}
 use Rattle.age_header.specs.Mac.{header_mac}
 use Rattle.age_header.specs.Verdict.{Found, HeaderVerdict}
-use Rattle.age_header.proofs.LengthLemmas.{line_size, version_size}
+use Rattle.age_header.proofs.LengthLemmas.{line_size, length-version_line}
 use Rattle.age_header.proofs.OneVerdict.{begins_found}
 use Rattle.age_header.proofs.TextLemmas.{characters_are}
 use Rattle.age_recipient.specs.declared.key.FileKey.{FileKey}
@@ -27,33 +28,41 @@ use Rattle.agefile.proofs.StartLemmas.{Fronts, ok-ok}
 
 -- ---- the MAC
 
-pub mac_none : (text : List ℕ) (k : FileKey) (fault other : Fault) → other ≡ in_text fault → HeaderOf (probe text) (Err fault) → FindsMac text k (Err other)
+pub mac_none : (text : Bytes) (k : FileKey) (fault other : Fault) → other ≡ in_text fault
+    → HeaderOf (probe text) (Err fault) → FindsMac text k (Err other)
 mac_none text k fault other is (inl memory) = inl (ap Err (is ∙ ap in_text memory))
 mac_none text k fault other is (inr (reason, h, same)) = inr (Err reason, h, ap Err (is ∙ ap in_text same))
 
-abbrev found_of : (b rest : List ℕ) (h : HeaderParts) → Fronts b rest h → Found
+abbrev found_of : (b rest : Bytes) (h : HeaderParts) → Fronts b rest h → Found
 found_of b rest h f = record { stanzas = h.stanzas; mac = h.mac; text = f.text }
 
-pub mac_early : (text rest front : List ℕ) (h : HeaderParts) (k : FileKey) (fault : Fault) → Fronts (probe text) rest h → 0 < length rest
-    → front ≡ take (length (probe text) - length rest) (probe text) → fault ≡ BadLine (lines_in front - 1) → FindsMac text k (Err fault)
+pub mac_early : (text rest front : Bytes) (h : HeaderParts) (k : FileKey) (fault : Fault) → Fronts (probe text) rest h
+    → 0 < length rest
+    → front ≡ take (length (probe text) - length rest) (probe text) → fault ≡ BadLine (lines_in front - 1)
+    → FindsMac text k (Err fault)
 mac_early text rest front h k fault f some is count =
     let size : length (probe text) ≡ length f.text + length rest = ap length f.front ∙ length-append f.text rest in
     let len : length (probe text) - length rest ≡ length f.text = omega (arith, size) in
-    let same : front ≡ f.text = is ∙ ap (λ n. take n (probe text)) len ∙ ap (take (length f.text)) f.front ∙ take_at f.text rest (length f.text) refl in
+    let same : front ≡ f.text = is ∙ ap (λ n. take n (probe text)) len ∙ ap (take (length f.text)) f.front
+        ∙ take_at f.text rest (length f.text) refl in
     let less : length f.text < length (probe text) = omega (arith, size, some) in
-    let early : stanzas_in text (Ok (found_of (probe text) rest h f)) ≡ Err (BadLine (lines_in f.text - 1)) = cond-true (nat_lt (length f.text) (length (probe text))) _ _ (lt-ltb _ _ less) in
+    let early : stanzas_in text (Ok (found_of (probe text) rest h f)) ≡ Err (BadLine (lines_in f.text - 1)) =
+        cond-true (nat_lt (length f.text) (length (probe text))) _ _ (lt-ltb _ _ less) in
     inr (
       Ok (found_of (probe text) rest h f),
       f.verdict,
-      subst (λ s. IsMac k (unless_mixed s) (Err fault)) (sym early) (ap Err (count ∙ ap (λ x. BadLine (lines_in x - 1)) same)),
+      subst (λ s. IsMac k (unless_mixed s) (Err fault)) (sym early)
+          (ap Err (count ∙ ap (λ x. BadLine (lines_in x - 1)) same)),
     )
 
-whole_text : (text rest : List ℕ) (h : HeaderParts) (f : Fronts (probe text) rest h) → length rest ≡ 0 → stanzas_in text (Ok (found_of (probe text) rest h f)) ≡ Ok h.stanzas
+whole_text : (text rest : Bytes) (h : HeaderParts) (f : Fronts (probe text) rest h) → length rest ≡ 0
+    → stanzas_in text (Ok (found_of (probe text) rest h f)) ≡ Ok h.stanzas
 whole_text text rest h f none =
     let size : length (probe text) ≡ length f.text + length rest = ap length f.front ∙ length-append f.text rest in
     cond-false (nat_lt (length f.text) (length (probe text))) _ _ (le-ltb _ _ (omega (arith, size, none)))
 
-pub mac_mixed : (text rest : List ℕ) (h : HeaderParts) (k : FileKey) → Fronts (probe text) rest h → length rest ≡ 0 → is_mixed h.stanzas ≡ true → FindsMac text k (Err MixedPassphrase)
+pub mac_mixed : (text rest : Bytes) (h : HeaderParts) (k : FileKey) → Fronts (probe text) rest h → length rest ≡ 0
+    → is_mixed h.stanzas ≡ true → FindsMac text k (Err MixedPassphrase)
 mac_mixed text rest h k f none mixed =
     inr (
       Ok (found_of (probe text) rest h f),
@@ -62,7 +71,8 @@ mac_mixed text rest h k f none mixed =
           (subst (λ s. IsMac k s (Err MixedPassphrase)) (sym (cond-true (is_mixed h.stanzas) _ _ mixed)) refl),
     )
 
-pub mac_made : (text rest mac : List ℕ) (h : HeaderParts) (k : FileKey) → Fronts (probe text) rest h → length rest ≡ 0 → is_mixed h.stanzas ≡ false → mac ≡ header_mac k.0 h.stanzas
+pub mac_made : (text rest mac : Bytes) (h : HeaderParts) (k : FileKey) → Fronts (probe text) rest h → length rest ≡ 0
+    → is_mixed h.stanzas ≡ false → mac ≡ header_mac k.0 h.stanzas
     → FindsMac text k (Ok mac)
 mac_made text rest mac h k f none mixed is =
     inr (
@@ -74,34 +84,44 @@ mac_made text rest mac h k f none mixed is =
 
 -- ---- the header
 
-none_of : (text : List ℕ) (k : FileKey) (fault : Fault) (verdict : Result Found HeaderFault) (s : Result (List StanzaParts) Fault) → text ≢ []
-    → HeaderVerdict (probe text) limits.max_header verdict → s ≡ unless_mixed (stanzas_in text verdict) → IsMac k s (Err fault) → MakesHeader text k (Err fault)
+none_of : (text : Bytes) (k : FileKey) (fault : Fault) (verdict : Result Found HeaderFault)
+    (s : Result (List StanzaParts) Fault) → text ≢ []
+    → HeaderVerdict (probe text) limits.max_header verdict → s ≡ unless_mixed (stanzas_in text verdict)
+    → IsMac k s (Err fault) → MakesHeader text k (Err fault)
 none_of text k fault verdict (Ok ss) some h eq is = absurd (cc)
-none_of text k fault verdict (Err f) some h eq is = inr (Err f, inr (some, (verdict, h, eq)), ap Err (err-err {A = List ℕ} fault f is))
+none_of text k fault verdict (Err f) some h eq is =
+    inr (Err f, inr (some, (verdict, h, eq)), ap Err (err-err {A = Bytes} fault f is))
 
-pub header_none : (text : List ℕ) (k : FileKey) (fault : Fault) → text ≢ [] → FindsMac text k (Err fault) → MakesHeader text k (Err fault)
-header_none text k fault some (inl memory) = inl (ap Err (err-err {A = List ℕ} fault OutOfMemory memory))
-header_none text k fault some (inr (verdict, h, is)) = none_of text k fault verdict (unless_mixed (stanzas_in text verdict)) some h refl is
+pub header_none : (text : Bytes) (k : FileKey) (fault : Fault) → text ≢ [] → FindsMac text k (Err fault)
+    → MakesHeader text k (Err fault)
+header_none text k fault some (inl memory) = inl (ap Err (err-err {A = Bytes} fault OutOfMemory memory))
+header_none text k fault some (inr (verdict, h, is)) =
+    none_of text k fault verdict (unless_mixed (stanzas_in text verdict)) some h refl is
 
-unmixed : (b : Bool) (xs ss : List StanzaParts) → ◌≡◌ {A = Result (List StanzaParts) Fault} (cond b (Err MixedPassphrase) (Ok xs)) (Ok ss) → (b ≡ false) × (xs ≡ ss)
+unmixed : (b : Bool) (xs ss : List StanzaParts)
+    → ◌≡◌ {A = Result (List StanzaParts) Fault} (cond b (Err MixedPassphrase) (Ok xs)) (Ok ss) → (b ≡ false) × (xs ≡ ss)
 unmixed true xs ss e = absurd (cc)
 unmixed false xs ss e = (refl, ok-ok xs ss e)
 
 -- what is known of a text whose probe was read to its end
-pub record Reads (text : List ℕ) (ss : List StanzaParts) : Type 0 where
+pub record Reads (text : Bytes) (ss : List StanzaParts) : Type 0 where
   pub alone : is_mixed ss ≡ false
-  pub mac : List ℕ
+  pub mac : Bytes
   pub head : Head ss mac (probe text)
   pub fits : length (probe text) ≤ 65536
 
-read_whole : (text : List ℕ) (found : Found) (ss : List StanzaParts) → HeaderVerdict (probe text) limits.max_header (Ok found) → length (probe text) ≤ length found.text
+read_whole : (text : Bytes) (found : Found) (ss : List StanzaParts)
+    → HeaderVerdict (probe text) limits.max_header (Ok found) → length (probe text) ≤ length found.text
     → Ok ss ≡ unless_mixed (stanzas_in text (Ok found)) → Reads text ss
 read_whole text found ss h ge eq =
     let b = begins_found (probe text) limits.max_header found h in
-    let size : length (probe text) ≡ length found.text + length b.rest = ap length b.front ∙ length-append found.text b.rest in
+    let size : length (probe text) ≡ length found.text + length b.rest = ap length b.front
+        ∙ length-append found.text b.rest in
     let whole : found.text ≡ probe text =
-    sym (append-nil found.text) ∙ ap (λ r. found.text ++ r) (sym (nil_from_length b.rest (omega (arith, size, ge)))) ∙ sym b.front in
-    let late : stanzas_in text (Ok found) ≡ Ok found.stanzas = cond-false (nat_lt (length found.text) (length (probe text))) _ _ (le-ltb _ _ ge) in
+    sym (append-nil found.text) ∙ ap (λ r. found.text ++ r) (sym (nil_from_length b.rest (omega (arith, size, ge))))
+        ∙ sym b.front in
+    let late : stanzas_in text (Ok found) ≡ Ok found.stanzas =
+        cond-false (nat_lt (length found.text) (length (probe text))) _ _ (le-ltb _ _ ge) in
     let u = unmixed (is_mixed found.stanzas) found.stanzas ss (sym (eq ∙ ap unless_mixed late)) in
     record {
       alone = subst (λ xs. is_mixed xs ≡ false) u.1 u.0;
@@ -110,31 +130,35 @@ read_whole text found ss h ge eq =
       fits = omega (arith, size, ge, b.fits);
     }
 
-reads : (text : List ℕ) (verdict : Result Found HeaderFault) (ss : List StanzaParts) → HeaderVerdict (probe text) limits.max_header verdict → Ok ss ≡ unless_mixed (stanzas_in text verdict) → Reads text ss
+reads : (text : Bytes) (verdict : Result Found HeaderFault) (ss : List StanzaParts)
+    → HeaderVerdict (probe text) limits.max_header verdict → Ok ss ≡ unless_mixed (stanzas_in text verdict)
+    → Reads text ss
 reads text (Err reason) ss h eq = absurd (cc)
 reads text (Ok found) ss h eq = elim (cases_lt (length found.text) (length (probe text))) [
   | inl lt ↦
-      let early : stanzas_in text (Ok found) ≡ Err (BadLine (lines_in found.text - 1)) = cond-true (nat_lt (length found.text) (length (probe text))) _ _ (lt-ltb _ _ lt) in
-      let clash : ◌≡◌ {A = Result (List StanzaParts) Fault} (Ok ss) (Err (BadLine (lines_in found.text - 1))) = eq ∙ ap unless_mixed early in
+      let early : stanzas_in text (Ok found) ≡ Err (BadLine (lines_in found.text - 1)) =
+          cond-true (nat_lt (length found.text) (length (probe text))) _ _ (lt-ltb _ _ lt) in
+      let clash : ◌≡◌ {A = Result (List StanzaParts) Fault} (Ok ss) (Err (BadLine (lines_in found.text - 1))) = eq
+          ∙ ap unless_mixed early in
       absurd (cc)
   | inr ge ↦ read_whole text found ss h ge eq
 ]
 
-pub read_of : (text : List ℕ) (ss : List StanzaParts) → HasStanzas text (Ok ss) → Reads text ss
+pub read_of : (text : Bytes) (ss : List StanzaParts) → HasStanzas text (Ok ss) → Reads text ss
 read_of text ss (inl (none, is)) = absurd (cc)
 read_of text ss (inr (some, (verdict, h, eq))) = reads text verdict ss h eq
 
-same_front : (a b c d : List ℕ) → a ++ b ≡ c ++ d → length b ≡ length d → a ≡ c
+same_front : (a b c d : Bytes) → a ++ b ≡ c ++ d → length b ≡ length d → a ≡ c
 same_front a b c d e len =
     let size : length c ≡ length a = omega (arith, ap length e, length-append a b, length-append c d, len) in
     sym (take_at a b (length a) refl) ∙ ap (take (length a)) e ∙ take_at c d (length a) size
 
-framed_size : (text characters : List ℕ) → length characters ≡ 43 → length (framed text characters) ≡ length text + 70
+framed_size : (text characters : Bytes) → length characters ≡ 43 → length (framed text characters) ≡ length text + 70
 framed_size text characters len =
     omega (
       arith,
       len,
-      version_size,
+      length-version_line,
       length-append (version_line ++ text) (line (codes "--- " ++ characters)),
       length-append version_line text,
       line_size (codes "--- " ++ characters),
@@ -142,16 +166,19 @@ framed_size text characters len =
     )
 
 -- the text between the version line and the end line is the header's
-pub same_body : (text mac : List ℕ) (ss : List StanzaParts) (h : Head ss mac (probe text)) → text ≡ h.body
+pub same_body : (text mac : Bytes) (ss : List StanzaParts) (h : Head ss mac (probe text)) → text ≡ h.body
 same_body text mac ss h =
     let mine : length (line (codes "--- " ++ replicate 43 65)) ≡ 48 = refl in
     let sized : length h.characters ≡ 43 = omega (arith, b64_size mac h.characters h.mac_text, h.mac_len) in
-    let theirs : length (line (codes "--- " ++ h.characters)) ≡ 48 = omega (arith, sized, line_size (codes "--- " ++ h.characters), length-append (codes "--- ") h.characters) in
+    let theirs : length (line (codes "--- " ++ h.characters)) ≡ 48 =
+        omega (arith, sized, line_size (codes "--- " ++ h.characters), length-append (codes "--- ") h.characters) in
     let front : version_line ++ text ≡ version_line ++ h.body = same_front _ _ _ _ h.spelled (mine ∙ sym theirs) in
-    sym (drop_at version_line text 22 version_size) ∙ ap (drop 22) front ∙ drop_at version_line h.body 22 version_size
+    sym (drop_at version_line text 22 length-version_line) ∙ ap (drop 22) front
+        ∙ drop_at version_line h.body 22 length-version_line
 
 -- the same text with the right MAC is the header
-heading_of : (text mac characters : List ℕ) (k : FileKey) (ss : List StanzaParts) → Reads text ss → mac ≡ header_mac k.0 ss → IsBase64 mac characters → length mac ≡ 32
+heading_of : (text mac characters : Bytes) (k : FileKey) (ss : List StanzaParts) → Reads text ss
+    → mac ≡ header_mac k.0 ss → IsBase64 mac characters → length mac ≡ 32
     → IsHeading limits k (given ss) ss (framed text characters)
 heading_of text mac characters k ss r is bytes len =
     let sized : length characters ≡ 43 = omega (arith, b64_size mac characters bytes, len) in
@@ -172,31 +199,38 @@ heading_of text mac characters k ss r is bytes len =
       fits = omega (arith, framed_size text characters sized, framed_size text (replicate 43 65) refl, fits);
     }
 
-made_of : (text mac characters : List ℕ) (k : FileKey) (made : Vec ℕ Global) (verdict : Result Found HeaderFault) (s : Result (List StanzaParts) Fault) → text ≢ []
-    → HeaderVerdict (probe text) limits.max_header verdict → s ≡ unless_mixed (stanzas_in text verdict) → IsMac k s (Ok mac) → made.items ≡ framed text characters
+made_of : (text mac characters : Bytes) (k : FileKey) (made : Vec ℕ Global) (verdict : Result Found HeaderFault)
+    (s : Result (List StanzaParts) Fault) → text ≢ []
+    → HeaderVerdict (probe text) limits.max_header verdict → s ≡ unless_mixed (stanzas_in text verdict)
+    → IsMac k s (Ok mac) → made.items ≡ framed text characters
     → IsBase64 mac characters → length mac ≡ 32 → MakesHeader text k (Ok made)
 made_of text mac characters k made verdict (Err f) some h eq is spelled bytes len = absurd (cc)
 made_of text mac characters k made verdict (Ok ss) some h eq is spelled bytes len =
     inr (
       Ok ss,
       inr (some, (verdict, h, eq)),
-      subst (IsHeading limits k (given ss) ss) (sym spelled) (heading_of text mac characters k ss (reads text verdict ss h eq) (ok-ok mac (header_mac k.0 ss) is) bytes len),
+      subst (IsHeading limits k (given ss) ss) (sym spelled)
+          (heading_of text mac characters k ss (reads text verdict ss h eq) (ok-ok mac (header_mac k.0 ss) is) bytes
+          len),
     )
 
-pub header_made : (text mac characters : List ℕ) (k : FileKey) (made : Vec ℕ Global) → text ≢ [] → FindsMac text k (Ok mac) → IsBase64 mac characters → length mac ≡ 32
+pub header_made : (text mac characters : Bytes) (k : FileKey) (made : Vec ℕ Global) → text ≢ []
+    → FindsMac text k (Ok mac) → IsBase64 mac characters → length mac ≡ 32
     → made.items ≡ framed text characters → MakesHeader text k (Ok made)
 header_made text mac characters k made some (inl memory) bytes len spelled = absurd (cc)
 header_made text mac characters k made some (inr (verdict, h, is)) bytes len spelled =
     made_of text mac characters k made verdict (unless_mixed (stanzas_in text verdict)) some h refl is spelled bytes len
 
-pub characters_known : {E : Type 0} (mac : List ℕ) (r : Result (String Global) E) → ((i : ℕ) → slice_index mac i < 256) → IfOk r (λ t. string_bytes t ≡ base64_of mac)
+pub characters_known : {E : Type 0} (mac : Bytes) (r : Result (String Global) E) → ((i : ℕ) → slice_index mac i < 256)
+    → IfOk r (λ t. string_bytes t ≡ base64_of mac)
     → IfOk r (λ t. IsBase64 mac (string_bytes t))
 characters_known mac (Ok t) bytes is = subst (IsBase64 mac) (sym is) (characters_are mac bytes)
 characters_known mac (Err e) bytes is = tt
 
-pub framed_text : (first text characters all : List ℕ) → first ≡ codes "age-encryption.org/v1" ++ 10 ∷ []
+pub framed_text : (first text characters all : Bytes) → first ≡ codes "age-encryption.org/v1" ++ 10 ∷ []
     → all ≡ (((first ++ text) ++ codes "--- ") ++ characters) ++ 10 ∷ [] → all ≡ framed text characters
 unfolding version_line
 framed_text first text characters all same is =
-    is ∙ ap (λ x. (((x ++ text) ++ codes "--- ") ++ characters) ++ 10 ∷ []) same ∙ ap (λ x. x ++ 10 ∷ []) (append_assoc (version_line ++ text) (codes "--- ") characters)
+    is ∙ ap (λ x. (((x ++ text) ++ codes "--- ") ++ characters) ++ 10 ∷ []) same
+        ∙ ap (λ x. x ++ 10 ∷ []) (append_assoc (version_line ++ text) (codes "--- ") characters)
     ∙ append_assoc (version_line ++ text) (codes "--- " ++ characters) (10 ∷ [])

@@ -1,5 +1,6 @@
+mod AnyFront
+mod DecryptingLemmas
 mod FrontLemmas
-mod GivesPlainLemmas
 mod HeaderLemmas
 mod ListLemmas
 mod PlainSizes
@@ -11,8 +12,11 @@ pub mod SizeLemmas
 mod StartLemmas
 mod StepsReadLemmas
 mod UnlockLemmas
+mod SealingLemmas
 mod SealsRunLemmas
 mod HeadingLemmas
 mod WrapLemmas
 mod GroupLemmas
 mod OpeningLaws
+mod OpenGroupLemmas
+mod RewrapLemmas

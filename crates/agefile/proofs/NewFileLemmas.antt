@@ -2,6 +2,7 @@
 use Rattle.std.proofs.Common.{◌≡◌, ℕ, ◌<◌, ◌≤◌, List, [], ◌∷◌, ◌++◌, length, sym, ◌∙◌, ap, refl, subst, arith, inl, inr, length-append, Vec, Result, Ok, Err}
 use Rattle.std.specs.Global.{Global}
 use Rattle.std.proofs.lemmas.List.{append-nil}
+use Rattle.age_kdf.specs.Bytes.{Bytes}
 use Rattle.age_header.specs.declared.fault.HeaderFault.{HeaderFault}
 use Rattle.age_header.specs.Header.{AreStanzas, Head, IsStanza, StanzaParts}
 use Rattle.age_header.specs.Verdict.{Found, HeaderVerdict}
@@ -27,7 +28,8 @@ use Rattle.agefile.proofs.SizeLemmas.{key_header, pass_header, payload_size}
 
 -- ---- any stanzas
 
-file_of : (stanzas file_key nonce plain file : List ℕ) (header : Vec ℕ Global) → length nonce ≡ 16 → MakesHeader stanzas (record { 0 = file_key }) (Ok header)
+file_of : (stanzas file_key nonce plain file : Bytes) (header : Vec ℕ Global) → length nonce ≡ 16
+    → MakesHeader stanzas (record { 0 = file_key }) (Ok header)
     → file ≡ header.items ++ payload (record { 0 = file_key }) nonce plain → length (chunks plain) ≤ limits.max_chunks
     → (ss : List StanzaParts) × AgeFile limits (record { 0 = file_key }) ss plain file × Reads stanzas ss
 file_of stanzas file_key nonce plain file header len (inl memory) spelled few = absurd (cc)
@@ -47,9 +49,11 @@ file_of stanzas file_key nonce plain file header len (inr (Ok ss, has, heading))
   read_of stanzas ss has,
 )
 
-pub new_file : (stanzas file_key nonce plain file : List ℕ) → length nonce ≡ 16 → IsNewFile stanzas file_key nonce plain file
+pub new_file : (stanzas file_key nonce plain file : Bytes) → length nonce ≡ 16
+    → IsNewFile stanzas file_key nonce plain file
     → (ss : List StanzaParts) × AgeFile limits (record { 0 = file_key }) ss plain file × Reads stanzas ss
-new_file stanzas file_key nonce plain file len (header, made, spelled, few) = file_of stanzas file_key nonce plain file header len made spelled few
+new_file stanzas file_key nonce plain file len (header, made, spelled, few) =
+    file_of stanzas file_key nonce plain file header len made spelled few
 
 -- ---- one stanza
 
@@ -58,16 +62,20 @@ stanzas_of (Ok found) = found.stanzas
 stanzas_of (Err fault) = []
 
 -- two headers of one text have the same stanzas
-same_stanzas : (text m n : List ℕ) (ss ts : List StanzaParts) → Head ss m text → Head ts n text → ss ≡ ts
+same_stanzas : (text m n : Bytes) (ss ts : List StanzaParts) → Head ss m text → Head ts n text → ss ≡ ts
 same_stanzas text m n ss ts h k =
     let one : Found = record { stanzas = ss; mac = m; text = text } in
     let two : Found = record { stanzas = ts; mac = n; text = text } in
-    let first : HeaderVerdict text (length text) (Ok one) = headers.found_begins text (length text) one (record { rest = []; head = h; front = sym (append-nil text); fits = omega arith }) in
-    let second : HeaderVerdict text (length text) (Ok two) = headers.found_begins text (length text) two (record { rest = []; head = k; front = sym (append-nil text); fits = omega arith }) in
+    let first : HeaderVerdict text (length text) (Ok one) =
+        headers.found_begins text (length text) one
+        (record { rest = []; head = h; front = sym (append-nil text); fits = omega arith }) in
+    let second : HeaderVerdict text (length text) (Ok two) =
+        headers.found_begins text (length text) two
+        (record { rest = []; head = k; front = sym (append-nil text); fits = omega arith }) in
     ap stanzas_of (headers.one_verdict text (length text) (Ok one) (Ok two) first second)
 
 -- a text of one stanza is read as this stanza
-alone_of : (text : List ℕ) (s : StanzaParts) (ss : List StanzaParts) → IsStanza s text → Reads text ss → ss ≡ s ∷ []
+alone_of : (text : Bytes) (s : StanzaParts) (ss : List StanzaParts) → IsStanza s text → Reads text ss → ss ≡ s ∷ []
 alone_of text s ss is r =
     let mine : AreStanzas (s ∷ []) text = (text, [], is, refl, sym (append-nil text)) in
     same_stanzas (probe text) r.mac r.mac ss (s ∷ []) r.head
@@ -81,7 +89,8 @@ alone_of text s ss is r =
       spelled = r.head.spelled;
     })
 
-pub one_file : (stanza : StanzaParts) (text file_key nonce plain file : List ℕ) → length nonce ≡ 16 → IsStanza stanza text → IsNewFile text file_key nonce plain file
+pub one_file : (stanza : StanzaParts) (text file_key nonce plain file : Bytes) → length nonce ≡ 16
+    → IsStanza stanza text → IsNewFile text file_key nonce plain file
     → AgeFile limits (record { 0 = file_key }) (stanza ∷ []) plain file
 one_file stanza text file_key nonce plain file len is new =
     let f = new_file text file_key nonce plain file len new in
@@ -89,34 +98,46 @@ one_file stanza text file_key nonce plain file len is new =
 
 -- ---- the file key is chosen
 
-pub key_chosen : (key salt : List ℕ) (k : FileKey) → IsSalt salt → IsFileKey k → choice (alone (key_unwraps key) (keyed_stanza key salt k ∷ [])) ≡ Ok k
+pub key_chosen : (key salt : Bytes) (k : FileKey) → IsSalt salt → IsFileKey k
+    → choice (alone (key_unwraps key) (keyed_stanza key salt k ∷ [])) ≡ Ok k
 key_chosen key salt k salted keyed =
-    ap (λ answer. choice (answer ∷ [])) (key_pair_law (record { key = key; salt = salt }) key k (keyed_stanza key salt k ∷ []) refl salted keyed refl)
+    ap (λ answer. choice (answer ∷ []))
+        (key_pair_law (record { key = key; salt = salt }) key k (keyed_stanza key salt k ∷ []) refl salted keyed refl)
 
-pub pass_chosen : (pass salt : List ℕ) (work max : ℕ) (k : FileKey) → IsSalt salt → IsFileKey k → PairFits work max
+pub pass_chosen : (pass salt : Bytes) (work max : ℕ) (k : FileKey) → IsSalt salt → IsFileKey k → PairFits work max
     → choice (alone (pass_unwraps (record { pass = pass; max = max })) (pass_stanza pass work salt k ∷ [])) ≡ Ok k
 pass_chosen pass salt work max k salted keyed fits =
     ap (λ answer. choice (answer ∷ []))
-    (pair_law (record { pass = pass; salt = salt; work = work }) (record { pass = pass; max = max }) k (pass_stanza pass work salt k ∷ []) refl salted fits keyed refl)
+    (pair_law (record { pass = pass; salt = salt; work = work }) (record { pass = pass; max = max }) k
+        (pass_stanza pass work salt k ∷ []) refl salted fits keyed refl)
 
 -- ---- sizes
 
-pub size_of : (k : FileKey) (header nonce plain : List ℕ) → length nonce ≡ 16 → length (header ++ payload k nonce plain) ≡ file_len (length header) (length plain)
-size_of k header nonce plain len = omega (arith, len, length-append header (payload k nonce plain), payload_size k nonce plain)
+pub size_of : (k : FileKey) (header nonce plain : Bytes) → length nonce ≡ 16
+    → length (header ++ payload k nonce plain) ≡ file_len (length header) (length plain)
+size_of k header nonce plain len = omega
+    (arith, len, length-append header (payload k nonce plain), payload_size k nonce plain)
 
-file_size : (k : FileKey) (ss : List StanzaParts) (plain file : List ℕ) (f : AgeFile limits k ss plain file) → length file ≡ file_len (length f.header) (length plain)
+file_size : (k : FileKey) (ss : List StanzaParts) (plain file : Bytes) (f : AgeFile limits k ss plain file)
+    → length file ≡ file_len (length f.header) (length plain)
 file_size k ss plain file f = ap length f.spelled ∙ size_of k f.header f.nonce plain f.nonce_len
 
-pub key_file : (key salt stanza file_key nonce plain file : List ℕ) → length salt ≡ 16 → length file_key ≡ 16 → length nonce ≡ 16
-    → IsStanza (keyed_stanza key salt (record { 0 = file_key })) stanza → IsNewFile stanza file_key nonce plain file → length file ≡ sealed_len (length plain)
+pub key_file : (key salt stanza file_key nonce plain file : Bytes) → length salt ≡ 16 → length file_key ≡ 16
+    → length nonce ≡ 16
+    → IsStanza (keyed_stanza key salt (record { 0 = file_key })) stanza → IsNewFile stanza file_key nonce plain file
+    → length file ≡ sealed_len (length plain)
 key_file key salt stanza file_key nonce plain file salted keyed len is new =
     let f = one_file (keyed_stanza key salt (record { 0 = file_key })) stanza file_key nonce plain file len is new in
     let head : length f.header ≡ 156 = key_header key salt (record { 0 = file_key }) _ f.header salted keyed f.head in
     file_size _ _ plain file f ∙ ap (λ n. file_len n (length plain)) head
 
-pub pass_file : (pass salt stanza file_key nonce plain file : List ℕ) (work : ℕ) → length salt ≡ 16 → length file_key ≡ 16 → length nonce ≡ 16 → work ≤ 30
-    → IsStanza (pass_stanza pass work salt (record { 0 = file_key })) stanza → IsNewFile stanza file_key nonce plain file → length file < sealed_len (length plain)
+pub pass_file : (pass salt stanza file_key nonce plain file : Bytes) (work : ℕ) → length salt ≡ 16
+    → length file_key ≡ 16 → length nonce ≡ 16 → work ≤ 30
+    → IsStanza (pass_stanza pass work salt (record { 0 = file_key })) stanza
+    → IsNewFile stanza file_key nonce plain file → length file < sealed_len (length plain)
 pass_file pass salt stanza file_key nonce plain file work salted keyed len high is new =
-    let f = one_file (pass_stanza pass work salt (record { 0 = file_key })) stanza file_key nonce plain file len is new in
-    let head : length f.header ≤ 150 = pass_header pass salt work (record { 0 = file_key }) _ f.header salted keyed high f.head in
+    let f = one_file (pass_stanza pass work salt (record { 0 = file_key })) stanza file_key nonce plain file len is
+        new in
+    let head : length f.header ≤ 150 = pass_header pass salt work (record { 0 = file_key }) _ f.header salted keyed high
+        f.head in
     omega (arith, head, file_size _ _ plain file f)

@@ -1,6 +1,7 @@
 -- What opening by a file key comes to.
-use Rattle.std.proofs.Common.{◌≡◌, ℕ, Bool, true, false, List, length, drop, cond, sym, ◌∙◌, ap, refl, subst, inl, inr, Result, Ok, Err}
+use Rattle.std.proofs.Common.{◌≡◌, ℕ, Bool, true, false, length, drop, cond, sym, ◌∙◌, ap, refl, subst, inl, inr, Result, Ok, Err}
 use Rattle.std.specs.Str.{bytes_eq}
+use Rattle.age_kdf.specs.Bytes.{Bytes}
 use Rattle.age_header.specs.declared.fault.HeaderFault.{HeaderFault}
 use Rattle.age_header.specs.Header.{HeaderParts}
 use Rattle.age_header.specs.Mac.{header_mac}
@@ -27,30 +28,37 @@ same_key true j k e = ok-ok j k e
 same_key false j k e = absurd (cc)
 
 -- where a key was chosen and its MAC verified, it is so of this key
-key_checked : (p : HeaderParts) (k : FileKey) (picked : Result FileKey UnlockFault) → checked p picked ≡ Ok k → checked p (Ok k) ≡ Ok k
+key_checked : (p : HeaderParts) (k : FileKey) (picked : Result FileKey UnlockFault) → checked p picked ≡ Ok k
+    → checked p (Ok k) ≡ Ok k
 key_checked p k (Err fault) e = absurd (cc)
-key_checked p k (Ok j) e = subst (λ x. checked p (Ok x) ≡ Ok k) (same_key (bytes_eq p.mac (header_mac j.0 p.stanzas)) j k e) e
+key_checked p k (Ok j) e = subst (λ x. checked p (Ok x) ≡ Ok k)
+    (same_key (bytes_eq p.mac (header_mac j.0 p.stanzas)) j k e) e
 
-key_alone : (t : Bool) (p : HeaderParts) (k : FileKey) (picked : Result FileKey UnlockFault) → cond t (Err MixedPassphrase) (checked p picked) ≡ Ok k
+key_alone : (t : Bool) (p : HeaderParts) (k : FileKey) (picked : Result FileKey UnlockFault)
+    → cond t (Err MixedPassphrase) (checked p picked) ≡ Ok k
     → cond t (Err MixedPassphrase) (checked p (Ok k)) ≡ Ok k
 key_alone true p k picked e = absurd (cc)
 key_alone false p k picked e = key_checked p k picked e
 
-key_again : (answers : Answering) (p : HeaderParts) (k : FileKey) → unlocked answers p ≡ Ok k → unlocked (by_file_key k.0) p ≡ Ok k
+key_again : (answers : Answering) (p : HeaderParts) (k : FileKey) → unlocked answers p ≡ Ok k
+    → unlocked (by_file_key k.0) p ≡ Ok k
 key_again answers p k e = key_alone (is_mixed p.stanzas) p k (choice (answers p.stanzas)) e
 
 key_within : (n : ℕ) (found : Unlocked) (r : Result FileKey Fault) → Ok found ≡ with_len n r → r ≡ Ok found.key
 key_within n found (Err fault) e = absurd (cc)
 key_within n found (Ok k) e = ap (λ (u : Unlocked). Ok u.key) (sym (ok-ok found (record { header_len = n; key = k }) e))
 
-opens_header : (answers : Answering) (b new : List ℕ) (found : Unlocked) (v : Reading Fault) (header : Result Found HeaderFault) → HeaderVerdict b limits.max_header header
-    → Ok found ≡ key_of answers header → new ≡ found.key.0 → IsVerdict limits answers b v → IsVerdict limits (by_file_key new) b v
+opens_header : (answers : Answering) (b new : Bytes) (found : Unlocked) (v : Reading Fault)
+    (header : Result Found HeaderFault) → HeaderVerdict b limits.max_header header
+    → Ok found ≡ key_of answers header → new ≡ found.key.0 → IsVerdict limits answers b v
+    → IsVerdict limits (by_file_key new) b v
 opens_header answers b new found v (Err reason) verdict is same h = absurd (cc)
 opens_header answers b new found v (Ok head) verdict is same h =
     let mine = key_within (length head.text) found (unlocked answers (parts_of head)) is in
     let again = key_again answers (parts_of head) found.key mine in
     let judged_so : v ≡ judged limits answers b (Ok head) =
-    one_verdict limits answers b v (judged limits answers b (Ok head)) h (record { header = Ok head; header_verdict = verdict; is = refl }) in
+    one_verdict limits answers b v (judged limits answers b (Ok head)) h
+        (record { header = Ok head; header_verdict = verdict; is = refl }) in
     subst (λ x. IsVerdict limits (by_file_key x) b v) (sym same)
     (record {
       header = Ok head;
@@ -58,10 +66,12 @@ opens_header answers b new found v (Ok head) verdict is same h =
       is = judged_so ∙ ap (read_under limits (drop (length head.text) b)) (mine ∙ sym again);
     })
 
-pub opens_unlocked : (answers : Answering) (b old new : List ℕ) (report : Report) (v : Reading Fault) → Unlocks answers b old new report 0 → IsVerdict limits answers b v
+pub opens_unlocked : (answers : Answering) (b old new : Bytes) (report : Report) (v : Reading Fault)
+    → Unlocks answers b old new report 0 → IsVerdict limits answers b v
     → IsVerdict limits (by_file_key new) b v
 opens_unlocked answers b old new report v (key, inl memory, gives) h =
     let refused : GivesKey (Err OutOfMemory) old new report 0 = subst (λ k. GivesKey k old new report 0) memory gives in
     absurd (some-code OutOfMemory (sym refused.0))
 opens_unlocked answers b old new report v (Err fault, inr is, gives) h = absurd (some-code fault (sym gives.0))
-opens_unlocked answers b old new report v (Ok found, inr (header, verdict, is), gives) h = opens_header answers b new found v header verdict is gives.2 h
+opens_unlocked answers b old new report v (Ok found, inr (header, verdict, is), gives) h =
+    opens_header answers b new found v header verdict is gives.2 h

@@ -3,6 +3,7 @@ use Rattle.std.proofs.Common.{◌≡◌, ◌≢◌, ◌⊎◌, ℕ, ◌+◌, ◌
 use Rattle.std.specs.Prelude.{option_map}
 use Rattle.std.proofs.lemmas.Bool.{le-leb}
 use Rattle.std.proofs.Math.Seq.{take-append_seam}
+use Rattle.age_kdf.specs.Bytes.{Bytes}
 use Rattle.age_stream.specs.declared.fault.StreamFault.{StreamFault}
 use Rattle.age_stream.specs.Payload.{is_end, pieces}
 use Rattle.age_stream.specs.Reading.{first_fault, front, outcome, outcomes}
@@ -20,7 +21,7 @@ use Rattle.agefile.specs.Chunk.{Opened}
 use Rattle.agefile.specs.Runs.{OpensRun}
 
 -- a payload for reading before chunk i
-abbrev pub reading_at : List ℕ → ℕ → Payload
+abbrev pub reading_at : Bytes → ℕ → Payload
 reading_at key i = record { key = key; number = i; state = 1; spare = replicate 2 0 }
 
 -- no fault has the code 0
@@ -47,25 +48,35 @@ some-code (Refused i n) e = absurd (omega arith)
 some-code (IncompatibleRecipients i) e = absurd (omega arith)
 
 -- what a run gives, where its first chunk's outcome is known
-abbrev RunsBy : Payload → Bool → List (List ℕ) → List ℕ → ℕ → ℕ → Result (List ℕ) StreamFault → Type 0
-RunsBy p last more text code place (Ok t) = (rest : List ℕ) × (text ≡ t ++ rest) × OpensRun (after_chunk p last 0) more rest code place
-RunsBy p last more text code place (Err f) = (text ≡ []) × ((code ≡ fault_code (stream_fault f)) × (place ≡ fault_place (stream_fault f)))
+abbrev RunsBy : Payload → Bool → List Bytes → Bytes → ℕ → ℕ → Result Bytes StreamFault → Type 0
+RunsBy p last more text code place (Ok t) = (rest : Bytes) × (text ≡ t ++ rest)
+    × OpensRun (after_chunk p last 0) more rest code place
+RunsBy p last more text code place (Err f) = (text ≡ [])
+    × ((code ≡ fault_code (stream_fault f)) × (place ≡ fault_place (stream_fault f)))
 
-open-by : (p new : Payload) (chunk after text : List ℕ) (more : List (List ℕ)) (last : Bool) (report : Report) (step_code code place : ℕ) (o : Result (List ℕ) StreamFault)
+open-by : (p new : Payload) (chunk after text : Bytes) (more : List Bytes) (last : Bool) (report : Report)
+    (step_code code place : ℕ) (o : Result Bytes StreamFault)
     → Opened chunk after report step_code o → new ≡ after_chunk p last step_code
-    → ((step_code ≡ 0) × ((rest : List ℕ) × (text ≡ take report.len after ++ rest) × OpensRun new more rest code place))
-    ⊎ ((step_code ≢ 0) × ((text ≡ []) × ((code ≡ step_code) × (place ≡ report.place)))) → RunsBy p last more text code place o
-open-by p new chunk after text more last report step_code code place (Ok t) (is, reported, buffer) state (inl (zero, (rest, joined, run))) = (
+    → ((step_code ≡ 0) × ((rest : Bytes) × (text ≡ take report.len after ++ rest) × OpensRun new more rest code place))
+    ⊎ ((step_code ≢ 0) × ((text ≡ []) × ((code ≡ step_code) × (place ≡ report.place))))
+    → RunsBy p last more text code place o
+open-by p new chunk after text more last report step_code code place (Ok t) (is, reported, buffer) state
+    (inl (zero, (rest, joined, run))) = (
   rest,
-  joined ∙ ap (λ n. take n after ++ rest) (ap (λ (x : Report). x.len) reported) ∙ ap (λ b. take (length t) b ++ rest) buffer ∙ ap (λ x. x ++ rest) (take-append_seam t _),
+  joined ∙ ap (λ n. take n after ++ rest) (ap (λ (x : Report). x.len) reported)
+      ∙ ap (λ b. take (length t) b ++ rest) buffer ∙ ap (λ x. x ++ rest) (take-append_seam t _),
   subst (λ n. OpensRun n more rest code place) (state ∙ ap (after_chunk p last) is) run,
 )
-open-by p new chunk after text more last report step_code code place (Ok t) (is, reported, buffer) state (inr (nonzero, h)) = absurd (nonzero is)
-open-by p new chunk after text more last report step_code code place (Err f) (is, reported, buffer) state (inl (zero, h)) = absurd (some-code (stream_fault f) (sym is ∙ zero))
-open-by p new chunk after text more last report step_code code place (Err f) (is, reported, buffer) state (inr (nonzero, (none, (codes, places)))) =
+open-by p new chunk after text more last report step_code code place (Ok t) (is, reported, buffer) state
+    (inr (nonzero, h)) = absurd (nonzero is)
+open-by p new chunk after text more last report step_code code place (Err f) (is, reported, buffer) state
+    (inl (zero, h)) = absurd (some-code (stream_fault f) (sym is ∙ zero))
+open-by p new chunk after text more last report step_code code place (Err f) (is, reported, buffer) state
+    (inr (nonzero, (none, (codes, places)))) =
     (none, (codes ∙ is, places ∙ ap (λ (x : Report). x.place) reported))
 
-run-first : (key : List ℕ) (i : ℕ) (chunk text : List ℕ) (more : List (List ℕ)) (code place : ℕ) → may_open (reading_at key i) (length chunk) (is_end more) ≡ true
+run-first : (key : Bytes) (i : ℕ) (chunk text : Bytes) (more : List Bytes) (code place : ℕ)
+    → may_open (reading_at key i) (length chunk) (is_end more) ≡ true
     → OpensRun (reading_at key i) (chunk ∷ more) text code place
     → RunsBy (reading_at key i) (is_end more) more text code place (outcome key limits.max_chunks i (is_end more) chunk)
 run-first key i chunk text more code place fits (new, after, report, step_code, inl (unfit, _), on) = absurd (cc)
@@ -73,41 +84,54 @@ run-first key i chunk text more code place fits (new, after, report, step_code, 
     open-by (reading_at key i) new chunk after text more (is_end more) report step_code code place _ opened state on
 
 -- the reading of pieces from number i on
-abbrev pub IsRead : List ℕ → ℕ → List (List ℕ) → List ℕ → ℕ → ℕ → Type 0
+abbrev pub IsRead : Bytes → ℕ → List Bytes → Bytes → ℕ → ℕ → Type 0
 IsRead key i cs text code place = (text ≡ front (outcomes key limits.max_chunks i cs))
     × ((code ≡ code_of (option_map stream_fault (first_fault (outcomes key limits.max_chunks i cs))))
     × (place ≡ (report_of 0 (option_map stream_fault (first_fault (outcomes key limits.max_chunks i cs)))).place))
 
-last-fits : (key : List ℕ) (i : ℕ) (chunk : List ℕ) → length chunk ≤ 65552 → may_open (reading_at key i) (length chunk) true ≡ true
+last-fits : (key : Bytes) (i : ℕ) (chunk : Bytes) → length chunk ≤ 65552
+    → may_open (reading_at key i) (length chunk) true ≡ true
 last-fits key i chunk le = le-leb (length chunk) 65552 le
 
-full-fits : (key : List ℕ) (i : ℕ) (chunk : List ℕ) → length chunk ≡ 65552 → may_open (reading_at key i) (length chunk) false ≡ true
+full-fits : (key : Bytes) (i : ℕ) (chunk : Bytes) → length chunk ≡ 65552
+    → may_open (reading_at key i) (length chunk) false ≡ true
 full-fits key i chunk is = ap (λ n. may_open (reading_at key i) n false) is
 
-read-last : (key : List ℕ) (i : ℕ) (chunk text : List ℕ) (code place : ℕ) (o : Result (List ℕ) StreamFault)
+read-last : (key : Bytes) (i : ℕ) (chunk text : Bytes) (code place : ℕ) (o : Result Bytes StreamFault)
     → RunsBy (reading_at key i) true [] text code place o
-    → (text ≡ front (o ∷ [])) × ((code ≡ code_of (option_map stream_fault (first_fault (o ∷ [])))) × (place ≡ (report_of 0 (option_map stream_fault (first_fault (o ∷ [])))).place))
-read-last key i chunk text code place (Ok t) (rest, joined, (none, (zero, nowhere))) = (joined ∙ ap (λ r. t ++ r) none, (zero, nowhere))
+    → (text ≡ front (o ∷ [])) × ((code ≡ code_of (option_map stream_fault (first_fault (o ∷ []))))
+    × (place ≡ (report_of 0 (option_map stream_fault (first_fault (o ∷ [])))).place))
+read-last key i chunk text code place (Ok t) (rest, joined, (none, (zero, nowhere))) =
+    (joined ∙ ap (λ r. t ++ r) none, (zero, nowhere))
 read-last key i chunk text code place (Err f) h = h
 
-read-more : (key : List ℕ) (i : ℕ) (text : List ℕ) (code place : ℕ) (more : List (List ℕ)) (o : Result (List ℕ) StreamFault) (os : List (Result (List ℕ) StreamFault))
-    → ((rest : List ℕ) → OpensRun (reading_at key (i + 1)) more rest code place → (rest ≡ front os)
-    × ((code ≡ code_of (option_map stream_fault (first_fault os))) × (place ≡ (report_of 0 (option_map stream_fault (first_fault os))).place)))
+read-more : (key : Bytes) (i : ℕ) (text : Bytes) (code place : ℕ) (more : List Bytes) (o : Result Bytes StreamFault)
+    (os : List (Result Bytes StreamFault))
+    → ((rest : Bytes) → OpensRun (reading_at key (i + 1)) more rest code place → (rest ≡ front os)
+    × ((code ≡ code_of (option_map stream_fault (first_fault os)))
+    × (place ≡ (report_of 0 (option_map stream_fault (first_fault os))).place)))
     → RunsBy (reading_at key i) false more text code place o
-    → (text ≡ front (o ∷ os)) × ((code ≡ code_of (option_map stream_fault (first_fault (o ∷ os)))) × (place ≡ (report_of 0 (option_map stream_fault (first_fault (o ∷ os)))).place))
-read-more key i text code place more (Ok t) os next (rest, joined, run) = let h = next rest run in (joined ∙ ap (λ r. t ++ r) h.0, h.1)
+    → (text ≡ front (o ∷ os)) × ((code ≡ code_of (option_map stream_fault (first_fault (o ∷ os))))
+    × (place ≡ (report_of 0 (option_map stream_fault (first_fault (o ∷ os)))).place))
+read-more key i text code place more (Ok t) os next (rest, joined, run) = let h = next rest run in
+    (joined ∙ ap (λ r. t ++ r) h.0, h.1)
 read-more key i text code place more (Err f) os next h = h
 
-pub run_reads : (key : List ℕ) (i : ℕ) (cs : List (List ℕ)) (text : List ℕ) (code place : ℕ) → AtMost 65552 cs → OpensRun (reading_at key i) cs text code place
+pub run_reads : (key : Bytes) (i : ℕ) (cs : List Bytes) (text : Bytes) (code place : ℕ) → AtMost 65552 cs
+    → OpensRun (reading_at key i) cs text code place
     → IsRead key i cs text code place
 run_reads key i [] text code place sizes run = absurd sizes
 run_reads key i (c ∷ []) text code place sizes run =
-    read-last key i c text code place (outcome key limits.max_chunks i true c) (run-first key i c text [] code place (last-fits key i c sizes) run)
+    read-last key i c text code place (outcome key limits.max_chunks i true c)
+        (run-first key i c text [] code place (last-fits key i c sizes) run)
 run_reads key i (c ∷ d ∷ more) text code place sizes run =
-    read-more key i text code place (d ∷ more) (outcome key limits.max_chunks i false c) (outcomes key limits.max_chunks (i + 1) (d ∷ more))
+    read-more key i text code place (d ∷ more) (outcome key limits.max_chunks i false c)
+        (outcomes key limits.max_chunks (i + 1) (d ∷ more))
     (λ rest on. run_reads key (i + 1) (d ∷ more) rest code place sizes.1 on)
     (run-first key i c text (d ∷ more) code place (full-fits key i c sizes.0) run)
 
 -- the same of all that follows a nonce
-pub payload_reads : (key rest text : List ℕ) (code place : ℕ) → OpensRun (reading_at key 0) (pieces rest) text code place → IsRead key 0 (pieces rest) text code place
-payload_reads key rest text code place run = run_reads key 0 (pieces rest) text code place (cut-at_most 65552 rest (omega arith)) run
+pub payload_reads : (key rest text : Bytes) (code place : ℕ) → OpensRun (reading_at key 0) (pieces rest) text code place
+    → IsRead key 0 (pieces rest) text code place
+payload_reads key rest text code place run =
+    run_reads key 0 (pieces rest) text code place (cut-at_most 65552 rest (omega arith)) run

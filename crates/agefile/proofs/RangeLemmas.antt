@@ -1,6 +1,7 @@
 -- The pieces of a payload by their places in the file.
-use Rattle.std.proofs.Common.{◌≡◌, ℕ, List, [], ◌++◌, ◌+◌, ◌-◌, ◌*◌, ◌/◌, ◌%◌, ◌<◌, length, take, drop, min, nat_le, sym, ◌∙◌, ap, arith, true, Bool, Some, Ok, subst}
+use Rattle.std.proofs.Common.{◌≡◌, ℕ, [], ◌++◌, ◌+◌, ◌-◌, ◌*◌, ◌/◌, ◌%◌, ◌<◌, length, take, drop, min, nat_le, sym, ◌∙◌, ap, arith, true, Bool, Some, Ok, subst}
 use Rattle.std.proofs.lemmas.List.{length-drop, length-take, drop-drop, take_all, take_min}
+use Rattle.age_kdf.specs.Bytes.{Bytes}
 use Rattle.age_cipher.proofs.OpeningLemmas.{length-sealed, opened-sealed}
 use Rattle.age_stream.specs.Payload.{pieces, chunk_nonce}
 use Rattle.age_stream.specs.Reading.{opened_at, outcome}
@@ -13,61 +14,75 @@ use Rattle.agefile.specs.Limits.{limits}
 use Rattle.agefile.specs.Ranges.{gives, last_index, piece_at, piece_len, plain_of}
 
 -- how many bytes are left from the first sealed chunk on
-left : (r : Ranges) (b : List ℕ) → length b ≡ r.first + r.sealed_len → length (drop r.first b) ≡ r.sealed_len
+left : (r : Ranges) (b : Bytes) → length b ≡ r.first + r.sealed_len → length (drop r.first b) ≡ r.sealed_len
 left r b size = let d : length (drop r.first b) ≡ length b - r.first = length-drop r.first b in omega arith
 
 -- a piece by its place in the file is the piece by its place in the payload
-piece-there : (r : Ranges) (b : List ℕ) (i : ℕ) → length b ≡ r.first + r.sealed_len → piece_at r b i ≡ take 65552 (drop (65552 * i) (drop r.first b))
+piece-there : (r : Ranges) (b : Bytes) (i : ℕ) → length b ≡ r.first + r.sealed_len
+    → piece_at r b i ≡ take 65552 (drop (65552 * i) (drop r.first b))
 piece-there r b i size =
-    let rest : List ℕ = drop r.first b in
+    let rest : Bytes = drop r.first b in
     let d : length (drop (65552 * i) rest) ≡ length rest - 65552 * i = length-drop (65552 * i) rest in
-    let e : r.sealed_len - 65552 * i ≡ length (drop (65552 * i) rest) = sym (d ∙ ap (λ n. n - 65552 * i) (left r b size)) in
-    ap (take (piece_len r.sealed_len i)) (sym (drop-drop (65552 * i) r.first b)) ∙ ap (λ n. take (min 65552 n) (drop (65552 * i) rest)) e
+    let e : r.sealed_len - 65552 * i ≡ length (drop (65552 * i) rest) =
+        sym (d ∙ ap (λ n. n - 65552 * i) (left r b size)) in
+    ap (take (piece_len r.sealed_len i)) (sym (drop-drop (65552 * i) r.first b))
+        ∙ ap (λ n. take (min 65552 n) (drop (65552 * i) rest)) e
     ∙ take_min 65552 (drop (65552 * i) rest)
 
-pub last-there : (r : Ranges) (b : List ℕ) → length b ≡ r.first + r.sealed_len
-    → outcome r.key limits.max_chunks (last_index r.sealed_len) true (piece_at r b (last_index r.sealed_len)) ≡ last_outcome r.key limits.max_chunks (drop r.first b)
+pub last-there : (r : Ranges) (b : Bytes) → length b ≡ r.first + r.sealed_len
+    → outcome r.key limits.max_chunks (last_index r.sealed_len) true (piece_at r b (last_index r.sealed_len))
+    ≡ last_outcome r.key limits.max_chunks (drop r.first b)
 last-there r b size =
-    let rest : List ℕ = drop r.first b in
+    let rest : Bytes = drop r.first b in
     let last : ℕ = last_index r.sealed_len in
     let n : length rest ≡ r.sealed_len = left r b size in
     let d : length (drop (65552 * last) rest) ≡ length rest - 65552 * last = length-drop (65552 * last) rest in
-    ap (outcome r.key limits.max_chunks last true) (piece-there r b last size ∙ take_all 65552 (drop (65552 * last) rest) (omega arith))
+    ap (outcome r.key limits.max_chunks last true)
+        (piece-there r b last size ∙ take_all 65552 (drop (65552 * last) rest) (omega arith))
     ∙ sym (last-is r.key limits.max_chunks rest last (ap last_index (sym n)))
 
-pub len-there : (r : Ranges) (b text : List ℕ) → length b ≡ r.first + r.sealed_len → last_outcome r.key limits.max_chunks (drop r.first b) ≡ Ok text
+pub len-there : (r : Ranges) (b text : Bytes) → length b ≡ r.first + r.sealed_len
+    → last_outcome r.key limits.max_chunks (drop r.first b) ≡ Ok text
     → plain_len (drop r.first b) ≡ plain_of r.sealed_len
 len-there r b text size h =
-    let rest : List ℕ = drop r.first b in
+    let rest : Bytes = drop r.first b in
     let last : ℕ = last_index r.sealed_len in
     let n : length rest ≡ r.sealed_len = left r b size in
     let is : last ≡ (length rest - 1) / 65552 = ap last_index (sym n) in
     let d : length (drop (65552 * last) rest) ≡ length rest - 65552 * last = length-drop (65552 * last) rest in
-    let o = outcome-opens r.key limits.max_chunks last true (drop (65552 * last) rest) text (sym (last-is r.key limits.max_chunks rest last is) ∙ h) in
-    let len : length (drop (65552 * last) rest) ≡ length text + 16 = ap length o.sealed_so ∙ length-sealed r.key (chunk_nonce last true) [] text in
-    let count : plain_len rest + 16 * (last + 1) ≡ length rest = plain-count last rest (some-or-none last (length rest) is) (omega arith) (omega arith) in
+    let o = outcome-opens r.key limits.max_chunks last true (drop (65552 * last) rest) text
+        (sym (last-is r.key limits.max_chunks rest last is) ∙ h) in
+    let len : length (drop (65552 * last) rest) ≡ length text + 16 = ap length o.sealed_so
+        ∙ length-sealed r.key (chunk_nonce last true) [] text in
+    let count : plain_len rest + 16 * (last + 1) ≡ length rest =
+        plain-count last rest (some-or-none last (length rest) is) (omega arith) (omega arith) in
     omega arith
 
-pub slice-there : (r : Ranges) (b text : List ℕ) (at : ℕ) → length b ≡ r.first + r.sealed_len → at < plain_of r.sealed_len
-    → gives r (at / 65536) (piece_at r b (at / 65536)) ≡ Ok text → (at % 65536 < length text) × IsSlice r.key (drop r.first b) at (drop (at % 65536) text)
+pub slice-there : (r : Ranges) (b text : Bytes) (at : ℕ) → length b ≡ r.first + r.sealed_len
+    → at < plain_of r.sealed_len
+    → gives r (at / 65536) (piece_at r b (at / 65536)) ≡ Ok text
+    → (at % 65536 < length text) × IsSlice r.key (drop r.first b) at (drop (at % 65536) text)
 slice-there r b text at size within h =
-    let rest : List ℕ = drop r.first b in
+    let rest : Bytes = drop r.first b in
     let i : ℕ = at / 65536 in
     let skip : ℕ = at % 65536 in
     let last : ℕ = last_index r.sealed_len in
     let n : length rest ≡ r.sealed_len = left r b size in
     let count : length (pieces rest) ≡ last + 1 = piece-count rest last (ap last_index (sym n)) in
-    let piece : List ℕ = take 65552 (drop (65552 * i) rest) in
+    let piece : Bytes = take 65552 (drop (65552 * i) rest) in
     let there : piece_at r b i ≡ piece = piece-there r b i size in
     let d : length (drop (65552 * i) rest) ≡ length rest - 65552 * i = length-drop (65552 * i) rest in
     let l : length piece ≡ min 65552 (length (drop (65552 * i) rest)) = length-take 65552 (drop (65552 * i) rest) in
     let flag : Bool = nat_le r.sealed_len (65552 * (i + 1)) in
-    let o = outcome-opens r.key limits.max_chunks i flag piece text (ap (outcome r.key limits.max_chunks i flag) (sym there) ∙ h) in
-    let len : length piece ≡ length text + 16 = ap length o.sealed_so ∙ length-sealed r.key (chunk_nonce i flag) [] text in
+    let o = outcome-opens r.key limits.max_chunks i flag piece text
+        (ap (outcome r.key limits.max_chunks i flag) (sym there) ∙ h) in
+    let len : length piece ≡ length text + 16 = ap length o.sealed_so
+        ∙ length-sealed r.key (chunk_nonce i flag) [] text in
     let opens : opening r.key rest i ≡ Some text =
     opening-at r.key rest i (omega arith) ∙ ap (λ m. opened_at r.key i (nat_le m (65552 * (i + 1))) piece) n
     ∙ ap (opened_at r.key i flag) o.sealed_so ∙ opened-sealed r.key (chunk_nonce i flag) [] text in
     let t : length (drop skip text) ≡ length text - skip = length-drop skip text in
     let part : IsSlice r.key rest at ([] ++ take (length text - skip) (drop skip text)) =
-    slice-on r.key rest [] text at i skip (length text - skip) (omega arith) opens (omega arith) (omega arith) (λ k lt. absurd (omega arith)) in
+    slice-on r.key rest [] text at i skip (length text - skip) (omega arith) opens (omega arith) (omega arith)
+        (λ k lt. absurd (omega arith)) in
     (omega arith, subst (IsSlice r.key rest at) (take_all (length text - skip) (drop skip text) (omega arith)) part)

@@ -4,6 +4,7 @@ use Rattle.std.specs.Prelude.{◌&&◌, ◌||◌}
 use Rattle.std.specs.List.{concat}
 use Rattle.std.proofs.lemmas.Bool.{cases_lt, le-leb, lt-ltb}
 use Rattle.std.proofs.Math.Seq.{take-append_seam}
+use Rattle.age_kdf.specs.Bytes.{Bytes}
 use Rattle.age_cipher.specs.Sealing.{sealed}
 use Rattle.age_recipient.specs.declared.key.FileKey.{FileKey}
 use Rattle.age_stream.specs.Cutting.{IsFilled}
@@ -20,21 +21,21 @@ use Rattle.agefile.specs.Runs.{SealsRun}
 use Rattle.agefile.proofs.OpensRunLemmas.{some-code}
 
 -- a payload for writing before chunk i
-abbrev pub writing_at : List ℕ → ℕ → Payload
+abbrev pub writing_at : Bytes → ℕ → Payload
 writing_at key i = record { key = key; number = i; state = 2; spare = replicate 2 0 }
 
 -- the sizes of the chunks of a plaintext from number i on
-abbrev pub AreChunks : ℕ → List (List ℕ) → Type 0
+abbrev pub AreChunks : ℕ → List Bytes → Type 0
 AreChunks i [] = ⊥
 AreChunks i (c ∷ []) = (length c ≤ 65536) × ((0 < length c) ⊎ (i ≡ 0))
 AreChunks i (c ∷ d ∷ more) = (length c ≡ 65536) × AreChunks (i + 1) (d ∷ more)
 
-filled-chunks : (i : ℕ) (cs : List (List ℕ)) → IsFilled 65536 cs → AreChunks i cs
+filled-chunks : (i : ℕ) (cs : List Bytes) → IsFilled 65536 cs → AreChunks i cs
 filled-chunks i [] h = h
 filled-chunks i (c ∷ []) h = (h.1, inl h.0)
 filled-chunks i (c ∷ d ∷ more) h = (h.0, filled-chunks (i + 1) (d ∷ more) h.1)
 
-plain-chunks : (plain : List ℕ) → AreChunks 0 (chunks plain)
+plain-chunks : (plain : Bytes) → AreChunks 0 (chunks plain)
 plain-chunks plain = elim (is_cut 65536 plain (omega arith)).sizes [
   | inl one ↦ subst (AreChunks 0) (sym one) (omega arith, inr refl)
   | inr filled ↦ filled-chunks 0 (chunks plain) filled
@@ -49,37 +50,48 @@ text-there : (i n : ℕ) → (0 < n) ⊎ (i ≡ 0) → has_text i (n + 16) ≡ t
 text-there i n (inl pos) = some-text i n pos
 text-there i n (inr zero) = elim (cases_lt 0 n) [
   | inl pos ↦ some-text i n pos
-  | inr none ↦ let empty : n ≡ 0 = omega arith in ap (λ k. has_text k (n + 16)) zero ∙ ap (λ m. has_text 0 (m + 16)) empty
+  | inr none ↦ let empty : n ≡ 0 = omega arith in
+      ap (λ k. has_text k (n + 16)) zero ∙ ap (λ m. has_text 0 (m + 16)) empty
 ]
 
-last-fits : (key : List ℕ) (i : ℕ) (c : List ℕ) → length c ≤ 65536 → (0 < length c) ⊎ (i ≡ 0) → may_seal (writing_at key i) (length c + 16) true ≡ true
-last-fits key i c le some = ap (λ t. t && has_text i (length c + 16)) (le-leb (length c + 16) 65552 (omega arith)) ∙ text-there i (length c) some
+last-fits : (key : Bytes) (i : ℕ) (c : Bytes) → length c ≤ 65536 → (0 < length c) ⊎ (i ≡ 0)
+    → may_seal (writing_at key i) (length c + 16) true ≡ true
+last-fits key i c le some = ap (λ t. t && has_text i (length c + 16)) (le-leb (length c + 16) 65552 (omega arith))
+    ∙ text-there i (length c) some
 
-full-fits : (key : List ℕ) (i : ℕ) (c : List ℕ) → length c ≡ 65536 → may_seal (writing_at key i) (length c + 16) false ≡ true
+full-fits : (key : Bytes) (i : ℕ) (c : Bytes) → length c ≡ 65536
+    → may_seal (writing_at key i) (length c + 16) false ≡ true
 full-fits key i c is = ap (λ n. may_seal (writing_at key i) (n + 16) false) is
 
 -- what a run gives, by its first step: a sealed chunk and more, or one too many
-abbrev WritesBy : List ℕ → ℕ → Bool → List ℕ → List (List ℕ) → List ℕ → ℕ → Type 0
+abbrev WritesBy : Bytes → ℕ → Bool → Bytes → List Bytes → Bytes → ℕ → Type 0
 WritesBy key i last c more out code =
-    ((i < limits.max_chunks) × ((rest : List ℕ) × (out ≡ sealed key (chunk_nonce i last) [] c ++ rest) × SealsRun (after_chunk (writing_at key i) last 0) more rest code))
+    ((i < limits.max_chunks) × ((rest : Bytes) × (out ≡ sealed key (chunk_nonce i last) [] c ++ rest)
+        × SealsRun (after_chunk (writing_at key i) last 0) more rest code))
     ⊎ ((limits.max_chunks ≤ i) × (code ≡ 14))
 
-text-of : (c room : List ℕ) → length room ≡ 16 → take (length (c ++ room) - 16) (c ++ room) ≡ c
+text-of : (c room : Bytes) → length room ≡ 16 → take (length (c ++ room) - 16) (c ++ room) ≡ c
 text-of c room size =
     let n : length (c ++ room) - 16 ≡ length c = omega (arith, length-append c room) in
     ap (λ k. take k (c ++ room)) n ∙ take-append_seam c room
 
-write-by : (key : List ℕ) (i : ℕ) (last : Bool) (c room : List ℕ) (more : List (List ℕ)) (out : List ℕ) (code : ℕ) (new : Payload) (after : List ℕ) (report : Report) (step_code : ℕ)
-    → may_seal (writing_at key i) (length c + 16) last ≡ true → length room ≡ 16 → SealsNext (writing_at key i) new (c ++ room) after last report step_code
-    → ((step_code ≡ 0) × ((rest : List ℕ) × (out ≡ after ++ rest) × SealsRun new more rest code)) ⊎ ((step_code ≢ 0) × ((out ≡ []) × (code ≡ step_code)))
+write-by : (key : Bytes) (i : ℕ) (last : Bool) (c room : Bytes) (more : List Bytes) (out : Bytes) (code : ℕ)
+    (new : Payload) (after : Bytes) (report : Report) (step_code : ℕ)
+    → may_seal (writing_at key i) (length c + 16) last ≡ true → length room ≡ 16
+    → SealsNext (writing_at key i) new (c ++ room) after last report step_code
+    → ((step_code ≡ 0) × ((rest : Bytes) × (out ≡ after ++ rest) × SealsRun new more rest code))
+    ⊎ ((step_code ≢ 0) × ((out ≡ []) × (code ≡ step_code)))
     → WritesBy key i last c more out code
 write-by key i last c room more out code new after report step_code fits size (inl (unfit, _)) on =
     let n : length (c ++ room) ≡ length c + 16 = omega (arith, length-append c room) in
     let clash : true ≡ false = sym fits ∙ ap (λ k. may_seal (writing_at key i) k last) (sym n) ∙ unfit in
     absurd (cc)
-write-by key i last c room more out code new after report step_code fits size (inr (_, inr (many, too_many, reported, kept), state)) (inl (zero, _)) = absurd (omega (arith, too_many, zero))
-write-by key i last c room more out code new after report step_code fits size (inr (_, inr (many, too_many, reported, kept), state)) (inr (_, (none, is))) = inr (many, is ∙ too_many)
-write-by key i last c room more out code new after report step_code fits size (inr (_, inl (few, returned, reported, buffer), state)) (inl (zero, (rest, joined, run))) =
+write-by key i last c room more out code new after report step_code fits size
+    (inr (_, inr (many, too_many, reported, kept), state)) (inl (zero, _)) = absurd (omega (arith, too_many, zero))
+write-by key i last c room more out code new after report step_code fits size
+    (inr (_, inr (many, too_many, reported, kept), state)) (inr (_, (none, is))) = inr (many, is ∙ too_many)
+write-by key i last c room more out code new after report step_code fits size
+    (inr (_, inl (few, returned, reported, buffer), state)) (inl (zero, (rest, joined, run))) =
     inl (
       few,
       (
@@ -88,9 +100,11 @@ write-by key i last c room more out code new after report step_code fits size (i
         subst (λ w. SealsRun w more rest code) (state ∙ ap (after_chunk (writing_at key i) last) returned) run,
       ),
     )
-write-by key i last c room more out code new after report step_code fits size (inr (_, inl (few, returned, reported, buffer), state)) (inr (nonzero, _)) = absurd (nonzero returned)
+write-by key i last c room more out code new after report step_code fits size
+    (inr (_, inl (few, returned, reported, buffer), state)) (inr (nonzero, _)) = absurd (nonzero returned)
 
-write-first : (key : List ℕ) (i : ℕ) (c : List ℕ) (more : List (List ℕ)) (out : List ℕ) (code : ℕ) → may_seal (writing_at key i) (length c + 16) (is_end more) ≡ true
+write-first : (key : Bytes) (i : ℕ) (c : Bytes) (more : List Bytes) (out : Bytes) (code : ℕ)
+    → may_seal (writing_at key i) (length c + 16) (is_end more) ≡ true
     → SealsRun (writing_at key i) (c ∷ more) out code → WritesBy key i (is_end more) c more out code
 write-first key i c more out code fits (new, room, size, after, report, step_code, step, on) =
     write-by key i (is_end more) c room more out code new after report step_code fits size step on
@@ -98,46 +112,62 @@ write-first key i c more out code fits (new, room, size, after, report, step_cod
 -- ---- all steps
 
 -- all chunks are sealed, or there are too many
-abbrev pub AreSealed : List ℕ → ℕ → List (List ℕ) → List ℕ → ℕ → Type 0
+abbrev pub AreSealed : Bytes → ℕ → List Bytes → Bytes → ℕ → Type 0
 AreSealed key i cs out code =
-    ((code ≡ 0) × ((out ≡ concat (sealed_from key i cs)) × (i + length cs ≤ limits.max_chunks))) ⊎ ((code ≡ 14) × (limits.max_chunks < i + length cs))
+    ((code ≡ 0) × ((out ≡ concat (sealed_from key i cs)) × (i + length cs ≤ limits.max_chunks)))
+        ⊎ ((code ≡ 14) × (limits.max_chunks < i + length cs))
 
-write-last : (key : List ℕ) (i : ℕ) (c out : List ℕ) (code : ℕ) → WritesBy key i true c [] out code → AreSealed key i (c ∷ []) out code
-write-last key i c out code (inl (few, (rest, joined, (none, zero)))) = inl (zero, (joined ∙ ap (λ r. sealed key (chunk_nonce i true) [] c ++ r) none, omega arith))
+write-last : (key : Bytes) (i : ℕ) (c out : Bytes) (code : ℕ) → WritesBy key i true c [] out code
+    → AreSealed key i (c ∷ []) out code
+write-last key i c out code (inl (few, (rest, joined, (none, zero)))) =
+    inl (zero, (joined ∙ ap (λ r. sealed key (chunk_nonce i true) [] c ++ r) none, omega arith))
 write-last key i c out code (inr (many, is)) = inr (is, omega arith)
 
-write-more : (key : List ℕ) (i : ℕ) (c : List ℕ) (d : List ℕ) (more : List (List ℕ)) (rest out : List ℕ) (code : ℕ) → out ≡ sealed key (chunk_nonce i false) [] c ++ rest
+write-more : (key : Bytes) (i : ℕ) (c : Bytes) (d : Bytes) (more : List Bytes) (rest out : Bytes) (code : ℕ)
+    → out ≡ sealed key (chunk_nonce i false) [] c ++ rest
     → AreSealed key (i + 1) (d ∷ more) rest code → AreSealed key i (c ∷ d ∷ more) out code
-write-more key i c d more rest out code joined (inl (zero, (is, fits))) = inl (zero, (joined ∙ ap (λ r. sealed key (chunk_nonce i false) [] c ++ r) is, omega (arith, fits)))
+write-more key i c d more rest out code joined (inl (zero, (is, fits))) =
+    inl (zero, (joined ∙ ap (λ r. sealed key (chunk_nonce i false) [] c ++ r) is, omega (arith, fits)))
 write-more key i c d more rest out code joined (inr (is, many)) = inr (is, omega (arith, many))
 
-run_writes : (key : List ℕ) (i : ℕ) (cs : List (List ℕ)) (out : List ℕ) (code : ℕ) → AreChunks i cs → SealsRun (writing_at key i) cs out code → AreSealed key i cs out code
+run_writes : (key : Bytes) (i : ℕ) (cs : List Bytes) (out : Bytes) (code : ℕ) → AreChunks i cs
+    → SealsRun (writing_at key i) cs out code → AreSealed key i cs out code
 run_writes key i [] out code sizes run = absurd sizes
-run_writes key i (c ∷ []) out code sizes run = write-last key i c out code (write-first key i c [] out code (last-fits key i c sizes.0 sizes.1) run)
+run_writes key i (c ∷ []) out code sizes run =
+    write-last key i c out code (write-first key i c [] out code (last-fits key i c sizes.0 sizes.1) run)
 run_writes key i (c ∷ d ∷ more) out code sizes run =
     elim (write-first key i c (d ∷ more) out code (full-fits key i c sizes.0) run) [
-      | inl (few, (rest, joined, on)) ↦ write-more key i c d more rest out code joined (run_writes key (i + 1) (d ∷ more) rest code sizes.1 on)
+      | inl (few, (rest, joined, on)) ↦ write-more key i c d more rest out code joined
+          (run_writes key (i + 1) (d ∷ more) rest code sizes.1 on)
       | inr (many, is) ↦ inr (is, omega arith)
     ]
 
 -- ---- the law
 
 -- the whole file, or too many chunks
-abbrev pub WritesFile : List ℕ → List ℕ → List ℕ → List ℕ → List ℕ → ℕ → Type 0
+abbrev pub WritesFile : Bytes → Bytes → Bytes → Bytes → Bytes → ℕ → Type 0
 WritesFile stanzas file_key nonce plain file code =
-    ((code ≡ 0) × IsNewFile stanzas file_key nonce plain file) ⊎ ((code ≡ 14) × (limits.max_chunks < length (chunks plain)))
+    ((code ≡ 0) × IsNewFile stanzas file_key nonce plain file)
+        ⊎ ((code ≡ 14) × (limits.max_chunks < length (chunks plain)))
 
-pub steps_write : (stanzas file_key nonce plain old new : List ℕ) (p : Payload) (report : Report) (out : List ℕ) (code : ℕ)
-    → BeginsFile stanzas file_key nonce old new p report 0 → SealsRun p (chunks plain) out code → WritesFile stanzas file_key nonce plain (take report.len new ++ out) code
-steps_write stanzas file_key nonce plain old new p report out code (inl up) run = let none : ◌≡◌ {A = ℕ} 0 17 = up.0.returned in absurd (omega arith)
-steps_write stanzas file_key nonce plain old new p report out code (inr (Err fault, made, refuses)) run = absurd (some-code fault (sym refuses.0.returned))
-steps_write stanzas file_key nonce plain old new p report out code (inr (Ok header, made, inr (exceeds, _))) run = let none : ◌≡◌ {A = ℕ} 0 21 = exceeds.returned in absurd (omega arith)
+pub steps_write : (stanzas file_key nonce plain old new : Bytes) (p : Payload) (report : Report) (out : Bytes)
+    (code : ℕ)
+    → BeginsFile stanzas file_key nonce old new p report 0 → SealsRun p (chunks plain) out code
+    → WritesFile stanzas file_key nonce plain (take report.len new ++ out) code
+steps_write stanzas file_key nonce plain old new p report out code (inl up) run = let none : ◌≡◌ {A = ℕ} 0 17 =
+    up.0.returned in absurd (omega arith)
+steps_write stanzas file_key nonce plain old new p report out code (inr (Err fault, made, refuses)) run =
+    absurd (some-code fault (sym refuses.0.returned))
+steps_write stanzas file_key nonce plain old new p report out code (inr (Ok header, made, inr (exceeds, _))) run =
+    let none : ◌≡◌ {A = ℕ} 0 21 = exceeds.returned in absurd (omega arith)
 steps_write stanzas file_key nonce plain old new p report out code (inr (Ok header, made, inl (fits, state))) run =
     let k : FileKey = record { 0 = file_key } in
-    let key : List ℕ = payload_key k nonce in
+    let key : Bytes = payload_key k nonce in
     let front : take report.len new ≡ header.items ++ nonce =
-    ap (λ (x : Report). take x.len new) fits.reported ∙ ap (take (length (header.items ++ nonce))) fits.buffer ∙ take-append_seam (header.items ++ nonce) _ in
-    elim (run_writes key 0 (chunks plain) out code (plain-chunks plain) (subst (λ w. SealsRun w (chunks plain) out code) state run)) [
+    ap (λ (x : Report). take x.len new) fits.reported ∙ ap (take (length (header.items ++ nonce))) fits.buffer
+        ∙ take-append_seam (header.items ++ nonce) _ in
+    elim (run_writes key 0 (chunks plain) out code (plain-chunks plain)
+        (subst (λ w. SealsRun w (chunks plain) out code) state run)) [
       | inr (is, many) ↦ inr (is, omega (arith, many))
       | inl (zero, (is, few)) ↦
           let spelled : take report.len new ++ out ≡ header.items ++ payload k nonce plain =

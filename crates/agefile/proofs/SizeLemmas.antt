@@ -3,10 +3,11 @@ use Rattle.std.proofs.Common.{◌≡◌, ℕ, ◌+◌, ◌*◌, ◌/◌, ◌<◌
 use Rattle.std.specs.List.{AllByRecursion, concat}
 use Rattle.std.specs.Fmt.{decimal}
 use Rattle.std.proofs.lemmas.Fmt.{length-decimal-le}
+use Rattle.age_kdf.specs.Bytes.{Bytes}
 use Rattle.age_cipher.proofs.OpeningLemmas.{length-sealed}
 use Rattle.age_header.specs.Base64.{IsBase64, base64_of}
 use Rattle.age_header.specs.Header.{Head, IsFullLine, IsStanza, StanzaParts, argument_line, line, version_line}
-use Rattle.age_header.proofs.LengthLemmas.{line_size, version_size}
+use Rattle.age_header.proofs.LengthLemmas.{line_size, length-version_line}
 use Rattle.age_header.proofs.TextLemmas.{signs_size}
 use Rattle.age_recipient.specs.declared.key.FileKey.{FileKey}
 use Rattle.age_recipient.specs.KeyedStanza.{keyed_stanza, keyed_wrap_key}
@@ -20,7 +21,7 @@ use Rattle.age_stream.specs.Payload.{chunks, is_end, payload, payload_key, chunk
 
 -- ---- headers
 
-pub b64_size : (bytes characters : List ℕ) → IsBase64 bytes characters → length characters ≡ (4 * length bytes + 2) / 3
+pub b64_size : (bytes characters : Bytes) → IsBase64 bytes characters → length characters ≡ (4 * length bytes + 2) / 3
 unfolding IsBase64
 b64_size [] [] h = refl
 b64_size (a ∷ []) (p ∷ q ∷ []) h = refl
@@ -28,107 +29,132 @@ b64_size (a ∷ b ∷ []) (p ∷ q ∷ r ∷ []) h = refl
 b64_size (a ∷ b ∷ c ∷ bytes) (p ∷ q ∷ r ∷ s ∷ characters) h = let rest = b64_size bytes characters h.1 in omega arith
 b64_size _ _ h = absurd h
 
-full_size : (full : List (List ℕ)) → AllByRecursion IsFullLine full → length (concat full) ≡ 64 * length full
+full_size : (full : List Bytes) → AllByRecursion IsFullLine full → length (concat full) ≡ 64 * length full
 full_size [] all = refl
-full_size (f ∷ full) all = let one : length f ≡ 64 = all.0 in let rest = full_size full all.1 in omega (arith, length-append f (concat full))
+full_size (f ∷ full) all = let one : length f ≡ 64 = all.0 in let rest = full_size full all.1 in
+    omega (arith, length-append f (concat full))
 
 -- the body's lines of a stanza with a body of 32 bytes
-body_lines_size : (full : List (List ℕ)) (last : List ℕ) → AllByRecursion IsFullLine full → length (concat full ++ last) ≡ 43 → length (flat_map line full ++ line last) ≡ 44
+body_lines_size : (full : List Bytes) (last : Bytes) → AllByRecursion IsFullLine full
+    → length (concat full ++ last) ≡ 43 → length (flat_map line full ++ line last) ≡ 44
 body_lines_size [] last all size = omega (arith, line_size last)
 body_lines_size (f ∷ full) last all size =
     let lines = full_size (f ∷ full) all in
     absurd (omega (arith, length-append (concat (f ∷ full)) last))
 
-stanza_size : (s : StanzaParts) (text : List ℕ) → length s.body ≡ 32 → IsStanza s text → length text ≡ length (argument_line s.args) + 44
+stanza_size : (s : StanzaParts) (text : Bytes) → length s.body ≡ 32 → IsStanza s text
+    → length text ≡ length (argument_line s.args) + 44
 stanza_size s text size is =
-    let characters : length (concat is.full ++ is.last) ≡ 43 = omega (arith, b64_size s.body (concat is.full ++ is.last) is.body) in
+    let characters : length (concat is.full ++ is.last) ≡ 43 =
+        omega (arith, b64_size s.body (concat is.full ++ is.last) is.body) in
     let lines = body_lines_size is.full is.last is.cut.0 characters in
-    ap length is.spelled ∙ omega (arith, length-append (argument_line s.args ++ flat_map line is.full) (line is.last), length-append (argument_line s.args) (flat_map line is.full), length-append (flat_map line is.full) (line is.last))
+    ap length is.spelled ∙ omega (arith, length-append (argument_line s.args ++ flat_map line is.full) (line is.last),
+        length-append (argument_line s.args) (flat_map line is.full),
+        length-append (flat_map line is.full) (line is.last))
 
 -- every header has its first line and its last
-pub least_header : (ss : List StanzaParts) (mac text : List ℕ) → Head ss mac text → 70 ≤ length text
+pub least_header : (ss : List StanzaParts) (mac text : Bytes) → Head ss mac text → 70 ≤ length text
 least_header ss mac text h =
     let characters : length h.characters ≡ 43 = omega (arith, b64_size mac h.characters h.mac_text, h.mac_len) in
     let end = line_size (codes "--- " ++ h.characters) in
-    let all : length text ≡ length (version_line ++ h.body ++ line (codes "--- " ++ h.characters)) = ap length h.spelled in
-    omega (arith, version_size, length-append (codes "--- ") h.characters, length-append (version_line ++ h.body) (line (codes "--- " ++ h.characters)), length-append version_line h.body)
+    let all : length text ≡ length (version_line ++ h.body ++ line (codes "--- " ++ h.characters)) =
+        ap length h.spelled in
+    omega (arith, length-version_line, length-append (codes "--- ") h.characters,
+        length-append (version_line ++ h.body) (line (codes "--- " ++ h.characters)), length-append version_line h.body)
 
 -- a header of one stanza with a body of 32 bytes
-pub header_size : (s : StanzaParts) (mac text : List ℕ) → length s.body ≡ 32 → Head (s ∷ []) mac text → length text ≡ length (argument_line s.args) + 114
+pub header_size : (s : StanzaParts) (mac text : Bytes) → length s.body ≡ 32 → Head (s ∷ []) mac text
+    → length text ≡ length (argument_line s.args) + 114
 header_size s mac text size h =
-    let stanza : length h.stanza_text.0 ≡ length (argument_line s.args) + 44 = stanza_size s h.stanza_text.0 size h.stanza_text.2 in
+    let stanza : length h.stanza_text.0 ≡ length (argument_line s.args) + 44 =
+        stanza_size s h.stanza_text.0 size h.stanza_text.2 in
     let none : length h.stanza_text.1 ≡ 0 = ap length h.stanza_text.3 in
     let body : length h.body ≡ length (h.stanza_text.0 ++ h.stanza_text.1) = ap length h.stanza_text.4 in
     let characters : length h.characters ≡ 43 = omega (arith, b64_size mac h.characters h.mac_text, h.mac_len) in
     let end = line_size (codes "--- " ++ h.characters) in
     ap length h.spelled ∙ omega (
       arith,
-      version_size,
+      length-version_line,
       length-append h.stanza_text.0 h.stanza_text.1,
       length-append (codes "--- ") h.characters,
       length-append (version_line ++ h.body) (line (codes "--- " ++ h.characters)),
       length-append version_line h.body,
     )
 
-two_args : (a b : List ℕ) → length (argument_line (a ∷ b ∷ [])) ≡ 5 + (length a + length b)
-two_args a b = omega (arith, length-append (a ++ 32 ∷ (b ++ [])) (10 ∷ []), length-append a (32 ∷ (b ++ [])), length-append b [])
+two_args : (a b : Bytes) → length (argument_line (a ∷ b ∷ [])) ≡ 5 + (length a + length b)
+two_args a b = omega (arith, length-append (a ++ 32 ∷ (b ++ [])) (10 ∷ []), length-append a (32 ∷ (b ++ [])),
+    length-append b [])
 
-three_args : (a b c : List ℕ) → length (argument_line (a ∷ b ∷ c ∷ [])) ≡ 6 + (length a + length b + length c)
-three_args a b c = omega (arith, length-append (a ++ 32 ∷ (b ++ 32 ∷ (c ++ []))) (10 ∷ []), length-append a (32 ∷ (b ++ 32 ∷ (c ++ []))), length-append b (32 ∷ (c ++ [])), length-append c [])
+three_args : (a b c : Bytes) → length (argument_line (a ∷ b ∷ c ∷ [])) ≡ 6 + (length a + length b + length c)
+three_args a b c = omega (arith, length-append (a ++ 32 ∷ (b ++ 32 ∷ (c ++ []))) (10 ∷ []),
+    length-append a (32 ∷ (b ++ 32 ∷ (c ++ []))), length-append b (32 ∷ (c ++ [])), length-append c [])
 
-pub pass_header : (pass salt : List ℕ) (work : ℕ) (k : FileKey) (mac text : List ℕ) → length salt ≡ 16 → length k.0 ≡ 16 → work ≤ 30
+pub pass_header : (pass salt : Bytes) (work : ℕ) (k : FileKey) (mac text : Bytes) → length salt ≡ 16 → length k.0 ≡ 16
+    → work ≤ 30
     → Head (pass_stanza pass work salt k ∷ []) mac text → length text ≤ 150
 unfolding pass_stanza
 pass_header pass salt work k mac text salted keyed high h =
-    let body : length (pass_stanza pass work salt k).body ≡ 32 = length-sealed (pass_wrap_key pass salt work) zero_nonce [] k.0 ∙ omega arith in
+    let body : length (pass_stanza pass work salt k).body ≡ 32 =
+        length-sealed (pass_wrap_key pass salt work) zero_nonce [] k.0 ∙ omega arith in
     let all = header_size (pass_stanza pass work salt k) mac text body h in
     let digits : length (decimal work) ≤ 2 = length-decimal-le 2 work (omega arith) (omega arith) (omega arith) in
     let characters : length (base64_of salt) ≡ 22 = omega (arith, signs_size salt) in
-    let args : length (argument_line (pass_stanza pass work salt k).args) ≡ 6 + (6 + length (base64_of salt) + length (decimal work)) = three_args (codes "scrypt") (base64_of salt) (decimal work) in
+    let args : length (argument_line (pass_stanza pass work salt k).args)
+        ≡ 6 + (6 + length (base64_of salt) + length (decimal work)) =
+        three_args (codes "scrypt") (base64_of salt) (decimal work) in
     omega arith
 
-pub key_header : (key salt : List ℕ) (k : FileKey) (mac text : List ℕ) → length salt ≡ 16 → length k.0 ≡ 16
+pub key_header : (key salt : Bytes) (k : FileKey) (mac text : Bytes) → length salt ≡ 16 → length k.0 ≡ 16
     → Head (keyed_stanza key salt k ∷ []) mac text → length text ≡ 156
 unfolding keyed_stanza
 key_header key salt k mac text salted keyed h =
-    let body : length (keyed_stanza key salt k).body ≡ 32 = length-sealed (keyed_wrap_key key salt) zero_nonce [] k.0 ∙ omega arith in
+    let body : length (keyed_stanza key salt k).body ≡ 32 = length-sealed (keyed_wrap_key key salt) zero_nonce [] k.0
+        ∙ omega arith in
     let all = header_size (keyed_stanza key salt k) mac text body h in
     let characters : length (base64_of salt) ≡ 22 = omega (arith, signs_size salt) in
-    let args : length (argument_line (keyed_stanza key salt k).args) ≡ 5 + (15 + length (base64_of salt)) = two_args (codes "example.org/key") (base64_of salt) in
+    let args : length (argument_line (keyed_stanza key salt k).args) ≡ 5 + (15 + length (base64_of salt)) =
+        two_args (codes "example.org/key") (base64_of salt) in
     omega arith
 
 -- ---- payloads
 
-filled_count : (size : ℕ) (cs : List (List ℕ)) → 0 < size → IsFilled size cs → (size * length cs < length (concat cs) + size) × (length (concat cs) ≤ size * length cs)
+filled_count : (size : ℕ) (cs : List Bytes) → 0 < size → IsFilled size cs
+    → (size * length cs < length (concat cs) + size) × (length (concat cs) ≤ size * length cs)
 filled_count size [] pos h = absurd h
-filled_count size (c ∷ []) pos h = let low : 0 < length c = h.0 in let high : length c ≤ size = h.1 in (omega (arith, length-append c []), omega (arith, length-append c []))
+filled_count size (c ∷ []) pos h = let low : 0 < length c = h.0 in let high : length c ≤ size = h.1 in
+    (omega (arith, length-append c []), omega (arith, length-append c []))
 filled_count size (c ∷ d ∷ more) pos h =
     let one : length c ≡ size = h.0 in
     let rest = filled_count size (d ∷ more) pos h.1 in
     let all = length-append c (concat (d ∷ more)) in
     (omega (arith, rest.0, all), omega (arith, rest.1, all))
 
-filled_chunks : (plain : List ℕ) → IsFilled 65536 (chunks plain) → length (concat (chunks plain)) ≡ length plain → length (chunks plain) ≡ chunk_count (length plain)
+filled_chunks : (plain : Bytes) → IsFilled 65536 (chunks plain) → length (concat (chunks plain)) ≡ length plain
+    → length (chunks plain) ≡ chunk_count (length plain)
 filled_chunks plain filled join =
     let n = filled_count 65536 (chunks plain) (omega arith) filled in
     let some = filled-some 65536 (chunks plain) (omega arith) filled in
     omega (arith, n.0, n.1)
 
 -- the number of chunks
-pub chunks_size : (plain : List ℕ) → length (chunks plain) ≡ chunk_count (length plain)
+pub chunks_size : (plain : Bytes) → length (chunks plain) ≡ chunk_count (length plain)
 chunks_size plain = let is = is_cut 65536 plain (omega arith) in elim is.sizes [
-  | inl one ↦ let n : length (chunks plain) ≡ 1 = ap length one in let none : length plain ≡ 0 = sym (ap length is.joined) ∙ ap (λ cs. length (concat cs)) one in omega arith
+  | inl one ↦ let n : length (chunks plain) ≡ 1 = ap length one in
+      let none : length plain ≡ 0 = sym (ap length is.joined) ∙ ap (λ cs. length (concat cs)) one in omega arith
   | inr filled ↦ filled_chunks plain filled (ap length is.joined)
 ]
 
-sealed_size : (key : List ℕ) (i : ℕ) (cs : List (List ℕ)) → length (concat (sealed_from key i cs)) ≡ length (concat cs) + 16 * length cs
+sealed_size : (key : Bytes) (i : ℕ) (cs : List Bytes)
+    → length (concat (sealed_from key i cs)) ≡ length (concat cs) + 16 * length cs
 sealed_size key i [] = refl
 sealed_size key i (c ∷ more) =
     let one = length-sealed key (chunk_nonce i (is_end more)) [] c in
     let rest = sealed_size key (i + 1) more in
-    omega (arith, length-append (sealed key (chunk_nonce i (is_end more)) [] c) (concat (sealed_from key (i + 1) more)), length-append c (concat more))
+    omega (arith, length-append (sealed key (chunk_nonce i (is_end more)) [] c) (concat (sealed_from key (i + 1) more)),
+        length-append c (concat more))
 
-pub payload_size : (k : FileKey) (nonce plain : List ℕ) → length (payload k nonce plain) ≡ length nonce + (length plain + 16 * chunk_count (length plain))
+pub payload_size : (k : FileKey) (nonce plain : Bytes)
+    → length (payload k nonce plain) ≡ length nonce + (length plain + 16 * chunk_count (length plain))
 payload_size k nonce plain =
     let sealed = sealed_size (payload_key k nonce) 0 (chunks plain) in
     let join : length (concat (chunks plain)) ≡ length plain = ap length (is_cut 65536 plain (omega arith)).joined in

@@ -1,7 +1,9 @@
 -- Where a file's chunks begin, from what its parts return.
-use Rattle.std.proofs.Common.{◌≡◌, ◌⊎◌, ℕ, ◌+◌, ◌-◌, ◌<◌, ◌≤◌, List, [], ◌∷◌, map, ◌++◌, length, take, drop, nat_lt, sym, ◌∙◌, ap, refl, subst, arith, inl, inr, length-append, Option, Some, Result, Ok, Err}
+use Rattle.std.proofs.Common.{◌≡◌, ◌⊎◌, ◌+◌, ◌-◌, ◌<◌, ◌≤◌, List, [], ◌∷◌, map, ◌++◌, length, take, drop, nat_lt, sym, ◌∙◌, ap, refl, subst, arith, inl, inr, length-append, Some, Result, Ok, Err}
 use Rattle.std.proofs.lemmas.Bool.{le-ltb, lt-ltb, cond-false, cond-true}
 use Rattle.std.proofs.lemmas.List.{drop_at}
+use Rattle.age_kdf.specs.Bytes.{Bytes}
+use Rattle.age_header.specs.Device.{Known}
 use Rattle.age_header.specs.declared.fault.HeaderFault.{HeaderFault}
 use Rattle.age_header.specs.declared.fault.HeaderFault.TheVariants as header
 use Rattle.age_header.specs.Header.{StanzaParts, HeaderParts}
@@ -24,58 +26,79 @@ pub ok-ok : {A : Type 0} (x y : A) → ◌≡◌ {A = Result A Fault} (Ok x) (Ok
 ok-ok x y e = cc
 
 -- no header was read
-faulty : (answers : Answering) (b : List ℕ) (g : HeaderFault) → HeaderVerdict b 65536 (Err g) → FindsStart answers b (Err (header_fault g))
+faulty : (answers : Answering) (b : Bytes) (g : HeaderFault) → HeaderVerdict b 65536 (Err g)
+    → FindsStart answers b (Err (header_fault g))
 faulty answers b g verdict = inr (Err g, verdict, refl)
 
-pub start_none : (answers : Answering) (b : List ℕ) (mid : Option (List ℕ)) (fault : Fault) → Inspects limits (Some b) mid (Err fault)
+pub start_none : (answers : Answering) (b : Bytes) (mid : Known) (fault : Fault)
+    → Inspects limits (Some b) mid (Err fault)
     → CountsRead {A = HeaderParts} 0 0 (Err fault) → FindsStart answers b (Err fault)
 start_none answers b mid fault (Ok parts, is, h) count = absurd (cc)
 start_none answers b mid fault (Err header.Read, is, h) count =
-    let read_count : CountsRead {A = HeaderParts} 0 0 (Err Read) = subst (λ f. CountsRead {A = HeaderParts} 0 0 (Err f)) (err-err {A = HeaderParts} fault Read is) count in
+    let read_count : CountsRead {A = HeaderParts} 0 0 (Err Read) =
+        subst (λ f. CountsRead {A = HeaderParts} 0 0 (Err f)) (err-err {A = HeaderParts} fault Read is) count in
     absurd (omega (arith, read_count))
-start_none answers b mid fault (Err header.Memory, is, h) count = inl (ap Err (err-err {A = HeaderParts} fault OutOfMemory is))
-start_none answers b mid fault (Err header.NotAge, is, h) count = subst (λ f. FindsStart answers b (Err f)) (sym (err-err {A = HeaderParts} fault _ is)) (faulty answers b header.NotAge h)
-start_none answers b mid fault (Err (header.BadLine n), is, h) count = subst (λ f. FindsStart answers b (Err f)) (sym (err-err {A = HeaderParts} fault _ is)) (faulty answers b (header.BadLine n) h)
-start_none answers b mid fault (Err header.Truncated, is, h) count = subst (λ f. FindsStart answers b (Err f)) (sym (err-err {A = HeaderParts} fault _ is)) (faulty answers b header.Truncated h)
-start_none answers b mid fault (Err header.TooLarge, is, h) count = subst (λ f. FindsStart answers b (Err f)) (sym (err-err {A = HeaderParts} fault _ is)) (faulty answers b header.TooLarge h)
+start_none answers b mid fault (Err header.Memory, is, h) count =
+    inl (ap Err (err-err {A = HeaderParts} fault OutOfMemory is))
+start_none answers b mid fault (Err header.NotAge, is, h) count =
+    subst (λ f. FindsStart answers b (Err f)) (sym (err-err {A = HeaderParts} fault _ is))
+    (faulty answers b header.NotAge h)
+start_none answers b mid fault (Err (header.BadLine n), is, h) count =
+    subst (λ f. FindsStart answers b (Err f)) (sym (err-err {A = HeaderParts} fault _ is))
+    (faulty answers b (header.BadLine n) h)
+start_none answers b mid fault (Err header.Truncated, is, h) count =
+    subst (λ f. FindsStart answers b (Err f)) (sym (err-err {A = HeaderParts} fault _ is))
+    (faulty answers b header.Truncated h)
+start_none answers b mid fault (Err header.TooLarge, is, h) count =
+    subst (λ f. FindsStart answers b (Err f)) (sym (err-err {A = HeaderParts} fault _ is))
+    (faulty answers b header.TooLarge h)
 
 -- a header that was read, and what follows it
-pub record Fronts (b rest : List ℕ) (h : HeaderParts) : Type 0 where
-  pub text : List ℕ
+pub record Fronts (b rest : Bytes) (h : HeaderParts) : Type 0 where
+  pub text : Bytes
   pub verdict : HeaderVerdict b 65536 (Ok (record { stanzas = h.stanzas; mac = h.mac; text = text }))
   pub front : b ≡ text ++ rest
 
-pub fronts : (b rest : List ℕ) (h : HeaderParts) → Inspects limits (Some b) (Some rest) (Ok h) → Fronts b rest h
+pub fronts : (b rest : Bytes) (h : HeaderParts) → Inspects limits (Some b) (Some rest) (Ok h) → Fronts b rest h
 fronts b rest h (Err g, is, _) = absurd (cc)
 fronts b rest h (Ok parts, is, (text, verdict, took)) =
     subst (Fronts b rest) (sym (ok-ok h parts is)) (record { text = text; verdict = verdict; front = took })
 
-found-start : (answers : Answering) (b rest : List ℕ) (h : HeaderParts) (f : Fronts b rest h) (start : Result Start Fault)
+found-start : (answers : Answering) (b rest : Bytes) (h : HeaderParts) (f : Fronts b rest h)
+    (start : Result Start Fault)
     → start ≡ start_under (length f.text) rest (unlocked answers h) → FindsStart answers b start
 found-start answers b rest h f start is =
     inr (
       Ok (record { stanzas = h.stanzas; mac = h.mac; text = f.text }),
       f.verdict,
-      is ∙ ap (λ r. start_under (length f.text) r (unlocked answers h)) (sym (ap (drop (length f.text)) f.front ∙ drop_at f.text rest (length f.text) refl)),
+      is ∙ ap (λ r. start_under (length f.text) r (unlocked answers h))
+          (sym (ap (drop (length f.text)) f.front ∙ drop_at f.text rest (length f.text) refl)),
     )
 
-pub start_locked : (answers : Answering) (b rest : List ℕ) (h : HeaderParts) (fault : Fault) → Inspects limits (Some b) (Some rest) (Ok h)
-    → (◌≡◌ {A = Result FileKey Fault} (Err fault) (Err OutOfMemory)) ⊎ (Err fault ≡ unlocked answers h) → FindsStart answers b (Err fault)
+pub start_locked : (answers : Answering) (b rest : Bytes) (h : HeaderParts) (fault : Fault)
+    → Inspects limits (Some b) (Some rest) (Ok h)
+    → (◌≡◌ {A = Result FileKey Fault} (Err fault) (Err OutOfMemory)) ⊎ (Err fault ≡ unlocked answers h)
+    → FindsStart answers b (Err fault)
 start_locked answers b rest h fault i (inl memory) = inl (ap Err (err-err {A = FileKey} fault OutOfMemory memory))
 start_locked answers b rest h fault i (inr is) =
     let f = fronts b rest h i in
     found-start answers b rest h f (Err fault) (ap (start_under (length f.text) rest) is)
 
-pub start_cut : (answers : Answering) (b rest : List ℕ) (h : HeaderParts) (k : FileKey) → Inspects limits (Some b) (Some rest) (Ok h)
-    → (◌≡◌ {A = Result FileKey Fault} (Ok k) (Err OutOfMemory)) ⊎ (Ok k ≡ unlocked answers h) → length rest < 16 → FindsStart answers b (Err NonceTruncated)
+pub start_cut : (answers : Answering) (b rest : Bytes) (h : HeaderParts) (k : FileKey)
+    → Inspects limits (Some b) (Some rest) (Ok h)
+    → (◌≡◌ {A = Result FileKey Fault} (Ok k) (Err OutOfMemory)) ⊎ (Ok k ≡ unlocked answers h) → length rest < 16
+    → FindsStart answers b (Err NonceTruncated)
 start_cut answers b rest h k i (inl memory) short = absurd (cc)
 start_cut answers b rest h k i (inr is) short =
     let f = fronts b rest h i in
     found-start answers b rest h f (Err NonceTruncated)
-    (sym (cond-true (nat_lt (length rest) 16) _ _ (lt-ltb (length rest) 16 short)) ∙ ap (start_under (length f.text) rest) is)
+    (sym (cond-true (nat_lt (length rest) 16) _ _ (lt-ltb (length rest) 16 short))
+        ∙ ap (start_under (length f.text) rest) is)
 
-pub start_found : (answers : Answering) (b rest nonce key : List ℕ) (h : HeaderParts) (k : FileKey) → Inspects limits (Some b) (Some rest) (Ok h)
-    → (◌≡◌ {A = Result FileKey Fault} (Ok k) (Err OutOfMemory)) ⊎ (Ok k ≡ unlocked answers h) → 16 ≤ length rest → nonce ≡ take 16 rest
+pub start_found : (answers : Answering) (b rest nonce key : Bytes) (h : HeaderParts) (k : FileKey)
+    → Inspects limits (Some b) (Some rest) (Ok h)
+    → (◌≡◌ {A = Result FileKey Fault} (Ok k) (Err OutOfMemory)) ⊎ (Ok k ≡ unlocked answers h) → 16 ≤ length rest
+    → nonce ≡ take 16 rest
     → key ≡ payload_key k nonce → FindsStart answers b (Ok (record { first = length b - length rest + 16; key = key }))
 start_found answers b rest nonce key h k i (inl memory) long nonce_is key_is = absurd (cc)
 start_found answers b rest nonce key h k i (inr is) long nonce_is key_is =
@@ -84,13 +107,16 @@ start_found answers b rest nonce key h k i (inr is) long nonce_is key_is =
     found-start answers b rest h f (Ok (record { first = length b - length rest + 16; key = key }))
     (ap (λ n. Ok (record { first = n; key = key })) (omega arith)
     ∙ ap (λ x. Ok (record { first = length f.text + 16; key = x })) (key_is ∙ ap (payload_key k) nonce_is)
-    ∙ sym (cond-false (nat_lt (length rest) 16) _ _ (le-ltb (length rest) 16 long)) ∙ ap (start_under (length f.text) rest) is)
+    ∙ sym (cond-false (nat_lt (length rest) 16) _ _ (le-ltb (length rest) 16 long))
+    ∙ ap (start_under (length f.text) rest) is)
 
 -- of one identity in a list
-pub start_alone : {X : Type 0} (m : X → List StanzaParts → Unwrapped) (items : List X) (x : X) (b : List ℕ) (start : Result Start Fault) → items ≡ x ∷ []
+pub start_alone : {X : Type 0} (m : X → List StanzaParts → Unwrapped) (items : List X) (x : X) (b : Bytes)
+    (start : Result Start Fault) → items ≡ x ∷ []
     → FindsStart (λ s. map (λ i. m i s) items) b start → FindsStart (alone (m x)) b start
 start_alone m items x b start one h = subst (λ xs. FindsStart (λ s. map (λ i. m i s) xs) b start) one h
 
 -- of one identity, known by its meaning
-pub start_meant : (f g : List StanzaParts → Unwrapped) (b : List ℕ) (start : Result Start Fault) → f ≡ g → FindsStart (alone f) b start → FindsStart (alone g) b start
+pub start_meant : (f g : List StanzaParts → Unwrapped) (b : Bytes) (start : Result Start Fault) → f ≡ g
+    → FindsStart (alone f) b start → FindsStart (alone g) b start
 start_meant f g b start same h = subst (λ m. FindsStart (alone m) b start) same h

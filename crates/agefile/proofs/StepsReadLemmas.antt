@@ -1,7 +1,8 @@
 -- What the calls on a file give is its verdict.
-use Rattle.std.proofs.Common.{◌≡◌, ◌≢◌, ℕ, ◌+◌, List, [], length, take, drop, nat_lt, Bool, true, false, cond, sym, ◌∙◌, ap, refl, subst, inl, inr, Result, Ok, Err}
+use Rattle.std.proofs.Common.{◌≡◌, ◌≢◌, ℕ, ◌+◌, [], length, take, drop, nat_lt, Bool, true, false, cond, sym, ◌∙◌, ap, refl, subst, inl, inr, Result, Ok, Err}
 use Rattle.std.specs.Prelude.{option_map}
 use Rattle.std.proofs.lemmas.List.{drop-drop}
+use Rattle.age_kdf.specs.Bytes.{Bytes}
 use Rattle.age_recipient.specs.declared.key.FileKey.{FileKey}
 use Rattle.age_stream.specs.declared.fault.StreamFault.TheVariants as stream
 use Rattle.age_stream.specs.Payload.{payload_key, pieces}
@@ -28,26 +29,32 @@ use Rattle.agefile.proofs.OpensRunLemmas.{payload_reads, some-code}
 -- ---- the verdict, by the start
 
 -- what the verdict is, where the start is known
-abbrev pub IsVerdictFrom : List ℕ → Reading Fault → Result Start Fault → Type 0
+abbrev pub IsVerdictFrom : Bytes → Reading Fault → Result Start Fault → Type 0
 IsVerdictFrom b v (Err fault) = v ≡ stops fault
 IsVerdictFrom b v (Ok start) = v ≡ record {
   front = (reading_from start.key limits.max_chunks 0 (drop start.first b)).front;
   fault = option_map stream_fault (reading_from start.key limits.max_chunks 0 (drop start.first b)).fault;
 }
 
-payload-from : (b : List ℕ) (n : ℕ) (k : FileKey) (v : Reading Fault) (t : Bool)
-    → v ≡ with_file_fault (cond t (stops stream.NonceTruncated) (reading_from (payload_key k (take 16 (drop n b))) limits.max_chunks 0 (drop 16 (drop n b))))
-    → IsVerdictFrom b v (cond t (Err NonceTruncated) (Ok (record { first = n + 16; key = payload_key k (take 16 (drop n b)) })))
+payload-from : (b : Bytes) (n : ℕ) (k : FileKey) (v : Reading Fault) (t : Bool)
+    → v ≡ with_file_fault (cond t (stops stream.NonceTruncated)
+    (reading_from (payload_key k (take 16 (drop n b))) limits.max_chunks 0 (drop 16 (drop n b))))
+    → IsVerdictFrom b v (cond t (Err NonceTruncated)
+    (Ok (record { first = n + 16; key = payload_key k (take 16 (drop n b)) })))
 payload-from b n k v true is = is
-payload-from b n k v false is = is ∙ ap (λ x. with_file_fault (reading_from (payload_key k (take 16 (drop n b))) limits.max_chunks 0 x)) (drop-drop 16 n b)
+payload-from b n k v false is = is ∙ ap
+    (λ x. with_file_fault (reading_from (payload_key k (take 16 (drop n b))) limits.max_chunks 0 x)) (drop-drop 16 n b)
 
-under-from : (b : List ℕ) (n : ℕ) (v : Reading Fault) (key : Result FileKey Fault) → v ≡ read_under limits (drop n b) key → IsVerdictFrom b v (start_under n (drop n b) key)
+under-from : (b : Bytes) (n : ℕ) (v : Reading Fault) (key : Result FileKey Fault) → v ≡ read_under limits (drop n b) key
+    → IsVerdictFrom b v (start_under n (drop n b) key)
 under-from b n v (Err fault) is = is
 under-from b n v (Ok k) is = payload-from b n k v (nat_lt (length (drop n b)) 16) is
 
-pub verdict-from : (answers : Answering) (b : List ℕ) (start : Result Start Fault) (v : Reading Fault) → IsStart answers b start → IsVerdict limits answers b v → IsVerdictFrom b v start
+pub verdict-from : (answers : Answering) (b : Bytes) (start : Result Start Fault) (v : Reading Fault)
+    → IsStart answers b start → IsVerdict limits answers b v → IsVerdictFrom b v start
 verdict-from answers b start v (Err e, verdict, is) h =
-    subst (IsVerdictFrom b v) (sym is) (one_verdict limits answers b v (stops (header_fault e)) h (record { header = Err e; header_verdict = verdict; is = refl }))
+    subst (IsVerdictFrom b v) (sym is) (one_verdict limits answers b v (stops (header_fault e)) h
+        (record { header = Err e; header_verdict = verdict; is = refl }))
 verdict-from answers b start v (Ok found, verdict, is) h =
     let w = judged limits answers b (Ok found) in
     subst (IsVerdictFrom b v) (sym is) (under-from b (length found.text) v (unlocked answers (parts_of found))
@@ -55,22 +62,28 @@ verdict-from answers b start v (Ok found, verdict, is) h =
 
 -- ---- the laws
 
-refused-by : (b : List ℕ) (p : Payload) (report : Report) (code : ℕ) (v : Reading Fault) (start : Result Start Fault) → StartsAt start p report code → IsVerdictFrom b v start → code ≢ 0
+refused-by : (b : Bytes) (p : Payload) (report : Report) (code : ℕ) (v : Reading Fault) (start : Result Start Fault)
+    → StartsAt start p report code → IsVerdictFrom b v start → code ≢ 0
     → (v.front ≡ []) × (code_of v.fault ≡ code) × (report ≡ report_of 0 v.fault)
 refused-by b p report code v (Ok start) opens from some = absurd (some opens.0)
 refused-by b p report code v (Err fault) opens from some =
-    (ap (λ (r : Reading Fault). r.front) from, ap (λ (r : Reading Fault). code_of r.fault) from ∙ sym opens.0, opens.1 ∙ sym (ap (λ (r : Reading Fault). report_of 0 r.fault) from))
+    (ap (λ (r : Reading Fault). r.front) from, ap (λ (r : Reading Fault). code_of r.fault) from ∙ sym opens.0,
+        opens.1 ∙ sym (ap (λ (r : Reading Fault). report_of 0 r.fault) from))
 
-pub opening_refused : (answers : Answering) (b : List ℕ) (p : Payload) (report : Report) (code : ℕ) (v : Reading Fault) → Opens answers (take 65552 b) p report code
-    → IsVerdict limits answers b v → code ≢ 0 → code ≢ 17 → (v.front ≡ []) × (code_of v.fault ≡ code) × (report ≡ report_of 0 v.fault)
+pub opening_refused : (answers : Answering) (b : Bytes) (p : Payload) (report : Report) (code : ℕ) (v : Reading Fault)
+    → Opens answers (take 65552 b) p report code
+    → IsVerdict limits answers b v → code ≢ 0 → code ≢ 17
+    → (v.front ≡ []) × (code_of v.fault ≡ code) × (report ≡ report_of 0 v.fault)
 opening_refused answers b p report code v (start, inl memory, opens) h some other =
     let refused : StartsAt (Err OutOfMemory) p report code = subst (λ s. StartsAt s p report code) memory opens in
     absurd (other refused.0)
 opening_refused answers b p report code v (start, inr is, opens) h some other =
     refused-by b p report code v start opens (verdict-from answers b start v (whole-start answers b start is) h) some
 
-reads-by : (b : List ℕ) (p : Payload) (report : Report) (text : List ℕ) (code place : ℕ) (v : Reading Fault) (start : Result Start Fault) → StartsAt start p report 0 → IsVerdictFrom b v start
-    → OpensRun p (pieces (drop report.len b)) text code place → (v.front ≡ text) × ((code_of v.fault ≡ code) × ((report_of 0 v.fault).place ≡ place))
+reads-by : (b : Bytes) (p : Payload) (report : Report) (text : Bytes) (code place : ℕ) (v : Reading Fault)
+    (start : Result Start Fault) → StartsAt start p report 0 → IsVerdictFrom b v start
+    → OpensRun p (pieces (drop report.len b)) text code place
+    → (v.front ≡ text) × ((code_of v.fault ≡ code) × ((report_of 0 v.fault).place ≡ place))
 reads-by b p report text code place v (Err fault) opens from run = absurd (some-code fault (sym opens.0))
 reads-by b p report text code place v (Ok start) opens from run =
     let there : OpensRun (before_first start.key 1) (pieces (drop start.first b)) text code place =
@@ -78,27 +91,35 @@ reads-by b p report text code place v (Ok start) opens from run =
     (subst (λ (x : Report). OpensRun p (pieces (drop x.len b)) text code place) opens.1 run) in
     let h = payload_reads start.key (drop start.first b) text code place there in (
       ap (λ (r : Reading Fault). r.front) from ∙ sym h.0,
-      (ap (λ (r : Reading Fault). code_of r.fault) from ∙ sym h.1.0, ap (λ (r : Reading Fault). (report_of 0 r.fault).place) from ∙ sym h.1.1),
+      (ap (λ (r : Reading Fault). code_of r.fault) from ∙ sym h.1.0,
+          ap (λ (r : Reading Fault). (report_of 0 r.fault).place) from ∙ sym h.1.1),
     )
 
-pub steps_read : (answers : Answering) (b : List ℕ) (p : Payload) (report : Report) (text : List ℕ) (code place : ℕ) (v : Reading Fault) → Opens answers (take 65552 b) p report 0
+pub steps_read : (answers : Answering) (b : Bytes) (p : Payload) (report : Report) (text : Bytes) (code place : ℕ)
+    (v : Reading Fault) → Opens answers (take 65552 b) p report 0
     → OpensRun p (pieces (drop report.len b)) text code place → IsVerdict limits answers b v
     → (v.front ≡ text) × ((code_of v.fault ≡ code) × ((report_of 0 v.fault).place ≡ place))
 steps_read answers b p report text code place v (start, inl memory, opens) run h =
     let refused : StartsAt (Err OutOfMemory) p report 0 = subst (λ s. StartsAt s p report 0) memory opens in
     absurd (some-code OutOfMemory (sym refused.0))
 steps_read answers b p report text code place v (start, inr is, opens) run h =
-    reads-by b p report text code place v start opens (verdict-from answers b start v (whole-start answers b start is) h) run
+    reads-by b p report text code place v start opens
+        (verdict-from answers b start v (whole-start answers b start is) h) run
 
 -- the same after unlocking
-pub unlocked_refused : (answers : Answering) (b old key : List ℕ) (p : Payload) (at report : Report) (code : ℕ) (v : Reading Fault) → Unlocks answers b old key at 0
+pub unlocked_refused : (answers : Answering) (b old key : Bytes) (p : Payload) (at report : Report) (code : ℕ)
+    (v : Reading Fault) → Unlocks answers b old key at 0
     → Opens (by_file_key key) (take 65552 b) p report code → IsVerdict limits answers b v → code ≢ 0 → code ≢ 17
     → (v.front ≡ []) × (code_of v.fault ≡ code) × (report ≡ report_of 0 v.fault)
 unlocked_refused answers b old key p at report code v unlocks opens h some other =
-    opening_refused (by_file_key key) b p report code v opens (opens_unlocked answers b old key at v unlocks h) some other
+    opening_refused (by_file_key key) b p report code v opens (opens_unlocked answers b old key at v unlocks h) some
+        other
 
-pub unlocked_read : (answers : Answering) (b old key : List ℕ) (p : Payload) (at report : Report) (text : List ℕ) (code place : ℕ) (v : Reading Fault) → Unlocks answers b old key at 0
-    → Opens (by_file_key key) (take 65552 b) p report 0 → OpensRun p (pieces (drop report.len b)) text code place → IsVerdict limits answers b v
+pub unlocked_read : (answers : Answering) (b old key : Bytes) (p : Payload) (at report : Report) (text : Bytes)
+    (code place : ℕ) (v : Reading Fault) → Unlocks answers b old key at 0
+    → Opens (by_file_key key) (take 65552 b) p report 0 → OpensRun p (pieces (drop report.len b)) text code place
+    → IsVerdict limits answers b v
     → (v.front ≡ text) × ((code_of v.fault ≡ code) × ((report_of 0 v.fault).place ≡ place))
 unlocked_read answers b old key p at report text code place v unlocks opens run h =
-    steps_read (by_file_key key) b p report text code place v opens run (opens_unlocked answers b old key at v unlocks h)
+    steps_read (by_file_key key) b p report text code place v opens run
+        (opens_unlocked answers b old key at v unlocks h)

@@ -1,5 +1,7 @@
 -- Finding a file key, from what its parts return; and the verdict, by the file key.
-use Rattle.std.proofs.Common.{◌≡◌, ◌≢◌, ◌⊎◌, ℕ, ◌+◌, ◌-◌, List, [], ◌∷◌, map, length, take, drop, sym, ◌∙◌, ap, refl, subst, arith, inl, inr, length-append, Option, Some, Result, Ok, Err}
+use Rattle.std.proofs.Common.{◌≡◌, ◌≢◌, ◌⊎◌, ℕ, ◌+◌, ◌-◌, List, [], ◌∷◌, map, length, take, drop, sym, ◌∙◌, ap, refl, subst, arith, inl, inr, length-append, Some, Result, Ok, Err}
+use Rattle.age_kdf.specs.Bytes.{Bytes}
+use Rattle.age_header.specs.Device.{Known}
 use Rattle.age_header.specs.declared.fault.HeaderFault.{HeaderFault}
 use Rattle.age_header.specs.declared.fault.HeaderFault.TheVariants as header
 use Rattle.age_header.specs.Header.{StanzaParts, HeaderParts}
@@ -26,31 +28,39 @@ use Rattle.agefile.proofs.OpensRunLemmas.{some-code}
 use Rattle.agefile.proofs.StartLemmas.{fronts}
 
 -- no header was read
-faulty : (answers : Answering) (b : List ℕ) (fault : Fault) (g : HeaderFault) → ◌≡◌ {A = Result HeaderParts Fault} (Err fault) (Err (header_fault g)) → HeaderVerdict b 65536 (Err g)
+faulty : (answers : Answering) (b : Bytes) (fault : Fault) (g : HeaderFault)
+    → ◌≡◌ {A = Result HeaderParts Fault} (Err fault) (Err (header_fault g)) → HeaderVerdict b 65536 (Err g)
     → FindsKey answers b (Err fault)
 faulty answers b fault g is verdict = inr (Err g, verdict, ap Err (err-err {A = HeaderParts} fault (header_fault g) is))
 
-pub key_none : (answers : Answering) (b : List ℕ) (mid : Option (List ℕ)) (fault : Fault) → Inspects limits (Some b) mid (Err fault)
+pub key_none : (answers : Answering) (b : Bytes) (mid : Known) (fault : Fault)
+    → Inspects limits (Some b) mid (Err fault)
     → CountsRead {A = HeaderParts} 0 0 (Err fault) → FindsKey answers b (Err fault)
 key_none answers b mid fault (Ok parts, is, h) count = absurd (cc)
 key_none answers b mid fault (Err header.Read, is, h) count =
-    let read_count : CountsRead {A = HeaderParts} 0 0 (Err Read) = subst (λ f. CountsRead {A = HeaderParts} 0 0 (Err f)) (err-err {A = HeaderParts} fault Read is) count in
+    let read_count : CountsRead {A = HeaderParts} 0 0 (Err Read) =
+        subst (λ f. CountsRead {A = HeaderParts} 0 0 (Err f)) (err-err {A = HeaderParts} fault Read is) count in
     absurd (omega (arith, read_count))
-key_none answers b mid fault (Err header.Memory, is, h) count = inl (ap Err (err-err {A = HeaderParts} fault OutOfMemory is))
+key_none answers b mid fault (Err header.Memory, is, h) count =
+    inl (ap Err (err-err {A = HeaderParts} fault OutOfMemory is))
 key_none answers b mid fault (Err header.NotAge, is, h) count = faulty answers b fault header.NotAge is h
 key_none answers b mid fault (Err (header.BadLine n), is, h) count = faulty answers b fault (header.BadLine n) is h
 key_none answers b mid fault (Err header.Truncated, is, h) count = faulty answers b fault header.Truncated is h
 key_none answers b mid fault (Err header.TooLarge, is, h) count = faulty answers b fault header.TooLarge is h
 
-pub key_locked : (answers : Answering) (b rest : List ℕ) (h : HeaderParts) (fault : Fault) → Inspects limits (Some b) (Some rest) (Ok h)
-    → (◌≡◌ {A = Result FileKey Fault} (Err fault) (Err OutOfMemory)) ⊎ (Err fault ≡ unlocked answers h) → FindsKey answers b (Err fault)
+pub key_locked : (answers : Answering) (b rest : Bytes) (h : HeaderParts) (fault : Fault)
+    → Inspects limits (Some b) (Some rest) (Ok h)
+    → (◌≡◌ {A = Result FileKey Fault} (Err fault) (Err OutOfMemory)) ⊎ (Err fault ≡ unlocked answers h)
+    → FindsKey answers b (Err fault)
 key_locked answers b rest h fault i (inl memory) = inl (ap Err (err-err {A = FileKey} fault OutOfMemory memory))
 key_locked answers b rest h fault i (inr is) =
     let f = fronts b rest h i in
     inr (Ok (record { stanzas = h.stanzas; mac = h.mac; text = f.text }), f.verdict, ap (with_len (length f.text)) is)
 
-pub key_found : (answers : Answering) (b rest : List ℕ) (h : HeaderParts) (k : FileKey) → Inspects limits (Some b) (Some rest) (Ok h)
-    → (◌≡◌ {A = Result FileKey Fault} (Ok k) (Err OutOfMemory)) ⊎ (Ok k ≡ unlocked answers h) → FindsKey answers b (Ok (record { header_len = length b - length rest; key = k }))
+pub key_found : (answers : Answering) (b rest : Bytes) (h : HeaderParts) (k : FileKey)
+    → Inspects limits (Some b) (Some rest) (Ok h)
+    → (◌≡◌ {A = Result FileKey Fault} (Ok k) (Err OutOfMemory)) ⊎ (Ok k ≡ unlocked answers h)
+    → FindsKey answers b (Ok (record { header_len = length b - length rest; key = k }))
 key_found answers b rest h k i (inl memory) = absurd (cc)
 key_found answers b rest h k i (inr is) =
     let f = fronts b rest h i in
@@ -63,20 +73,24 @@ key_found answers b rest h k i (inr is) =
     )
 
 -- of one identity in a list
-pub key_alone : {X : Type 0} (m : X → List StanzaParts → Unwrapped) (items : List X) (x : X) (b : List ℕ) (key : Result Unlocked Fault) → items ≡ x ∷ []
+pub key_alone : {X : Type 0} (m : X → List StanzaParts → Unwrapped) (items : List X) (x : X) (b : Bytes)
+    (key : Result Unlocked Fault) → items ≡ x ∷ []
     → FindsKey (λ s. map (λ i. m i s) items) b key → FindsKey (alone (m x)) b key
 key_alone m items x b key one h = subst (λ xs. FindsKey (λ s. map (λ i. m i s) xs) b key) one h
 
 -- of one identity, known by its meaning
-pub key_meant : (f g : List StanzaParts → Unwrapped) (b : List ℕ) (key : Result Unlocked Fault) → f ≡ g → FindsKey (alone f) b key → FindsKey (alone g) b key
+pub key_meant : (f g : List StanzaParts → Unwrapped) (b : Bytes) (key : Result Unlocked Fault) → f ≡ g
+    → FindsKey (alone f) b key → FindsKey (alone g) b key
 key_meant f g b key same h = subst (λ m. FindsKey (alone m) b key) same h
 
 -- the first 65,552 bytes of a file have its file key
-whole_key : (answers : Answering) (b : List ℕ) (key : Result Unlocked Fault) → FindsKey answers (take 65552 b) key → FindsKey answers b key
+whole_key : (answers : Answering) (b : Bytes) (key : Result Unlocked Fault) → FindsKey answers (take 65552 b) key
+    → FindsKey answers b key
 whole_key answers b key (inl memory) = inl memory
 whole_key answers b key (inr (header, verdict, is)) = inr (header, whole_verdict b header verdict, is)
 
-pub whole_unlocks : (answers : Answering) (b front old new : List ℕ) (report : Report) (code : ℕ) (key : Result Unlocked Fault) → front ≡ take 65552 b
+pub whole_unlocks : (answers : Answering) (b front old new : Bytes) (report : Report) (code : ℕ)
+    (key : Result Unlocked Fault) → front ≡ take 65552 b
     → FindsKey answers front key → GivesKey key old new report code → Unlocks answers b old new report code
 whole_unlocks answers b front old new report code key same finds gives =
     (key, whole_key answers b key (subst (λ f. FindsKey answers f key) same finds), gives)
@@ -84,46 +98,58 @@ whole_unlocks answers b front old new report code key same finds gives =
 -- ---- the verdict, by the file key
 
 -- what the verdict is, where the file key is known
-abbrev pub IsVerdictUnder : List ℕ → Reading Fault → Result Unlocked Fault → Type 0
+abbrev pub IsVerdictUnder : Bytes → Reading Fault → Result Unlocked Fault → Type 0
 IsVerdictUnder b v (Err fault) = v ≡ stops fault
 IsVerdictUnder b v (Ok found) = v ≡ read_under limits (drop found.header_len b) (Ok found.key)
 
-under-key : (b : List ℕ) (n : ℕ) (v : Reading Fault) (key : Result FileKey Fault) → v ≡ read_under limits (drop n b) key → IsVerdictUnder b v (with_len n key)
+under-key : (b : Bytes) (n : ℕ) (v : Reading Fault) (key : Result FileKey Fault) → v ≡ read_under limits (drop n b) key
+    → IsVerdictUnder b v (with_len n key)
 under-key b n v (Err fault) is = is
 under-key b n v (Ok k) is = is
 
-verdict-under : (answers : Answering) (b : List ℕ) (key : Result Unlocked Fault) (v : Reading Fault) → IsKey answers b key → IsVerdict limits answers b v → IsVerdictUnder b v key
+verdict-under : (answers : Answering) (b : Bytes) (key : Result Unlocked Fault) (v : Reading Fault)
+    → IsKey answers b key → IsVerdict limits answers b v → IsVerdictUnder b v key
 verdict-under answers b key v (Err e, verdict, is) h =
-    subst (IsVerdictUnder b v) (sym is) (one_verdict limits answers b v (stops (header_fault e)) h (record { header = Err e; header_verdict = verdict; is = refl }))
+    subst (IsVerdictUnder b v) (sym is)
+        (one_verdict limits answers b v (stops (header_fault e)) h
+        (record { header = Err e; header_verdict = verdict; is = refl }))
 verdict-under answers b key v (Ok found, verdict, is) h =
     let w = judged limits answers b (Ok found) in
     subst (IsVerdictUnder b v) (sym is) (under-key b (length found.text) v (unlocked answers (parts_of found))
     (one_verdict limits answers b v w h (record { header = Ok found; header_verdict = verdict; is = refl })))
 
-refused-by : (b old new : List ℕ) (report : Report) (code : ℕ) (v : Reading Fault) (key : Result Unlocked Fault) → GivesKey key old new report code → IsVerdictUnder b v key → code ≢ 0
+refused-by : (b old new : Bytes) (report : Report) (code : ℕ) (v : Reading Fault) (key : Result Unlocked Fault)
+    → GivesKey key old new report code → IsVerdictUnder b v key → code ≢ 0
     → (v.front ≡ []) × (code_of v.fault ≡ code) × (report ≡ report_of 0 v.fault)
 refused-by b old new report code v (Ok found) gives under some = absurd (some gives.0)
 refused-by b old new report code v (Err fault) gives under some =
-    (ap (λ (r : Reading Fault). r.front) under, ap (λ (r : Reading Fault). code_of r.fault) under ∙ sym gives.0, gives.1 ∙ sym (ap (λ (r : Reading Fault). report_of 0 r.fault) under))
+    (ap (λ (r : Reading Fault). r.front) under, ap (λ (r : Reading Fault). code_of r.fault) under ∙ sym gives.0,
+        gives.1 ∙ sym (ap (λ (r : Reading Fault). report_of 0 r.fault) under))
 
-pub unlocking_refused : (answers : Answering) (b old new : List ℕ) (report : Report) (code : ℕ) (v : Reading Fault) → Unlocks answers b old new report code
-    → IsVerdict limits answers b v → code ≢ 0 → code ≢ 17 → (v.front ≡ []) × (code_of v.fault ≡ code) × (report ≡ report_of 0 v.fault)
+pub unlocking_refused : (answers : Answering) (b old new : Bytes) (report : Report) (code : ℕ) (v : Reading Fault)
+    → Unlocks answers b old new report code
+    → IsVerdict limits answers b v → code ≢ 0 → code ≢ 17
+    → (v.front ≡ []) × (code_of v.fault ≡ code) × (report ≡ report_of 0 v.fault)
 unlocking_refused answers b old new report code v (key, inl memory, gives) h some other =
-    let refused : GivesKey (Err OutOfMemory) old new report code = subst (λ k. GivesKey k old new report code) memory gives in
+    let refused : GivesKey (Err OutOfMemory) old new report code =
+        subst (λ k. GivesKey k old new report code) memory gives in
     absurd (other refused.0)
 unlocking_refused answers b old new report code v (key, inr is, gives) h some other =
     refused-by b old new report code v key gives (verdict-under answers b key v is h) some
 
-reads-by : (b old new : List ℕ) (report : Report) (v : Reading Fault) (key : Result Unlocked Fault) → GivesKey key old new report 0 → IsVerdictUnder b v key
+reads-by : (b old new : Bytes) (report : Report) (v : Reading Fault) (key : Result Unlocked Fault)
+    → GivesKey key old new report 0 → IsVerdictUnder b v key
     → v ≡ read_under limits (drop report.len b) (Ok (record { 0 = new }))
 reads-by b old new report v (Err fault) gives under = absurd (some-code fault (sym gives.0))
 reads-by b old new report v (Ok found) gives under =
     under ∙ ap (λ n. read_under limits (drop n b) (Ok found.key)) (sym (ap (λ (r : Report). r.len) gives.1))
     ∙ ap (λ k. read_under limits (drop report.len b) (Ok (record { 0 = k }))) (sym gives.2)
 
-pub unlocking_reads : (answers : Answering) (b old new : List ℕ) (report : Report) (v : Reading Fault) → Unlocks answers b old new report 0
+pub unlocking_reads : (answers : Answering) (b old new : Bytes) (report : Report) (v : Reading Fault)
+    → Unlocks answers b old new report 0
     → IsVerdict limits answers b v → v ≡ read_under limits (drop report.len b) (Ok (record { 0 = new }))
 unlocking_reads answers b old new report v (key, inl memory, gives) h =
     let refused : GivesKey (Err OutOfMemory) old new report 0 = subst (λ k. GivesKey k old new report 0) memory gives in
     absurd (some-code OutOfMemory (sym refused.0))
-unlocking_reads answers b old new report v (key, inr is, gives) h = reads-by b old new report v key gives (verdict-under answers b key v is h)
+unlocking_reads answers b old new report v (key, inr is, gives) h =
+    reads-by b old new report v key gives (verdict-under answers b key v is h)

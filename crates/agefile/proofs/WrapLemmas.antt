@@ -3,12 +3,13 @@ use Rattle.std.proofs.Common.{◌≡◌, ℕ, zero, suc, ◌-◌, ◌<◌, ◌�
 use Rattle.std.specs.List.{AllByRecursion}
 use Rattle.std.specs.Str.{IsUtf8}
 use Rattle.std.proofs.lemmas.List.{append-nil, drop_at, take_at}
+use Rattle.age_kdf.specs.Bytes.{Bytes}
 use Rattle.age_header.specs.declared.stanza.StanzaError.{StanzaError}
 use Rattle.age_header.specs.declared.stanza.StanzaError.TheVariants.{NoArgs, EmptyArg, BadByte, Memory}
 use Rattle.age_header.specs.Header.{AreArguments, IsArgument, IsStanza, StanzaParts, version_line}
 use Rattle.age_header.specs.Stanza.{IsStanzaError}
 use Rattle.age_header.specs.Text.{IsHeaderValue, IsWhole, signed, stanza_text}
-use Rattle.age_header.proofs.LengthLemmas.{version_size}
+use Rattle.age_header.proofs.LengthLemmas.{length-version_line}
 use Rattle.age_header.proofs.TextLemmas.{stanza_text_is}
 use Rattle.agefile.specs.declared.report.Report.{Report}
 use Rattle.agefile.specs.Giving.{Gives, GivesUp}
@@ -24,7 +25,7 @@ signed_least ss =
     omega (
       arith,
       ap length (spelled ss),
-      version_size,
+      length-version_line,
       length-append version_line (flat_map stanza_text ss ++ codes "---"),
       length-append (flat_map stanza_text ss) (codes "---"),
     )
@@ -32,36 +33,49 @@ signed_least ss =
 -- what stands between the version line and `---`
 between : (ss : List StanzaParts) → drop 22 (take (length (signed ss) - 3) (signed ss)) ≡ flat_map stanza_text ss
 between ss =
-    let body : List ℕ = flat_map stanza_text ss in
-    let split : signed ss ≡ (version_line ++ body) ++ codes "---" = spelled ss ∙ sym (append_assoc version_line body (codes "---")) in
-    let front : length (version_line ++ body) ≡ length (signed ss) - 3 = omega (arith, ap length split, length-append (version_line ++ body) (codes "---")) in
-    ap (drop 22) (ap (take (length (signed ss) - 3)) split ∙ take_at (version_line ++ body) (codes "---") (length (signed ss) - 3) front) ∙ drop_at version_line body 22 version_size
+    let body : Bytes = flat_map stanza_text ss in
+    let split : signed ss ≡ (version_line ++ body) ++ codes "---" = spelled ss
+        ∙ sym (append_assoc version_line body (codes "---")) in
+    let front : length (version_line ++ body) ≡ length (signed ss) - 3 =
+        omega (arith, ap length split, length-append (version_line ++ body) (codes "---")) in
+    ap (drop 22) (ap (take (length (signed ss) - 3)) split
+        ∙ take_at (version_line ++ body) (codes "---") (length (signed ss) - 3) front)
+        ∙ drop_at version_line body 22 length-version_line
 
-pub text_given : (s : StanzaParts) (ss : List StanzaParts) (mac text part old new : List ℕ) (report : Report) (code : ℕ) → ss ≡ s ∷ [] → IsHeaderValue ss mac → text ≡ signed ss
-    → part ≡ drop 22 (take (length text - 3) text) → Gives part None old new report code → GivesText s old new report code
+pub text_given : (s : StanzaParts) (ss : List StanzaParts) (mac text part old new : Bytes) (report : Report) (code : ℕ)
+    → ss ≡ s ∷ [] → IsHeaderValue ss mac → text ≡ signed ss
+    → part ≡ drop 22 (take (length text - 3) text) → Gives part None old new report code
+    → GivesText s old new report code
 text_given s ss mac text part old new report code one whole is cut gives =
     let mine : IsWhole s = (subst (λ xs. AllByRecursion IsWhole xs) one whole.each).0 in
-    let same : part ≡ stanza_text s = cut ∙ ap (λ t. drop 22 (take (length t - 3) t)) is ∙ between ss ∙ ap (flat_map stanza_text) one ∙ append-nil (stanza_text s) in
+    let same : part ≡ stanza_text s = cut ∙ ap (λ t. drop 22 (take (length t - 3) t)) is ∙ between ss
+        ∙ ap (flat_map stanza_text) one ∙ append-nil (stanza_text s) in
     inr (stanza_text s, stanza_text_is s mine, subst (λ t. Gives t None old new report code) same gives)
 
 -- ---- a caller's own arguments
 
-pub own_given : (s : StanzaParts) (args body old new : List ℕ) (report : Report) (code : ℕ) → IsUtf8 args → s.args ≡ words args → s.body ≡ body → GivesText s old new report code
+pub own_given : (s : StanzaParts) (args body old new : Bytes) (report : Report) (code : ℕ) → IsUtf8 args
+    → s.args ≡ words args → s.body ≡ body → GivesText s old new report code
     → GivesOwn args body old new report code
 own_given s args body old new report code utf8 same_args same_body (inl up) = inl up
 own_given s args body old new report code utf8 same_args same_body (inr (text, is, gives)) =
     let mine : IsStanza (record { args = words args; body = body }) text =
-    subst (λ a. IsStanza (record { args = a; body = body }) text) same_args (subst (λ b. IsStanza (record { args = s.args; body = b }) text) same_body is) in
+    subst (λ a. IsStanza (record { args = a; body = body }) text) same_args
+        (subst (λ b. IsStanza (record { args = s.args; body = b }) text) same_body is) in
     inr (inr ((utf8, subst AreArguments same_args is.arguments), inr (text, mine, gives)))
 
-at_index : (xs : List (List ℕ)) (i : ℕ) (d : List ℕ) → AllByRecursion IsArgument xs → i < length xs → IsArgument (get_or xs i d)
+at_index : (xs : List Bytes) (i : ℕ) (d : Bytes) → AllByRecursion IsArgument xs → i < length xs
+    → IsArgument (get_or xs i d)
 at_index [] i d all low = absurd (omega (arith, low))
 at_index (x ∷ xs) zero d all low = all.0
 at_index (x ∷ xs) (suc i) d all low = at_index xs i d all.1 (omega (arith, low))
 
-pub own_refused : (args body old new : List ℕ) (report : Report) (code : ℕ) (error : StanzaError) → IsStanzaError (words args) error → GivesUp (refusal_code error) old new report code
+pub own_refused : (args body old new : Bytes) (report : Report) (code : ℕ) (error : StanzaError)
+    → IsStanzaError (words args) error → GivesUp (refusal_code error) old new report code
     → GivesOwn args body old new report code
 own_refused args body old new report code NoArgs h up = inr (inl (λ are. are.1.0 h, up))
-own_refused args body old new report code (EmptyArg i) h up = inr (inl (λ are. (subst IsArgument h.2 (at_index (words args) i [] are.1.1 h.0)).0 refl, up))
-own_refused args body old new report code (BadByte i) (a, some, bad, h) up = inr (inl (λ are. bad (subst IsArgument h.2 (at_index (words args) i a are.1.1 h.0)), up))
+own_refused args body old new report code (EmptyArg i) h up =
+    inr (inl (λ are. (subst IsArgument h.2 (at_index (words args) i [] are.1.1 h.0)).0 refl, up))
+own_refused args body old new report code (BadByte i) (a, some, bad, h) up =
+    inr (inl (λ are. bad (subst IsArgument h.2 (at_index (words args) i a are.1.1 h.0)), up))
 own_refused args body old new report code Memory h up = inl up

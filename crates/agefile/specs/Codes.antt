@@ -1,5 +1,5 @@
 -- The codes by which C knows a fault.
-use Rattle.std.specs.Prelude.{Bool, true, false, ℕ, ◌-◌, ◌^◌, min, Option, Some, None}
+use Rattle.std.specs.Prelude.{ℕ, ◌-◌, ◌^◌, min, Option, Some, None}
 use Rattle.age_recipient.specs.declared.unwrapped.StanzaFault.{StanzaFault}
 use Rattle.age_recipient.specs.declared.unwrapped.StanzaFault.TheVariants.{ArgCount, Salt, WorkFactorText, WorkFactorTooHigh, BodyLength, Other}
 use Rattle.age_file.specs.declared.fault.Fault.{Fault}
@@ -83,9 +83,3 @@ fault_detail _ = 0
 abbrev pub code_of : Option Fault → ℕ
 code_of None = ok
 code_of (Some fault) = fault_code fault
-
--- an allocation was refused; a sink in memory fails for no other reason
-abbrev pub is_memory : Fault → Bool
-is_memory OutOfMemory = true
-is_memory Write = true
-is_memory _ = false

@@ -1,10 +1,9 @@
 -- What encrypting a plaintext for a text of stanzas gives.
 use Rattle.std.specs.Prelude.{◌≡◌, ◌⊎◌, ◌≤◌, ◌++◌, ℕ, length, None, Vec, Result, Ok, Err}
 use Rattle.std.specs.Global.{Global}
-use Rattle.std.specs.List.{concat}
 use Rattle.age_kdf.specs.Bytes.{Bytes}
 use Rattle.age_recipient.specs.declared.key.FileKey.{FileKey}
-use Rattle.age_stream.specs.Payload.{chunks, payload, sealed_chunks}
+use Rattle.age_stream.specs.Payload.{chunks, payload}
 use Rattle.age_file.specs.declared.fault.Fault.{Fault}
 use Rattle.agefile.specs.declared.report.Report.{Report}
 use Rattle.agefile.specs.Codes.{out_of_memory}
@@ -19,12 +18,6 @@ IsNewFile stanzas file_key nonce plain file =
     let k : FileKey = record { 0 = file_key } in
     (header : Vec ℕ Global) × MakesHeader stanzas k (Ok header)
     × (file ≡ header.items ++ payload k nonce plain) × (length (chunks plain) ≤ limits.max_chunks)
-
--- these bytes and then a plaintext's sealed chunks, which are within the limit
-abbrev pub IsSealedBehind : (front plain : Bytes) (k : FileKey) (nonce file : Bytes) → Type 0
-IsSealedBehind front plain k nonce file =
-    (file ≡ front ++ concat (sealed_chunks k nonce plain))
-    × (length (chunks plain) ≤ limits.max_chunks)
 
 -- a header and the payload of a plaintext are given, if they fit the buffer; or the header's fault
 abbrev pub EncryptsUnder : (made : Result (Vec ℕ Global) Fault) (k : FileKey)

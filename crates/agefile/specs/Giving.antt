@@ -3,12 +3,10 @@ use Rattle.std.specs.Prelude.{◌≡◌, ◌⊎◌, ◌<◌, ◌≤◌, ◌++◌
 use Rattle.age_kdf.specs.Bytes.{Bytes}
 use Rattle.age_header.specs.Header.{StanzaParts}
 use Rattle.age_recipient.specs.declared.unwrapped.Unwrapped.{Unwrapped}
-use Rattle.age_stream.specs.Reading.{Reading}
 use Rattle.age_file.specs.declared.fault.Fault.{Fault}
-use Rattle.age_file.specs.Verdict.{Answering, IsVerdict}
+use Rattle.age_file.specs.Verdict.{Answering}
 use Rattle.agefile.specs.declared.report.Report.{Report}
-use Rattle.agefile.specs.Codes.{code_of, out_of_memory, too_small}
-use Rattle.agefile.specs.Limits.{limits}
+use Rattle.agefile.specs.Codes.{code_of, too_small}
 use Rattle.agefile.specs.Report.{report_of}
 
 -- the call returns this code alone, and the buffer is as it was
@@ -25,27 +23,19 @@ pub record Fits (text : Bytes) (fault : Option Fault) (old new : Bytes) (report 
   pub reported : report ≡ report_of (length text) fault
   pub buffer : new ≡ text ++ drop (length text) old
 
--- the text is longer than the buffer, which is as it was; its length alone is reported
-pub record Exceeds (text old new : Bytes) (report : Report) (code : ℕ) : Type 0 where
-  pub exceeds : length old < length text
+-- the buffer is too small for `len` bytes, and as it was; their number alone is reported
+pub record Exceeds (len : ℕ) (old new : Bytes) (report : Report) (code : ℕ) : Type 0 where
+  pub exceeds : length old < len
   pub returned : code ≡ too_small
-  pub reported : report ≡ report_of (length text) None
+  pub reported : report ≡ report_of len None
   pub buffer : new ≡ old
 
 -- a text is gathered, and a fault after it, if the text fits the buffer
 abbrev pub Gives : (text : Bytes) (fault : Option Fault) (old new : Bytes) (report : Report)
     (code : ℕ) → Type 0
 Gives text fault old new report code =
-    Fits text fault old new report code ⊎ Exceeds text old new report code
+    Fits text fault old new report code ⊎ Exceeds (length text) old new report code
 
 -- the answers of one identity of this meaning
 abbrev pub alone : (List StanzaParts → Unwrapped) → Answering
 alone meaning = λ stanzas. meaning stanzas ∷ []
-
--- what decrypting b gives: the plaintext of its verdict and the fault after it; or out of memory
-abbrev pub GivesPlain : (answers : Answering) (b old new : Bytes) (report : Report) (code : ℕ)
-    → Type 0
-GivesPlain answers b old new report code =
-    GivesUp out_of_memory old new report code
-    ⊎ ((verdict : Reading Fault) × IsVerdict limits answers b verdict
-    × Gives verdict.front verdict.fault old new report code)

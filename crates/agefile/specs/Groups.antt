@@ -1,6 +1,6 @@
 -- What calls on a payload and on its parts give, in the order of the chunks. The calls share no
 -- struct, so those on different parts may come in any order, and at once.
-use Rattle.std.specs.Prelude.{◌≡◌, ◌⊎◌, ◌++◌, ◌+◌, ℕ, false, List, [], ◌∷◌, length}
+use Rattle.std.specs.Prelude.{◌≡◌, ◌⊎◌, ◌++◌, ◌+◌, ℕ, false, List, [], ◌∷◌, length, take}
 use Rattle.age_kdf.specs.Bytes.{Bytes}
 use Rattle.age_cipher.specs.Sealing.{sealed}
 use Rattle.age_stream.specs.Payload.{chunk_nonce}
@@ -10,7 +10,7 @@ use Rattle.agefile.specs.declared.payload.Payload.{Payload}
 use Rattle.agefile.specs.declared.report.Report.{Report}
 use Rattle.agefile.specs.Codes.{ok}
 use Rattle.agefile.specs.Part as part
-use Rattle.agefile.specs.Payload.{SealsNext}
+use Rattle.agefile.specs.Payload.{OpensNext, SealsNext}
 
 -- chunks, each sealed under its number from number i on, none of them as the last
 abbrev pub sealed_open : (key : Bytes) (i : ℕ) (texts : List Bytes) → List Bytes
@@ -47,3 +47,26 @@ SealsGroups old new [] out = (new ≡ old) × (out ≡ [])
 SealsGroups old new (texts ∷ more) out =
     (mid : Payload) × (mine : Bytes) × (rest : Bytes) × (out ≡ mine ++ rest)
     × SealsSome old mid texts mine × SealsGroups mid new more rest
+
+-- Calls of a part that open these pieces in order, which all returned 0: their texts, joined.
+abbrev pub PartOpens : (p : Part) (pieces : List Bytes) (text : Bytes) → Type 0
+PartOpens p [] text = text ≡ []
+PartOpens p (piece ∷ more) text =
+    (new : Part) × (after : Bytes) × (report : Report) × part.OpensNext p new piece after report ok
+    × ((rest : Bytes) × (text ≡ take report.len after ++ rest) × PartOpens new more rest)
+
+-- Some pieces of a payload that goes on: a call on it opened one, or it gave a part of so many, and
+-- the part's calls opened them all.
+abbrev pub OpensSome : (old new : Payload) (pieces : List Bytes) (text : Bytes) → Type 0
+OpensSome old new pieces text =
+    ((piece : Bytes) × (after : Bytes) × (report : Report) × (pieces ≡ piece ∷ [])
+    × OpensNext old new piece after false report ok × (text ≡ take report.len after))
+    ⊎ ((given : Part) × (report : Report) × part.TakesPart old new (length pieces) given report ok
+    × PartOpens given pieces text)
+
+-- groups of pieces in order, each in one of these ways; their texts, joined
+abbrev pub OpensGroups : (old new : Payload) (groups : List (List Bytes)) (text : Bytes) → Type 0
+OpensGroups old new [] text = (new ≡ old) × (text ≡ [])
+OpensGroups old new (pieces ∷ more) text =
+    (mid : Payload) × (mine : Bytes) × (rest : Bytes) × (text ≡ mine ++ rest)
+    × OpensSome old mid pieces mine × OpensGroups mid new more rest

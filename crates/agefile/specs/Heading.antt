@@ -124,7 +124,7 @@ abbrev pub BeginsMade : (made : Result (Vec ℕ Global) Fault) (k : FileKey) (no
 BeginsMade (Ok header) k nonce old new payload report code =
     (Fits (header.items ++ nonce) None old new report code
     × (payload ≡ before_first (payload_key k nonce) phase_writing))
-    ⊎ (Exceeds (header.items ++ nonce) old new report code × (payload ≡ closed))
+    ⊎ (Exceeds (length (header.items ++ nonce)) old new report code × (payload ≡ closed))
 BeginsMade (Err fault) k nonce old new payload report code =
     Refuses fault old new report code × (payload ≡ closed)
 

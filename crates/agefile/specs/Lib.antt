@@ -1,5 +1,6 @@
 pub mod Chunk
 pub mod Codes
+pub mod Decrypting
 pub mod Encrypting
 pub mod Giving
 pub mod Groups

@@ -1,6 +1,7 @@
 //! Laws over the definitions alone: functions that do nothing, each with a law as its contract.
 
-ghost use Rattle.std.specs.Prelude.{None, Ok, List, [], ◌∷◌, drop, length, take, true, ℕ, ◌≤◌, ◌%◌, ◌++◌, ◌+◌, ◌/◌, ◌<◌, ◌≡◌, ◌≢◌, ◌⊎◌};
+ghost use Rattle.std.specs.Prelude.{None, Ok, List, Vec, [], ◌∷◌, drop, length, take, true, ℕ, ◌≤◌, ◌%◌, ◌++◌, ◌+◌, ◌/◌, ◌<◌, ◌≡◌, ◌≢◌, ◌⊎◌};
+ghost use Rattle.std.specs.Global.{Global};
 ghost use Rattle.std.specs.List.{concat};
 ghost use Rattle.age_kdf.specs.Bytes.{Bytes};
 ghost use Rattle.age_stream.specs.Payload.{chunks, pieces, sealed_from};
@@ -14,11 +15,11 @@ ghost use Rattle.agefile.specs.declared.ranges.Ranges.{Ranges};
 ghost use Rattle.agefile.specs.declared.report.Report.{Report};
 ghost use Rattle.agefile.specs.Codes.{code_of, ok, out_of_memory, too_many_chunks};
 ghost use Rattle.agefile.specs.Encrypting.{IsNewFile};
-ghost use Rattle.agefile.specs.Groups.{SealsGroups, all_of, sealed_open};
-ghost use Rattle.agefile.specs.Heading.{BeginsFile};
+ghost use Rattle.agefile.specs.Groups.{OpensGroups, SealsGroups, all_of, sealed_open};
+ghost use Rattle.agefile.specs.Heading.{BeginsFile, MakesHeader};
 ghost use Rattle.agefile.specs.Limits.{limits, front_size};
 ghost use Rattle.agefile.specs.Opening.{Opens, by_file_key};
-ghost use Rattle.agefile.specs.Payload.{SealsNext};
+ghost use Rattle.agefile.specs.Payload.{OpensNext, SealsNext};
 ghost use Rattle.agefile.specs.Ranges.{OpensRanges, gives, last_index, piece_at, plain_of};
 ghost use Rattle.agefile.specs.Report.{report_of};
 ghost use Rattle.agefile.specs.Runs.{OpensRun, SealsRun};
@@ -148,4 +149,44 @@ pub fn unlocked_opens()
     ensures { (answers : Answering) (b old new : Bytes) (report : Report) (v : Reading Fault)
         → Unlocks answers b old new report ok → IsVerdict limits answers b v
         → IsVerdict limits (by_file_key new) b v }
+{}
+
+/// Chunks that a payload and its parts opened are the verdict's, in any order of the calls on
+/// different parts. The texts of the groups of chunks that were opened so far, joined in order, are
+/// the beginning of the verdict's plaintext. With a last chunk they are all of it, and the verdict
+/// has no fault.
+pub fn parts_open()
+    ensures so_far { (answers : Answering) (b : Bytes) (p new : Payload) (report : Report)
+        (groups : List (List Bytes)) (text next : Bytes) (more : List Bytes) (v : Reading Fault)
+        → Opens answers (take front_size b) p report ok → OpensGroups p new groups text
+        → pieces (drop report.len b) ≡ all_of groups ++ next ∷ more → IsVerdict limits answers b v
+        → take (length text) v.front ≡ text }
+    ensures whole { (answers : Answering) (b : Bytes) (p mid new : Payload)
+        (report last_report : Report) (groups : List (List Bytes)) (text last after : Bytes)
+        (v : Reading Fault) → Opens answers (take front_size b) p report ok
+        → OpensGroups p mid groups text → OpensNext mid new last after true last_report ok
+        → pieces (drop report.len b) ≡ all_of groups ++ last ∷ [] → IsVerdict limits answers b v
+        → v ≡ whole (text ++ take last_report.len after) }
+{}
+
+/// Each beginning of a file that holds its header and its nonce opens as the file does: where
+/// either opens, so does the other, with the same payload and the same report, unless an allocation
+/// is refused.
+pub fn any_front()
+    ensures front { (answers : Answering) (n : ℕ) (b : Bytes) (p q : Payload) (report r : Report)
+        (code : ℕ) → Opens answers (take n b) p report ok → Opens answers b q r code
+        → code ≢ out_of_memory → (code ≡ ok) × ((q ≡ p) × (r ≡ report)) }
+    ensures holds { (answers : Answering) (n : ℕ) (b : Bytes) (p q : Payload) (report r : Report)
+        (code : ℕ) → Opens answers b p report ok → report.len ≤ n
+        → Opens answers (take n b) q r code → code ≢ out_of_memory
+        → (code ≡ ok) × ((q ≡ p) × (r ≡ report)) }
+{}
+
+/// A header of other stanzas that was made under a file's own file key keeps the verdict: before
+/// the bytes after the old header it has for the file key the verdict that the file has.
+pub fn other_stanzas_keep()
+    ensures { (answers : Answering) (b old key stanzas : Bytes) (report : Report)
+        (header : Vec ℕ Global) (v : Reading Fault) → Unlocks answers b old key report ok
+        → MakesHeader stanzas (record { 0 = key }) (Ok header) → IsVerdict limits answers b v
+        → IsVerdict limits (by_file_key key) (header.items ++ drop report.len b) v }
 {}

@@ -25,6 +25,7 @@
 
 mod chunk;
 mod code;
+mod decrypting;
 mod giving;
 mod heading;
 mod inspecting;

@@ -1,20 +1,23 @@
 //! Opening a file by its file key.
 
-ghost use Rattle.std.specs.Prelude.{◌≡◌, map};
-ghost use Rattle.agefile.specs.Giving.{GivesPlain, alone};
+ghost use Rattle.std.specs.Prelude.{◌≡◌};
+ghost use Rattle.agefile.specs.Decrypting.{Decrypts};
 ghost use Rattle.agefile.specs.Opening.{Opens, StartsAt, by_file_key};
 ghost use Rattle.agefile.specs.Ranges.{OpensRanges};
 ghost use Rattle.agefile.specs.Start.{FindsStart};
 
-use crate::code::{OK, OUT_OF_MEMORY, fault_code};
-use crate::giving::{give_part, give_up, give_whole, is_memory};
-use crate::limits::limits;
+use crate::code::{OK, OUT_OF_MEMORY, TOO_SMALL, fault_code};
+use crate::decrypting::open_pieces;
+use crate::giving::give_up;
+use crate::heading::refuse;
 use crate::payload::Payload;
 use crate::phase::READING;
 use crate::ranges::{Ranges, open_at};
 use crate::report::Report;
+use crate::sizes::opened_len;
 use crate::start::{Start, start_for};
-use age_file::{Fault, FileKey, Identity, MemSink, MemSource, Stanza, Unwrapped, decrypt};
+use age_file::{Fault, FileKey, Identity, Stanza, Unwrapped};
+use age_stream::SEALED_CHUNK_SIZE;
 use std::alloc::{AllocError, Global};
 use std::marker::Model;
 
@@ -117,12 +120,13 @@ pub extern "C" fn agefile_ranges_open(
 }
 
 /// Decrypts a whole file by its file key. On a chunk's fault `out` has the plaintext of the chunks
-/// before it.
+/// before it, and is unchanged behind it.
 ///
 /// # Errors
-/// 21 if `out` is too small for the plaintext, 17 if an allocation was refused; then `out` is
-/// unchanged. Otherwise those of `agefile_open`, and those of the chunks, as `age_file::decrypt`
-/// says.
+/// The first that applies of those of `agefile_open`; 21 if `out` is too small for the plaintext of
+/// a whole file of this length, which is then the report's; those of the chunks, as
+/// `age_file::decrypt` says. 17 if an allocation was refused. `out` is unchanged before the first
+/// chunk.
 #[unsafe(no_mangle)]
 pub extern "C" fn agefile_decrypt(
     alloc: Global,
@@ -131,52 +135,32 @@ pub extern "C" fn agefile_decrypt(
     out: &mut [u8],
     report: &mut Report,
 ) -> u32
-    ensures { GivesPlain (by_file_key file_key.now) file.now out.old out.new report.new result }
+    ensures { Decrypts (by_file_key file_key.now) file.now out.old out.new report.new result }
 {
-    match Box::new(alloc, GivenKey::new(FileKey(*file_key))) {
-        Ok(identity) => open_with(alloc, file, identity, out, report),
-        Err(_) => give_up(OUT_OF_MEMORY, out, report),
+    let start = match start_under(alloc, file, file_key) {
+        Ok(start) => start,
+        Err(fault) => return refuse(fault, out, report),
+    };
+    let (_, sealed) = file.split_at(start.first as usize);
+    let room = opened_len(sealed.len() as u64);
+    if room > out.len() as u64 {
+        *report = Report::of_len(room);
+        return TOO_SMALL;
     }
-}
-
-/// Decrypts a file for one identity.
-fn open_with(
-    alloc: Global,
-    file: &[u8],
-    identity: Box<dyn Identity>,
-    out: &mut [u8],
-    report: &mut Report,
-) -> u32
-    ensures { GivesPlain (alone (meaning identity)) file.now out.old out.new report.new result }
-{
-    match vec![in alloc; identity] {
-        Ok(identities) => open_for(alloc, file, identities.as_slice(), out, report),
-        Err(_) => give_up(OUT_OF_MEMORY, out, report),
-    }
-}
-
-/// Decrypts a file for some identities.
-fn open_for(
-    alloc: Global,
-    file: &[u8],
-    identities: &[Box<dyn Identity>],
-    out: &mut [u8],
-    report: &mut Report,
-) -> u32
-    ensures { GivesPlain (λ stanzas. map (λ i. meaning i stanzas) identities.now) file.now out.old
-        out.new report.new result }
-{
-    let mut source = MemSource::new(file);
-    let mut sink = MemSink::new(Vec::new(alloc));
-    let answer = decrypt(alloc, &mut source, &mut sink, identities, &limits());
-    let text = sink.into_vec();
-    match answer {
-        Ok(_) => give_whole(text.as_slice(), out, report),
-        Err(fault) => {
-            if is_memory(fault) {
-                return give_up(OUT_OF_MEMORY, out, report);
-            }
-            give_part(text.as_slice(), fault, out, report)
+    let Ok(chunk) = vec![in alloc; 0; SEALED_CHUNK_SIZE] else {
+        return give_up(OUT_OF_MEMORY, out, report);
+    };
+    let mut chunk = chunk;
+    let (len, fault) = open_pieces(&start.key, sealed, chunk.as_mut_slice(), out);
+    match fault {
+        Some(fault) => {
+            let fault = Fault::from(fault);
+            *report = Report::of_fault(len as u64, fault);
+            fault_code(fault)
+        }
+        None => {
+            *report = Report::of_len(len as u64);
+            OK
         }
     }
 }

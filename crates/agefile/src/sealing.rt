@@ -1,16 +1,20 @@
 //! Encrypting a whole plaintext for a text of stanzas.
 
-ghost use Rattle.std.specs.Prelude.{◌≡◌, IfOk};
-ghost use Rattle.agefile.specs.Encrypting.{Encrypts, IsSealedBehind};
+ghost use Rattle.std.specs.Prelude.{◌≡◌, ◌+◌, ◌*◌, ◌≤◌, ◌++◌, [], drop, length, min, nat_le, take};
+ghost use Rattle.std.specs.List.{concat};
+ghost use Rattle.age_cipher.specs.Sealing.{sealed};
+ghost use Rattle.age_stream.specs.Payload.{chunk_nonce, chunks, payload, sealed_from};
+ghost use Rattle.age_stream.specs.Sizes.{chunk_size, tag_size};
+ghost use Rattle.agefile.specs.Encrypting.{Encrypts};
+ghost use Rattle.agefile.specs.Sizes.{chunk_count, file_len};
 
-use crate::code::OUT_OF_MEMORY;
-use crate::giving::{give_up, give_whole};
+use crate::code::{OK, TOO_SMALL};
 use crate::heading::{make_header, refuse};
-use crate::limits::MAX_CHUNKS;
 use crate::report::Report;
-use age_file::{FileKey, MemSink, MemSource, StreamWriter};
-use age_stream::{ChunkBuf, ChunkSealer};
-use std::alloc::{AllocError, Global};
+use crate::sizes::agefile_file_len;
+use age_file::FileKey;
+use age_stream::{CHUNK_SIZE, NONCE_SIZE, SEALED_CHUNK_SIZE, TAG_SIZE, payload_key, seal_chunk};
+use std::alloc::Global;
 
 /// Encrypts a plaintext for a text of stanzas, as `agefile_begin` and the calls on its payload do.
 /// File key and nonce are 16 random bytes each, never used twice.
@@ -35,33 +39,60 @@ pub extern "C" fn agefile_encrypt(
         Ok(header) => header,
         Err(fault) => return refuse(fault, out, report),
     };
-    let mut front = header;
-    if front.extend_from_slice(nonce).is_err() {
-        return give_up(OUT_OF_MEMORY, out, report);
+    let size = agefile_file_len(header.len() as u64, plain.len() as u64);
+    *report = Report::of_len(size);
+    if size > out.len() as u64 {
+        return TOO_SMALL;
     }
-    match sealed_behind(alloc, front, plain, &key, nonce) {
-        Ok(file) => give_whole(file.as_slice(), out, report),
-        Err(_) => give_up(OUT_OF_MEMORY, out, report),
+    let (file, _) = out.split_at_mut(size as usize);
+    write_file(header.as_slice(), plain, &key, nonce, file);
+    OK
+}
+
+/// Writes a header and the payload of a plaintext to a buffer of their length.
+fn write_file(header: &[u8], plain: &[u8], key: &FileKey, nonce: &[u8; 16], file: &mut [u8])
+    requires { length file.old ≡ file_len (length header.now) (length plain.now) }
+    ensures { file.new ≡ header.now ++ payload key.now nonce.now plain.now }
+{
+    let (head, rest) = file.split_at_mut(header.len());
+    head.copy_from_slice(header);
+    let (fresh, sealed) = rest.split_at_mut(NONCE_SIZE);
+    fresh.copy_from_slice(nonce);
+    seal_chunks(&payload_key(key, nonce), plain, sealed);
+}
+
+/// Seals the chunks of a plaintext into a buffer of their length.
+fn seal_chunks(key: &[u8; 32], plain: &[u8], out: &mut [u8])
+    requires { length out.old ≡ length plain.now + tag_size * chunk_count (length plain.now) }
+    ensures { out.new ≡ concat (sealed_from key.now 0 (chunks plain.now)) }
+{
+    let mut at = 0;
+    let mut done = 0;
+    let mut number = 0u64;
+    'chunks: loop {
+        let (_, left) = plain.split_at(at);
+        let (_, room) = out.split_at_mut(done);
+        seal_first(key, number, left, room);
+        if left.len() <= CHUNK_SIZE {
+            return;
+        }
+        at += CHUNK_SIZE;
+        done += SEALED_CHUNK_SIZE;
+        number += 1;
     }
 }
 
-/// Adds the sealed chunks of a plaintext to these bytes.
-fn sealed_behind(
-    alloc: Global,
-    front: Vec<u8>,
-    plain: &[u8],
-    key: &FileKey,
-    nonce: &[u8; 16],
-) -> Result<Vec<u8>, AllocError>
-    ensures { IfOk result
-        (λ file. IsSealedBehind front.items plain.now key.now nonce.now file.items) }
+/// Seals the first chunk of what is left of a plaintext into the start of a buffer.
+fn seal_first(key: &[u8; 32], number: u64, left: &[u8], room: &mut [u8])
+    requires { min (length left.now) chunk_size + tag_size ≤ length room.old }
+    ensures { room.new
+        ≡ sealed key.now (chunk_nonce number (nat_le (length left.now) chunk_size)) []
+        (take chunk_size left.now) ++ drop (min (length left.now) chunk_size + tag_size) room.old }
 {
-    let sealer = ChunkSealer::new(key, nonce, MAX_CHUNKS, ChunkBuf::new(alloc)?);
-    let mut source = MemSource::new(plain);
-    let mut sink = MemSink::new(front);
-    // a plaintext in memory has fewer chunks than the limit, so only an allocation can fail
-    match StreamWriter::over(&mut sink, sealer).seal_from(&mut source) {
-        Ok(_) => Ok(sink.into_vec()),
-        Err(_) => Err(AllocError),
-    }
+    let size = left.len().min(CHUNK_SIZE);
+    let (text, _) = left.split_at(size);
+    let (chunk, _) = room.split_at_mut(size + TAG_SIZE);
+    let (front, _) = chunk.split_at_mut(size);
+    front.copy_from_slice(text);
+    seal_chunk(key, number as u128, left.len() <= CHUNK_SIZE, chunk);
 }

@@ -16,7 +16,7 @@ ghost use Rattle.age_file.specs.declared.fault.Fault.{Fault};
 ghost use Rattle.age_file.specs.Verdict.{Answering, IsVerdict};
 ghost use Rattle.agefile.specs.Encrypting.{IsNewFile};
 ghost use Rattle.agefile.specs.Limits.{limits};
-ghost use Rattle.agefile.specs.Sizes.{file_len, plain_len_at_most, sealed_len};
+ghost use Rattle.agefile.specs.Sizes.{file_len, opened_len, plain_len_at_most, sealed_len};
 
 use age_stream::{CHUNK_SIZE, NONCE_SIZE, SEALED_CHUNK_SIZE, TAG_SIZE};
 
@@ -57,7 +57,13 @@ pub extern "C" fn agefile_plain_len_at_most(file_len: u64) -> u64
     ensures suffices { (answers : Answering) (b : Bytes) (verdict : Reading Fault)
         → length b ≡ file_len → IsVerdict limits answers b verdict → length verdict.front ≤ result }
 {
-    let sealed = file_len.saturating_sub(LEAST_FRONT);
+    opened_len(file_len.saturating_sub(LEAST_FRONT))
+}
+
+/// The most that sealed chunks of this many bytes in all open to.
+pub(crate) fn opened_len(sealed: u64) -> u64
+    ensures { result ≡ opened_len sealed }
+{
     CHUNK_SIZE as u64 * (sealed / SEALED_CHUNK_SIZE as u64)
         + (sealed % SEALED_CHUNK_SIZE as u64).saturating_sub(TAG_SIZE as u64)
 }

@@ -10,7 +10,9 @@ returns-in-Ok-clause-file c b same =
     list_found b c.in-Ok.header _ _ _ _ _ _ (c.in-Ok.ensures.file b same) (rw c.stanzas.ensures.value at c.list.ensures)
 
 pub returns-in-Err-clause-front : goal.returns-in-Err-clause-front
-returns-in-Err-clause-front c = list_fault _ _ _ _ _ c.in-Err.fault c.in-Err.ensures.front c.of_fault.ensures c.fault_code.ensures
+returns-in-Err-clause-front c = list_fault _ _ _ _ _ c.in-Err.fault c.in-Err.ensures.front c.of_fault.ensures
+    c.fault_code.ensures
 
 pub returns-in-Err-clause-file : goal.returns-in-Err-clause-file
-returns-in-Err-clause-file c b same = list_fault b _ _ _ _ c.in-Err.fault (c.in-Err.ensures.file b same) c.of_fault.ensures c.fault_code.ensures
+returns-in-Err-clause-file c b same = list_fault b _ _ _ _ c.in-Err.fault (c.in-Err.ensures.file b same)
+    c.of_fault.ensures c.fault_code.ensures

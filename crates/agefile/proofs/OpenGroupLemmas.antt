@@ -1,0 +1,216 @@
+-- What calls on a payload and on its parts open.
+use Rattle.std.proofs.Common.{◌≡◌, ℕ, ◌+◌, Bool, true, false, List, [], ◌∷◌, ◌++◌, length, take, drop, sym, ◌∙◌, ap, refl, subst, arith, inl, inr, append_assoc, length-append, None, Result, Ok, Err}
+use Rattle.std.specs.Prelude.{option_map}
+use Rattle.std.proofs.lemmas.List.{append-nil}
+use Rattle.std.proofs.Math.Seq.{take-append_seam}
+use Rattle.age_kdf.specs.Bytes.{Bytes}
+use Rattle.age_stream.specs.declared.fault.StreamFault.{StreamFault}
+use Rattle.age_stream.specs.Payload.{is_end, pieces}
+use Rattle.age_stream.specs.Reading.{Reading, first_fault, front, outcome, outcomes, reading_from, whole}
+use Rattle.age_file.specs.declared.fault.Fault.{Fault}
+use Rattle.age_file.specs.declared.fault.Fault.TheVariants.{OutOfMemory}
+use Rattle.age_file.specs.Verdict.{Answering, IsVerdict, stream_fault}
+use Rattle.agefile.specs.declared.part.Part.{Part}
+use Rattle.agefile.specs.declared.payload.Payload.{Payload}
+use Rattle.agefile.specs.declared.report.Report.{Report}
+use Rattle.agefile.specs.declared.start.Start.{Start}
+use Rattle.agefile.specs.Chunk.{Opened}
+use Rattle.agefile.specs.Groups.{OpensGroups, OpensSome, PartOpens, all_of}
+use Rattle.agefile.specs.Limits.{limits}
+use Rattle.agefile.specs.Opening.{Opens, StartsAt}
+use Rattle.agefile.specs.Part as part
+use Rattle.agefile.specs.Payload.{OpensNext}
+use Rattle.agefile.specs.Report.{report_of}
+use Rattle.agefile.proofs.FrontLemmas.{whole-start}
+use Rattle.agefile.proofs.OpensRunLemmas.{some-code}
+use Rattle.agefile.proofs.StepsReadLemmas.{IsVerdictFrom, verdict-from}
+
+-- ---- one piece
+
+record IsOpened (o : Result Bytes StreamFault) (after : Bytes) (report : Report) : Type 0 where
+  text : Bytes
+  is : o ≡ Ok text
+  front : take report.len after ≡ text
+
+opened_ok : (chunk after : Bytes) (report : Report) (o : Result Bytes StreamFault) → Opened chunk after report 0 o
+    → IsOpened o after report
+opened_ok chunk after report (Ok text) (zero_is, reported, buffer) =
+    record { text = text; is = refl; front = ap (λ (x : Report). take x.len after) reported
+        ∙ ap (take (length text)) buffer ∙ take-append_seam text _ }
+opened_ok chunk after report (Err fault) (is, reported, buffer) = absurd (some-code (stream_fault fault) (sym is))
+
+part_step : (p new : Part) (piece after : Bytes) (report : Report) → part.OpensNext p new piece after report 0
+    → IsOpened (outcome p.key limits.max_chunks p.number false piece) after report
+    × ((new.key ≡ p.key) × (new.number ≡ p.number + 1))
+part_step p new piece after report (inl (_, out)) = let bad : ◌≡◌ {A = ℕ} 0 23 = out.returned in absurd (omega arith)
+part_step p new piece after report (inr (_, opened, is)) =
+    (opened_ok piece after report _ opened, (ap (λ (q : Part). q.key) is, ap (λ (q : Part). q.number) is))
+
+payload_step : (p new : Payload) (piece after : Bytes) (last : Bool) (report : Report)
+    → OpensNext p new piece after last report 0
+    → IsOpened (outcome p.key limits.max_chunks p.number last piece) after report
+    × ((new.key ≡ p.key) × (new.number ≡ p.number + 1))
+payload_step p new piece after last report (inl (_, out)) = let bad : ◌≡◌ {A = ℕ} 0 23 = out.returned in
+    absurd (omega arith)
+payload_step p new piece after last report (inr (_, opened, is)) =
+    (opened_ok piece after report _ opened, (ap (λ (q : Payload). q.key) is, ap (λ (q : Payload). q.number) is))
+
+-- ---- some pieces, none of them the last
+
+-- the pieces from number i on open to these texts
+abbrev OpenTo : Bytes → ℕ → List Bytes → Bytes → Type 0
+OpenTo key i [] text = text ≡ []
+OpenTo key i (c ∷ more) text = (t : Bytes) × (rest : Bytes) × (outcome key limits.max_chunks i false c ≡ Ok t)
+    × (text ≡ t ++ rest) × OpenTo key (i + 1) more rest
+
+part_opens : (p : Part) (cs : List Bytes) (text : Bytes) → PartOpens p cs text → OpenTo p.key p.number cs text
+part_opens p [] text h = h
+part_opens p (c ∷ more) text (new, after, report, step, (rest, joined, run)) =
+    let s = part_step p new c after report step in
+    let tail : OpenTo p.key (p.number + 1) more rest =
+    subst (λ k. OpenTo k (p.number + 1) more rest) s.1.0
+        (subst (λ n. OpenTo new.key n more rest) s.1.1 (part_opens new more rest run)) in
+    (s.0.text, rest, s.0.is, joined ∙ ap (λ t. t ++ rest) s.0.front, tail)
+
+-- what some calls come to
+abbrev OpensTo : Payload → Payload → List Bytes → Bytes → Type 0
+OpensTo old new cs text = OpenTo old.key old.number cs text
+    × ((new.key ≡ old.key) × (new.number ≡ old.number + length cs))
+
+some_open : (old new : Payload) (cs : List Bytes) (text : Bytes) → OpensSome old new cs text → OpensTo old new cs text
+some_open old new cs text (inl (piece, after, report, one, step, is)) =
+    let s = payload_step old new piece after false report step in
+    subst (λ xs. OpensTo old new xs text) (sym one)
+        ((s.0.text, [], s.0.is, is ∙ s.0.front ∙ sym (append-nil s.0.text), refl), s.1)
+some_open old new cs text (inr (given, report, inl (_, bad, reported, kept), run)) = absurd (omega (arith, bad))
+some_open old new cs text (inr (given, report, inr (_, inl (many, bad, reported, kept)), run)) =
+    absurd (omega (arith, bad))
+some_open old new cs text (inr (given, report, inr (_, inr taken), run)) = (
+  subst (λ (q : Part). OpenTo q.key q.number cs text) taken.given (part_opens given cs text run),
+  (ap (λ (q : Payload). q.key) taken.payload, ap (λ (q : Payload). q.number) taken.payload),
+)
+
+open_append : (key : Bytes) (i j : ℕ) (xs ys : List Bytes) (a b : Bytes) → j ≡ i + length xs → OpenTo key i xs a
+    → OpenTo key j ys b → OpenTo key i (xs ++ ys) (a ++ b)
+open_append key i j [] ys a b at none more =
+    subst (λ t. OpenTo key i ys (t ++ b)) (sym none) (subst (λ n. OpenTo key n ys b) (omega (arith, at)) more)
+open_append key i j (x ∷ xs) ys a b at (t, rest, is, joined, on) more =
+    (t, rest ++ b, is, ap (λ u. u ++ b) joined ∙ append_assoc t rest b,
+        open_append key (i + 1) j xs ys rest b (omega (arith, at)) on more)
+
+groups_open : (old new : Payload) (groups : List (List Bytes)) (text : Bytes) → OpensGroups old new groups text
+    → OpensTo old new (all_of groups) text
+groups_open old new [] text (same, none) =
+    (none, (ap (λ (q : Payload). q.key) same, ap (λ (q : Payload). q.number) same ∙ omega arith))
+groups_open old new (cs ∷ more) text (mid, mine, rest, joined, some, on) =
+    let s = some_open old mid cs mine some in
+    let g = groups_open mid new more rest on in
+    let tail : OpenTo old.key mid.number (all_of more) rest =
+        subst (λ k. OpenTo k mid.number (all_of more) rest) s.1.0 g.0 in (
+      subst (OpenTo old.key old.number (cs ++ all_of more)) (sym joined)
+          (open_append old.key old.number mid.number cs (all_of more) mine rest s.1.1 s.0 tail),
+      (g.1.0 ∙ s.1.0, omega (arith, g.1.1, s.1.1, length-append cs (all_of more))),
+    )
+
+-- ---- with what follows
+
+is_end_on : (cs ds : List Bytes) (d : Bytes) → is_end (cs ++ d ∷ ds) ≡ false
+is_end_on [] ds d = refl
+is_end_on (c ∷ cs) ds d = refl
+
+-- what the outcomes are, where these pieces open and more follow
+abbrev GoesOn : Bytes → ℕ → List Bytes → Bytes → List Bytes → Type 0
+GoesOn key i cs text ds =
+    (front (outcomes key limits.max_chunks i (cs ++ ds))
+        ≡ text ++ front (outcomes key limits.max_chunks (i + length cs) ds))
+    × (first_fault (outcomes key limits.max_chunks i (cs ++ ds))
+    ≡ first_fault (outcomes key limits.max_chunks (i + length cs) ds))
+
+goes_on : (key : Bytes) (i : ℕ) (cs : List Bytes) (text d : Bytes) (ds : List Bytes) → OpenTo key i cs text
+    → GoesOn key i cs text (d ∷ ds)
+goes_on key i [] text d ds none =
+    let same : i ≡ i + 0 = omega arith in (
+      ap (λ n. front (outcomes key limits.max_chunks n (d ∷ ds))) same
+          ∙ ap (λ t. t ++ front (outcomes key limits.max_chunks (i + 0) (d ∷ ds))) (sym none),
+      ap (λ n. first_fault (outcomes key limits.max_chunks n (d ∷ ds))) same,
+    )
+goes_on key i (c ∷ cs) text d ds (t, rest, is, joined, on) =
+    let next = goes_on key (i + 1) cs rest d ds on in
+    let here : outcome key limits.max_chunks i (is_end (cs ++ d ∷ ds)) c ≡ Ok t =
+        ap (λ e. outcome key limits.max_chunks i e c) (is_end_on cs ds d) ∙ is in
+    let os : List (Result Bytes StreamFault) = outcomes key limits.max_chunks (i + 1) (cs ++ d ∷ ds) in
+    let count : i + 1 + length cs ≡ i + length (c ∷ cs) = omega arith in (
+      ap (λ o. front (o ∷ os)) here ∙ ap (λ x. t ++ x) next.0 ∙ sym (append_assoc t rest _)
+          ∙ ap (λ x. x ++ front (outcomes key limits.max_chunks (i + 1 + length cs) (d ∷ ds))) (sym joined)
+          ∙ ap (λ n. text ++ front (outcomes key limits.max_chunks n (d ∷ ds))) count,
+      ap (λ o. first_fault (o ∷ os)) here ∙ next.1
+          ∙ ap (λ n. first_fault (outcomes key limits.max_chunks n (d ∷ ds))) count,
+    )
+
+-- ---- the laws
+
+-- the verdict, where the payload was opened
+by_start : (b : Bytes) (p : Payload) (report : Report) (v : Reading Fault) (start : Result Start Fault)
+    → StartsAt start p report 0 → IsVerdictFrom b v start
+    → v ≡ record {
+      front = (reading_from p.key limits.max_chunks p.number (drop report.len b)).front;
+      fault = option_map stream_fault (reading_from p.key limits.max_chunks p.number (drop report.len b)).fault;
+    }
+by_start b p report v (Err fault) opens from = absurd (some-code fault (sym opens.0))
+by_start b p report v (Ok start) opens from =
+    let of : Payload → Report → Reading Fault = λ q r. record {
+      front = (reading_from q.key limits.max_chunks q.number (drop r.len b)).front;
+      fault = option_map stream_fault (reading_from q.key limits.max_chunks q.number (drop r.len b)).fault;
+    } in
+    from ∙ ap (λ q. of q (report_of start.first None)) (sym opens.2) ∙ ap (of p) (sym opens.1)
+
+by_payload : (answers : Answering) (b : Bytes) (p : Payload) (report : Report) (v : Reading Fault)
+    → Opens answers (take 65552 b) p report 0 → IsVerdict limits answers b v
+    → v ≡ record {
+      front = (reading_from p.key limits.max_chunks p.number (drop report.len b)).front;
+      fault = option_map stream_fault (reading_from p.key limits.max_chunks p.number (drop report.len b)).fault;
+    }
+by_payload answers b p report v (start, inl memory, opens) h =
+    let refused : StartsAt (Err OutOfMemory) p report 0 = subst (λ s. StartsAt s p report 0) memory opens in
+    absurd (some-code OutOfMemory (sym refused.0))
+by_payload answers b p report v (start, inr is, opens) h =
+    by_start b p report v start opens (verdict-from answers b start v (whole-start answers b start is) h)
+
+pub opened_so_far : (answers : Answering) (b : Bytes) (p new : Payload) (report : Report) (groups : List (List Bytes))
+    (text next : Bytes) (more : List Bytes) (v : Reading Fault)
+    → Opens answers (take 65552 b) p report 0 → OpensGroups p new groups text
+    → pieces (drop report.len b) ≡ all_of groups ++ next ∷ more → IsVerdict limits answers b v
+    → take (length text) v.front ≡ text
+opened_so_far answers b p new report groups text next more v opens run cut h =
+    let g = groups_open p new groups text run in
+    let on = goes_on p.key p.number (all_of groups) text next more g.0 in
+    let front_is : v.front ≡ text ++ front
+        (outcomes p.key limits.max_chunks (p.number + length (all_of groups)) (next ∷ more)) =
+    ap (λ (x : Reading Fault). x.front) (by_payload answers b p report v opens h)
+        ∙ ap (λ cs. front (outcomes p.key limits.max_chunks p.number cs)) cut ∙ on.0 in
+    ap (take (length text)) front_is ∙ take-append_seam text _
+
+pub opened_whole : (answers : Answering) (b : Bytes) (p mid new : Payload) (report last_report : Report)
+    (groups : List (List Bytes)) (text last after : Bytes) (v : Reading Fault)
+    → Opens answers (take 65552 b) p report 0 → OpensGroups p mid groups text
+    → OpensNext mid new last after true last_report 0
+    → pieces (drop report.len b) ≡ all_of groups ++ last ∷ [] → IsVerdict limits answers b v
+    → v ≡ whole (text ++ take last_report.len after)
+opened_whole answers b p mid new report last_report groups text last after v opens run step cut h =
+    let g = groups_open p mid groups text run in
+    let s = payload_step mid new last after true last_report step in
+    let n : ℕ = p.number + length (all_of groups) in
+    let o : outcome p.key limits.max_chunks n true last ≡ Ok s.0.text =
+    ap (λ k. outcome k limits.max_chunks n true last) (sym g.1.0)
+        ∙ ap (λ i. outcome mid.key limits.max_chunks i true last) (sym g.1.1) ∙ s.0.is in
+    let on = goes_on p.key p.number (all_of groups) text last [] g.0 in
+    let front_is : front (outcomes p.key limits.max_chunks n (last ∷ [])) ≡ take last_report.len after =
+        ap (λ x. front (x ∷ [])) o ∙ append-nil s.0.text ∙ sym s.0.front in
+    let fault_is : first_fault (outcomes p.key limits.max_chunks n (last ∷ [])) ≡ None =
+        ap (λ x. first_fault (x ∷ [])) o in
+    by_payload answers b p report v opens h
+    ∙ ap (λ cs. record { front = front (outcomes p.key limits.max_chunks p.number cs); fault =
+    option_map stream_fault (first_fault (outcomes p.key limits.max_chunks p.number cs)) }) cut
+    ∙ ap (λ f. record { front = front (outcomes p.key limits.max_chunks p.number (all_of groups ++ last ∷ [])); fault =
+    option_map stream_fault f }) (on.1 ∙ fault_is)
+    ∙ ap (λ t. record { front = t; fault = None }) (on.0 ∙ ap (λ t. text ++ t) front_is)

@@ -1,0 +1,207 @@
+-- Sealing the chunks of a plaintext into a buffer.
+use Rattle.std.proofs.Common.{◌≡◌, ◌⊎◌, ℕ, ◌+◌, ◌-◌, ◌*◌, ◌<◌, ◌≤◌, [], ◌++◌, length, take, drop, min, nat_le, true, false, sym, ◌∙◌, ap, refl, arith, inl, inr, append_assoc, length-append, length-drop, ◌^◌, Vec, None, Ok}
+use Rattle.std.specs.Global.{Global}
+use Rattle.std.specs.List.{concat}
+use Rattle.std.proofs.lemmas.Bool.{cases_lt, le-leb, lt-leb}
+use Rattle.std.proofs.lemmas.List.{drop-drop, length-take-le, nil_from_length, take_all, take_at}
+use Rattle.age_kdf.specs.Bytes.{Bytes}
+use Rattle.age_cipher.specs.Sealing.{sealed}
+use Rattle.age_cipher.proofs.OpeningLemmas.{length-sealed}
+use Rattle.age_recipient.specs.declared.key.FileKey.{FileKey}
+use Rattle.age_stream.specs.Payload.{chunk_nonce, chunks, payload, sealed_from}
+use Rattle.age_stream.proofs.CuttingLemmas.{cut-last}
+use Rattle.age_stream.proofs.ReadingLemmas.{cut-step, is_end-cut}
+use Rattle.agefile.specs.declared.report.Report.{Report}
+use Rattle.agefile.specs.Encrypting.{Encrypts}
+use Rattle.agefile.specs.Heading.{MakesHeader}
+use Rattle.agefile.specs.Limits.{limits}
+use Rattle.agefile.specs.Report.{report_of}
+use Rattle.agefile.specs.Sizes.{chunk_count, file_len}
+use Rattle.agefile.proofs.NewFileLemmas.{size_of}
+use Rattle.agefile.proofs.SizeLemmas.{chunks_size}
+
+-- ---- one chunk
+
+-- the first chunk, by as many bytes as it has
+pub first_text : (size : ℕ) (left : Bytes) → size ≡ min (length left) 65536 → take size left ≡ take 65536 left
+first_text size left sized = elim (cases_lt 65536 (length left)) [
+  | inl lt ↦ let full : size ≡ 65536 = omega (arith, sized, lt) in ap (λ n. take n left) full
+  | inr le ↦ take_all size left (omega (arith, sized, le)) ∙ sym (take_all 65536 left le)
+]
+
+pub first_sealed : (key : Bytes) (number size : ℕ) (left text front back chunk rest room : Bytes)
+    → size ≡ min (length left) 65536 → text ≡ take size left → front ≡ text → length back ≡ 16
+    → chunk ≡ sealed key (chunk_nonce number (nat_le (length left) 65536)) []
+    (take (length (front ++ back) - 16) (front ++ back)) → rest ≡ drop (size + 16) room
+    → chunk ++ rest ≡ sealed key (chunk_nonce number (nat_le (length left) 65536)) [] (take 65536 left)
+    ++ drop (min (length left) 65536 + 16) room
+first_sealed key number size left text front back chunk rest room sized is copied tag sealed_so behind =
+    let same : take (length (front ++ back) - 16) (front ++ back) ≡ take 65536 left =
+    take_at front back (length (front ++ back) - 16) (omega (arith, tag, length-append front back)) ∙ copied ∙ is
+        ∙ first_text size left sized in
+    ap (λ c. c ++ rest) (sealed_so ∙ ap (sealed key (chunk_nonce number (nat_le (length left) 65536)) []) same)
+    ∙ ap (λ r. sealed key (chunk_nonce number (nat_le (length left) 65536)) [] (take 65536 left) ++ r)
+    (behind ∙ ap (λ n. drop (n + 16) room) sized)
+
+-- ---- one chunk after another
+
+-- the same of what is left, and of the room
+pub sealed_there : (key plain out left room mid : Bytes) (at done number : ℕ) → left ≡ drop at plain
+    → room ≡ drop done out
+    → mid ≡ sealed key (chunk_nonce number (nat_le (length left) 65536)) [] (take 65536 left)
+    ++ drop (min (length left) 65536 + 16) room
+    → mid ≡ sealed key (chunk_nonce number (nat_le (length (drop at plain)) 65536)) [] (take 65536 (drop at plain))
+    ++ drop (min (length (drop at plain)) 65536 + 16) (drop done out)
+sealed_there key plain out left room mid at done number left_is room_is is =
+    is ∙ ap (λ l. sealed key (chunk_nonce number (nat_le (length l) 65536)) [] (take 65536 l)
+        ++ drop (min (length l) 65536 + 16) room) left_is
+    ∙ ap (λ r. sealed key (chunk_nonce number (nat_le (length (drop at plain)) 65536)) [] (take 65536 (drop at plain))
+    ++ drop (min (length (drop at plain)) 65536 + 16) r) room_is
+
+-- so many chunks were sealed, and are at the start of the buffer
+pub record IsSealedTo (key plain out : Bytes) (at done number : ℕ) : Type 0 where
+  pub place : at ≡ 65536 * number
+  pub sealed_so : done ≡ 65552 * number
+  pub some : (number ≡ 0) ⊎ (at < length plain)
+  pub size : length out ≡ length plain + 16 * chunk_count (length plain)
+  pub seals : concat (sealed_from key 0 (chunks plain))
+      ≡ take done out ++ concat (sealed_from key number (chunks (drop at plain)))
+
+pub seal_start : (key plain out : Bytes) → length out ≡ length plain + 16 * chunk_count (length plain)
+    → IsSealedTo key plain out 0 0 0
+seal_start key plain out size = record { place = refl; sealed_so = refl; some = inl refl; size = size; seals = refl }
+
+pub plain_within : (key plain out : Bytes) (at done number : ℕ) → IsSealedTo key plain out at done number
+    → at ≤ length plain
+plain_within key plain out at done number r = elim r.some [
+  | inl zero ↦ omega (arith, r.place, zero)
+  | inr lt ↦ omega (arith, lt)
+]
+
+-- the next sealed chunk has room
+pub chunk_fits : (key plain out : Bytes) (at done number : ℕ) → IsSealedTo key plain out at done number
+    → done + (min (length (drop at plain)) 65536 + 16) ≤ length out
+chunk_fits key plain out at done number r =
+    let left : length (drop at plain) ≡ length plain - at = length-drop at plain in
+    elim r.some [
+      | inl zero ↦ omega (arith, zero, left, r.place, r.sealed_so, r.size)
+      | inr lt ↦ omega (arith, lt, left, r.place, r.sealed_so, r.size)
+    ]
+
+-- the last one fills the buffer
+last_fills : (key plain out : Bytes) (at done number : ℕ) → IsSealedTo key plain out at done number
+    → length (drop at plain) ≤ 65536 → length out ≡ done + (length (drop at plain) + 16)
+last_fills key plain out at done number r last =
+    let left : length (drop at plain) ≡ length plain - at = length-drop at plain in
+    elim r.some [
+      | inl zero ↦ omega (arith, zero, left, r.place, r.sealed_so, r.size, last)
+      | inr lt ↦ omega (arith, lt, left, r.place, r.sealed_so, r.size, last)
+    ]
+
+pub seals_end : (key plain out mid new : Bytes) (at done number : ℕ) → IsSealedTo key plain out at done number
+    → length (drop at plain) ≤ 65536
+    → mid ≡ sealed key (chunk_nonce number (nat_le (length (drop at plain)) 65536)) [] (take 65536 (drop at plain))
+    ++ drop (min (length (drop at plain)) 65536 + 16) (drop done out)
+    → new ≡ take done out ++ mid → new ≡ concat (sealed_from key 0 (chunks plain))
+seals_end key plain out mid new at done number r last is joined =
+    let left : Bytes = drop at plain in
+    let fills = last_fills key plain out at done number r last in
+    let none : drop (min (length left) 65536 + 16) (drop done out) ≡ [] =
+    nil_from_length _ (omega (arith, fills, last, length-drop done out,
+        length-drop (min (length left) 65536 + 16) (drop done out))) in
+    let one : mid ≡ sealed key (chunk_nonce number true) [] left ++ [] =
+    is ∙ ap (λ d. sealed key (chunk_nonce number (nat_le (length left) 65536)) [] (take 65536 left) ++ d) none
+    ∙ ap (λ b. sealed key (chunk_nonce number b) [] (take 65536 left) ++ []) (le-leb (length left) 65536 last)
+    ∙ ap (λ t. sealed key (chunk_nonce number true) [] t ++ []) (take_all 65536 left last) in
+    let rest : concat (sealed_from key number (chunks left)) ≡ sealed key (chunk_nonce number true) [] left ++ [] =
+        ap (λ cs. concat (sealed_from key number cs)) (cut-last 65536 left last) in
+    joined ∙ ap (λ m. take done out ++ m) (one ∙ sym rest) ∙ sym r.seals
+
+pub seals_more : (key plain out mid new : Bytes) (at done number : ℕ) → IsSealedTo key plain out at done number
+    → 65536 < length (drop at plain)
+    → mid ≡ sealed key (chunk_nonce number (nat_le (length (drop at plain)) 65536)) [] (take 65536 (drop at plain))
+    ++ drop (min (length (drop at plain)) 65536 + 16) (drop done out)
+    → new ≡ take done out ++ mid → IsSealedTo key plain new (at + 65536) (done + 65552) (number + 1)
+seals_more key plain out mid new at done number r more is joined =
+    let left : Bytes = drop at plain in
+    let text : Bytes = take 65536 left in
+    let one : Bytes = sealed key (chunk_nonce number false) [] text in
+    let fits = chunk_fits key plain out at done number r in
+    let full : length text ≡ 65536 = length-take-le 65536 left (omega (arith, more)) in
+    let long : length one ≡ 65552 = length-sealed key (chunk_nonce number false) [] text ∙ omega (arith, full) in
+    let begun : length (take done out) ≡ done = length-take-le done out (omega (arith, fits)) in
+    let after : Bytes = drop (min (length left) 65536 + 16) (drop done out) in
+    let put : mid ≡ one ++ after = is ∙ ap (λ b. sealed key (chunk_nonce number b) [] text ++ after)
+        (lt-leb (length left) 65536 more) in
+    let all : new ≡ (take done out ++ one) ++ after = joined ∙ ap (λ m. take done out ++ m) put
+        ∙ sym (append_assoc (take done out) one after) in
+    let front : take (done + 65552) new ≡ take done out ++ one = ap (take (done + 65552)) all
+        ∙ take_at (take done out ++ one) after (done + 65552)
+        (omega (arith, begun, long, length-append (take done out) one)) in
+    let rest : concat (sealed_from key number (chunks left))
+        ≡ one ++ concat (sealed_from key (number + 1) (chunks (drop 65536 left))) =
+    ap (λ cs. concat (sealed_from key number cs)) (cut-step 65536 left (omega arith) more)
+    ∙ ap (λ b. sealed key (chunk_nonce number b) [] text
+    ++ concat (sealed_from key (number + 1) (chunks (drop 65536 left)))) (is_end-cut 65536 [] (drop 65536 left)) in
+    record {
+      place = omega (arith, r.place);
+      sealed_so = omega (arith, r.sealed_so);
+      some = inr (omega (arith, more, length-drop at plain));
+      size = omega (arith, ap length all, length-append (take done out ++ one) after, length-append (take done out) one,
+          begun, long, fits, more, r.size, length-drop done out,
+          length-drop (min (length left) 65536 + 16) (drop done out));
+      seals = r.seals ∙ ap (λ t. take done out ++ t) rest
+          ∙ sym (append_assoc (take done out) one (concat (sealed_from key (number + 1) (chunks (drop 65536 left)))))
+          ∙ ap (λ t. t ++ concat (sealed_from key (number + 1) (chunks (drop 65536 left)))) (sym front)
+          ∙ ap (λ c. take (done + 65552) new ++ concat (sealed_from key (number + 1) (chunks c)))
+          (drop-drop 65536 at plain);
+    }
+
+-- ---- the whole file
+
+few_chunks : (plain : Bytes) → length plain < 2 ^ 63 → length (chunks plain) ≤ limits.max_chunks
+few_chunks plain low = omega (arith, low, chunks_size plain)
+
+-- how long the file is
+pub file_size : (k : FileKey) (header nonce plain : Bytes) (size : ℕ) → length nonce ≡ 16 → length header < 2 ^ 62
+    → length plain < 2 ^ 63
+    → size ≡ min (file_len (length header) (length plain)) (2 ^ 64 - 1)
+    → size ≡ length (header ++ payload k nonce plain)
+file_size k header nonce plain size len short low is = omega (arith, is, short, low, size_of k header nonce plain len)
+
+pub encrypts_exceeds : (stanzas file_key nonce plain old : Bytes) (header : Vec ℕ Global) (report : Report) (size : ℕ)
+    → MakesHeader stanzas (record { 0 = file_key }) (Ok header)
+    → length plain < 2 ^ 63 → size ≡ length (header.items ++ payload (record { 0 = file_key }) nonce plain)
+    → report ≡ report_of size None → length old < size
+    → Encrypts stanzas file_key nonce plain old old report 21
+encrypts_exceeds stanzas file_key nonce plain old header report size made low is reported more =
+    inr (
+      Ok header,
+      made,
+      (few_chunks plain low, inr (record
+          { exceeds = omega (arith, is, more); returned = refl; reported = reported
+          ∙ ap (λ n. report_of n None) is; buffer = refl })),
+    )
+
+pub encrypts_whole : (stanzas file_key nonce plain old file rest : Bytes) (header : Vec ℕ Global) (report : Report)
+    (size : ℕ) → MakesHeader stanzas (record { 0 = file_key }) (Ok header)
+    → length plain < 2 ^ 63 → size ≡ length (header.items ++ payload (record { 0 = file_key }) nonce plain)
+    → report ≡ report_of size None → size ≤ length old
+    → file ≡ header.items ++ payload (record { 0 = file_key }) nonce plain → rest ≡ drop size old
+    → Encrypts stanzas file_key nonce plain old (file ++ rest) report 0
+encrypts_whole stanzas file_key nonce plain old file rest header report size made low is reported fits written behind =
+    inr (
+      Ok header,
+      made,
+      (
+        few_chunks plain low,
+        inl (record {
+          fits = omega (arith, is, fits);
+          returned = refl;
+          reported = reported ∙ ap (λ n. report_of n None) is;
+          buffer = ap (λ f. f ++ rest) written
+              ∙ ap (λ r. (header.items ++ payload (record { 0 = file_key }) nonce plain) ++ r)
+              (behind ∙ ap (λ n. drop n old) is);
+        }),
+      ),
+    )

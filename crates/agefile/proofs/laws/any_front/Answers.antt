@@ -1,0 +1,5 @@
+use Rattle.agefile.proofs.AnyFront.{file_opens, front_opens}
+use Rattle.agefile.proofs.laws.any_front.Goals as goal
+
+pub returns : goal.returns
+returns c = record { front = front_opens; holds = file_opens }
