@@ -282,7 +282,7 @@ class Declarations(unittest.TestCase):
             ("a convenience's parameter that may be null", header, "AGEFILE_NONNULL((3, 4, 7))", "AGEFILE_NONNULL((3, 7))", header),
             ("a struct's size in the header", header, "uint8_t mac[32]", "uint8_t mac[24]", header),
             ("a struct's order in the header", header, "    uint64_t first;      /* the offset of the first sealed chunk */\n", "", header),
-            ("a type in Python", python, '"ranges_locate": (_pointer(Ranges), number,', '"ranges_locate": (_pointer(Ranges), byte,', python),
+            ("a type in Python", python, '"take_part": (_pointer(Payload), number,', '"take_part": (_pointer(Payload), byte,', python),
             ("a field in Python", python, '("first", number)', '("first", byte)', python),
             ("a type in Rust", rust, "last: bool", "last: u8", rust),
             ("a field in Rust", rust, "pub header_len: u64", "pub header_len: u32", rust),

@@ -91,11 +91,9 @@ class _Plaintext(io.RawIOBase):
             return
         self._number = -1
         at = number * lib.TEXT_CHUNK
-        place = lib.check("ranges_locate", ctypes.byref(self._ranges), at)
-        self._read(number, place.len)
-        report = lib.check(
-            "ranges_chunk", ctypes.byref(self._ranges), at, self._chunk.address(0), place.len
-        )
+        length = min(lib.SEALED_CHUNK, self._ranges.sealed_len - number * lib.SEALED_CHUNK)
+        self._read(number, length)
+        report = lib.check("ranges_chunk", ctypes.byref(self._ranges), at, self._chunk.address(0), length)
         self._number, self._len = number, report.len
 
     def _load_into(self, number: int, room: memoryview) -> None:
