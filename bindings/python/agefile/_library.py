@@ -94,6 +94,7 @@ _SIGNATURES: dict[str, tuple[Any, ...]] = {
     "part_seal_next": (_pointer(Part), *_bytes, _report),
     "ranges_open": (*_bytes, number, address, _pointer(Ranges), _report),
     "ranges_last": (_pointer(Ranges), *_bytes, _report),
+    "ranges_locate": (_pointer(Ranges), number, _report),
     "ranges_chunk": (_pointer(Ranges), number, *_bytes, _report),
     "decrypt": (*_bytes, address, *_bytes, _report),
     "encrypt": (*_bytes, *_bytes, address, address, *_bytes, _report),
