@@ -223,10 +223,10 @@ static inline uint32_t agefile_wrap(
 
 /* ---- The header of a text of stanzas, with its MAC under a file key; report.len is its length.
  * AGEFILE_NO_RECIPIENTS if the text is empty. AGEFILE_BAD_LINE if it is no text of stanzas, and
- * report.place is its first bad line; AGEFILE_HEADER_TRUNCATED if only the end of its last line is
- * missing. AGEFILE_HEADER_TOO_LARGE if the header would exceed 65,536 bytes,
- * AGEFILE_MIXED_PASSPHRASE if a scrypt stanza is beside another one. With a fault `out` is
- * unchanged. */
+ * report.place is its first bad line, which may be the one behind its end, where a body is missing;
+ * AGEFILE_HEADER_TRUNCATED if only the end of its last line is missing. AGEFILE_HEADER_TOO_LARGE if
+ * the header would exceed 65,536 bytes, AGEFILE_MIXED_PASSPHRASE if a scrypt stanza is beside
+ * another one. With a fault `out` is unchanged. */
 static inline uint32_t agefile_header(
     const uint8_t *stanzas, size_t stanzas_len, const uint8_t file_key[AGEFILE_LEAST 16],
     uint8_t *out, size_t out_len, agefile_report *report) AGEFILE_CALL("header", (3, 6));
