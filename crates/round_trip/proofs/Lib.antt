@@ -1,3 +1,4 @@
 mod OwnHeaders
+mod PartLemmas
 mod RewrapLemmas
 mod TripLemmas

@@ -12,9 +12,11 @@
 mod file;
 mod pairs;
 mod rewrapping;
+mod slicing;
 #[cfg(test)]
 mod tests;
 
 pub use file::{decrypted, encrypted};
 pub use pairs::{Lost, key_there_and_back, pass_there_and_back, there_and_back};
 pub use rewrapping::{key_rewrapped_and_back, rewrapped, rewrapped_and_back};
+pub use slicing::{Range, key_there_and_slices, sliced, there_and_slices};

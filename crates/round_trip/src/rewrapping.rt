@@ -93,8 +93,8 @@ fn encrypted_for<M: Matched>(
 /// file with its identity: the result is the old file's plaintext.
 ///
 /// # Errors
-/// `Rewrapping` with a fault of `rewrapped`; `Decrypting` with `OutOfMemory`, or with `Write` if the
-/// allocation was the sink's.
+/// `Rewrapping` with a fault of `rewrapped`; `Decrypting` with `OutOfMemory`, or with `Write` if
+/// the allocation was the sink's.
 pub fn rewrapped_and_back<M: Matched, N: Matched>(
     alloc: Global,
     from: &M,

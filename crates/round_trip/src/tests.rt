@@ -1,6 +1,9 @@
 //! These calls succeed where memory is ample, which no contract says.
 
-use crate::{Lost, key_rewrapped_and_back, key_there_and_back, pass_there_and_back};
+use crate::{
+    Lost, Range, key_rewrapped_and_back, key_there_and_back, key_there_and_slices,
+    pass_there_and_back,
+};
 use age_file::{FileKey, Fresh, Limits, PassError};
 use std::process::Abort;
 use std::test::Fail;
@@ -60,5 +63,21 @@ fn file_rewrapped_to_a_key_returns_the_plaintext(rt: HostRuntime) -> Result<(), 
     let (old, new) = ([4; 32], [5; 32]);
     let back = key_rewrapped_and_back(rt.alloc(), old, new, salt, b"hello", &FRESH, &limits);
     assert!(rt; is_hello(&back));
+    Ok(())
+}
+
+#[test]
+fn ranges_of_a_key_s_file_are_slices(rt: HostRuntime) -> Result<(), Fail> {
+    let limits = Limits::default();
+    let ranges = [
+        Range { at: 3, len: 9 },
+        Range { at: 5, len: 1 },
+        Range { at: 0, len: 3 },
+    ];
+    let (key, salt) = ([4; 32], [3; 16]);
+    match key_there_and_slices(rt.alloc(), key, salt, b"hello", &ranges, &FRESH, &limits) {
+        Ok(text) => assert!(rt; text.as_slice() == b"lohel".as_slice()),
+        Err(_) => assert!(rt; false),
+    }
     Ok(())
 }

@@ -1,0 +1,208 @@
+//! Reading ranges of a file, in memory.
+
+ghost use Rattle.std.specs.Prelude.{◌≡◌, ◌+◌, ◌^◌, ◌-◌, ◌⊎◌, [], ◌∷◌, length, min, Err, IfOk, IfErr, OnOk};
+ghost use Rattle.age_stream.specs.Ranges.{IsSound, chunks_of, source_at_of};
+ghost use Rattle.age_file.specs.Verdict.{IsVerdict};
+ghost use Rattle.age_file.specs.Words.{Bytes, whole};
+ghost use Rattle.age_file.specs.NewFile.{Gathered, IsRefusal};
+ghost use Rattle.round_trip.specs.Losses.{IsLoss, IsPaired, none};
+ghost use Rattle.round_trip.specs.Slices.{AddsPart, IsSliced, parts};
+
+use crate::file::encrypted;
+use crate::pairs::{Lost, are_bounds, has_sixteen_bytes};
+use age_file::{
+    Fault, Fresh, Identity, KeyIdentity, KeyPair, KeyRecipient, Limits, Matched, MemAt,
+    RangeReader, ReadAt, Recipient, laws, open_ranges,
+};
+use std::alloc::Global;
+
+/// At most `len` bytes of a plaintext from offset `at` on.
+#[derive(Clone, Copy)]
+pub struct Range {
+    /// The offset of the first byte.
+    pub at: u64,
+    /// The number of bytes, less if the plaintext ends before.
+    pub len: usize,
+}
+
+/// Appends the plaintext from offset `at` on, as much of it as the buffer has room for.
+fn read_into<D: ReadAt>(
+    reader: &mut RangeReader<'_, D>,
+    at: u64,
+    buf: &mut [u8],
+    out: &mut Vec<u8>,
+) -> Result<(), Fault>
+    ensures stay { D.bytes (source_at_of reader.new).now ≡ D.bytes (source_at_of reader.old).now }
+    ensures same { (chunks_of reader.new).layout ≡ (chunks_of reader.old).layout }
+    ensures sound { let told = D.bytes (source_at_of reader.old).now in
+        IsSound told (chunks_of reader.old) → IsSound told (chunks_of reader.new) }
+    ensures counted { result ≡ Err Fault.Read → D.failed (source_at_of reader.new).now
+        ≡ min (D.failed (source_at_of reader.old).now + 1) (2 ^ 64 - 1) }
+    ensures uncounted { OnOk result
+        (D.failed (source_at_of reader.new).now ≡ D.failed (source_at_of reader.old).now) }
+    ensures part { let told = D.bytes (source_at_of reader.old).now in
+        IsSound told (chunks_of reader.old) → AddsPart told (chunks_of reader.old) at
+        (length buf.old) out.old.items out.new.items result }
+{
+    let n = match reader.read_range(at, buf) {
+        Ok(n) => n,
+        Err(fault) => return Err(Fault::from(fault)),
+    };
+    match out.extend_from_slice(&buf[..n]) {
+        Ok(()) => Ok(()),
+        Err(_) => Err(Fault::OutOfMemory),
+    }
+}
+
+/// Appends a range of an opened file's plaintext.
+fn read_part<D: ReadAt>(
+    alloc: Global,
+    reader: &mut RangeReader<'_, D>,
+    range: Range,
+    out: &mut Vec<u8>,
+) -> Result<(), Fault>
+    ensures stay { D.bytes (source_at_of reader.new).now ≡ D.bytes (source_at_of reader.old).now }
+    ensures same { (chunks_of reader.new).layout ≡ (chunks_of reader.old).layout }
+    ensures sound { let told = D.bytes (source_at_of reader.old).now in
+        IsSound told (chunks_of reader.old) → IsSound told (chunks_of reader.new) }
+    ensures counted { result ≡ Err Fault.Read → D.failed (source_at_of reader.new).now
+        ≡ min (D.failed (source_at_of reader.old).now + 1) (2 ^ 64 - 1) }
+    ensures uncounted { OnOk result
+        (D.failed (source_at_of reader.new).now ≡ D.failed (source_at_of reader.old).now) }
+    ensures part { let told = D.bytes (source_at_of reader.old).now in
+        IsSound told (chunks_of reader.old) → AddsPart told (chunks_of reader.old) range.at
+        range.len out.old.items out.new.items result }
+{
+    let Ok(mut buf) = vec![in alloc; 0u8; range.len] else {
+        return Err(Fault::OutOfMemory);
+    };
+    read_into(reader, range.at, buf.as_mut_slice(), out)
+}
+
+/// The ranges of an opened file's plaintext, joined.
+fn read_parts<D: ReadAt>(
+    alloc: Global,
+    reader: &mut RangeReader<'_, D>,
+    ranges: &[Range],
+) -> Result<Vec<u8>, Fault>
+    ensures parts { let told = D.bytes (source_at_of reader.old).now in
+        IsSound told (chunks_of reader.old) → (plain : Bytes)
+        → IsSliced told (chunks_of reader.old).layout plain
+        → IfOk result (λ text. text.items ≡ parts plain ranges.now) }
+    ensures lost { let told = D.bytes (source_at_of reader.old).now in
+        IsSound told (chunks_of reader.old) → (plain : Bytes)
+        → IsSliced told (chunks_of reader.old).layout plain
+        → IfErr result (λ fault. (fault ≡ Fault.OutOfMemory) ⊎ (fault ≡ Fault.Read)) }
+    ensures counted { result ≡ Err Fault.Read → D.failed (source_at_of reader.new).now
+        ≡ min (D.failed (source_at_of reader.old).now + 1) (2 ^ 64 - 1) }
+{
+    let mut text = Vec::new(alloc);
+    for range in ranges {
+        match read_part(alloc, reader, *range, &mut text) {
+            Ok(()) => {}
+            Err(fault) => return Err(fault),
+        }
+    }
+    Ok(text)
+}
+
+/// The ranges of a file's plaintext, joined, as one identity opens it.
+///
+/// # Errors
+/// Those of `open_ranges` and `read_range`; of a file that this identity reads whole,
+/// `OutOfMemory`.
+pub fn sliced(
+    alloc: Global,
+    identity: Box<dyn Identity>,
+    file: &[u8],
+    ranges: &[Range],
+    limits: &Limits,
+) -> Result<Vec<u8>, Fault>
+    ensures parts { IfOk result (λ text. (plain : Bytes)
+        → IsVerdict limits.now (λ s. meaning identity s ∷ []) file.now (whole plain)
+        → text.items ≡ parts plain ranges.now) }
+    ensures lost { IfErr result (λ fault. (plain : Bytes)
+        → IsVerdict limits.now (λ s. meaning identity s ∷ []) file.now (whole plain)
+        → fault ≡ Fault.OutOfMemory) }
+{
+    laws::file_is_sliced();
+    let mut identities: Vec<Box<dyn Identity>> = Vec::new(alloc);
+    if identities.push(identity).is_err() {
+        return Err(Fault::OutOfMemory);
+    }
+    let mut dev = MemAt::new(file);
+    match open_ranges(alloc, &mut dev, identities.as_slice(), limits) {
+        Ok(mut reader) => read_parts(alloc, &mut reader, ranges),
+        Err(fault) => Err(fault),
+    }
+}
+
+/// Encrypts a plaintext for a pair's recipient and reads ranges of the file with its identity: the
+/// result is the plaintext's ranges, joined.
+///
+/// # Errors
+/// `Encrypting` with a fault of `encrypt`; `Decrypting` with `OutOfMemory`.
+pub fn there_and_slices<M: Matched>(
+    alloc: Global,
+    pair: &M,
+    recipient: Box<dyn Recipient>,
+    identity: Box<dyn Identity>,
+    plain: &[u8],
+    ranges: &[Range],
+    fresh: &Fresh,
+    limits: &Limits,
+) -> Result<Vec<u8>, Lost>
+    requires recipient { (⟦<dyn Recipient as Recipient>⟧ recipient.vtable).wraps recipient.value
+        ≡ M.R.wraps (M.the_recipient pair.now) }
+    requires identity { (⟦<dyn Identity as Identity>⟧ identity.vtable).meaning identity.value
+        ≡ M.I.meaning (M.the_identity pair.now) }
+    ensures back { IfOk result (λ text. text.items ≡ parts plain.now ranges.now) }
+    ensures lost { let refuses = IsRefusal limits.now fresh.now.file_key
+        (Gathered (M.R.wraps (M.the_recipient pair.now) fresh.now.file_key ∷ [])
+        ((⟦<dyn Recipient as Recipient>⟧ recipient.vtable).the_labels recipient.value ∷ [])) in
+        IfErr result (IsLoss refuses limits.now plain.now) }
+    ensures paired { IfErr result IsPaired }
+{
+    laws::pair_opens(pair);
+    has_sixteen_bytes(fresh.file_key);
+    let file = match encrypted(alloc, recipient, plain, fresh, limits) {
+        Ok(file) => file,
+        Err(fault) => return Err(Lost::Encrypting(fault)),
+    };
+    match sliced(alloc, identity, file.as_slice(), ranges, limits) {
+        Ok(text) => Ok(text),
+        Err(fault) => Err(Lost::Decrypting(fault)),
+    }
+}
+
+/// Encrypts a plaintext under a key and reads ranges of the file with it: the result is the
+/// plaintext's ranges, joined.
+///
+/// # Errors
+/// `Memory`; `Encrypting` with `TooManyChunks`, `OutOfMemory`, or `Write` if the allocation was the
+/// sink's; `Decrypting` with `OutOfMemory`.
+pub fn key_there_and_slices(
+    alloc: Global,
+    key: [u8; 32],
+    salt: [u8; 16],
+    plain: &[u8],
+    ranges: &[Range],
+    fresh: &Fresh,
+    limits: &Limits,
+) -> Result<Vec<u8>, Lost>
+    ensures back { IfOk result (λ text. text.items ≡ parts plain.now ranges.now) }
+    ensures lost { IfErr result (IsLoss none limits.now plain.now) }
+    ensures paired { IfErr result IsPaired }
+{
+    let pair = KeyPair::new(key, salt);
+    let recipient = Box::new(alloc, KeyRecipient::new(key, salt));
+    let identity = Box::new(alloc, KeyIdentity::new(key));
+    let (Ok(recipient), Ok(identity)) = (recipient, identity) else {
+        return Err(Lost::Memory);
+    };
+    are_bounds(limits);
+    has_sixteen_bytes(fresh.file_key);
+    there_and_slices(
+        alloc, &pair, recipient, identity, plain, ranges, fresh, limits,
+    )
+}
