@@ -1,5 +1,6 @@
 -- The codes by which C knows a fault.
 use Rattle.std.specs.Prelude.{ℕ, ◌-◌, ◌^◌, min, Option, Some, None}
+use Rattle.agefile.specs.declared.code.TheConstants.{BAD_ARGUMENTS, OK, OUT_OF_MEMORY, OUT_OF_ORDER, TOO_SMALL, WORK_FACTOR}
 use Rattle.age_recipient.specs.declared.unwrapped.StanzaFault.{StanzaFault}
 use Rattle.age_recipient.specs.declared.unwrapped.StanzaFault.TheVariants.{ArgCount, Salt, WorkFactorText, WorkFactorTooHigh, BodyLength, Other}
 use Rattle.age_file.specs.declared.fault.Fault.{Fault}
@@ -7,11 +8,11 @@ use Rattle.age_file.specs.declared.fault.Fault.TheVariants.{NotAge, BadLine, Hea
 
 -- no fault
 abbrev pub ok : ℕ
-ok = 0
+ok = OK
 
 -- an allocation was refused
 abbrev pub out_of_memory : ℕ
-out_of_memory = 17
+out_of_memory = OUT_OF_MEMORY
 
 -- the plaintext has more chunks than the limit
 abbrev pub too_many_chunks : ℕ
@@ -19,19 +20,19 @@ too_many_chunks = 14
 
 -- the buffer is too small for the output
 abbrev pub too_small : ℕ
-too_small = 21
+too_small = TOO_SMALL
 
 -- a work factor, or its maximum, is out of its range
 abbrev pub bad_work_factor : ℕ
-bad_work_factor = 22
+bad_work_factor = WORK_FACTOR
 
 -- there is no such stanza or offset, or the call does not fit the state
 abbrev pub out_of_order : ℕ
-out_of_order = 23
+out_of_order = OUT_OF_ORDER
 
 -- the arguments of a stanza are not words of visible characters, joined by single spaces
 abbrev pub bad_arguments : ℕ
-bad_arguments = 25
+bad_arguments = BAD_ARGUMENTS
 
 -- a fault's code
 abbrev pub fault_code : Fault → ℕ

@@ -5,8 +5,8 @@
 //! let text = key_there_and_back(alloc, key, salt, plain, &fresh, &limits)?; // equals `plain`
 //! ```
 //!
-//! Limits: one recipient, and all in memory. The only errors of a passphrase's or a key's round trip
-//! are work factors that don't fit, too many chunks, and a refused allocation.
+//! Limits: one recipient, and all in memory. The only errors of a passphrase's or a key's round
+//! trip are work factors that don't fit, too many chunks, and a refused allocation.
 #![tactic(auto)]
 
 mod file;
