@@ -1,8 +1,8 @@
 -- A source that is copied piece by piece.
-use Rattle.std.proofs.Common.{◌≡◌, ℕ, ◌+◌, ◌*◌, ◌^◌, ◌≤◌, Bool, true, false, List, [], ◌++◌, length, refl, sym, subst, arith, append-nil, Option, Result, Ok, Err, length-append, true≢false}
+use Rattle.std.proofs.Common.{◌≡◌, ℕ, ◌+◌, ◌*◌, ◌^◌, ◌≤◌, Bool, true, false, [], ◌++◌, length, refl, sym, subst, arith, append-nil, Result, Ok, Err, length-append, true≢false}
 use Rattle.std.proofs.KnownBytes.{Appends-nil, Appends-trans, Consumes-nil, Consumes-trans}
 use Rattle.std.specs.Io.KnownBytes.{Appends, Consumes}
-use Rattle.age_header.specs.Device.{MayGive, WritesPart}
+use Rattle.age_header.specs.Device.{Bytes, MayGive, WritesPart, Known}
 use Rattle.age_header.proofs.MayGiveLemmas.{may-end, may-more, may-some}
 use Rattle.age_header.proofs.WriteLemmas.{done_part}
 use Rattle.age_file.specs.declared.fault.Fault.{Fault}
@@ -10,16 +10,17 @@ use Rattle.age_file.specs.declared.fault.Fault.TheVariants.{NotAge, BadLine, Hea
 use Rattle.age_file.specs.Copying.{Copies, CopiesPiece}
 
 -- k full pieces were copied
-pub record Copied (from now old new : Option (List ℕ)) (k : ℕ) : Type 0 where
-  pub bytes : List ℕ
+pub record Copied (from now old new : Known) (k : ℕ) : Type 0 where
+  pub bytes : Bytes
   pub took : Consumes from now bytes
   pub put : Appends old new bytes
   pub long : 65536 * k ≤ length bytes
 
-pub copied_none : (from old : Option (List ℕ)) → Copied from from old old 0
+pub copied_none : (from old : Known) → Copied from from old old 0
 copied_none from old = record { bytes = []; took = Consumes-nil from; put = Appends-nil old; long = omega arith }
 
-pub copied_more : (size : ℕ) (from a b old m n : Option (List ℕ)) (k : ℕ) (more : Bool) → size ≡ 65536 → more ≡ true → Copied from a old m k
+pub copied_more : (size : ℕ) (from a b old m n : Known) (k : ℕ) (more : Bool) → size ≡ 65536 → more ≡ true
+    → Copied from a old m k
     → CopiesPiece size a b m n (Ok more) → Copied from b old n (k + 1)
 copied_more size from a b old m n k false full is c h = absurd (true≢false (sym is))
 copied_more _ from a b old m n k true size is c (piece, took, put, full) = record {
@@ -29,19 +30,23 @@ copied_more _ from a b old m n k true size is c (piece, took, put, full) = recor
   long = omega (arith, length-append c.bytes piece, full, size, c.long);
 }
 
-pub copied_all : (size : ℕ) (from a b old m n : Option (List ℕ)) (k : ℕ) (more : Bool) → more ≡ false → Copied from a old m k → CopiesPiece size a b m n (Ok more)
+pub copied_all : (size : ℕ) (from a b old m n : Known) (k : ℕ) (more : Bool) → more ≡ false → Copied from a old m k
+    → CopiesPiece size a b m n (Ok more)
     → Copies from old n (Ok tt)
 copied_all size from a b old m n k true is c h = absurd (true≢false is)
 copied_all size from a b old m n k false is c (piece, took, put, end) =
-    (c.bytes ++ piece, may-end from b (c.bytes ++ piece) (Consumes-trans from a b c.bytes piece c.took took) end, Appends-trans old m n c.bytes piece c.put put)
+    (c.bytes ++ piece, may-end from b (c.bytes ++ piece) (Consumes-trans from a b c.bytes piece c.took took) end,
+        Appends-trans old m n c.bytes piece c.put put)
 
 -- a prefix of a text was written
-front : (old new : Option (List ℕ)) (bytes rest : List ℕ) → Appends old new bytes → WritesPart old new (bytes ++ rest)
+front : (old new : Known) (bytes rest : Bytes) → Appends old new bytes → WritesPart old new (bytes ++ rest)
 front old new bytes rest put =
-    done_part old new new (bytes ++ rest) rest [] rest (record { front = bytes; took = put; is = refl }) refl (0, Appends-nil new)
+    done_part old new new (bytes ++ rest) rest [] rest (record { front = bytes; took = put; is = refl }) refl
+        (0, Appends-nil new)
 
 -- what was copied, and what may still come
-begun : (from a old m : Option (List ℕ)) (k : ℕ) → Copied from a old m k → (bytes : List ℕ) × MayGive from bytes × WritesPart old m bytes × (65536 * k ≤ length bytes)
+begun : (from a old m : Known) (k : ℕ) → Copied from a old m k
+    → (bytes : Bytes) × MayGive from bytes × WritesPart old m bytes × (65536 * k ≤ length bytes)
 begun from a old m k c =
     let more = may-some a in (
       c.bytes ++ more.0,
@@ -50,17 +55,21 @@ begun from a old m k c =
       omega (arith, length-append c.bytes more.0, c.long),
     )
 
-write_failed : (from a b old m n : Option (List ℕ)) (k : ℕ) (piece : List ℕ) → Copied from a old m k → Consumes a b piece → WritesPart m n piece → Copies from old n (Err Write)
+write_failed : (from a b old m n : Known) (k : ℕ) (piece : Bytes) → Copied from a old m k → Consumes a b piece
+    → WritesPart m n piece → Copies from old n (Err Write)
 write_failed from a b old m n k piece c took part =
     let more = may-some b in (
       c.bytes ++ (piece ++ more.0),
       may-more from a c.bytes (piece ++ more.0) c.took (may-more a b piece more.0 took more.1),
-      done_part old m n (c.bytes ++ (piece ++ more.0)) (piece ++ more.0) piece more.0 (record { front = c.bytes; took = c.put; is = refl }) refl part,
+      done_part old m n (c.bytes ++ (piece ++ more.0)) (piece ++ more.0) piece more.0
+          (record { front = c.bytes; took = c.put; is = refl }) refl part,
     )
 
-pub copied_failed : (size : ℕ) (from a b old m n : Option (List ℕ)) (k : ℕ) (fault : Fault) → Copied from a old m k → CopiesPiece size a b m n (Err fault)
+pub copied_failed : (size : ℕ) (from a b old m n : Known) (k : ℕ) (fault : Fault) → Copied from a old m k
+    → CopiesPiece size a b m n (Err fault)
     → Copies from old n (Err fault)
-copied_failed size from a b old m n k Read c h = let s = begun from a old m k c in (s.0, s.1, subst (λ t. WritesPart old t s.0) (sym h) s.2)
+copied_failed size from a b old m n k Read c h = let s = begun from a old m k c in
+    (s.0, s.1, subst (λ t. WritesPart old t s.0) (sym h) s.2)
 copied_failed size from a b old m n k Write c (piece, took, part) = write_failed from a b old m n k piece c took part
 copied_failed size from a b old m n k NotAge c h = absurd h
 copied_failed size from a b old m n k (BadLine i) c h = absurd h
@@ -81,16 +90,21 @@ copied_failed size from a b old m n k NoRecipients c h = absurd h
 copied_failed size from a b old m n k (Refused i code) c h = absurd h
 copied_failed size from a b old m n k (IncompatibleRecipients i) c h = absurd h
 
-pub copied_beyond : (from a old m : Option (List ℕ)) (k : ℕ) → 2 ^ 89 ≤ k → Copied from a old m k → Copies from old m (Err TooManyChunks)
+pub copied_beyond : (from a old m : Known) (k : ℕ) → 2 ^ 89 ≤ k → Copied from a old m k
+    → Copies from old m (Err TooManyChunks)
 copied_beyond from a old m k beyond c = let s = begun from a old m k c in (s.0, s.1, s.2, omega (arith, s.3, beyond))
 
 -- a piece, and then the rest: a prefix of the rest was written after the piece
-after_piece : (from a old m n : Option (List ℕ)) (piece rest : List ℕ) → Consumes from a piece → Appends old m piece → MayGive a rest → WritesPart m n rest
+after_piece : (from a old m n : Known) (piece rest : Bytes) → Consumes from a piece → Appends old m piece
+    → MayGive a rest → WritesPart m n rest
     → MayGive from (piece ++ rest) × WritesPart old n (piece ++ rest)
 after_piece from a old m n piece rest took put may part =
-    (may-more from a piece rest took may, done_part old m n (piece ++ rest) rest rest [] (record { front = piece; took = put; is = refl }) (sym (append-nil rest)) part)
+    (may-more from a piece rest took may,
+        done_part old m n (piece ++ rest) rest rest [] (record { front = piece; took = put; is = refl })
+        (sym (append-nil rest)) part)
 
-pub copied_after : (size : ℕ) (from a old m n : Option (List ℕ)) (more : Bool) (r : Result (Unit {0}) Fault) → more ≡ true → CopiesPiece size from a old m (Ok more)
+pub copied_after : (size : ℕ) (from a old m n : Known) (more : Bool) (r : Result (Unit {0}) Fault) → more ≡ true
+    → CopiesPiece size from a old m (Ok more)
     → Copies a m n r → Copies from old n r
 copied_after size from a old m n false r is c h = absurd (true≢false (sym is))
 copied_after size from a old m n true (Ok done) is (piece, took, put, full) (rest, may, written) =

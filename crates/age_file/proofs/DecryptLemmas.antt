@@ -1,12 +1,12 @@
 -- What decrypting returns, from what its parts return.
-use Rattle.std.proofs.Common.{◌≡◌, ◌⊎◌, ◌+◌, ◌*◌, ◌/◌, ◌≤◌, ℕ, List, [], ◌++◌, length, drop, sym, ◌∙◌, ap, refl, subst, arith, inl, inr, Option, Some, None, Result, Ok, Err}
+use Rattle.std.proofs.Common.{◌≡◌, ◌⊎◌, ◌+◌, ◌*◌, ◌/◌, ◌≤◌, ℕ, [], ◌++◌, length, drop, sym, ◌∙◌, ap, refl, subst, arith, inl, inr, Some, None, Result, Ok, Err}
 use Rattle.std.specs.Prelude.{option_map}
 use Rattle.std.specs.Io.KnownBytes.{Appends}
 use Rattle.std.proofs.KnownBytes.{Appends-nil}
 use Rattle.std.proofs.lemmas.List.{drop_at, take_all}
 use Rattle.age_header.specs.declared.fault.HeaderFault.{HeaderFault}
 use Rattle.age_header.specs.declared.fault.HeaderFault.TheVariants as header
-use Rattle.age_header.specs.Device.{GaveAtMost, MayGive}
+use Rattle.age_header.specs.Device.{Bytes, GaveAtMost, MayGive, Known}
 use Rattle.age_header.specs.Header.{HeaderParts}
 use Rattle.age_header.specs.Reader.{ReadsHeader, Refuses}
 use Rattle.age_header.specs.Verdict.{HeaderVerdict}
@@ -37,23 +37,27 @@ err-err f g e = cc
 -- ---- verdicts
 
 -- every text has one
-pub some-verdict : (limits : Bounds) (answers : Answering) (b : List ℕ) → (v : Reading Fault) × IsVerdict limits answers b v
+pub some-verdict : (limits : Bounds) (answers : Answering) (b : Bytes)
+    → (v : Reading Fault) × IsVerdict limits answers b v
 some-verdict limits answers b =
     let h = some_verdict b limits.max_header in
     (judged limits answers b h.0, record { header = h.0; header_verdict = h.1; is = refl })
 
-pub decrypts-of : (limits : Bounds) (answers : Answering) (come : Option (List ℕ)) (b : List ℕ) (old new : Option (List ℕ)) (r : Result Done Fault) → MayGive come b
+pub decrypts-of : (limits : Bounds) (answers : Answering) (come : Known) (b : Bytes) (old new : Known)
+    (r : Result Done Fault) → MayGive come b
     → DecryptsText limits answers b old new r → Decrypts limits answers come old new r
 decrypts-of limits answers None b old new r may h = (b, h)
 decrypts-of limits answers (Some x) b old new r may h = subst (λ z. DecryptsText limits answers z old new r) (sym may) h
 
 -- the whole is a prefix of itself
-begins-whole : (limits : Bounds) (answers : Answering) (b : List ℕ) (old new : Option (List ℕ)) (r : Result Done Fault) → GivesVerdict limits answers b old new r → BeginsVerdict limits answers b old new
+begins-whole : (limits : Bounds) (answers : Answering) (b : Bytes) (old new : Known) (r : Result Done Fault)
+    → GivesVerdict limits answers b old new r → BeginsVerdict limits answers b old new
 begins-whole limits answers b old new r (v, is, tells, h) =
     (v, is, (length v.front, subst (Appends old new) (sym (take_all (length v.front) v.front (omega arith))) h))
 
 -- a verdict that was written
-gives-decrypts : (limits : Bounds) (answers : Answering) (b : List ℕ) (old new : Option (List ℕ)) (fault : Fault) → GivesVerdict limits answers b old new (Err fault)
+gives-decrypts : (limits : Bounds) (answers : Answering) (b : Bytes) (old new : Known) (fault : Fault)
+    → GivesVerdict limits answers b old new (Err fault)
     → DecryptsText limits answers b old new (Err fault)
 gives-decrypts limits answers b old new Read h = begins-whole limits answers b old new (Err Read) h
 gives-decrypts limits answers b old new Write h = begins-whole limits answers b old new (Err Write) h
@@ -77,40 +81,55 @@ gives-decrypts limits answers b old new NoRecipients h = h
 gives-decrypts limits answers b old new (Refused i code) h = h
 
 -- a fault before any plaintext
-stops-decrypts : (limits : Bounds) (answers : Answering) (b : List ℕ) (old : Option (List ℕ)) (fault : Fault) → IsVerdict limits answers b (stops fault) → DecryptsText limits answers b old old (Err fault)
-stops-decrypts limits answers b old fault v = gives-decrypts limits answers b old old fault (stops fault, v, refl, Appends-nil old)
+stops-decrypts : (limits : Bounds) (answers : Answering) (b : Bytes) (old : Known) (fault : Fault)
+    → IsVerdict limits answers b (stops fault) → DecryptsText limits answers b old old (Err fault)
+stops-decrypts limits answers b old fault v =
+    gives-decrypts limits answers b old old fault (stops fault, v, refl, Appends-nil old)
 
 -- nothing was read or written yet
-begins-none : (limits : Bounds) (answers : Answering) (b : List ℕ) (old : Option (List ℕ)) → BeginsVerdict limits answers b old old
+begins-none : (limits : Bounds) (answers : Answering) (b : Bytes) (old : Known) → BeginsVerdict limits answers b old old
 begins-none limits answers b old = let v = some-verdict limits answers b in (v.0, v.1, (0, Appends-nil old))
 
 -- ---- the header
 
-header-text : (limits : Bounds) (answers : Answering) (b : List ℕ) (old : Option (List ℕ)) (g : HeaderFault) → Refuses b limits.max_header g → DecryptsText limits answers b old old (Err (header_fault g))
+header-text : (limits : Bounds) (answers : Answering) (b : Bytes) (old : Known) (g : HeaderFault)
+    → Refuses b limits.max_header g → DecryptsText limits answers b old old (Err (header_fault g))
 header-text limits answers b old header.Read h = begins-none limits answers b old
 header-text limits answers b old header.Memory h = tt
-header-text limits answers b old header.NotAge h = stops-decrypts limits answers b old NotAge (record { header = Err header.NotAge; header_verdict = h; is = refl })
-header-text limits answers b old (header.BadLine n) h = stops-decrypts limits answers b old (BadLine n) (record { header = Err (header.BadLine n); header_verdict = h; is = refl })
-header-text limits answers b old header.Truncated h = stops-decrypts limits answers b old HeaderTruncated (record { header = Err header.Truncated; header_verdict = h; is = refl })
-header-text limits answers b old header.TooLarge h = stops-decrypts limits answers b old HeaderTooLarge (record { header = Err header.TooLarge; header_verdict = h; is = refl })
+header-text limits answers b old header.NotAge h =
+    stops-decrypts limits answers b old NotAge (record { header = Err header.NotAge; header_verdict = h; is = refl })
+header-text limits answers b old (header.BadLine n) h =
+    stops-decrypts limits answers b old (BadLine n)
+    (record { header = Err (header.BadLine n); header_verdict = h; is = refl })
+header-text limits answers b old header.Truncated h =
+    stops-decrypts limits answers b old HeaderTruncated
+    (record { header = Err header.Truncated; header_verdict = h; is = refl })
+header-text limits answers b old header.TooLarge h =
+    stops-decrypts limits answers b old HeaderTooLarge
+    (record { header = Err header.TooLarge; header_verdict = h; is = refl })
 
-header-decrypts : (limits : Bounds) (answers : Answering) (come mid old : Option (List ℕ)) (g : HeaderFault) → ReadsHeader come mid limits.max_header (Err g) → Decrypts limits answers come old old (Err (header_fault g))
+header-decrypts : (limits : Bounds) (answers : Answering) (come mid old : Known) (g : HeaderFault)
+    → ReadsHeader come mid limits.max_header (Err g) → Decrypts limits answers come old old (Err (header_fault g))
 header-decrypts limits answers None mid old g h = (h.0, header-text limits answers h.0 old g h.1)
 header-decrypts limits answers (Some b) mid old g h = header-text limits answers b old g h
 
-pub inspect-decrypts : (limits : Bounds) (answers : Answering) (come mid old : Option (List ℕ)) (fault : Fault) → Inspects limits come mid (Err fault) → Decrypts limits answers come old old (Err fault)
+pub inspect-decrypts : (limits : Bounds) (answers : Answering) (come mid old : Known) (fault : Fault)
+    → Inspects limits come mid (Err fault) → Decrypts limits answers come old old (Err fault)
 inspect-decrypts limits answers come mid old fault (Ok parts, is, h) = absurd (cc)
 inspect-decrypts limits answers come mid old fault (Err g, is, h) =
-    subst (λ f. Decrypts limits answers come old old (Err f)) (sym (err-err {A = HeaderParts} fault (header_fault g) is)) (header-decrypts limits answers come mid old g h)
+    subst (λ f. Decrypts limits answers come old old (Err f))
+        (sym (err-err {A = HeaderParts} fault (header_fault g) is)) (header-decrypts limits answers come mid old g h)
 
 -- the header that was read, and whatever may follow it
-pub record IsHeaded (limits : Bounds) (come mid : Option (List ℕ)) (h : HeaderParts) : Type 0 where
-  pub text : List ℕ
+pub record IsHeaded (limits : Bounds) (come mid : Known) (h : HeaderParts) : Type 0 where
+  pub text : Bytes
   pub took : GaveAtMost (length text) come mid
-  pub may : (rest : List ℕ) → MayGive mid rest → MayGive come (text ++ rest)
-  pub verdict : (rest : List ℕ) → MayGive mid rest → HeaderVerdict (text ++ rest) limits.max_header (Ok (found_in text h))
+  pub may : (rest : Bytes) → MayGive mid rest → MayGive come (text ++ rest)
+  pub verdict : (rest : Bytes) → MayGive mid rest
+      → HeaderVerdict (text ++ rest) limits.max_header (Ok (found_in text h))
 
-parts-headed : (limits : Bounds) (come mid : Option (List ℕ)) (h : HeaderParts) → ReadsHeader come mid limits.max_header (Ok h) → IsHeaded limits come mid h
+parts-headed : (limits : Bounds) (come mid : Known) (h : HeaderParts) → ReadsHeader come mid limits.max_header (Ok h)
+    → IsHeaded limits come mid h
 parts-headed limits None mid h (b, (text, verdict, took)) = record {
   text = text;
   took = (text, tt, omega arith);
@@ -125,15 +144,18 @@ parts-headed limits (Some b) (Some r) h (text, verdict, took) = record {
   verdict = λ rest m. found_again b limits.max_header (found_in text h) verdict rest;
 }
 
-pub headed : (limits : Bounds) (come mid : Option (List ℕ)) (h : HeaderParts) → Inspects limits come mid (Ok h) → IsHeaded limits come mid h
+pub headed : (limits : Bounds) (come mid : Known) (h : HeaderParts) → Inspects limits come mid (Ok h)
+    → IsHeaded limits come mid h
 headed limits come mid h (Err g, is, a) = absurd (cc)
-headed limits come mid h (Ok k, is, a) = subst (IsHeaded limits come mid) (sym (ok-ok h k is)) (parts-headed limits come mid k a)
+headed limits come mid h (Ok k, is, a) =
+    subst (IsHeaded limits come mid) (sym (ok-ok h k is)) (parts-headed limits come mid k a)
   where
     ok-ok : (x y : HeaderParts) → ◌≡◌ {A = Result HeaderParts Fault} (Ok x) (Ok y) → x ≡ y
     ok-ok x y e = cc
 
 -- the verdict on a header and what follows it
-verdict-of : (limits : Bounds) (answers : Answering) (come mid : Option (List ℕ)) (h : HeaderParts) (i : IsHeaded limits come mid h) (rest : List ℕ) → MayGive mid rest
+verdict-of : (limits : Bounds) (answers : Answering) (come mid : Known) (h : HeaderParts)
+    (i : IsHeaded limits come mid h) (rest : Bytes) → MayGive mid rest
     → IsVerdict limits answers (i.text ++ rest) (read_under limits rest (unlocked answers h))
 verdict-of limits answers come mid h i rest m = record {
   header = Ok (found_in i.text h);
@@ -142,20 +164,26 @@ verdict-of limits answers come mid h i rest m = record {
 }
 
 -- memory was refused
-pub memory-decrypts : (limits : Bounds) (answers : Answering) (come old new : Option (List ℕ)) → Decrypts limits answers come old new (Err OutOfMemory)
+pub memory-decrypts : (limits : Bounds) (answers : Answering) (come old new : Known)
+    → Decrypts limits answers come old new (Err OutOfMemory)
 memory-decrypts limits answers None old new = ([], tt)
 memory-decrypts limits answers (Some b) old new = tt
 
 -- no key
-pub locked-decrypts : (limits : Bounds) (answers : Answering) (come mid old : Option (List ℕ)) (h : HeaderParts) (fault : Fault) → Inspects limits come mid (Ok h)
-    → (◌≡◌ {A = Result FileKey Fault} (Err fault) (Err OutOfMemory)) ⊎ (Err fault ≡ unlocked answers h) → Decrypts limits answers come old old (Err fault)
+pub locked-decrypts : (limits : Bounds) (answers : Answering) (come mid old : Known) (h : HeaderParts) (fault : Fault)
+    → Inspects limits come mid (Ok h)
+    → (◌≡◌ {A = Result FileKey Fault} (Err fault) (Err OutOfMemory)) ⊎ (Err fault ≡ unlocked answers h)
+    → Decrypts limits answers come old old (Err fault)
 locked-decrypts limits answers come mid old h fault i (inl memory) =
-    subst (λ f. Decrypts limits answers come old old (Err f)) (sym (err-err {A = FileKey} fault OutOfMemory memory)) (memory-decrypts limits answers come old old)
+    subst (λ f. Decrypts limits answers come old old (Err f)) (sym (err-err {A = FileKey} fault OutOfMemory memory))
+        (memory-decrypts limits answers come old old)
 locked-decrypts limits answers come mid old h fault i (inr key) =
     let is = headed limits come mid h i in
     let d = may-some mid in
     decrypts-of limits answers come (is.text ++ d.0) old old (Err fault) (is.may d.0 d.1)
-    (stops-decrypts limits answers (is.text ++ d.0) old fault (subst (λ k. IsVerdict limits answers (is.text ++ d.0) (read_under limits d.0 k)) (sym key) (verdict-of limits answers come mid h is d.0 d.1)))
+    (stops-decrypts limits answers (is.text ++ d.0) old fault
+        (subst (λ k. IsVerdict limits answers (is.text ++ d.0) (read_under limits d.0 k)) (sym key)
+        (verdict-of limits answers come mid h is d.0 d.1)))
 
 -- ---- the payload
 
@@ -164,8 +192,11 @@ abbrev pub file_result : Result Done StreamFault → Result Done Fault
 file_result (Ok done) = Ok done
 file_result (Err fault) = Err (stream_fault fault)
 
-payload-text : (limits : Bounds) (answers : Answering) (come mid : Option (List ℕ)) (h : HeaderParts) (i : IsHeaded limits come mid h) (k : FileKey) (c : List ℕ) (m : MayGive mid c) (old new : Option (List ℕ)) (r : Result Done StreamFault)
-    → Ok k ≡ unlocked answers h → WritesReading (payload_reading k limits.max_chunks c) (length (pieces (drop 16 c))) old new r → DecryptsText limits answers (i.text ++ c) old new (file_result r)
+payload-text : (limits : Bounds) (answers : Answering) (come mid : Known) (h : HeaderParts)
+    (i : IsHeaded limits come mid h) (k : FileKey) (c : Bytes) (m : MayGive mid c) (old new : Known)
+    (r : Result Done StreamFault)
+    → Ok k ≡ unlocked answers h → WritesReading (payload_reading k limits.max_chunks c) (length (pieces (drop 16 c)))
+    old new r → DecryptsText limits answers (i.text ++ c) old new (file_result r)
 payload-text limits answers come mid h i k c m old new r key w = go r w
   where
     v : Reading Fault
@@ -175,16 +206,19 @@ payload-text limits answers come mid h i k c m old new r key w = go r w
     is = record {
       header = Ok (found_in i.text h);
       header_verdict = i.verdict c m;
-      is = ap (read_under limits c) key ∙ ap (λ x. read_under limits x (unlocked answers h)) (sym (drop_at i.text c (length i.text) refl));
+      is = ap (read_under limits c) key
+          ∙ ap (λ x. read_under limits x (unlocked answers h)) (sym (drop_at i.text c (length i.text) refl));
     }
 
     count : length (pieces (drop 16 c)) ≡ length (payload_pieces (i.text ++ c) is.header)
     count = ap (λ x. length (pieces (drop 16 x))) (sym (drop_at i.text c (length i.text) refl))
 
-    gives : (fault : StreamFault) → (payload_reading k limits.max_chunks c).fault ≡ Some fault → Appends old new v.front → GivesVerdict limits answers (i.text ++ c) old new (Err (stream_fault fault))
+    gives : (fault : StreamFault) → (payload_reading k limits.max_chunks c).fault ≡ Some fault → Appends old new v.front
+        → GivesVerdict limits answers (i.text ++ c) old new (Err (stream_fault fault))
     gives fault f a = (v, is, ap (option_map stream_fault) f, a)
 
-    go : (q : Result Done StreamFault) → WritesReading (payload_reading k limits.max_chunks c) (length (pieces (drop 16 c))) old new q → DecryptsText limits answers (i.text ++ c) old new (file_result q)
+    go : (q : Result Done StreamFault) → WritesReading (payload_reading k limits.max_chunks c)
+        (length (pieces (drop 16 c))) old new q → DecryptsText limits answers (i.text ++ c) old new (file_result q)
     go (Ok done) x = (v, is, (ap (option_map stream_fault) x.0, x.2, x.3 ∙ count), x.1)
     go (Err stream.Read) x = (v, is, x)
     go (Err stream.Write) x = (v, is, x)
@@ -195,27 +229,35 @@ payload-text limits answers come mid h i k c m old new r key w = go r w
     go (Err (stream.BadChunk n)) x = gives (stream.BadChunk n) x.0 x.1
     go (Err stream.TooManyChunks) x = gives stream.TooManyChunks x.0 x.1
 
-pub payload-decrypts : (limits : Bounds) (answers : Answering) (come mid old new : Option (List ℕ)) (h : HeaderParts) (k : FileKey) (max : ℕ) (r : Result Done StreamFault) → Inspects limits come mid (Ok h)
-    → (◌≡◌ {A = Result FileKey Fault} (Ok k) (Err OutOfMemory)) ⊎ (Ok k ≡ unlocked answers h) → max ≡ limits.max_chunks → WritesPayload k max mid old new r
+pub payload-decrypts : (limits : Bounds) (answers : Answering) (come mid old new : Known) (h : HeaderParts)
+    (k : FileKey) (max : ℕ) (r : Result Done StreamFault) → Inspects limits come mid (Ok h)
+    → (◌≡◌ {A = Result FileKey Fault} (Ok k) (Err OutOfMemory)) ⊎ (Ok k ≡ unlocked answers h) → max ≡ limits.max_chunks
+    → WritesPayload k max mid old new r
     → Decrypts limits answers come old new (file_result r)
 payload-decrypts limits answers come mid old new h k max r i (inl memory) same w = absurd (cc)
 payload-decrypts limits answers come mid old new h k max r i (inr key) same (c, may, x) =
     let is = headed limits come mid h i in
     let w = subst (λ m. WritesReading (payload_reading k m c) (length (pieces (drop 16 c))) old new r) same x in
-    decrypts-of limits answers come (is.text ++ c) old new (file_result r) (is.may c may) (payload-text limits answers come mid h is k c may old new r key w)
+    decrypts-of limits answers come (is.text ++ c) old new (file_result r) (is.may c may)
+        (payload-text limits answers come mid h is k c may old new r key w)
 
 -- there is no nonce, or no memory
-pub missed-decrypts : (P : Type 0) (limits : Bounds) (answers : Answering) (come mid to old : Option (List ℕ)) (before after : ℕ) (h : HeaderParts) (k : FileKey) (max : ℕ) (fault : StreamFault) → Inspects limits come mid (Ok h)
+pub missed-decrypts : (P : Type 0) (limits : Bounds) (answers : Answering) (come mid to old : Known) (before after : ℕ)
+    (h : HeaderParts) (k : FileKey) (max : ℕ) (fault : StreamFault) → Inspects limits come mid (Ok h)
     → (◌≡◌ {A = Result FileKey Fault} (Ok k) (Err OutOfMemory)) ⊎ (Ok k ≡ unlocked answers h) → max ≡ limits.max_chunks
-    → ((fault ≡ stream.Memory) × P) ⊎ MissesNonce k max mid to before after fault → Decrypts limits answers come old old (Err (stream_fault fault))
+    → ((fault ≡ stream.Memory) × P) ⊎ MissesNonce k max mid to before after fault
+    → Decrypts limits answers come old old (Err (stream_fault fault))
 missed-decrypts P limits answers come mid to old before after h k max fault i key same (inl m) =
-    subst (λ f. Decrypts limits answers come old old (Err (stream_fault f))) (sym m.0) (memory-decrypts limits answers come old old)
+    subst (λ f. Decrypts limits answers come old old (Err (stream_fault f))) (sym m.0)
+        (memory-decrypts limits answers come old old)
 missed-decrypts P limits answers come mid to old before after h k max fault i key same (inr m) =
-    payload-decrypts limits answers come mid old old h k max (Err fault) i key same (nonce-writes k max mid to old fault m.0)
+    payload-decrypts limits answers come mid old old h k max (Err fault) i key same
+        (nonce-writes k max mid to old fault m.0)
 
 -- ---- counts, and what was taken
 
-pub reads-file : (old new : ℕ) (fault : StreamFault) → CountsReadFault old new fault → CountsRead {A = Done} old new (Err (stream_fault fault))
+pub reads-file : (old new : ℕ) (fault : StreamFault) → CountsReadFault old new fault
+    → CountsRead {A = Done} old new (Err (stream_fault fault))
 reads-file old new stream.Read h = h
 reads-file old new stream.Write h = h
 reads-file old new stream.Memory h = h
@@ -225,7 +267,8 @@ reads-file old new (stream.EmptyFinal i) h = h
 reads-file old new (stream.BadChunk i) h = h
 reads-file old new stream.TooManyChunks h = h
 
-took-piece : (limits : Bounds) (come mid to old new : Option (List ℕ)) (h : HeaderParts) (i : IsHeaded limits come mid h) (fault : StreamFault) (n : ℕ) (e : EndsAt limits.max_chunks 16 mid to old new fault) → e.piece ≤ n
+took-piece : (limits : Bounds) (come mid to old new : Known) (h : HeaderParts) (i : IsHeaded limits come mid h)
+    (fault : StreamFault) (n : ℕ) (e : EndsAt limits.max_chunks 16 mid to old new fault) → e.piece ≤ n
     → TookThrough limits n come to
 took-piece limits come mid to old new h i fault n e le =
     let d = may-some mid in
@@ -238,7 +281,8 @@ took-piece limits come mid to old new h i fault n e le =
       gave = (all.0, all.1, omega (arith, all.2));
     }
 
-ends-takes : (limits : Bounds) (come mid to old new : Option (List ℕ)) (h : HeaderParts) (i : IsHeaded limits come mid h) (fault : StreamFault) → EndsAt limits.max_chunks 16 mid to old new fault
+ends-takes : (limits : Bounds) (come mid to old new : Known) (h : HeaderParts) (i : IsHeaded limits come mid h)
+    (fault : StreamFault) → EndsAt limits.max_chunks 16 mid to old new fault
     → TookUpTo limits come to old new (stream_fault fault)
 ends-takes limits come mid to old new h i stream.Read e = tt
 ends-takes limits come mid to old new h i stream.Memory e = tt
@@ -248,15 +292,18 @@ ends-takes limits come mid to old new h i stream.Write e = go e.at
     not-piece : IsAtPiece limits.max_chunks e.piece stream.Write → ⊥
     not-piece x = x
 
-    go : ((◌≡◌ {A = StreamFault} stream.Write stream.Write) × (65536 * e.piece ≤ length e.text)) ⊎ IsAtPiece limits.max_chunks e.piece stream.Write → TookUpTo limits come to old new Write
-    go (inl (is, le)) = (e.text, e.written, took-piece limits come mid to old new h i stream.Write (length e.text / 65536) e (omega arith))
+    go : ((◌≡◌ {A = StreamFault} stream.Write stream.Write) × (65536 * e.piece ≤ length e.text))
+        ⊎ IsAtPiece limits.max_chunks e.piece stream.Write → TookUpTo limits come to old new Write
+    go (inl (is, le)) = (e.text, e.written,
+        took-piece limits come mid to old new h i stream.Write (length e.text / 65536) e (omega arith))
     go (inr at) = absurd (not-piece at)
 ends-takes limits come mid to old new h i (stream.ChunkShort j) e = go e.at
   where
     not-write : ◌≡◌ {A = StreamFault} (stream.ChunkShort j) stream.Write → ⊥
     not-write x = cc
 
-    go : ((◌≡◌ {A = StreamFault} (stream.ChunkShort j) stream.Write) × (65536 * e.piece ≤ length e.text)) ⊎ IsAtPiece limits.max_chunks e.piece (stream.ChunkShort j) → TookThrough limits j come to
+    go : ((◌≡◌ {A = StreamFault} (stream.ChunkShort j) stream.Write) × (65536 * e.piece ≤ length e.text))
+        ⊎ IsAtPiece limits.max_chunks e.piece (stream.ChunkShort j) → TookThrough limits j come to
     go (inl (is, le)) = absurd (not-write is)
     go (inr at) = took-piece limits come mid to old new h i (stream.ChunkShort j) j e (omega (arith, at))
 ends-takes limits come mid to old new h i (stream.EmptyFinal j) e = go e.at
@@ -264,7 +311,8 @@ ends-takes limits come mid to old new h i (stream.EmptyFinal j) e = go e.at
     not-write : ◌≡◌ {A = StreamFault} (stream.EmptyFinal j) stream.Write → ⊥
     not-write x = cc
 
-    go : ((◌≡◌ {A = StreamFault} (stream.EmptyFinal j) stream.Write) × (65536 * e.piece ≤ length e.text)) ⊎ IsAtPiece limits.max_chunks e.piece (stream.EmptyFinal j) → TookThrough limits j come to
+    go : ((◌≡◌ {A = StreamFault} (stream.EmptyFinal j) stream.Write) × (65536 * e.piece ≤ length e.text))
+        ⊎ IsAtPiece limits.max_chunks e.piece (stream.EmptyFinal j) → TookThrough limits j come to
     go (inl (is, le)) = absurd (not-write is)
     go (inr at) = took-piece limits come mid to old new h i (stream.EmptyFinal j) j e (omega (arith, at))
 ends-takes limits come mid to old new h i (stream.BadChunk j) e = go e.at
@@ -272,7 +320,8 @@ ends-takes limits come mid to old new h i (stream.BadChunk j) e = go e.at
     not-write : ◌≡◌ {A = StreamFault} (stream.BadChunk j) stream.Write → ⊥
     not-write x = cc
 
-    go : ((◌≡◌ {A = StreamFault} (stream.BadChunk j) stream.Write) × (65536 * e.piece ≤ length e.text)) ⊎ IsAtPiece limits.max_chunks e.piece (stream.BadChunk j) → TookThrough limits j come to
+    go : ((◌≡◌ {A = StreamFault} (stream.BadChunk j) stream.Write) × (65536 * e.piece ≤ length e.text))
+        ⊎ IsAtPiece limits.max_chunks e.piece (stream.BadChunk j) → TookThrough limits j come to
     go (inl (is, le)) = absurd (not-write is)
     go (inr at) = took-piece limits come mid to old new h i (stream.BadChunk j) j e (omega (arith, at))
 ends-takes limits come mid to old new h i stream.TooManyChunks e = go e.at
@@ -280,11 +329,16 @@ ends-takes limits come mid to old new h i stream.TooManyChunks e = go e.at
     not-write : ◌≡◌ {A = StreamFault} stream.TooManyChunks stream.Write → ⊥
     not-write x = cc
 
-    go : ((◌≡◌ {A = StreamFault} stream.TooManyChunks stream.Write) × (65536 * e.piece ≤ length e.text)) ⊎ IsAtPiece limits.max_chunks e.piece stream.TooManyChunks → TookThrough limits limits.max_chunks come to
+    go : ((◌≡◌ {A = StreamFault} stream.TooManyChunks stream.Write) × (65536 * e.piece ≤ length e.text))
+        ⊎ IsAtPiece limits.max_chunks e.piece stream.TooManyChunks → TookThrough limits limits.max_chunks come to
     go (inl (is, le)) = absurd (not-write is)
     go (inr at) = took-piece limits come mid to old new h i stream.TooManyChunks limits.max_chunks e (omega (arith, at))
 
-pub payload-takes : (limits : Bounds) (come mid to old new : Option (List ℕ)) (h : HeaderParts) (fault : StreamFault) → Inspects limits come mid (Ok h)
-    → (fault ≡ stream.Read) ⊎ EndsAt limits.max_chunks 16 mid to old new fault → TookUpTo limits come to old new (stream_fault fault)
-payload-takes limits come mid to old new h fault i (inl e) = subst (λ f. TookUpTo limits come to old new (stream_fault f)) (sym e) tt
-payload-takes limits come mid to old new h fault i (inr e) = ends-takes limits come mid to old new h (headed limits come mid h i) fault e
+pub payload-takes : (limits : Bounds) (come mid to old new : Known) (h : HeaderParts) (fault : StreamFault)
+    → Inspects limits come mid (Ok h)
+    → (fault ≡ stream.Read) ⊎ EndsAt limits.max_chunks 16 mid to old new fault
+    → TookUpTo limits come to old new (stream_fault fault)
+payload-takes limits come mid to old new h fault i (inl e) =
+    subst (λ f. TookUpTo limits come to old new (stream_fault f)) (sym e) tt
+payload-takes limits come mid to old new h fault i (inr e) =
+    ends-takes limits come mid to old new h (headed limits come mid h i) fault e

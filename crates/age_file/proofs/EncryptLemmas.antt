@@ -1,10 +1,10 @@
 -- What a call of `encrypt` has written.
-use Rattle.std.proofs.Common.{Bool, true, false, ◌≡◌, ◌⊎◌, ℕ, ◌+◌, ◌-◌, ◌*◌, ◌<◌, ◌≤◌, List, [], ◌++◌, length, take, refl, sym, subst, inl, inr, arith, Option, None, IfNone, Some, Result, Ok, Err, append_assoc}
+use Rattle.std.proofs.Common.{Bool, true, false, ◌≡◌, ◌⊎◌, ℕ, ◌+◌, ◌-◌, ◌*◌, ◌<◌, ◌≤◌, List, [], ◌++◌, length, take, refl, sym, subst, inl, inr, arith, None, IfNone, Some, Result, Ok, Err, append_assoc}
 use Rattle.std.proofs.lemmas.List.{append-nil, length-append}
 use Rattle.std.specs.List.{concat}
 use Rattle.std.specs.Io.KnownBytes.{Appends}
 use Rattle.std.proofs.KnownBytes.{Appends-nil, Appends-trans}
-use Rattle.age_header.specs.Device.{GaveAtMost, MayGive, WritesPart}
+use Rattle.age_header.specs.Device.{Bytes, GaveAtMost, MayGive, WritesPart, Known}
 use Rattle.age_header.specs.Header.{StanzaParts, Head}
 use Rattle.age_header.specs.Mac.{header_mac}
 use Rattle.age_header.proofs.MayGiveLemmas.{may-more, may-some}
@@ -27,75 +27,96 @@ use Rattle.age_file.specs.Verdict.{stream_fault}
 use Rattle.age_file.proofs.DecryptLemmas.{file_result}
 
 -- the header that was made is the header that was written
-pub record Made (limits : Bounds) (k : FileKey) (gathered : Gathering) (text : List ℕ) : Type 0 where
+pub record Made (limits : Bounds) (k : FileKey) (gathered : Gathering) (text : Bytes) : Type 0 where
   pub stanzas : List StanzaParts
   pub heading : IsHeading limits k gathered stanzas text
 
 -- what `header_for` says of the header that it made
-abbrev pub HeaderMade : Bounds → FileKey → (Gathering) → List StanzaParts → List ℕ → Type 0
-HeaderMade limits k gathered stanzas mac = (mac ≡ header_mac k.0 stanzas) × ((text : List ℕ) × IsHeading limits k gathered stanzas text)
+abbrev pub HeaderMade : Bounds → FileKey → (Gathering) → List StanzaParts → Bytes → Type 0
+HeaderMade limits k gathered stanzas mac = (mac ≡ header_mac k.0 stanzas)
+    × ((text : Bytes) × IsHeading limits k gathered stanzas text)
 
 -- what `write_front` says of the text of that header, `Puts` being what it wrote
-abbrev pub FrontWritten : List StanzaParts → List ℕ → (List ℕ → Type 0) → Type 0
-FrontWritten stanzas mac Puts = (text : List ℕ) × Head stanzas mac text × Puts text
+abbrev pub FrontWritten : List StanzaParts → Bytes → (Bytes → Type 0) → Type 0
+FrontWritten stanzas mac Puts = (text : Bytes) × Head stanzas mac text × Puts text
 
-pub made : (limits : Bounds) (k : FileKey) (gathered : Gathering) (stanzas : List StanzaParts) (mac written : List ℕ)
+pub made : (limits : Bounds) (k : FileKey) (gathered : Gathering) (stanzas : List StanzaParts) (mac written : Bytes)
     → HeaderMade limits k gathered stanzas mac → Head stanzas mac written → Made limits k gathered written
 made limits k gathered stanzas mac written (is, (text, heading)) head =
-    let same : text ≡ written = one_text stanzas (header_mac k.0 stanzas) text written heading.head (subst (λ (m : List ℕ). Head stanzas m written) is head) in
-    record { stanzas = stanzas; heading = subst (λ (t : List ℕ). IsHeading limits k gathered stanzas t) same heading }
+    let same : text ≡ written = one_text stanzas (header_mac k.0 stanzas) text written heading.head
+        (subst (λ (m : Bytes). Head stanzas m written) is head) in
+    record { stanzas = stanzas; heading = subst (λ (t : Bytes). IsHeading limits k gathered stanzas t) same heading }
 
 -- of a plaintext that the source may give
-pub encrypts_of : (limits : Bounds) (fresh : Fresh) (gathered : Gathering) (plain : List ℕ) (from old new : Option (List ℕ)) (r : Result Done Fault)
-    → MayGive from plain → EncryptsText limits fresh gathered plain old new r → EncryptsGiven limits fresh gathered from old new r
+pub encrypts_of : (limits : Bounds) (fresh : Fresh) (gathered : Gathering) (plain : Bytes) (from old new : Known)
+    (r : Result Done Fault)
+    → MayGive from plain → EncryptsText limits fresh gathered plain old new r
+    → EncryptsGiven limits fresh gathered from old new r
 encrypts_of limits fresh gathered plain None old new r may h = (plain, h)
-encrypts_of limits fresh gathered plain (Some b) old new r may h = subst (λ (z : List ℕ). EncryptsText limits fresh gathered z old new r) (sym may) h
+encrypts_of limits fresh gathered plain (Some b) old new r may h =
+    subst (λ (z : Bytes). EncryptsText limits fresh gathered z old new r) (sym may) h
 
 -- memory was refused
-pub encrypts_refused : (limits : Bounds) (fresh : Fresh) (gathered : Gathering) (from old new : Option (List ℕ)) → EncryptsGiven limits fresh gathered from old new (Err OutOfMemory)
+pub encrypts_refused : (limits : Bounds) (fresh : Fresh) (gathered : Gathering) (from old new : Known)
+    → EncryptsGiven limits fresh gathered from old new (Err OutOfMemory)
 encrypts_refused limits fresh gathered None old new = ([], tt)
 encrypts_refused limits fresh gathered (Some plain) old new = tt
 
 -- a prefix of the header and the nonce was written
-pub encrypts_begun : (limits : Bounds) (fresh : Fresh) (gathered : Gathering) (stanzas : List StanzaParts) (mac : List ℕ) (from old new : Option (List ℕ))
-    → HeaderMade limits fresh.file_key gathered stanzas mac → FrontWritten stanzas mac (λ text. WritesPart old new (text ++ fresh.nonce)) → EncryptsGiven limits fresh gathered from old new (Err Write)
+pub encrypts_begun : (limits : Bounds) (fresh : Fresh) (gathered : Gathering) (stanzas : List StanzaParts) (mac : Bytes)
+    (from old new : Known)
+    → HeaderMade limits fresh.file_key gathered stanzas mac
+    → FrontWritten stanzas mac (λ text. WritesPart old new (text ++ fresh.nonce))
+    → EncryptsGiven limits fresh gathered from old new (Err Write)
 encrypts_begun limits fresh gathered stanzas mac from old new header (text, head, part) =
     let m = made limits fresh.file_key gathered stanzas mac text header head in
     let plain = may-some from in
-    let front : List ℕ = text ++ fresh.nonce in
-    let rest : List ℕ = concat (sealed_chunks fresh.file_key fresh.nonce plain.0) in
-    let is : text ++ payload fresh.file_key fresh.nonce plain.0 ≡ front ++ rest = sym (append_assoc text fresh.nonce rest) in
+    let front : Bytes = text ++ fresh.nonce in
+    let rest : Bytes = concat (sealed_chunks fresh.file_key fresh.nonce plain.0) in
+    let is : text ++ payload fresh.file_key fresh.nonce plain.0 ≡ front ++ rest =
+        sym (append_assoc text fresh.nonce rest) in
     encrypts_of limits fresh gathered plain.0 from old new (Err Write) plain.1 (record {
       stanzas = m.stanzas;
       text = text;
       heading = m.heading;
-      part = done_part old old new (text ++ payload fresh.file_key fresh.nonce plain.0) (front ++ rest) front rest (record { front = []; took = Appends-nil old; is = is }) refl part;
+      part = done_part old old new (text ++ payload fresh.file_key fresh.nonce plain.0) (front ++ rest) front rest
+          (record { front = []; took = Appends-nil old; is = is }) refl part;
     })
 
 -- the first chunk was not read, and nothing was written
-pub encrypts_unread : (limits : Bounds) (fresh : Fresh) (gathered : Gathering) (stanzas : List StanzaParts) (mac : List ℕ) (from old : Option (List ℕ))
-    → HeaderMade limits fresh.file_key gathered stanzas mac → EncryptsGiven limits fresh gathered from old old (Err Read)
+pub encrypts_unread : (limits : Bounds) (fresh : Fresh) (gathered : Gathering) (stanzas : List StanzaParts)
+    (mac : Bytes) (from old : Known)
+    → HeaderMade limits fresh.file_key gathered stanzas mac
+    → EncryptsGiven limits fresh gathered from old old (Err Read)
 encrypts_unread limits fresh gathered stanzas mac from old (is, (text, heading)) =
     let plain = may-some from in
-    encrypts_of limits fresh gathered plain.0 from old old (Err Read) plain.1 (record { stanzas = stanzas; text = text; heading = heading; part = (0, Appends-nil old) })
+    encrypts_of limits fresh gathered plain.0 from old old (Err Read) plain.1
+        (record { stanzas = stanzas; text = text; heading = heading; part = (0, Appends-nil old) })
 
 -- a prefix of the payload was written after them
-begun : (limits : Bounds) (fresh : Fresh) (gathered : Gathering) (text plain : List ℕ) (a b c : Option (List ℕ)) → Made limits fresh.file_key gathered text → Appends a b (text ++ fresh.nonce)
-    → WritesPart b c (concat (sealed_chunks fresh.file_key fresh.nonce plain)) → BegunFile limits fresh gathered plain a c
+begun : (limits : Bounds) (fresh : Fresh) (gathered : Gathering) (text plain : Bytes) (a b c : Known)
+    → Made limits fresh.file_key gathered text → Appends a b (text ++ fresh.nonce)
+    → WritesPart b c (concat (sealed_chunks fresh.file_key fresh.nonce plain))
+    → BegunFile limits fresh gathered plain a c
 begun limits fresh gathered text plain a b c m front part =
-    let rest : List ℕ = concat (sealed_chunks fresh.file_key fresh.nonce plain) in
+    let rest : Bytes = concat (sealed_chunks fresh.file_key fresh.nonce plain) in
     record {
       stanzas = m.stanzas;
       text = text;
       heading = m.heading;
       part = done_part a b c (text ++ payload fresh.file_key fresh.nonce plain) rest rest []
-          (record { front = text ++ fresh.nonce; took = front; is = sym (append_assoc text fresh.nonce rest) }) (sym (append-nil rest)) part;
+          (record { front = text ++ fresh.nonce; took = front; is = sym (append_assoc text fresh.nonce rest) })
+              (sym (append-nil rest)) part;
     }
 
 -- a whole file
-whole : (limits : Bounds) (fresh : Fresh) (gathered : Gathering) (text plain : List ℕ) (a b c : Option (List ℕ)) (done : Done) → length fresh.nonce ≡ 16
-    → Made limits fresh.file_key gathered text → Appends a b (text ++ fresh.nonce) → Appends b c (concat (sealed_chunks fresh.file_key fresh.nonce plain)) → 0 + length (chunks plain) ≤ limits.max_chunks
-    → done.bytes ≡ 65536 * 0 + 0 + length plain → done.chunks ≡ 0 + length (chunks plain) → EncryptsText limits fresh gathered plain a c (Ok done)
+whole : (limits : Bounds) (fresh : Fresh) (gathered : Gathering) (text plain : Bytes) (a b c : Known) (done : Done)
+    → length fresh.nonce ≡ 16
+    → Made limits fresh.file_key gathered text → Appends a b (text ++ fresh.nonce)
+    → Appends b c (concat (sealed_chunks fresh.file_key fresh.nonce plain))
+    → 0 + length (chunks plain) ≤ limits.max_chunks
+    → done.bytes ≡ 65536 * 0 + 0 + length plain → done.chunks ≡ 0 + length (chunks plain)
+    → EncryptsText limits fresh gathered plain a c (Ok done)
 whole limits fresh gathered text plain a b c done sixteen m front rest fits bytes count = (
   text ++ payload fresh.file_key fresh.nonce plain,
   record {
@@ -114,51 +135,70 @@ whole limits fresh gathered text plain a b c done sixteen m front rest fits byte
       unmixed = m.heading.unmixed;
     };
   },
-  subst (Appends a c) (append_assoc text fresh.nonce _) (Appends-trans a b c (text ++ fresh.nonce) (concat (sealed_chunks fresh.file_key fresh.nonce plain)) front rest),
+  subst (Appends a c) (append_assoc text fresh.nonce _)
+      (Appends-trans a b c (text ++ fresh.nonce) (concat (sealed_chunks fresh.file_key fresh.nonce plain)) front rest),
   omega (arith, bytes),
   omega (arith, count),
 )
 
 -- too many chunks
-up_to_limit : (limits : Bounds) (fresh : Fresh) (gathered : Gathering) (text plain : List ℕ) (a b c : Option (List ℕ)) → Made limits fresh.file_key gathered text → Appends a b (text ++ fresh.nonce)
-    → limits.max_chunks < 0 + length (chunks plain) → Appends b c (concat (take (limits.max_chunks - 1 - 0) (sealed_chunks fresh.file_key fresh.nonce plain))) → EncryptsText limits fresh gathered plain a c (Err TooManyChunks)
+up_to_limit : (limits : Bounds) (fresh : Fresh) (gathered : Gathering) (text plain : Bytes) (a b c : Known)
+    → Made limits fresh.file_key gathered text → Appends a b (text ++ fresh.nonce)
+    → limits.max_chunks < 0 + length (chunks plain)
+    → Appends b c (concat (take (limits.max_chunks - 1 - 0) (sealed_chunks fresh.file_key fresh.nonce plain)))
+    → EncryptsText limits fresh gathered plain a c (Err TooManyChunks)
 up_to_limit limits fresh gathered text plain a b c m front many rest =
     let n : limits.max_chunks - 1 - 0 ≡ limits.max_chunks - 1 = omega arith in
-    let out : List ℕ = concat (take (limits.max_chunks - 1) (sealed_chunks fresh.file_key fresh.nonce plain)) in
-    let put : Appends b c out = subst (λ k. Appends b c (concat (take k (sealed_chunks fresh.file_key fresh.nonce plain)))) n rest in (
+    let out : Bytes = concat (take (limits.max_chunks - 1) (sealed_chunks fresh.file_key fresh.nonce plain)) in
+    let put : Appends b c out = subst (λ k. Appends b c
+        (concat (take k (sealed_chunks fresh.file_key fresh.nonce plain)))) n rest in (
       text ++ (fresh.nonce ++ out),
       record { stanzas = m.stanzas; text = text; heading = m.heading; too_many = omega (arith, many); spelled = refl },
       subst (Appends a c) (append_assoc text fresh.nonce out) (Appends-trans a b c (text ++ fresh.nonce) out front put),
     )
 
 -- a sealer that was just made was filled
-pub filled : (s t : SealerState) (key : List ℕ) (m max : ℕ) (more : Bool) (from mid : Option (List ℕ)) → s ≡ at_start key m → m ≡ max → IfNone s.fault (Fills s t from mid (Ok more))
+pub filled : (s t : SealerState) (key : Bytes) (m max : ℕ) (more : Bool) (from mid : Known) → s ≡ at_start key m
+    → m ≡ max → IfNone s.fault (Fills s t from mid (Ok more))
     → Fills (at_start key max) t from mid (Ok more)
 filled s t key m max more from mid is same h =
-    subst (λ n. Fills (at_start key n) t from mid (Ok more)) same (subst (λ x. IfNone x.fault (Fills x t from mid (Ok more))) is h)
+    subst (λ n. Fills (at_start key n) t from mid (Ok more)) same
+        (subst (λ x. IfNone x.fault (Fills x t from mid (Ok more))) is h)
 
 -- and then sealed what it held and what came
-pub sealed_filled : (key : List ℕ) (max : ℕ) (t : SealerState) (more : Bool) (from mid to a c : Option (List ℕ)) (r : Result Done StreamFault) → 1 ≤ max
-    → Fills (at_start key max) t from mid (Ok more) → SealsRest t more mid to a c r → SealsAll (at_start key max) from to a c r
-sealed_filled key max t true from mid to a c r some fills seals = filled-seals key max t true from mid to a c r fills seals
+pub sealed_filled : (key : Bytes) (max : ℕ) (t : SealerState) (more : Bool) (from mid to a c : Known)
+    (r : Result Done StreamFault) → 1 ≤ max
+    → Fills (at_start key max) t from mid (Ok more) → SealsRest t more mid to a c r
+    → SealsAll (at_start key max) from to a c r
+sealed_filled key max t true from mid to a c r some fills seals =
+    filled-seals key max t true from mid to a c r fills seals
 sealed_filled key max t false from mid to a c r some fills (finishes, same) =
-    subst (λ k. SealsAll (at_start key max) from k a c r) (sym same) (filled-finishes key max t from mid a c r some fills finishes)
+    subst (λ k. SealsAll (at_start key max) from k a c r) (sym same)
+        (filled-finishes key max t from mid a c r some fills finishes)
 
 -- the payload after the header and the nonce
-encrypts_payload : (limits : Bounds) (fresh : Fresh) (gathered : Gathering) (text : List ℕ) (from to a b c : Option (List ℕ)) (r : Result Done StreamFault) → length fresh.nonce ≡ 16
-    → Made limits fresh.file_key gathered text → Appends a b (text ++ fresh.nonce) → SealsAll (at_start (payload_key fresh.file_key fresh.nonce) limits.max_chunks) from to b c r
+encrypts_payload : (limits : Bounds) (fresh : Fresh) (gathered : Gathering) (text : Bytes) (from to a b c : Known)
+    (r : Result Done StreamFault) → length fresh.nonce ≡ 16
+    → Made limits fresh.file_key gathered text → Appends a b (text ++ fresh.nonce)
+    → SealsAll (at_start (payload_key fresh.file_key fresh.nonce) limits.max_chunks) from to b c r
     → EncryptsGiven limits fresh gathered from a c (file_result r)
-encrypts_payload limits fresh gathered text from to a b c (Ok done) sixteen m front (plain, may, rest, fits, bytes, count) =
-    encrypts_of limits fresh gathered plain from a c (Ok done) may (whole limits fresh gathered text plain a b c done sixteen m front rest fits bytes count)
+encrypts_payload limits fresh gathered text from to a b c (Ok done) sixteen m front
+    (plain, may, rest, fits, bytes, count) =
+    encrypts_of limits fresh gathered plain from a c (Ok done) may
+        (whole limits fresh gathered text plain a b c done sixteen m front rest fits bytes count)
 encrypts_payload limits fresh gathered text from to a b c (Err fault) sixteen m front (chunk, s) = go fault s.stops
   where
-    key : List ℕ
+    key : Bytes
     key = payload_key fresh.file_key fresh.nonce
 
-    go : (f : StreamFault) → StopsIn key limits.max_chunks 0 [] s.text b c f → EncryptsGiven limits fresh gathered from a c (Err (stream_fault f))
-    go stream.Read h = encrypts_of limits fresh gathered s.text from a c (Err Read) s.may (begun limits fresh gathered text s.text a b c m front h)
-    go stream.Write h = encrypts_of limits fresh gathered s.text from a c (Err Write) s.may (begun limits fresh gathered text s.text a b c m front h)
-    go stream.TooManyChunks h = encrypts_of limits fresh gathered s.text from a c (Err TooManyChunks) s.may (up_to_limit limits fresh gathered text s.text a b c m front h.0 h.1)
+    go : (f : StreamFault) → StopsIn key limits.max_chunks 0 [] s.text b c f
+        → EncryptsGiven limits fresh gathered from a c (Err (stream_fault f))
+    go stream.Read h = encrypts_of limits fresh gathered s.text from a c (Err Read) s.may
+        (begun limits fresh gathered text s.text a b c m front h)
+    go stream.Write h = encrypts_of limits fresh gathered s.text from a c (Err Write) s.may
+        (begun limits fresh gathered text s.text a b c m front h)
+    go stream.TooManyChunks h = encrypts_of limits fresh gathered s.text from a c (Err TooManyChunks) s.may
+        (up_to_limit limits fresh gathered text s.text a b c m front h.0 h.1)
     go stream.Memory h = absurd h
     go stream.NonceTruncated h = absurd h
     go (stream.ChunkShort i) h = absurd h
@@ -166,30 +206,39 @@ encrypts_payload limits fresh gathered text from to a b c (Err fault) sixteen m 
     go (stream.BadChunk i) h = absurd h
 
 -- the header, the nonce and the payload
-pub encrypts_sealed : (limits : Bounds) (fresh : Fresh) (gathered : Gathering) (stanzas : List StanzaParts) (mac : List ℕ) (from to a b c : Option (List ℕ)) (r : Result Done StreamFault)
-    → HeaderMade limits fresh.file_key gathered stanzas mac → FrontWritten stanzas mac (λ text. Appends a b (text ++ fresh.nonce)) → length fresh.nonce ≡ 16
-    → SealsAll (at_start (payload_key fresh.file_key fresh.nonce) limits.max_chunks) from to b c r → EncryptsGiven limits fresh gathered from a c (file_result r)
+pub encrypts_sealed : (limits : Bounds) (fresh : Fresh) (gathered : Gathering) (stanzas : List StanzaParts)
+    (mac : Bytes) (from to a b c : Known) (r : Result Done StreamFault)
+    → HeaderMade limits fresh.file_key gathered stanzas mac
+    → FrontWritten stanzas mac (λ text. Appends a b (text ++ fresh.nonce)) → length fresh.nonce ≡ 16
+    → SealsAll (at_start (payload_key fresh.file_key fresh.nonce) limits.max_chunks) from to b c r
+    → EncryptsGiven limits fresh gathered from a c (file_result r)
 encrypts_sealed limits fresh gathered stanzas mac from to a b c r header (text, head, front) sixteen seals =
-    encrypts_payload limits fresh gathered text from to a b c r sixteen (made limits fresh.file_key gathered stanzas mac text header head) front seals
+    encrypts_payload limits fresh gathered text from to a b c r sixteen
+        (made limits fresh.file_key gathered stanzas mac text header head) front seals
 
 -- a read failed after something was written: the source may give a whole chunk
-pub read_late : (key : List ℕ) (max : ℕ) (t : SealerState) (more : Bool) (from mid to a c : Option (List ℕ)) (fault : StreamFault)
-    → Fills (at_start key max) t from mid (Ok more) → SealsRest t more mid to a c (Err fault) → stream_fault fault ≡ Read → MayFillChunk from
+pub read_late : (key : Bytes) (max : ℕ) (t : SealerState) (more : Bool) (from mid to a c : Known) (fault : StreamFault)
+    → Fills (at_start key max) t from mid (Ok more) → SealsRest t more mid to a c (Err fault)
+    → stream_fault fault ≡ Read → MayFillChunk from
 read_late key max t true from mid to a c fault (x, took, is, fits, full, ended) seals read =
     let d = may-some mid in
     let l : length x ≡ 65536 = subst (λ (u : SealerState). length u.held ≡ 65536) is (full refl) in
     (x ++ d.0, may-more from mid x d.0 took d.1, omega (arith, length-append x d.0, l))
-read_late key max t false from mid to a c fault fills ((write, part), same) read = absurd (not-read (subst (λ f. stream_fault f ≡ Read) write read))
+read_late key max t false from mid to a c fault fills ((write, part), same) read =
+    absurd (not-read (subst (λ f. stream_fault f ≡ Read) write read))
   where
     not-read : stream_fault stream.Write ≡ Read → ⊥
     not-read e = cc
 
 -- ---- what was taken
 
-pub takes_begun : (limits : Bounds) (fresh : Fresh) (gathered : Gathering) (stanzas : List StanzaParts) (mac : List ℕ) (key : List ℕ) (max : ℕ) (t : SealerState) (more : Bool)
-    (from mid old new : Option (List ℕ)) → HeaderMade limits fresh.file_key gathered stanzas mac → FrontWritten stanzas mac (λ text. WritesPart old new (text ++ fresh.nonce))
+pub takes_begun : (limits : Bounds) (fresh : Fresh) (gathered : Gathering) (stanzas : List StanzaParts) (mac : Bytes)
+    (key : Bytes) (max : ℕ) (t : SealerState) (more : Bool)
+    (from mid old new : Known) → HeaderMade limits fresh.file_key gathered stanzas mac
+        → FrontWritten stanzas mac (λ text. WritesPart old new (text ++ fresh.nonce))
     → Fills (at_start key max) t from mid (Ok more) → TookWhileEncrypting limits fresh gathered from mid old new Write
-takes_begun limits fresh gathered stanzas mac key max t more from mid old new header (text, head, part) (x, gave, is, fits, full, ended) =
+takes_begun limits fresh gathered stanzas mac key max t more from mid old new header (text, head, part)
+    (x, gave, is, fits, full, ended) =
     let m = made limits fresh.file_key gathered stanzas mac text header head in
     let le : length x ≤ 65536 = subst (λ (u : SealerState). length u.held ≤ 65536) is fits in
     record {
@@ -203,11 +252,14 @@ takes_begun limits fresh gathered stanzas mac key max t more from mid old new he
       gave = (x, gave, omega (arith, le));
     }
 
-took : (limits : Bounds) (fresh : Fresh) (gathered : Gathering) (text : List ℕ) (from to a b c : Option (List ℕ)) (chunk : ℕ) (fault : StreamFault) → length fresh.nonce ≡ 16
-    → Made limits fresh.file_key gathered text → Appends a b (text ++ fresh.nonce) → Stopped (payload_key fresh.file_key fresh.nonce) limits.max_chunks 0 chunk [] from to b c fault
+took : (limits : Bounds) (fresh : Fresh) (gathered : Gathering) (text : Bytes) (from to a b c : Known) (chunk : ℕ)
+    (fault : StreamFault) → length fresh.nonce ≡ 16
+    → Made limits fresh.file_key gathered text → Appends a b (text ++ fresh.nonce)
+    → Stopped (payload_key fresh.file_key fresh.nonce) limits.max_chunks 0 chunk [] from to b c fault
     → GaveAtMost (65536 * (chunk + 1 - 0) + 1 - 0) from to → TookChunks limits fresh gathered from to a c
 took limits fresh gathered text from to a b c chunk fault sixteen m front s gave =
-    let l : length ((text ++ fresh.nonce) ++ s.wrote.0) ≡ length (text ++ fresh.nonce) + length s.wrote.0 = length-append (text ++ fresh.nonce) s.wrote.0 in
+    let l : length ((text ++ fresh.nonce) ++ s.wrote.0) ≡ length (text ++ fresh.nonce) + length s.wrote.0 =
+        length-append (text ++ fresh.nonce) s.wrote.0 in
     let h : length (text ++ fresh.nonce) ≡ length text + length fresh.nonce = length-append text fresh.nonce in
     record {
       stanzas = m.stanzas;
@@ -220,8 +272,10 @@ took limits fresh gathered text from to a b c chunk fault sixteen m front s gave
       gave = (gave.0, gave.1, omega (arith, gave.2));
     }
 
-takes_payload : (limits : Bounds) (fresh : Fresh) (gathered : Gathering) (text : List ℕ) (from to a b c : Option (List ℕ)) (fault : StreamFault) → length fresh.nonce ≡ 16
-    → Made limits fresh.file_key gathered text → Appends a b (text ++ fresh.nonce) → SealsAll (at_start (payload_key fresh.file_key fresh.nonce) limits.max_chunks) from to b c (Err fault)
+takes_payload : (limits : Bounds) (fresh : Fresh) (gathered : Gathering) (text : Bytes) (from to a b c : Known)
+    (fault : StreamFault) → length fresh.nonce ≡ 16
+    → Made limits fresh.file_key gathered text → Appends a b (text ++ fresh.nonce)
+    → SealsAll (at_start (payload_key fresh.file_key fresh.nonce) limits.max_chunks) from to b c (Err fault)
     → TookWhileEncrypting limits fresh gathered from to a c (stream_fault fault)
 takes_payload limits fresh gathered text from to a b c stream.Read sixteen m front s = tt
 takes_payload limits fresh gathered text from to a b c stream.Memory sixteen m front s = tt
@@ -234,7 +288,8 @@ takes_payload limits fresh gathered text from to a b c stream.Write sixteen m fr
     not-read : stream.Write ≡ stream.Read → ⊥
     not-read e = cc
 
-    go : (stream.Write ≡ stream.Read) ⊎ GaveAtMost (65536 * (chunk + 1 - 0) + 1 - 0) from to → TookChunks limits fresh gathered from to a c
+    go : (stream.Write ≡ stream.Read) ⊎ GaveAtMost (65536 * (chunk + 1 - 0) + 1 - 0) from to
+        → TookChunks limits fresh gathered from to a c
     go (inl e) = absurd (not-read e)
     go (inr gave) = took limits fresh gathered text from to a b c chunk stream.Write sixteen m front s gave
 takes_payload limits fresh gathered text from to a b c stream.TooManyChunks sixteen m front (chunk, s) = go s.gave
@@ -242,13 +297,15 @@ takes_payload limits fresh gathered text from to a b c stream.TooManyChunks sixt
     not-read : stream.TooManyChunks ≡ stream.Read → ⊥
     not-read e = cc
 
-    go : (stream.TooManyChunks ≡ stream.Read) ⊎ GaveAtMost (65536 * (chunk + 1 - 0) + 1 - 0) from to → TookChunks limits fresh gathered from to a c
+    go : (stream.TooManyChunks ≡ stream.Read) ⊎ GaveAtMost (65536 * (chunk + 1 - 0) + 1 - 0) from to
+        → TookChunks limits fresh gathered from to a c
     go (inl e) = absurd (not-read e)
     go (inr gave) = took limits fresh gathered text from to a b c chunk stream.TooManyChunks sixteen m front s gave
 
 -- a fault of the payload names no reason against the header, and comes late
-pub refuses_none : (limits : Bounds) (fresh : Fresh) (gathered : Gathering) (from to b c : Option (List ℕ)) (fault : StreamFault)
-    → SealsAll (at_start (payload_key fresh.file_key fresh.nonce) limits.max_chunks) from to b c (Err fault) → RefusesFirst limits fresh.file_key gathered (stream_fault fault) × IsLate (stream_fault fault)
+pub refuses_none : (limits : Bounds) (fresh : Fresh) (gathered : Gathering) (from to b c : Known) (fault : StreamFault)
+    → SealsAll (at_start (payload_key fresh.file_key fresh.nonce) limits.max_chunks) from to b c (Err fault)
+    → RefusesFirst limits fresh.file_key gathered (stream_fault fault) × IsLate (stream_fault fault)
 refuses_none limits fresh gathered from to b c stream.Read h = (tt, tt)
 refuses_none limits fresh gathered from to b c stream.Write h = (tt, tt)
 refuses_none limits fresh gathered from to b c stream.TooManyChunks h = (tt, tt)
@@ -258,8 +315,12 @@ refuses_none limits fresh gathered from to b c (stream.ChunkShort i) h = absurd 
 refuses_none limits fresh gathered from to b c (stream.EmptyFinal i) h = absurd h.1.stops
 refuses_none limits fresh gathered from to b c (stream.BadChunk i) h = absurd h.1.stops
 
-pub takes_sealed : (limits : Bounds) (fresh : Fresh) (gathered : Gathering) (stanzas : List StanzaParts) (mac : List ℕ) (from to a b c : Option (List ℕ)) (fault : StreamFault)
-    → HeaderMade limits fresh.file_key gathered stanzas mac → FrontWritten stanzas mac (λ text. Appends a b (text ++ fresh.nonce)) → length fresh.nonce ≡ 16
-    → SealsAll (at_start (payload_key fresh.file_key fresh.nonce) limits.max_chunks) from to b c (Err fault) → TookWhileEncrypting limits fresh gathered from to a c (stream_fault fault)
+pub takes_sealed : (limits : Bounds) (fresh : Fresh) (gathered : Gathering) (stanzas : List StanzaParts) (mac : Bytes)
+    (from to a b c : Known) (fault : StreamFault)
+    → HeaderMade limits fresh.file_key gathered stanzas mac
+    → FrontWritten stanzas mac (λ text. Appends a b (text ++ fresh.nonce)) → length fresh.nonce ≡ 16
+    → SealsAll (at_start (payload_key fresh.file_key fresh.nonce) limits.max_chunks) from to b c (Err fault)
+    → TookWhileEncrypting limits fresh gathered from to a c (stream_fault fault)
 takes_sealed limits fresh gathered stanzas mac from to a b c fault header (text, head, front) sixteen seals =
-    takes_payload limits fresh gathered text from to a b c fault sixteen (made limits fresh.file_key gathered stanzas mac text header head) front seals
+    takes_payload limits fresh gathered text from to a b c fault sixteen
+        (made limits fresh.file_key gathered stanzas mac text header head) front seals

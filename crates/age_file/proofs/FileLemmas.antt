@@ -6,6 +6,7 @@ use Rattle.std.proofs.lemmas.Bool.{cond-false, cond-true}
 use Rattle.std.proofs.lemmas.List.{drop_at}
 use Rattle.std.proofs.lemmas.Option.{none-some}
 use Rattle.std.proofs.lemmas.Slice.Eq.{bytes_eq-Decides}
+use Rattle.age_header.specs.Device.{Bytes}
 use Rattle.age_header.specs.declared.fault.HeaderFault.{HeaderFault}
 use Rattle.age_header.specs.Header.{StanzaParts, HeaderParts, Head}
 use Rattle.age_header.specs.Mac.{header_mac}
@@ -27,7 +28,7 @@ use Rattle.age_file.specs.AgeFile.{Bounds, AgeFile, is_mixed}
 use Rattle.age_file.specs.Verdict.{Answering, IsVerdict, checked, header_fault, judged, parts_of, read_under, stream_fault, unlocked, with_file_fault}
 
 -- what is read whole does not stop
-pub never_stops : (p : List ℕ) (f : Fault) → whole p ≡ stops f → ⊥
+pub never_stops : (p : Bytes) (f : Fault) → whole p ≡ stops f → ⊥
 never_stops p f h = none-some f (ap (λ (r : Reading Fault). r.fault) h)
 
 pub no_stream_fault : (o : Option StreamFault) → option_map stream_fault o ≡ None → o ≡ None
@@ -35,23 +36,25 @@ no_stream_fault None h = refl
 no_stream_fault (Some f) h = absurd (none-some (stream_fault f) (sym h))
 
 -- what a payload was read from
-pub with_file_fault-whole : (p : List ℕ) (r : Reading StreamFault) → whole p ≡ with_file_fault r → r ≡ whole p
+pub with_file_fault-whole : (p : Bytes) (r : Reading StreamFault) → whole p ≡ with_file_fault r → r ≡ whole p
 with_file_fault-whole p r h =
     ap (λ x. record { front = x; fault = r.fault }) (sym (ap (λ (z : Reading Fault). z.front) h))
     ∙ ap (λ x. record { front = p; fault = x }) (no_stream_fault r.fault (sym (ap (λ (z : Reading Fault). z.fault) h)))
 
 -- a file of the chosen key
-pub record IsChosenFile (limits : Bounds) (answers : Answering) (p b : List ℕ) : Type 0 where
+pub record IsChosenFile (limits : Bounds) (answers : Answering) (p b : Bytes) : Type 0 where
   pub stanzas : List StanzaParts
   pub key : FileKey
   pub file : AgeFile limits key stanzas p b
   pub chosen : choice (answers stanzas) ≡ Ok key
 
-cond-err : {A F : Type 0} (t : Bool) (f : F) (r : Result A F) (x : A) → cond t (Err f) r ≡ Ok x → (t ≡ false) × (r ≡ Ok x)
+cond-err : {A F : Type 0} (t : Bool) (f : F) (r : Result A F) (x : A) → cond t (Err f) r ≡ Ok x
+    → (t ≡ false) × (r ≡ Ok x)
 cond-err true f r x h = absurd (cc)
 cond-err false f r x h = (refl, h)
 
-cond-else_err : {A F : Type 0} (t : Bool) (f : F) (a x : A) → ◌≡◌ {A = Result A F} (cond t (Ok a) (Err f)) (Ok x) → (t ≡ true) × (a ≡ x)
+cond-else_err : {A F : Type 0} (t : Bool) (f : F) (a x : A) → ◌≡◌ {A = Result A F} (cond t (Ok a) (Err f)) (Ok x)
+    → (t ≡ true) × (a ≡ x)
 cond-else_err true f a x h = (refl, (cc))
 cond-else_err false f a x h = absurd (cc)
 
@@ -61,7 +64,8 @@ pub record HasKey (answers : Answering) (h : HeaderParts) (k : FileKey) : Type 0
   pub chosen : choice (answers h.stanzas) ≡ Ok k
   pub mac : h.mac ≡ header_mac k.0 h.stanzas
 
-checked-key : (h : HeaderParts) (c : Result FileKey UnlockFault) (k : FileKey) → checked h c ≡ Ok k → (c ≡ Ok k) × (h.mac ≡ header_mac k.0 h.stanzas)
+checked-key : (h : HeaderParts) (c : Result FileKey UnlockFault) (k : FileKey) → checked h c ≡ Ok k
+    → (c ≡ Ok k) × (h.mac ≡ header_mac k.0 h.stanzas)
 checked-key h (Err f) k is = absurd (cc)
 checked-key h (Ok j) k is =
     let both = cond-else_err (bytes_eq h.mac (header_mac j.0 h.stanzas)) BadMac j k is in
@@ -73,30 +77,38 @@ unlocked-key answers h k is =
     let good = checked-key h (choice (answers h.stanzas)) k alone.1 in
     record { unmixed = alone.0; chosen = good.0; mac = good.1 }
 
-pub key-unlocked : (answers : Answering) (h : HeaderParts) (k : FileKey) → HasKey answers h k → unlocked answers h ≡ Ok k
+pub key-unlocked : (answers : Answering) (h : HeaderParts) (k : FileKey) → HasKey answers h k
+    → unlocked answers h ≡ Ok k
 key-unlocked answers h k has =
     cond-false (is_mixed h.stanzas) _ _ has.unmixed ∙ ap (checked h) has.chosen
     ∙ cond-true (bytes_eq h.mac (header_mac k.0 h.stanzas)) _ _ ((bytes_eq-Decides _ _).1 has.mac)
 
 -- the outcome of a header whose key was chosen and whose MAC was compared, unless an allocation was refused
-pub checked-unlocked : (answers : Answering) (h : HeaderParts) (chosen : Result FileKey UnlockFault) (r : Result FileKey Fault) → is_mixed h.stanzas ≡ false
+pub checked-unlocked : (answers : Answering) (h : HeaderParts) (chosen : Result FileKey UnlockFault)
+    (r : Result FileKey Fault) → is_mixed h.stanzas ≡ false
     → (chosen ≡ Err Memory) ⊎ (chosen ≡ choice (answers h.stanzas)) → (r ≡ Err OutOfMemory) ⊎ (r ≡ checked h chosen)
     → (r ≡ Err OutOfMemory) ⊎ (r ≡ unlocked answers h)
 checked-unlocked answers h chosen r alone c (inl memory) = inl memory
 checked-unlocked answers h chosen r alone (inl memory) (inr is) = inl (is ∙ ap (checked h) memory)
-checked-unlocked answers h chosen r alone (inr chose) (inr is) = inr (is ∙ ap (checked h) chose ∙ sym (cond-false (is_mixed h.stanzas) _ _ alone))
+checked-unlocked answers h chosen r alone (inr chose) (inr is) =
+    inr (is ∙ ap (checked h) chose ∙ sym (cond-false (is_mixed h.stanzas) _ _ alone))
 
 -- what follows the header that begins a text
-pub behind : (b : List ℕ) (max : ℕ) (found : Found) (begins : BeginsWith b max found) → drop (length found.text) b ≡ begins.rest
-behind b max found begins = ap (drop (length found.text)) begins.front ∙ drop_at found.text begins.rest (length found.text) refl
+pub behind : (b : Bytes) (max : ℕ) (found : Found) (begins : BeginsWith b max found)
+    → drop (length found.text) b ≡ begins.rest
+behind b max found begins = ap (drop (length found.text)) begins.front
+    ∙ drop_at found.text begins.rest (length found.text) refl
 
-under-file : (limits : Bounds) (answers : Answering) (b p : List ℕ) (found : Found) → BeginsWith b limits.max_header found
-    → (c : Result FileKey Fault) → unlocked answers (parts_of found) ≡ c → whole p ≡ read_under limits (drop (length found.text) b) c → IsChosenFile limits answers p b
+under-file : (limits : Bounds) (answers : Answering) (b p : Bytes) (found : Found)
+    → BeginsWith b limits.max_header found
+    → (c : Result FileKey Fault) → unlocked answers (parts_of found) ≡ c
+    → whole p ≡ read_under limits (drop (length found.text) b) c → IsChosenFile limits answers p b
 under-file limits answers b p found begins (Err f) is h = absurd (never_stops p f h)
 under-file limits answers b p found begins (Ok k) is h =
-    let rest : List ℕ = drop (length found.text) b in
+    let rest : Bytes = drop (length found.text) b in
     let has = unlocked-key answers (parts_of found) k is in
-    let body = ok-payload k rest p limits.max_chunks (with_file_fault-whole p (payload_reading k limits.max_chunks rest) h) in
+    let body = ok-payload k rest p limits.max_chunks
+        (with_file_fault-whole p (payload_reading k limits.max_chunks rest) h) in
     record {
       stanzas = found.stanzas;
       key = k;
@@ -104,52 +116,62 @@ under-file limits answers b p found begins (Ok k) is h =
       file = record {
         header = found.text;
         nonce = body.nonce;
-        head = subst (λ (m : List ℕ). Head found.stanzas m found.text) has.mac begins.head;
+        head = subst (λ (m : Bytes). Head found.stanzas m found.text) has.mac begins.head;
         nonce_len = body.nonce_len;
-        spelled = begins.front ∙ ap (λ x. found.text ++ x) (sym (behind b limits.max_header found begins) ∙ body.spelled);
+        spelled = begins.front ∙ ap (λ x. found.text ++ x)
+            (sym (behind b limits.max_header found begins) ∙ body.spelled);
         header_fits = begins.fits;
         chunks_fit = body.count;
         unmixed = has.unmixed;
       };
     }
 
-judged-file : (limits : Bounds) (answers : Answering) (b p : List ℕ) (r : Result Found HeaderFault) → HeaderVerdict b limits.max_header r
+judged-file : (limits : Bounds) (answers : Answering) (b p : Bytes) (r : Result Found HeaderFault)
+    → HeaderVerdict b limits.max_header r
     → whole p ≡ judged limits answers b r → IsChosenFile limits answers p b
 judged-file limits answers b p (Err f) v h = absurd (never_stops p (header_fault f) h)
 judged-file limits answers b p (Ok found) v h =
-    under-file limits answers b p found (headers.begins_found b limits.max_header found v) (unlocked answers (parts_of found)) refl h
+    under-file limits answers b p found (headers.begins_found b limits.max_header found v)
+        (unlocked answers (parts_of found)) refl h
 
 -- an age file for the chosen key reads whole
-pub file-whole : (limits : Bounds) (answers : Answering) (b p : List ℕ) (stanzas : List StanzaParts) (k : FileKey) → AgeFile limits k stanzas p b
+pub file-whole : (limits : Bounds) (answers : Answering) (b p : Bytes) (stanzas : List StanzaParts) (k : FileKey)
+    → AgeFile limits k stanzas p b
     → choice (answers stanzas) ≡ Ok k → IsVerdict limits answers b (whole p)
 file-whole limits answers b p stanzas k file chosen =
-    let mac : List ℕ = header_mac k.0 stanzas in
+    let mac : Bytes = header_mac k.0 stanzas in
     let found : Found = record { stanzas = stanzas; mac = mac; text = file.header } in
-    let body : List ℕ = payload k file.nonce p in
-    let begins : BeginsWith b limits.max_header found = record { rest = body; head = file.head; front = file.spelled; fits = file.header_fits } in
+    let body : Bytes = payload k file.nonce p in
+    let begins : BeginsWith b limits.max_header found =
+        record { rest = body; head = file.head; front = file.spelled; fits = file.header_fits } in
     let reads : payload_reading k limits.max_chunks (drop (length file.header) b) ≡ whole p =
     ap (payload_reading k limits.max_chunks) (behind b limits.max_header found begins)
-    ∙ payload-ok k body p limits.max_chunks (record { nonce = file.nonce; nonce_len = file.nonce_len; spelled = refl; count = file.chunks_fit }) in
+    ∙ payload-ok k body p limits.max_chunks
+    (record { nonce = file.nonce; nonce_len = file.nonce_len; spelled = refl; count = file.chunks_fit }) in
     record {
       header = Ok found;
       header_verdict = headers.found_begins b limits.max_header found begins;
-      is = sym (ap (read_under limits (drop (length file.header) b)) (key-unlocked answers (parts_of found) k (record { unmixed = file.unmixed; chosen = chosen; mac = refl }))
+      is = sym (ap (read_under limits (drop (length file.header) b))
+          (key-unlocked answers (parts_of found) k (record { unmixed = file.unmixed; chosen = chosen; mac = refl }))
           ∙ ap with_file_fault reads);
     }
 
-pub both_ways : (limits : Bounds) (answers : Answering) (b p : List ℕ) → IsVerdict limits answers b (whole p)
+pub both_ways : (limits : Bounds) (answers : Answering) (b p : Bytes) → IsVerdict limits answers b (whole p)
     ↔ ((stanzas : List StanzaParts) × (k : FileKey) × AgeFile limits k stanzas p b × (choice (answers stanzas) ≡ Ok k))
 both_ways limits answers b p = (
   (λ v. let i = judged-file limits answers b p v.header v.header_verdict v.is in (i.stanzas, i.key, i.file, i.chosen)),
   (λ h. file-whole limits answers b p h.0 h.1 h.2 h.3),
 )
 
-pub one_verdict : (limits : Bounds) (answers : Answering) (b : List ℕ) (v w : Reading Fault) → IsVerdict limits answers b v → IsVerdict limits answers b w → v ≡ w
+pub one_verdict : (limits : Bounds) (answers : Answering) (b : Bytes) (v w : Reading Fault)
+    → IsVerdict limits answers b v → IsVerdict limits answers b w → v ≡ w
 one_verdict limits answers b v w h k =
-    h.is ∙ ap (judged limits answers b) (headers.one_verdict b limits.max_header h.header k.header h.header_verdict k.header_verdict) ∙ sym k.is
+    h.is ∙ ap (judged limits answers b)
+        (headers.one_verdict b limits.max_header h.header k.header h.header_verdict k.header_verdict) ∙ sym k.is
 
 -- one identity that means the key
-pub opens-whole : (limits : Bounds) (meaning : List StanzaParts → Unwrapped) (k : FileKey) (stanzas : List StanzaParts) (p b : List ℕ)
+pub opens-whole : (limits : Bounds) (meaning : List StanzaParts → Unwrapped) (k : FileKey) (stanzas : List StanzaParts)
+    (p b : Bytes)
     → meaning stanzas ≡ Key k → AgeFile limits k stanzas p b → IsVerdict limits (λ s. meaning s ∷ []) b (whole p)
 opens-whole limits meaning k stanzas p b means file =
     file-whole limits (λ s. meaning s ∷ []) b p stanzas k file (ap (λ u. choice (u ∷ [])) means)

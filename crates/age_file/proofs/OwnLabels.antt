@@ -12,11 +12,13 @@ one_index meant index (l ∷ [], may, is) = is
 one_index meant index (l ∷ m ∷ rest, may, is) = absurd may.1
 
 -- a recipient without names goes together with all others that have none
-none_incompatible : (n k : ℕ) → position_from (λ other. not (go_together (Names []) other)) k (replicate n (Names [])) ≡ None
+none_incompatible : (n k : ℕ) → position_from (λ other. not (go_together (Names []) other)) k (replicate n (Names []))
+    ≡ None
 none_incompatible zero k = refl
 none_incompatible (suc n) k = none_incompatible n (k + 1)
 
-unnamed : (n : ℕ) (labels : List Labels) → AllZip MayLabel (replicate n (Names [])) labels → labels ≡ replicate n (Names [])
+unnamed : (n : ℕ) (labels : List Labels) → AllZip MayLabel (replicate n (Names [])) labels
+    → labels ≡ replicate n (Names [])
 unnamed zero [] may = refl
 unnamed zero (l ∷ labels) may = absurd may
 unnamed (suc n) [] may = absurd may
@@ -30,9 +32,13 @@ none_of (suc n) = none_incompatible n 1
 pub keyed_index : (n : ℕ) (index : Option ℕ) → IsIncompatible (replicate n (Names [])) index → index ≡ None
 keyed_index n index (labels, may, is) = is ∙ ap incompatible (unnamed n labels may) ∙ none_of n
 
-alone_from : (n k : ℕ) (others : List Labels) → position_from (λ other. not (go_together (Names []) other)) k (replicate n (Names []) ++ Alone ∷ others) ≡ Some (n + k)
+alone_from : (n k : ℕ) (others : List Labels)
+    → position_from (λ other. not (go_together (Names []) other)) k (replicate n (Names []) ++ Alone ∷ others)
+    ≡ Some (n + k)
 alone_from zero k others = ap Some (omega arith)
 alone_from (suc n) k others = alone_from n (k + 1) others ∙ ap Some (omega arith)
 
-pub alone_after : (n : ℕ) (others : List Labels) → incompatible (replicate (n + 1) (Names []) ++ Alone ∷ others) ≡ Some (n + 1)
-alone_after n others = ap (λ k. incompatible (replicate k (Names []) ++ Alone ∷ others)) (add-one n) ∙ alone_from n 1 others
+pub alone_after : (n : ℕ) (others : List Labels)
+    → incompatible (replicate (n + 1) (Names []) ++ Alone ∷ others) ≡ Some (n + 1)
+alone_after n others = ap (λ k. incompatible (replicate k (Names []) ++ Alone ∷ others)) (add-one n)
+    ∙ alone_from n 1 others

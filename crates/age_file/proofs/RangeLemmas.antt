@@ -1,9 +1,10 @@
 -- What opening a file for ranges does, from what its parts do.
-use Rattle.std.proofs.Common.{◌≡◌, ◌⊎◌, ℕ, List, ◌++◌, ◌+◌, ◌-◌, ◌≤◌, length, drop, sym, ◌∙◌, ap, refl, subst, arith, inl, inr, option_map, Option, Some, None, Result, Ok, Err}
+use Rattle.std.proofs.Common.{◌≡◌, ◌⊎◌, ℕ, ◌++◌, ◌+◌, ◌-◌, ◌≤◌, length, drop, sym, ◌∙◌, ap, refl, subst, arith, inl, inr, option_map, Option, Some, None, Result, Ok, Err}
 use Rattle.std.specs.Prelude.{Bool, true, false, IfErr, if◌then◌else◌}
 use Rattle.std.specs.Result.{result_map_both}
 use Rattle.std.specs.Str.{bytes_eq}
 use Rattle.std.proofs.lemmas.List.{length-append, length-drop}
+use Rattle.age_header.specs.Device.{Bytes, Known}
 use Rattle.age_header.specs.declared.fault.HeaderFault.{HeaderFault}
 use Rattle.age_header.specs.declared.fault.HeaderFault.TheVariants as header
 use Rattle.age_header.specs.Header.{HeaderParts}
@@ -32,7 +33,7 @@ use Rattle.age_file.specs.Verdict.{Answering, checked, found_in, header_fault, s
 use Rattle.age_file.proofs.DecryptLemmas.{err-err, headed, reads-file}
 
 -- a header that was read from the first byte on
-pub header-found : (limits : Bounds) (told : Option (List ℕ)) (at : ℕ) (h : HeaderParts) → IsWithin told at
+pub header-found : (limits : Bounds) (told : Known) (at : ℕ) (h : HeaderParts) → IsWithin told at
     → Inspects limits (option_map (drop 0) told) (option_map (drop at) told) (Ok h) → HasHeader limits told at h
 header-found limits None at h w i = tt
 header-found limits (Some b) at h w i =
@@ -41,16 +42,19 @@ header-found limits (Some b) at h w i =
     let d : length (drop at b) ≡ length b - at = length-drop at b in
     let l : length b ≡ length is.text + length (drop at b) = ap length all ∙ length-append is.text (drop at b) in
     let inside : at ≤ length b = w in
-    (is.text, omega arith, subst (λ x. HeaderVerdict x limits.max_header (Ok (found_in is.text h))) (sym all) (is.verdict (drop at b) refl))
+    (is.text, omega arith, subst (λ x. HeaderVerdict x limits.max_header (Ok (found_in is.text h))) (sym all)
+        (is.verdict (drop at b) refl))
 
 -- the header of some bytes
-pub header-some : (limits : Bounds) (from to : Option (List ℕ)) (h : HeaderParts) → Inspects limits from to (Ok h) → IsSomeHeader limits h
+pub header-some : (limits : Bounds) (from to : Known) (h : HeaderParts) → Inspects limits from to (Ok h)
+    → IsSomeHeader limits h
 header-some limits from to h i =
     let is = headed limits from to h i in
     let rest = may-some to in
     (is.text ++ rest.0, is.text, is.verdict rest.0 rest.1)
 
-refused : (limits : Bounds) (b : List ℕ) (g : HeaderFault) → Refuses b limits.max_header g → MissesHeader limits (Some b) (header_fault g)
+refused : (limits : Bounds) (b : Bytes) (g : HeaderFault) → Refuses b limits.max_header g
+    → MissesHeader limits (Some b) (header_fault g)
 refused limits b header.Read h = inl refl
 refused limits b header.Memory h = inr (inl refl)
 refused limits b header.NotAge h = inr (inr (header.NotAge, h, refl))
@@ -59,28 +63,37 @@ refused limits b header.Truncated h = inr (inr (header.Truncated, h, refl))
 refused limits b header.TooLarge h = inr (inr (header.TooLarge, h, refl))
 
 -- no header
-pub header-missed : (limits : Bounds) (told mid : Option (List ℕ)) (fault : Fault) → Inspects limits (option_map (drop 0) told) mid (Err fault) → MissesHeader limits told fault
+pub header-missed : (limits : Bounds) (told mid : Known) (fault : Fault)
+    → Inspects limits (option_map (drop 0) told) mid (Err fault) → MissesHeader limits told fault
 header-missed limits None mid fault i = inr (inr tt)
 header-missed limits (Some b) mid fault (Ok parts, is, h) = absurd (cc)
-header-missed limits (Some b) mid fault (Err g, is, h) = subst (MissesHeader limits (Some b)) (sym (err-err {A = HeaderParts} fault (header_fault g) is)) (refused limits b g h)
+header-missed limits (Some b) mid fault (Err g, is, h) =
+    subst (MissesHeader limits (Some b)) (sym (err-err {A = HeaderParts} fault (header_fault g) is))
+    (refused limits b g h)
 
-pub missed-ranges : (limits : Bounds) (answers : Answering) (told : Option (List ℕ)) (fault : Fault) → MissesHeader limits told fault → MissesRanges limits answers told fault
+pub missed-ranges : (limits : Bounds) (answers : Answering) (told : Known) (fault : Fault)
+    → MissesHeader limits told fault → MissesRanges limits answers told fault
 missed-ranges limits answers told fault (inl e) = inl e
 missed-ranges limits answers told fault (inr (inl e)) = inr (inl e)
 missed-ranges limits answers None fault (inr (inr h)) = inr (inr tt)
 missed-ranges limits answers (Some b) fault (inr (inr h)) = inr (inr (Err h.0, h.1, h.2))
 
 -- no key
-pub locked-ranges : (limits : Bounds) (answers : Answering) (told : Option (List ℕ)) (at : ℕ) (h : HeaderParts) (fault : Fault) → HasHeader limits told at h
-    → (◌≡◌ {A = Result FileKey Fault} (Err fault) (Err OutOfMemory)) ⊎ (Err fault ≡ unlocked answers h) → MissesRanges limits answers told fault
-locked-ranges limits answers told at h fault found (inl memory) = inr (inl (err-err {A = FileKey} fault OutOfMemory memory))
+pub locked-ranges : (limits : Bounds) (answers : Answering) (told : Known) (at : ℕ) (h : HeaderParts) (fault : Fault)
+    → HasHeader limits told at h
+    → (◌≡◌ {A = Result FileKey Fault} (Err fault) (Err OutOfMemory)) ⊎ (Err fault ≡ unlocked answers h)
+    → MissesRanges limits answers told fault
+locked-ranges limits answers told at h fault found (inl memory) =
+    inr (inl (err-err {A = FileKey} fault OutOfMemory memory))
 locked-ranges limits answers None at h fault found (inr key) = inr (inr tt)
 locked-ranges limits answers (Some b) at h fault found (inr key) =
     inr (inr (Ok (found_in found.0 h), found.2, ap (ranges_under limits (drop (length found.0) b)) (sym key)))
 
 -- a payload that was not opened
-pub payload-missed : (limits : Bounds) (answers : Answering) (told : Option (List ℕ)) (at : ℕ) (h : HeaderParts) (k : FileKey) (fault : StreamFault) → HasHeader limits told at h
-    → (◌≡◌ {A = Result FileKey Fault} (Ok k) (Err OutOfMemory)) ⊎ (Ok k ≡ unlocked answers h) → OpensRanges k limits.max_chunks at told (Err fault)
+pub payload-missed : (limits : Bounds) (answers : Answering) (told : Known) (at : ℕ) (h : HeaderParts) (k : FileKey)
+    (fault : StreamFault) → HasHeader limits told at h
+    → (◌≡◌ {A = Result FileKey Fault} (Ok k) (Err OutOfMemory)) ⊎ (Ok k ≡ unlocked answers h)
+    → OpensRanges k limits.max_chunks at told (Err fault)
     → MissesRanges limits answers told (stream_fault fault)
 payload-missed limits answers told at h k fault found (inl memory) o = absurd (cc)
 payload-missed limits answers told at h k fault found (inr key) (inl e) = inl (ap stream_fault e)
@@ -90,7 +103,8 @@ payload-missed limits answers (Some b) at h k fault found (inr key) (inr (inr e)
   Ok (found_in found.0 h),
   found.2,
   ap (ranges_under limits (drop (length found.0) b)) (sym key)
-      ∙ ap (λ n. result_map_both (λ text. text) stream_fault (range_outcome k limits.max_chunks (drop n b))) found.1 ∙ ap (result_map_both (λ text. text) stream_fault) e,
+      ∙ ap (λ n. result_map_both (λ text. text) stream_fault (range_outcome k limits.max_chunks (drop n b))) found.1
+      ∙ ap (result_map_both (λ text. text) stream_fault) e,
 ))
 
 -- ---- the faults' names
@@ -103,11 +117,14 @@ inspect-open header.TooLarge = tt
 inspect-open header.Read = tt
 inspect-open header.Memory = tt
 
-pub header-named : (limits : Bounds) (old mid : Option (List ℕ)) (fault : Fault) → Inspects limits old mid (Err fault) → IsOpenFault fault
+pub header-named : (limits : Bounds) (old mid : Known) (fault : Fault) → Inspects limits old mid (Err fault)
+    → IsOpenFault fault
 header-named limits old mid fault (Ok parts, is, h) = absurd (cc)
-header-named limits old mid fault (Err g, is, h) = subst IsOpenFault (sym (err-err {A = HeaderParts} fault (header_fault g) is)) (inspect-open g)
+header-named limits old mid fault (Err g, is, h) =
+    subst IsOpenFault (sym (err-err {A = HeaderParts} fault (header_fault g) is)) (inspect-open g)
 
-either-open : (b : Bool) (x y : Result FileKey Fault) → IfErr x IsOpenFault → IfErr y IsOpenFault → IfErr (if b then x else y) IsOpenFault
+either-open : (b : Bool) (x y : Result FileKey Fault) → IfErr x IsOpenFault → IfErr y IsOpenFault
+    → IfErr (if b then x else y) IsOpenFault
 either-open true x y p q = p
 either-open false x y p q = q
 
@@ -121,11 +138,14 @@ checked-open : (h : HeaderParts) (r : Result FileKey UnlockFault) → IfErr (che
 checked-open h (Err e) = unlock-open e
 checked-open h (Ok k) = either-open (bytes_eq h.mac (header_mac k.0 h.stanzas)) (Ok k) (Err BadMac) tt tt
 
-pub locked-named : (answers : Answering) (h : HeaderParts) (fault : Fault) → (◌≡◌ {A = Result FileKey Fault} (Err fault) (Err OutOfMemory)) ⊎ (Err fault ≡ unlocked answers h) → IsOpenFault fault
+pub locked-named : (answers : Answering) (h : HeaderParts) (fault : Fault)
+    → (◌≡◌ {A = Result FileKey Fault} (Err fault) (Err OutOfMemory)) ⊎ (Err fault ≡ unlocked answers h)
+    → IsOpenFault fault
 locked-named answers h fault (inl memory) = subst IsOpenFault (sym (err-err {A = FileKey} fault OutOfMemory memory)) tt
 locked-named answers h fault (inr key) =
     subst (λ (r : Result FileKey Fault). IfErr r IsOpenFault) (sym key)
-    (either-open (is_mixed h.stanzas) (Err MixedPassphrase) (checked h (choice (answers h.stanzas))) tt (checked-open h (choice (answers h.stanzas))))
+    (either-open (is_mixed h.stanzas) (Err MixedPassphrase) (checked h (choice (answers h.stanzas))) tt
+        (checked-open h (choice (answers h.stanzas))))
 
 pub payload-named : (e : StreamFault) → stream.IsOpenFault e → IsOpenFault (stream_fault e)
 payload-named fault.NonceTruncated h = tt
@@ -139,9 +159,12 @@ payload-named fault.Memory h = tt
 
 -- ---- why a file was not opened
 
-pub header-refuses : (limits : Bounds) (answers : Answering) (told told2 : Option (List ℕ)) (failed failed2 : ℕ) (fault : Fault) → MissesHeader limits told fault → IsOpenFault fault
-    → told2 ≡ told → CountsRead {A = ℕ} failed failed2 (Err fault) → RefusesRanges limits answers told told2 failed failed2 fault
-header-refuses limits answers told told2 failed failed2 fault m early stay count = record { misses = missed-ranges limits answers told fault m; named = early; stay = stay; counted = count }
+pub header-refuses : (limits : Bounds) (answers : Answering) (told told2 : Known) (failed failed2 : ℕ) (fault : Fault)
+    → MissesHeader limits told fault → IsOpenFault fault
+    → told2 ≡ told → CountsRead {A = ℕ} failed failed2 (Err fault)
+    → RefusesRanges limits answers told told2 failed failed2 fault
+header-refuses limits answers told told2 failed failed2 fault m early stay count =
+    record { misses = missed-ranges limits answers told fault m; named = early; stay = stay; counted = count }
 
 none-counted : (stage : Stage) (old new : ℕ) → IsNoDeviceStage stage → new ≡ old → new ≡ reads_after stage old
 none-counted at_header old new h e = e
@@ -153,8 +176,10 @@ none-counted at_write old new h e = absurd h
 none-counted at_memory old new h e = e
 none-counted at_recipient old new h e = e
 
-pub locked-refuses : (limits : Bounds) (answers : Answering) (told mid told2 : Option (List ℕ)) (failed failed2 at : ℕ) (h : HeaderParts) (fault : Fault) → mid ≡ told → HasHeader limits told at h
-    → (◌≡◌ {A = Result FileKey Fault} (Err fault) (Err OutOfMemory)) ⊎ (Err fault ≡ unlocked answers h) → IsNoDeviceFault fault → told2 ≡ mid → failed2 ≡ failed
+pub locked-refuses : (limits : Bounds) (answers : Answering) (told mid told2 : Known) (failed failed2 at : ℕ)
+    (h : HeaderParts) (fault : Fault) → mid ≡ told → HasHeader limits told at h
+    → (◌≡◌ {A = Result FileKey Fault} (Err fault) (Err OutOfMemory)) ⊎ (Err fault ≡ unlocked answers h)
+    → IsNoDeviceFault fault → told2 ≡ mid → failed2 ≡ failed
     → RefusesRanges limits answers told told2 failed failed2 fault
 locked-refuses limits answers told mid told2 failed failed2 at h fault same found key none stay count = record {
   misses = locked-ranges limits answers told at h fault found key;
@@ -163,20 +188,30 @@ locked-refuses limits answers told mid told2 failed failed2 at h fault same foun
   counted = none-counted (stage_of fault) failed failed2 none count;
 }
 
-pub payload-refuses : (limits : Bounds) (answers : Answering) (told mid told2 : Option (List ℕ)) (failed failed1 failed2 at max : ℕ) (h : HeaderParts) (k : FileKey) (fault : StreamFault) → mid ≡ told
-    → failed1 ≡ failed → max ≡ limits.max_chunks → HasHeader limits told at h → (◌≡◌ {A = Result FileKey Fault} (Ok k) (Err OutOfMemory)) ⊎ (Ok k ≡ unlocked answers h)
-    → OpensRanges k max at mid (Err fault) → stream.IsOpenFault fault → told2 ≡ mid → CountsReadFault failed1 failed2 fault
+pub payload-refuses : (limits : Bounds) (answers : Answering) (told mid told2 : Known)
+    (failed failed1 failed2 at max : ℕ) (h : HeaderParts) (k : FileKey) (fault : StreamFault) → mid ≡ told
+    → failed1 ≡ failed → max ≡ limits.max_chunks → HasHeader limits told at h
+    → (◌≡◌ {A = Result FileKey Fault} (Ok k) (Err OutOfMemory)) ⊎ (Ok k ≡ unlocked answers h)
+    → OpensRanges k max at mid (Err fault) → stream.IsOpenFault fault → told2 ≡ mid
+    → CountsReadFault failed1 failed2 fault
     → RefusesRanges limits answers told told2 failed failed2 (stream_fault fault)
-payload-refuses limits answers told mid told2 failed failed1 failed2 at max h k fault same before most found key opens early stay count = record {
-  misses = payload-missed limits answers told at h k fault found key (subst (λ m. OpensRanges k m at told (Err fault)) most (subst (λ t. OpensRanges k max at t (Err fault)) same opens));
+payload-refuses limits answers told mid told2 failed failed1 failed2 at max h k fault same before most found key opens
+    early stay count = record {
+  misses = payload-missed limits answers told at h k fault found key
+      (subst (λ m. OpensRanges k m at told (Err fault)) most
+      (subst (λ t. OpensRanges k max at t (Err fault)) same opens));
   named = payload-named fault early;
   stay = stay ∙ same;
-  counted = subst (λ n. CountsRead {A = ℕ} n failed2 (Err (stream_fault fault))) before (reads-file failed1 failed2 fault count);
+  counted = subst (λ n. CountsRead {A = ℕ} n failed2 (Err (stream_fault fault))) before
+      (reads-file failed1 failed2 fault count);
 }
 
 -- ---- a file that was opened
 
-pub file-begins : (limits : Bounds) (answers : Answering) (was_read : ℕ → ℕ → Type 0) (size : Option ℕ) (chunks : stream.RangeState) (at : ℕ) (h : HeaderParts) (k : FileKey) → IsSomeHeader limits h
-    → (◌≡◌ {A = Result FileKey Fault} (Ok k) (Err OutOfMemory)) ⊎ (Ok k ≡ unlocked answers h) → stream.BeginsAt k at was_read size chunks → BeginsFile limits answers was_read size chunks
+pub file-begins : (limits : Bounds) (answers : Answering) (was_read : ℕ → ℕ → Type 0) (size : Option ℕ)
+    (chunks : stream.RangeState) (at : ℕ) (h : HeaderParts) (k : FileKey) → IsSomeHeader limits h
+    → (◌≡◌ {A = Result FileKey Fault} (Ok k) (Err OutOfMemory)) ⊎ (Ok k ≡ unlocked answers h)
+    → stream.BeginsAt k at was_read size chunks → BeginsFile limits answers was_read size chunks
 file-begins limits answers was_read size chunks at h k some (inl memory) b = absurd (cc)
-file-begins limits answers was_read size chunks at h k some (inr key) b = record { header = h; some = some; key = k; chosen = sym key; at = at; begins = b }
+file-begins limits answers was_read size chunks at h k some (inr key) b =
+    record { header = h; some = some; key = k; chosen = sym key; at = at; begins = b }

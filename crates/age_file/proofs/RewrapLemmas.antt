@@ -1,12 +1,12 @@
 -- What rewrapping a file returns and writes, and what it keeps.
-use Rattle.std.proofs.Common.{◌≡◌, ◌⊎◌, ◌↔◌, ℕ, Bool, true, false, cond, List, [], ◌++◌, length, drop, sym, ◌∙◌, ap, refl, subst, arith, inl, inr, length-append, IfErr, Option, Some, None, Result, Ok, Err}
+use Rattle.std.proofs.Common.{◌≡◌, ◌⊎◌, ◌↔◌, Bool, true, false, cond, [], ◌++◌, length, drop, sym, ◌∙◌, ap, refl, subst, arith, inl, inr, length-append, IfErr, Some, None, Result, Ok, Err}
 use Rattle.std.specs.Io.KnownBytes.{Appends, Keeps}
 use Rattle.std.proofs.KnownBytes.{Appends-nil, Appends-trans}
 use Rattle.std.proofs.lemmas.List.{append-nil, drop_at}
 use Rattle.std.specs.Str.{bytes_eq}
 use Rattle.age_header.specs.declared.fault.HeaderFault.{HeaderFault}
 use Rattle.age_header.specs.declared.fault.HeaderFault.TheVariants as header
-use Rattle.age_header.specs.Device.{MayGive, WritesPart}
+use Rattle.age_header.specs.Device.{Bytes, MayGive, WritesPart, Known}
 use Rattle.age_header.specs.Header.{HeaderParts}
 use Rattle.age_header.specs.Mac.{header_mac}
 use Rattle.age_header.specs.Reader.{ReadsHeader, Refuses}
@@ -32,15 +32,17 @@ use Rattle.age_file.proofs.DecryptLemmas.{IsHeaded, err-err}
 use Rattle.age_file.proofs.EncryptLemmas.{Made}
 use Rattle.age_file.proofs.FileLemmas.{behind, key-unlocked}
 
-keeps_same : (old : Option (List ℕ)) → Keeps old old
+keeps_same : (old : Known) → Keeps old old
 keeps_same None = tt
 keeps_same (Some xs) = refl
 
 -- of bytes that the source may give
-rewraps_of : (limits : Bounds) (answers : Answering) (gathered : FileKey → Gathering) (come old new : Option (List ℕ)) (b : List ℕ) (r : Result (Unit {0}) Fault)
+rewraps_of : (limits : Bounds) (answers : Answering) (gathered : FileKey → Gathering) (come old new : Known) (b : Bytes)
+    (r : Result (Unit {0}) Fault)
     → MayGive come b → RewrapsText limits answers gathered b old new r → Rewraps limits answers gathered come old new r
 rewraps_of limits answers gathered None old new b r may h = (b, h)
-rewraps_of limits answers gathered (Some told) old new b r may h = subst (λ t. RewrapsText limits answers gathered t old new r) (sym may) h
+rewraps_of limits answers gathered (Some told) old new b r may h =
+    subst (λ t. RewrapsText limits answers gathered t old new r) (sym may) h
 
 -- ---- before the first byte
 
@@ -51,8 +53,10 @@ IsEarly Write = ⊥
 IsEarly TooManyChunks = ⊥
 IsEarly _ = Unit {0}
 
-refused : (limits : Bounds) (answers : Answering) (gathered : FileKey → Gathering) (b : List ℕ) (old : Option (List ℕ)) (fault : Fault)
-    → IsEarly fault → RefusesRewrap limits answers gathered b fault → RewrapsText limits answers gathered b old old (Err fault)
+refused : (limits : Bounds) (answers : Answering) (gathered : FileKey → Gathering) (b : Bytes) (old : Known)
+    (fault : Fault)
+    → IsEarly fault → RefusesRewrap limits answers gathered b fault
+    → RewrapsText limits answers gathered b old old (Err fault)
 unfolding IsEarly
 refused limits answers gathered b old Read early h = absurd early
 refused limits answers gathered b old Write early h = absurd early
@@ -75,7 +79,8 @@ refused limits answers gathered b old NoRecipients early h = h
 refused limits answers gathered b old (Refused i code) early h = h
 refused limits answers gathered b old (IncompatibleRecipients i) early h = h
 
-no_header : (limits : Bounds) (answers : Answering) (gathered : FileKey → Gathering) (b : List ℕ) (old : Option (List ℕ)) (g : HeaderFault)
+no_header : (limits : Bounds) (answers : Answering) (gathered : FileKey → Gathering) (b : Bytes) (old : Known)
+    (g : HeaderFault)
     → Refuses b limits.max_header g → RewrapsText limits answers gathered b old old (Err (header_fault g))
 no_header limits answers gathered b old header.Read h = inl (keeps_same old)
 no_header limits answers gathered b old header.Memory h = tt
@@ -84,19 +89,24 @@ no_header limits answers gathered b old (header.BadLine n) h = (Err (header.BadL
 no_header limits answers gathered b old header.Truncated h = (Err header.Truncated, h, refl)
 no_header limits answers gathered b old header.TooLarge h = (Err header.TooLarge, h, refl)
 
-none_read : (limits : Bounds) (answers : Answering) (gathered : FileKey → Gathering) (come mid old : Option (List ℕ)) (g : HeaderFault)
-    → ReadsHeader come mid limits.max_header (Err g) → Rewraps limits answers gathered come old old (Err (header_fault g))
+none_read : (limits : Bounds) (answers : Answering) (gathered : FileKey → Gathering) (come mid old : Known)
+    (g : HeaderFault)
+    → ReadsHeader come mid limits.max_header (Err g)
+    → Rewraps limits answers gathered come old old (Err (header_fault g))
 none_read limits answers gathered None mid old g h = (h.0, no_header limits answers gathered h.0 old g h.1)
 none_read limits answers gathered (Some b) mid old g h = no_header limits answers gathered b old g h
 
-pub inspect_rewraps : (limits : Bounds) (answers : Answering) (gathered : FileKey → Gathering) (come mid old : Option (List ℕ)) (fault : Fault)
+pub inspect_rewraps : (limits : Bounds) (answers : Answering) (gathered : FileKey → Gathering) (come mid old : Known)
+    (fault : Fault)
     → Inspects limits come mid (Err fault) → Rewraps limits answers gathered come old old (Err fault)
 inspect_rewraps limits answers gathered come mid old fault (Ok parts, is, h) = absurd (cc)
 inspect_rewraps limits answers gathered come mid old fault (Err g, is, h) =
-    subst (λ f. Rewraps limits answers gathered come old old (Err f)) (sym (err-err {A = HeaderParts} fault (header_fault g) is)) (none_read limits answers gathered come mid old g h)
+    subst (λ f. Rewraps limits answers gathered come old old (Err f))
+        (sym (err-err {A = HeaderParts} fault (header_fault g) is)) (none_read limits answers gathered come mid old g h)
 
 -- a fault of unlocking is early
-early_checked : (h : HeaderParts) (c : Result FileKey UnlockFault) (fault : Fault) → checked h c ≡ Err fault → IsEarly fault
+early_checked : (h : HeaderParts) (c : Result FileKey UnlockFault) (fault : Fault) → checked h c ≡ Err fault
+    → IsEarly fault
 unfolding IsEarly
 early_checked h (Err unlock.NoMatch) fault e = subst IsEarly (err-err {A = FileKey} NoMatch fault e) tt
 early_checked h (Err unlock.WrongKey) fault e = subst IsEarly (err-err {A = FileKey} WrongKey fault e) tt
@@ -108,7 +118,8 @@ early_checked h (Ok k) fault e = go (bytes_eq h.mac (header_mac k.0 h.stanzas)) 
     go true e = absurd (cc)
     go false e = subst IsEarly (err-err {A = FileKey} BadMac fault e) tt
 
-early_unlocked : (answers : Answering) (h : HeaderParts) (fault : Fault) → unlocked answers h ≡ Err fault → IsEarly fault
+early_unlocked : (answers : Answering) (h : HeaderParts) (fault : Fault) → unlocked answers h ≡ Err fault
+    → IsEarly fault
 unfolding IsEarly
 early_unlocked answers h fault e = go (is_mixed h.stanzas) e
   where
@@ -116,20 +127,25 @@ early_unlocked answers h fault e = go (is_mixed h.stanzas) e
     go true e = subst IsEarly (err-err {A = FileKey} MixedPassphrase fault e) tt
     go false e = early_checked h (choice (answers h.stanzas)) fault e
 
-pub locked_rewraps : (limits : Bounds) (answers : Answering) (gathered : FileKey → Gathering) (come mid old : Option (List ℕ)) (h : HeaderParts) (fault : Fault)
-    → IsHeaded limits come mid h → (◌≡◌ {A = Result FileKey Fault} (Err fault) (Err OutOfMemory)) ⊎ (Err fault ≡ unlocked answers h) → Rewraps limits answers gathered come old old (Err fault)
+pub locked_rewraps : (limits : Bounds) (answers : Answering) (gathered : FileKey → Gathering) (come mid old : Known)
+    (h : HeaderParts) (fault : Fault)
+    → IsHeaded limits come mid h → (◌≡◌ {A = Result FileKey Fault} (Err fault) (Err OutOfMemory))
+    ⊎ (Err fault ≡ unlocked answers h) → Rewraps limits answers gathered come old old (Err fault)
 locked_rewraps limits answers gathered come mid old h fault i r =
     let rest = may-some mid in
-    let b : List ℕ = i.text ++ rest.0 in
+    let b : Bytes = i.text ++ rest.0 in
     let memory : RewrapsText limits answers gathered b old old (Err OutOfMemory) = tt in
     rewraps_of limits answers gathered come old old b (Err fault) (i.may rest.0 rest.1)
     (elim r [
-      | inl is ↦ subst (λ f. RewrapsText limits answers gathered b old old (Err f)) (sym (err-err {A = FileKey} fault OutOfMemory is)) memory
-      | inr is ↦ refused limits answers gathered b old fault (early_unlocked answers h fault (sym is)) (Ok (found_in i.text h), i.verdict rest.0 rest.1, inl (sym is))
+      | inl is ↦ subst (λ f. RewrapsText limits answers gathered b old old (Err f))
+          (sym (err-err {A = FileKey} fault OutOfMemory is)) memory
+      | inr is ↦ refused limits answers gathered b old fault (early_unlocked answers h fault (sym is))
+          (Ok (found_in i.text h), i.verdict rest.0 rest.1, inl (sym is))
     ])
 
 -- a reason why there is no new header is early
-early_refusal : (limits : Bounds) (k : FileKey) (gathered : Gathering) (fault : Fault) → IsRefusal limits k gathered fault → IsEarly fault
+early_refusal : (limits : Bounds) (k : FileKey) (gathered : Gathering) (fault : Fault)
+    → IsRefusal limits k gathered fault → IsEarly fault
 unfolding IsEarly
 early_refusal limits k gathered (Refused i code) h = tt
 early_refusal limits k gathered (IncompatibleRecipients i) h = tt
@@ -139,15 +155,17 @@ early_refusal limits k gathered HeaderTooLarge h = tt
 early_refusal limits k gathered fault h = absurd h
 
 -- no new header was made
-pub heading_rewraps : (limits : Bounds) (answers : Answering) (gathered : FileKey → Gathering) (come mid old : Option (List ℕ)) (h : HeaderParts) (key : FileKey) (fault : Fault)
-    → IsHeaded limits come mid h → unlocked answers h ≡ Ok key → FailsHeading limits key (gathered key) fault → Rewraps limits answers gathered come old old (Err fault)
+pub heading_rewraps : (limits : Bounds) (answers : Answering) (gathered : FileKey → Gathering) (come mid old : Known)
+    (h : HeaderParts) (key : FileKey) (fault : Fault)
+    → IsHeaded limits come mid h → unlocked answers h ≡ Ok key → FailsHeading limits key (gathered key) fault
+    → Rewraps limits answers gathered come old old (Err fault)
 heading_rewraps limits answers gathered come mid old h key fault i chosen fails =
     rewraps_of limits answers gathered come old old b (Err fault) (i.may rest.0 rest.1) (go fails)
   where
-    rest : (bytes : List ℕ) × MayGive mid bytes
+    rest : (bytes : Bytes) × MayGive mid bytes
     rest = may-some mid
 
-    b : List ℕ
+    b : Bytes
     b = i.text ++ rest.0
 
     memory : RewrapsText limits answers gathered b old old (Err OutOfMemory)
@@ -156,13 +174,16 @@ heading_rewraps limits answers gathered come mid old h key fault i chosen fails 
     go : FailsHeading limits key (gathered key) fault → RewrapsText limits answers gathered b old old (Err fault)
     go (inl is) = subst (λ g. RewrapsText limits answers gathered b old old (Err g)) (sym is) memory
     go (inr refusal) =
-        refused limits answers gathered b old fault (early_refusal limits key (gathered key) fault refusal) (Ok (found_in i.text h), i.verdict rest.0 rest.1, inr (key, chosen, refusal))
+        refused limits answers gathered b old fault (early_refusal limits key (gathered key) fault refusal)
+            (Ok (found_in i.text h), i.verdict rest.0 rest.1, inr (key, chosen, refusal))
 
 -- ---- what was written
 
 -- the file of the new header, if the source gives these bytes
-new_file : (limits : Bounds) (answers : Answering) (gathered : FileKey → Gathering) (come mid : Option (List ℕ)) (h : HeaderParts) (key : FileKey) (text bytes : List ℕ)
-    → (i : IsHeaded limits come mid h) → unlocked answers h ≡ Ok key → Made limits key (gathered key) text → MayGive mid bytes → IsRewrapped limits answers gathered (i.text ++ bytes) (text ++ bytes)
+new_file : (limits : Bounds) (answers : Answering) (gathered : FileKey → Gathering) (come mid : Known) (h : HeaderParts)
+    (key : FileKey) (text bytes : Bytes)
+    → (i : IsHeaded limits come mid h) → unlocked answers h ≡ Ok key → Made limits key (gathered key) text
+    → MayGive mid bytes → IsRewrapped limits answers gathered (i.text ++ bytes) (text ++ bytes)
 new_file limits answers gathered come mid h key text bytes i chosen made may = (
   record {
     found = found_in i.text h;
@@ -180,45 +201,60 @@ new_file limits answers gathered come mid h key text bytes i chosen made may = (
 )
 
 -- a prefix of the header was written
-pub begun_rewraps : (limits : Bounds) (answers : Answering) (gathered : FileKey → Gathering) (come mid old new : Option (List ℕ)) (h : HeaderParts) (key : FileKey) (text : List ℕ)
-    → IsHeaded limits come mid h → unlocked answers h ≡ Ok key → Made limits key (gathered key) text → WritesPart old new text → Rewraps limits answers gathered come old new (Err Write)
+pub begun_rewraps : (limits : Bounds) (answers : Answering) (gathered : FileKey → Gathering) (come mid old new : Known)
+    (h : HeaderParts) (key : FileKey) (text : Bytes)
+    → IsHeaded limits come mid h → unlocked answers h ≡ Ok key → Made limits key (gathered key) text
+    → WritesPart old new text → Rewraps limits answers gathered come old new (Err Write)
 begun_rewraps limits answers gathered come mid old new h key text i chosen made part =
     let rest = may-some mid in
     rewraps_of limits answers gathered come old new (i.text ++ rest.0) (Err Write) (i.may rest.0 rest.1) (
       text ++ rest.0,
       new_file limits answers gathered come mid h key text rest.0 i chosen made rest.1,
-      done_part old old new (text ++ rest.0) (text ++ rest.0) text rest.0 (record { front = []; took = Appends-nil old; is = refl }) refl part,
+      done_part old old new (text ++ rest.0) (text ++ rest.0) text rest.0
+          (record { front = []; took = Appends-nil old; is = refl }) refl part,
     )
 
 -- a prefix of the rest was written after it
-copied_part : (limits : Bounds) (answers : Answering) (gathered : FileKey → Gathering) (come mid old put new : Option (List ℕ)) (h : HeaderParts) (key : FileKey) (text bytes : List ℕ)
-    → (i : IsHeaded limits come mid h) → unlocked answers h ≡ Ok key → Made limits key (gathered key) text → Appends old put text → MayGive mid bytes → WritesPart put new bytes
+copied_part : (limits : Bounds) (answers : Answering) (gathered : FileKey → Gathering) (come mid old put new : Known)
+    (h : HeaderParts) (key : FileKey) (text bytes : Bytes)
+    → (i : IsHeaded limits come mid h) → unlocked answers h ≡ Ok key → Made limits key (gathered key) text
+    → Appends old put text → MayGive mid bytes → WritesPart put new bytes
     → BeginsRewrapped limits answers gathered (i.text ++ bytes) old new
 copied_part limits answers gathered come mid old put new h key text bytes i chosen made front may part = (
   text ++ bytes,
   new_file limits answers gathered come mid h key text bytes i chosen made may,
-  done_part old put new (text ++ bytes) bytes bytes [] (record { front = text; took = front; is = refl }) (sym (append-nil bytes)) part,
+  done_part old put new (text ++ bytes) bytes bytes [] (record { front = text; took = front; is = refl })
+      (sym (append-nil bytes)) part,
 )
 
-pub copied_rewraps : (limits : Bounds) (answers : Answering) (gathered : FileKey → Gathering) (come mid old put new : Option (List ℕ)) (h : HeaderParts) (key : FileKey) (text : List ℕ)
-    (r : Result (Unit {0}) Fault) → IsHeaded limits come mid h → unlocked answers h ≡ Ok key → Made limits key (gathered key) text → Appends old put text → Copies mid put new r
+pub copied_rewraps : (limits : Bounds) (answers : Answering) (gathered : FileKey → Gathering)
+    (come mid old put new : Known) (h : HeaderParts) (key : FileKey) (text : Bytes)
+    (r : Result (Unit {0}) Fault) → IsHeaded limits come mid h → unlocked answers h ≡ Ok key
+        → Made limits key (gathered key) text → Appends old put text → Copies mid put new r
     → Rewraps limits answers gathered come old new r
-copied_rewraps limits answers gathered come mid old put new h key text (Ok done) i chosen made front (bytes, may, wrote) =
+copied_rewraps limits answers gathered come mid old put new h key text (Ok done) i chosen made front
+    (bytes, may, wrote) =
     rewraps_of limits answers gathered come old new (i.text ++ bytes) (Ok done) (i.may bytes may) (
       text ++ bytes,
       new_file limits answers gathered come mid h key text bytes i chosen made may,
       Appends-trans old put new text bytes front wrote,
     )
-copied_rewraps limits answers gathered come mid old put new h key text (Err fault) i chosen made front copied = go fault copied
+copied_rewraps limits answers gathered come mid old put new h key text (Err fault) i chosen made front copied =
+    go fault copied
   where
-    part : (bytes : List ℕ) → MayGive mid bytes → WritesPart put new bytes → BeginsRewrapped limits answers gathered (i.text ++ bytes) old new
-    part bytes may wrote = copied_part limits answers gathered come mid old put new h key text bytes i chosen made front may wrote
+    part : (bytes : Bytes) → MayGive mid bytes → WritesPart put new bytes
+        → BeginsRewrapped limits answers gathered (i.text ++ bytes) old new
+    part bytes may wrote = copied_part limits answers gathered come mid old put new h key text bytes i chosen made front
+        may wrote
 
     go : (f : Fault) → Copies mid put new (Err f) → Rewraps limits answers gathered come old new (Err f)
-    go Read (bytes, may, wrote) = rewraps_of limits answers gathered come old new (i.text ++ bytes) (Err Read) (i.may bytes may) (inr (part bytes may wrote))
-    go Write (bytes, may, wrote) = rewraps_of limits answers gathered come old new (i.text ++ bytes) (Err Write) (i.may bytes may) (part bytes may wrote)
+    go Read (bytes, may, wrote) = rewraps_of limits answers gathered come old new (i.text ++ bytes) (Err Read)
+        (i.may bytes may) (inr (part bytes may wrote))
+    go Write (bytes, may, wrote) = rewraps_of limits answers gathered come old new (i.text ++ bytes) (Err Write)
+        (i.may bytes may) (part bytes may wrote)
     go TooManyChunks (bytes, may, wrote, long) =
-        rewraps_of limits answers gathered come old new (i.text ++ bytes) (Err TooManyChunks) (i.may bytes may) (part bytes may wrote, omega (arith, length-append i.text bytes, long))
+        rewraps_of limits answers gathered come old new (i.text ++ bytes) (Err TooManyChunks) (i.may bytes may)
+            (part bytes may wrote, omega (arith, length-append i.text bytes, long))
     go OutOfMemory c = absurd c
     go NotAge c = absurd c
     go (BadLine n) c = absurd c
@@ -238,7 +274,8 @@ copied_rewraps limits answers gathered come mid old put new h key text (Err faul
     go (IncompatibleRecipients i) c = absurd c
 
 -- copying ends with a late fault alone
-pub copies_late : (from old new : Option (List ℕ)) (K : Type 0) (r : Result (Unit {0}) Fault) → Copies from old new r → IfErr r (λ fault. IsLate fault ⊎ K)
+pub copies_late : (from old new : Known) (K : Type 0) (r : Result (Unit {0}) Fault) → Copies from old new r
+    → IfErr r (λ fault. IsLate fault ⊎ K)
 copies_late from old new K (Ok done) c = tt
 copies_late from old new K (Err fault) c = go fault c
   where
@@ -267,20 +304,21 @@ copies_late from old new K (Err fault) c = go fault c
 -- ---- the law
 
 -- the reading of a rewrapped file is that of the file
-pub keeps : (limits : Bounds) (old new : Answering) (b c : List ℕ) (is : Rewrapped limits old b c)
+pub keeps : (limits : Bounds) (old new : Answering) (b c : Bytes) (is : Rewrapped limits old b c)
     → choice (new is.stanzas) ≡ Ok is.key → (v : Reading Fault) → IsVerdict limits old b v ↔ IsVerdict limits new c v
 keeps limits old new b c is chosen v = (
-  (λ h. record { header = Ok found; header_verdict = headers.found_begins c limits.max_header found begins; is = of_old h ∙ sym same }),
+  (λ h. record { header = Ok found; header_verdict = headers.found_begins c limits.max_header found begins; is =
+      of_old h ∙ sym same }),
   (λ h. record { header = Ok is.found; header_verdict = is.header; is = of_new h ∙ same }),
 )
   where
-    mac : List ℕ
+    mac : Bytes
     mac = header_mac is.key.0 is.stanzas
 
     found : Found
     found = record { stanzas = is.stanzas; mac = mac; text = is.text }
 
-    rest : List ℕ
+    rest : Bytes
     rest = drop (length is.found.text) b
 
     begins : BeginsWith c limits.max_header found
@@ -289,15 +327,21 @@ keeps limits old new b c is chosen v = (
     same : judged limits new c (Ok found) ≡ judged limits old b (Ok is.found)
     same =
         ap (λ t. read_under limits t (unlocked new (parts_of found))) (behind c limits.max_header found begins)
-        ∙ ap (read_under limits rest) (key-unlocked new (parts_of found) is.key (record { unmixed = is.unmixed; chosen = chosen; mac = refl }) ∙ sym is.chosen)
+        ∙ ap (read_under limits rest) (key-unlocked new (parts_of found) is.key
+        (record { unmixed = is.unmixed; chosen = chosen; mac = refl }) ∙ sym is.chosen)
 
     of_old : IsVerdict limits old b v → v ≡ judged limits old b (Ok is.found)
-    of_old h = h.is ∙ ap (judged limits old b) (headers.one_verdict b limits.max_header h.header (Ok is.found) h.header_verdict is.header)
+    of_old h = h.is ∙ ap (judged limits old b)
+        (headers.one_verdict b limits.max_header h.header (Ok is.found) h.header_verdict is.header)
 
     of_new : IsVerdict limits new c v → v ≡ judged limits new c (Ok found)
-    of_new h = h.is ∙ ap (judged limits new c) (headers.one_verdict c limits.max_header h.header (Ok found) h.header_verdict (headers.found_begins c limits.max_header found begins))
+    of_new h = h.is ∙ ap (judged limits new c)
+        (headers.one_verdict c limits.max_header h.header (Ok found) h.header_verdict
+        (headers.found_begins c limits.max_header found begins))
 
 -- the key that was found
-pub key_found : (answers : Answering) (h : HeaderParts) (key : FileKey) → (◌≡◌ {A = Result FileKey Fault} (Ok key) (Err OutOfMemory)) ⊎ (Ok key ≡ unlocked answers h) → unlocked answers h ≡ Ok key
+pub key_found : (answers : Answering) (h : HeaderParts) (key : FileKey)
+    → (◌≡◌ {A = Result FileKey Fault} (Ok key) (Err OutOfMemory)) ⊎ (Ok key ≡ unlocked answers h)
+    → unlocked answers h ≡ Ok key
 key_found answers h key (inl e) = absurd (cc)
 key_found answers h key (inr e) = sym e

@@ -15,6 +15,7 @@ use Rattle.std.specs.Ordering.{nat_cmp}
 use Rattle.std.specs.Str.{bytes_eq}
 use Rattle.std.specs.String.{string_bytes, string_cmp, string_eq}
 use Rattle.std.specs.declared.cmp.Ordering.TheVariants.{Less}
+use Rattle.age_kdf.specs.Bytes.{Bytes}
 use Rattle.age_recipient.specs.declared.labels.Labels.{Labels}
 use Rattle.age_recipient.specs.declared.labels.Labels.TheVariants.{Names}
 use Rattle.age_recipient.specs.Labels.{IsSetOf, go_together, incompatible}
@@ -25,13 +26,16 @@ below_all x [] h = tt
 below_all x (k ∷ ks) h = (h.0, below_all x ks h.1)
 
 -- strings in order have their bytes in order
-pub ordered_bytes : (ks : List (String Global)) → IsStrictlySortedBy string_cmp ks → IsStrictlySortedBy (slice_cmp nat_cmp) (map string_bytes ks)
+pub ordered_bytes : (ks : List (String Global)) → IsStrictlySortedBy string_cmp ks
+    → IsStrictlySortedBy (slice_cmp nat_cmp) (map string_bytes ks)
 unfolding IsStrictlySortedBy
 ordered_bytes [] h = tt
 ordered_bytes (k ∷ ks) h = (below_all k ks h.0, ordered_bytes ks h.1)
 
 -- a look-up among strings is one among their bytes
-pub any_bytes : (text : List ℕ) (ks : List (String Global)) → list_any (bytes_eq text) (map string_bytes ks) ≡ list_any (is_at (λ k. slice_cmp nat_cmp text (string_bytes k))) ks
+pub any_bytes : (text : Bytes) (ks : List (String Global))
+    → list_any (bytes_eq text) (map string_bytes ks)
+    ≡ list_any (is_at (λ k. slice_cmp nat_cmp text (string_bytes k))) ks
 any_bytes text [] = refl
 any_bytes text (k ∷ ks) = rw (is_eq-slice_cmp text (string_bytes k), any_bytes text ks) refl
 
@@ -41,37 +45,46 @@ or_last true false = refl
 or_last false true = refl
 or_last false false = refl
 
-bytes_eq_sym : (a b : List ℕ) → bytes_eq a b ≡ bytes_eq b a
+bytes_eq_sym : (a b : Bytes) → bytes_eq a b ≡ bytes_eq b a
 bytes_eq_sym a b = (lists_equiv nat_eq_equiv).symm a b
 
 -- one text more
-pub one_more : (texts : List (Bor (List ℕ))) (i : ℕ) (d : Bor (List ℕ)) (bytes text : List ℕ) (old new : Bool) → i < length texts → bytes ≡ (get_or texts i d).now
-    → new ≡ cond (bytes_eq bytes text) true old → old ≡ list_any (λ t. bytes_eq text t.now) (take i texts) → new ≡ list_any (λ t. bytes_eq text t.now) (take (i + 1) texts)
+pub one_more : (texts : List (Bor Bytes)) (i : ℕ) (d : Bor Bytes) (bytes text : Bytes) (old new : Bool)
+    → i < length texts → bytes ≡ (get_or texts i d).now
+    → new ≡ cond (bytes_eq bytes text) true old → old ≡ list_any (λ t. bytes_eq text t.now) (take i texts)
+    → new ≡ list_any (λ t. bytes_eq text t.now) (take (i + 1) texts)
 one_more texts i d bytes text old new low is now before =
-    let test : bytes_eq bytes text ≡ bytes_eq text (get_or texts i d).now = bytes_eq_sym bytes text ∙ ap (bytes_eq text) is in
-    now ∙ or_last (bytes_eq bytes text) old ∙ ap (λ b. b || bytes_eq bytes text) before ∙ ap (λ b. list_any (λ t. bytes_eq text t.now) (take i texts) || b) test
+    let test : bytes_eq bytes text ≡ bytes_eq text (get_or texts i d).now = bytes_eq_sym bytes text
+        ∙ ap (bytes_eq text) is in
+    now ∙ or_last (bytes_eq bytes text) old ∙ ap (λ b. b || bytes_eq bytes text) before
+        ∙ ap (λ b. list_any (λ t. bytes_eq text t.now) (take i texts) || b) test
     ∙ sym (list_any_more (λ t. bytes_eq text t.now) texts i d low)
 
 -- the test of a text, of borrowed texts and of the texts themselves
-pub any_now : (text : List ℕ) (texts : List (Bor (List ℕ))) → list_any (λ t. bytes_eq text t.now) texts ≡ list_any (bytes_eq text) (map (λ t. t.now) texts)
+pub any_now : (text : Bytes) (texts : List (Bor Bytes))
+    → list_any (λ t. bytes_eq text t.now) texts ≡ list_any (bytes_eq text) (map (λ t. t.now) texts)
 any_now text [] = refl
 any_now text (t ∷ ts) = ap (λ b. bytes_eq text t.now || b) (any_now text ts)
 
 -- two sets of strings are compared by their bytes
-pub names_together : (self other : Labels) (a b : List (List ℕ)) (xs ys : List (String Global)) (r : Bool) → self ≡ Names a → other ≡ Names b
+pub names_together : (self other : Labels) (a b : List Bytes) (xs ys : List (String Global)) (r : Bool) → self ≡ Names a
+    → other ≡ Names b
     → map string_bytes xs ≡ a → map string_bytes ys ≡ b → r ≡ pointwise string_eq xs ys → r ≡ go_together self other
 names_together self other a b xs ys r left right of_xs of_ys is =
-    rw (left, right) (is ∙ sym (pointwise-map string_bytes bytes_eq xs ys) ∙ ap (λ l. pointwise bytes_eq l (map string_bytes ys)) of_xs ∙ ap (pointwise bytes_eq a) of_ys)
+    rw (left, right) (is ∙ sym (pointwise-map string_bytes bytes_eq xs ys)
+        ∙ ap (λ l. pointwise bytes_eq l (map string_bytes ys)) of_xs ∙ ap (pointwise bytes_eq a) of_ys)
 
 -- of no texts the set is empty
-pub no_texts : (set : List (List ℕ)) → IsSetOf [] set → set ≡ []
+pub no_texts : (set : List Bytes) → IsSetOf [] set → set ≡ []
 no_texts [] is = refl
 no_texts (text ∷ rest) is =
     let here : (bytes_eq text text || list_any (bytes_eq text) rest) ≡ false = is.members text in
-    absurd (true≢false (sym (ap (λ b. b || list_any (bytes_eq text) rest) ((lists_equiv nat_eq_equiv).refl text)) ∙ here))
+    absurd (true≢false (sym (ap (λ b. b || list_any (bytes_eq text) rest) ((lists_equiv nat_eq_equiv).refl text))
+        ∙ here))
 
 -- a copy of strings has the same bytes
-pub same_bytes : (ks copies : List (String Global)) → AllZip (λ s t. string_bytes t ≡ string_bytes s) ks copies → map string_bytes copies ≡ map string_bytes ks
+pub same_bytes : (ks copies : List (String Global)) → AllZip (λ s t. string_bytes t ≡ string_bytes s) ks copies
+    → map string_bytes copies ≡ map string_bytes ks
 same_bytes [] [] h = refl
 same_bytes [] (c ∷ cs) h = absurd h
 same_bytes (k ∷ ks) [] h = absurd h
@@ -87,16 +100,23 @@ one_fewer first others i l low is =
     ap (incompatible_from first (i + 1)) (drop_more others i l low ∙ ap (λ y. y ∷ drop (i + 1) others) (sym is))
 
 -- the one at index i goes together with the first, so the others decide
-pub passes_over : (first : Labels) (others : List Labels) (i : ℕ) (l : Labels) → i < length others → l ≡ get_or others i l → go_together first l ≡ true
-    → incompatible_from first 1 others ≡ incompatible_from first (i + 1) (drop i others) → incompatible_from first 1 others ≡ incompatible_from first (i + 1 + 1) (drop (i + 1) others)
+pub passes_over : (first : Labels) (others : List Labels) (i : ℕ) (l : Labels) → i < length others
+    → l ≡ get_or others i l → go_together first l ≡ true
+    → incompatible_from first 1 others ≡ incompatible_from first (i + 1) (drop i others)
+    → incompatible_from first 1 others ≡ incompatible_from first (i + 1 + 1) (drop (i + 1) others)
 passes_over first others i l low is goes before = before ∙ one_fewer first others i l low is ∙ rw goes refl
 
 -- the one at index i does not
-pub stops_at : (all : List Labels) (first : Labels) (others : List Labels) (i : ℕ) (l : Labels) → all ≡ first ∷ others → i < length others → l ≡ get_or others i l
-    → go_together first l ≡ false → incompatible_from first 1 others ≡ incompatible_from first (i + 1) (drop i others) → Some (i + 1) ≡ incompatible all
-stops_at all first others i l is_all low is goes before = rw is_all (sym (before ∙ one_fewer first others i l low is ∙ rw goes refl))
+pub stops_at : (all : List Labels) (first : Labels) (others : List Labels) (i : ℕ) (l : Labels) → all ≡ first ∷ others
+    → i < length others → l ≡ get_or others i l
+    → go_together first l ≡ false → incompatible_from first 1 others ≡ incompatible_from first (i + 1) (drop i others)
+    → Some (i + 1) ≡ incompatible all
+stops_at all first others i l is_all low is goes before =
+    rw is_all (sym (before ∙ one_fewer first others i l low is ∙ rw goes refl))
 
 -- none is left
-pub passes_all : (all : List Labels) (first : Labels) (others : List Labels) (i : ℕ) → all ≡ first ∷ others → length others ≤ i
+pub passes_all : (all : List Labels) (first : Labels) (others : List Labels) (i : ℕ) → all ≡ first ∷ others
+    → length others ≤ i
     → incompatible_from first 1 others ≡ incompatible_from first (i + 1) (drop i others) → None ≡ incompatible all
-passes_all all first others i is_all end before = rw is_all (sym (before ∙ ap (incompatible_from first (i + 1)) (drop_all i others end)))
+passes_all all first others i is_all end before =
+    rw is_all (sym (before ∙ ap (incompatible_from first (i + 1)) (drop_all i others end)))

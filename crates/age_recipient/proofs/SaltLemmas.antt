@@ -1,11 +1,12 @@
 -- What is no salt.
-use Rattle.std.proofs.Common.{◌≡◌, ℕ, List, length, refl, ◌∙◌, ap, true, false, Some, None, nat_eq, if◌then◌else◌}
+use Rattle.std.proofs.Common.{◌≡◌, length, refl, ◌∙◌, ap, true, false, Some, None, nat_eq, if◌then◌else◌}
 use Rattle.std.proofs.lemmas.Bool.{eqb-true}
-use Rattle.std.specs.declared.option.Option.{Option}
+use Rattle.age_kdf.specs.Bytes.{Bytes}
+use Rattle.age_header.specs.Device.{Known}
 use Rattle.age_recipient.specs.Salt.{salt_of}
 
 -- a decoded text of another length is no salt
-pub no_salt : (o : Option (List ℕ)) (bytes : List ℕ) → Some bytes ≡ o → (length bytes ≡ 16 → ⊥) → None ≡ salt_of o
+pub no_salt : (o : Known) (bytes : Bytes) → Some bytes ≡ o → (length bytes ≡ 16 → ⊥) → None ≡ salt_of o
 no_salt None bytes is other = cc
 no_salt (Some found) bytes is other =
     let same : bytes ≡ found = cc in

@@ -1,7 +1,9 @@
 -- A stanza of two parts.
-use Rattle.std.proofs.Common.{◌≡◌, ℕ, List, refl, sym}
+use Rattle.std.proofs.Common.{◌≡◌, List, refl, sym}
+use Rattle.age_kdf.specs.Bytes.{Bytes}
 use Rattle.age_header.specs.Header.{StanzaParts}
 
 -- a stanza is its arguments and its body
-pub of_parts : (s : StanzaParts) (args : List (List ℕ)) (body : List ℕ) → s.args ≡ args → s.body ≡ body → s ≡ record { args = args; body = body }
+pub of_parts : (s : StanzaParts) (args : List Bytes) (body : Bytes) → s.args ≡ args → s.body ≡ body
+    → s ≡ record { args = args; body = body }
 of_parts s args body a b = rw (sym a, sym b) refl

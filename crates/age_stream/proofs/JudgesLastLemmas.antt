@@ -1,8 +1,10 @@
 -- What the last piece gives, and what opening a payload for ranges finds.
-use Rattle.std.proofs.Common.{◌≡◌, ◌⊎◌, ℕ, List, [], ◌+◌, ◌-◌, ◌*◌, ◌/◌, ◌<◌, ◌≤◌, length, take, drop, get_or, nat_lt, nat_eq, sym, ◌∙◌, ap, arith, true, refl, inl, inr, subst, Option, Some, None, Result, Ok, Err}
+use Rattle.std.proofs.Common.{◌≡◌, ◌⊎◌, ℕ, [], ◌+◌, ◌-◌, ◌*◌, ◌/◌, ◌<◌, ◌≤◌, length, take, drop, get_or, nat_lt, nat_eq, sym, ◌∙◌, ap, arith, true, refl, inl, inr, subst, Option, Some, None, Result, Ok, Err}
 use Rattle.std.specs.Prelude.{unwrap_or, IfSome}
 use Rattle.std.proofs.lemmas.Bool.{cases_lt, eq-eqb, le-leb, le-ltb, cond-false}
 use Rattle.std.proofs.lemmas.List.{length-drop, length-take-le, drop-drop, take_all}
+use Rattle.age_kdf.specs.Bytes.{Bytes}
+use Rattle.age_header.specs.Device.{Known}
 use Rattle.age_cipher.proofs.OpeningLemmas.{length-sealed, opened-sealed}
 use Rattle.age_recipient.specs.declared.key.FileKey.{FileKey}
 use Rattle.age_stream.specs.declared.fault.StreamFault.{StreamFault}
@@ -26,42 +28,45 @@ some-or-none last len is = elim (cases_lt 0 len) [
   | inr none ↦ inl (omega arith)
 ]
 
-pub piece-count : (rest : List ℕ) (last : ℕ) → last ≡ (length rest - 1) / 65552 → length (pieces rest) ≡ last + 1
+pub piece-count : (rest : Bytes) (last : ℕ) → last ≡ (length rest - 1) / 65552 → length (pieces rest) ≡ last + 1
 piece-count rest last is = cut-count 65552 last rest (omega arith) (some-or-none last (length rest) is) (omega arith)
 
-last-piece : (rest : List ℕ) (last : ℕ) → last ≡ (length rest - 1) / 65552 → last_piece rest ≡ drop (65552 * last) rest
+last-piece : (rest : Bytes) (last : ℕ) → last ≡ (length rest - 1) / 65552 → last_piece rest ≡ drop (65552 * last) rest
 last-piece rest last is =
     let n : length (pieces rest) ≡ last + 1 = piece-count rest last is in
     let e : length (pieces rest) - 1 ≡ last = omega arith in
     let d : length (drop (65552 * last) rest) ≡ length rest - 65552 * last = length-drop (65552 * last) rest in
-    ap (λ k. get_or (pieces rest) k []) e ∙ cut-at 65552 last rest (omega arith) ∙ take_all 65552 (drop (65552 * last) rest) (omega arith)
+    ap (λ k. get_or (pieces rest) k []) e ∙ cut-at 65552 last rest (omega arith)
+        ∙ take_all 65552 (drop (65552 * last) rest) (omega arith)
 
 -- how long the last piece is
-pub length-last : (rest : List ℕ) → length (last_piece rest) ≡ last_len (length rest)
+pub length-last : (rest : Bytes) → length (last_piece rest) ≡ last_len (length rest)
 length-last rest =
     let last : ℕ = (length rest - 1) / 65552 in
     ap length (last-piece rest last refl) ∙ length-drop (65552 * last) rest
 
 -- what the last piece gives, its number and its offset written out
-pub last-is : (key : List ℕ) (max : ℕ) (rest : List ℕ) (last : ℕ) → last ≡ (length rest - 1) / 65552
+pub last-is : (key : Bytes) (max : ℕ) (rest : Bytes) (last : ℕ) → last ≡ (length rest - 1) / 65552
     → last_outcome key max rest ≡ outcome key max last true (drop (65552 * last) rest)
 last-is key max rest last is =
     let n : length (pieces rest) ≡ last + 1 = piece-count rest last is in
     let e : length (pieces rest) - 1 ≡ last = omega arith in
     ap (λ k. outcome key max k true (last_piece rest)) e ∙ ap (outcome key max last true) (last-piece rest last is)
 
-behind-len : (at n : ℕ) (bytes : List ℕ) → length bytes ≡ at + n → length (drop at bytes) ≡ n
+behind-len : (at n : ℕ) (bytes : Bytes) → length bytes ≡ at + n → length (drop at bytes) ≡ n
 behind-len at n bytes size = let d : length (drop at bytes) ≡ length bytes - at = length-drop at bytes in omega arith
 
 -- too many pieces
-pub last-many : (key : List ℕ) (max first sealed last : ℕ) (told : Option (List ℕ)) → last ≡ (sealed - 1) / 65552 → max ≤ last
+pub last-many : (key : Bytes) (max first sealed last : ℕ) (told : Known) → last ≡ (sealed - 1) / 65552 → max ≤ last
     → IfSome told (λ bytes. length bytes ≡ first + sealed → last_outcome key max (drop first bytes) ≡ Err TooManyChunks)
 last-many key max first sealed last None is le = tt
 last-many key max first sealed last (Some bytes) is le = λ size.
-    last-is key max (drop first bytes) last (is ∙ ap (λ n. (n - 1) / 65552) (sym (behind-len first sealed bytes size))) ∙ outcome-many key max last true (drop (65552 * last) (drop first bytes)) le
+    last-is key max (drop first bytes) last (is ∙ ap (λ n. (n - 1) / 65552) (sym (behind-len first sealed bytes size)))
+        ∙ outcome-many key max last true (drop (65552 * last) (drop first bytes)) le
 
 -- the last piece was not there to be read
-pub last-gone : (key : List ℕ) (max first sealed last end : ℕ) (told : Option (List ℕ)) (fault : StreamFault) → last ≡ (sealed - 1) / 65552 → end ≡ sealed - 65552 * last
+pub last-gone : (key : Bytes) (max first sealed last end : ℕ) (told : Known) (fault : StreamFault)
+    → last ≡ (sealed - 1) / 65552 → end ≡ sealed - 65552 * last
     → EndsBefore told (first + 65552 * last + end)
     → IfSome told (λ bytes. length bytes ≡ first + sealed → last_outcome key max (drop first bytes) ≡ Err fault)
 last-gone key max first sealed last end None fault is len gone = tt
@@ -70,34 +75,43 @@ last-gone key max first sealed last end (Some bytes) fault is len gone = λ size
     absurd (omega arith)
 
 -- what was read at the last piece's offset gives what the last piece does
-pub last-read : (key : List ℕ) (max first sealed last end : ℕ) (told : Option (List ℕ)) (buf : List ℕ) (r : Result (List ℕ) StreamFault) → last ≡ (sealed - 1) / 65552
-    → end ≡ sealed - 65552 * last → length buf ≡ 65553 → HasAt told (first + 65552 * last) (take end buf) → outcome key max last true (take end buf) ≡ r
+pub last-read : (key : Bytes) (max first sealed last end : ℕ) (told : Known) (buf : Bytes)
+    (r : Result Bytes StreamFault) → last ≡ (sealed - 1) / 65552
+    → end ≡ sealed - 65552 * last → length buf ≡ 65553 → HasAt told (first + 65552 * last) (take end buf)
+    → outcome key max last true (take end buf) ≡ r
     → IfSome told (λ bytes. length bytes ≡ first + sealed → last_outcome key max (drop first bytes) ≡ r)
 last-read key max first sealed last end None buf r is len room has gives = tt
 last-read key max first sealed last end (Some bytes) buf r is len room has gives = λ size.
-    let rest : List ℕ = drop first bytes in
+    let rest : Bytes = drop first bytes in
     let all : length rest ≡ sealed = behind-len first sealed bytes size in
     let d : length (drop (65552 * last) rest) ≡ length rest - 65552 * last = length-drop (65552 * last) rest in
     let l : length (take end buf) ≡ end = length-take-le end buf (omega arith) in
     let same : take end buf ≡ drop (65552 * last) rest =
-    has ∙ ap (λ k. take k (drop (first + 65552 * last) bytes)) l ∙ ap (take end) (sym (drop-drop (65552 * last) first bytes))
+    has ∙ ap (λ k. take k (drop (first + 65552 * last) bytes)) l
+        ∙ ap (take end) (sym (drop-drop (65552 * last) first bytes))
     ∙ take_all end (drop (65552 * last) rest) (omega arith) in
-    last-is key max rest last (is ∙ ap (λ n. (n - 1) / 65552) (sym all)) ∙ ap (outcome key max last true) (sym same) ∙ gives
+    last-is key max rest last (is ∙ ap (λ n. (n - 1) / 65552) (sym all)) ∙ ap (outcome key max last true) (sym same)
+        ∙ gives
 
 -- how long a last piece is that opens
-pub open-len : (key : List ℕ) (max i end n : ℕ) (buf after : List ℕ) → length buf ≡ 65553 → end ≤ 65552 → outcome key max i true (take end buf) ≡ Ok (take n after) → n ≤ length after
+pub open-len : (key : Bytes) (max i end n : ℕ) (buf after : Bytes) → length buf ≡ 65553 → end ≤ 65552
+    → outcome key max i true (take end buf) ≡ Ok (take n after) → n ≤ length after
     → (n + 16 ≡ end) × (0 < i → 0 < n)
 open-len key max i end n buf after room le opens within =
     let o = outcome-opens key max i true (take end buf) (take n after) opens in
-    let len : length (take end buf) ≡ length (take n after) + 16 = ap length o.sealed_so ∙ length-sealed key (chunk_nonce i true) [] (take n after) in
+    let len : length (take end buf) ≡ length (take n after) + 16 = ap length o.sealed_so
+        ∙ length-sealed key (chunk_nonce i true) [] (take n after) in
     let a : length (take end buf) ≡ end = length-take-le end buf (omega arith) in
     let b : length (take n after) ≡ n = length-take-le n after within in
     (omega arith, λ pos. let some : 0 < length (take n after) = o.some refl pos in omega arith)
 
 -- a last piece that was read, and opens
-pub last-verified : (was_read : ℕ → ℕ → Type 0) (layout : Layout) (max last end n : ℕ) (buf after : List ℕ) → layout.count ≡ last + 1
-    → WereRead was_read (layout.first + 65552 * last) (take end buf) → outcome layout.key max last true (take end buf) ≡ Ok (take n after)
-    → n ≡ chunk_len layout.plain last → IsVerified was_read layout (layout.count - 1) (take (chunk_len layout.plain (layout.count - 1)) after)
+pub last-verified : (was_read : ℕ → ℕ → Type 0) (layout : Layout) (max last end n : ℕ) (buf after : Bytes)
+    → layout.count ≡ last + 1
+    → WereRead was_read (layout.first + 65552 * last) (take end buf)
+    → outcome layout.key max last true (take end buf) ≡ Ok (take n after)
+    → n ≡ chunk_len layout.plain last → IsVerified was_read layout (layout.count - 1)
+    (take (chunk_len layout.plain (layout.count - 1)) after)
 last-verified was_read layout max last end n buf after count read opens len =
     let o = outcome-opens layout.key max last true (take end buf) (take n after) opens in
     let at : last ≡ layout.count - 1 = omega arith in
@@ -105,26 +119,31 @@ last-verified was_read layout max last end n buf after count read opens len =
     subst (λ i. IsVerified was_read layout i (take (chunk_len layout.plain i) after)) at (record {
       piece = take end buf;
       read = read;
-      opens = ap (λ b. opened_at layout.key last b (take end buf)) is_last ∙ ap (opened_at layout.key last true) o.sealed_so
+      opens = ap (λ b. opened_at layout.key last b (take end buf)) is_last
+          ∙ ap (opened_at layout.key last true) o.sealed_so
           ∙ opened-sealed layout.key (chunk_nonce last true) [] (take n after) ∙ ap (λ k. Some (take k after)) len;
     })
 
 -- a last piece that opens
-last-opens : (key : List ℕ) (max : ℕ) (rest t : List ℕ) (last : ℕ) → last ≡ (length rest - 1) / 65552 → last_outcome key max rest ≡ Ok t → opening key rest last ≡ Some t
+last-opens : (key : Bytes) (max : ℕ) (rest t : Bytes) (last : ℕ) → last ≡ (length rest - 1) / 65552
+    → last_outcome key max rest ≡ Ok t → opening key rest last ≡ Some t
 last-opens key max rest t last is h =
-    let piece : List ℕ = drop (65552 * last) rest in
+    let piece : Bytes = drop (65552 * last) rest in
     let d : length piece ≡ length rest - 65552 * last = length-drop (65552 * last) rest in
     let n : length (pieces rest) ≡ last + 1 = piece-count rest last is in
     let o = outcome-opens key max last true piece t (sym (last-is key max rest last is) ∙ h) in
-    opening-at key rest last (omega arith) ∙ ap (λ b. opened_at key last b (take 65552 piece)) (le-leb (length rest) (65552 * (last + 1)) (omega arith))
-    ∙ ap (opened_at key last true) (take_all 65552 piece (omega arith)) ∙ ap (opened_at key last true) o.sealed_so ∙ opened-sealed key (chunk_nonce last true) [] t
+    opening-at key rest last (omega arith)
+        ∙ ap (λ b. opened_at key last b (take 65552 piece)) (le-leb (length rest) (65552 * (last + 1)) (omega arith))
+    ∙ ap (opened_at key last true) (take_all 65552 piece (omega arith)) ∙ ap (opened_at key last true) o.sealed_so
+    ∙ opened-sealed key (chunk_nonce last true) [] t
 
 -- what is known of a nonce that was read, and of the n bytes after it
-abbrev pub IsNonce : Option (List ℕ) → ℕ → List ℕ → ℕ → Type 0
+abbrev pub IsNonce : Known → ℕ → Bytes → ℕ → Type 0
 IsNonce told at nonce n = IfSome told (λ bytes. (nonce ≡ take 16 (drop at bytes)) × (length bytes ≡ at + 16 + n))
 
 -- what is after a nonce decides
-behind-nonce : (k : FileKey) (max at : ℕ) (bytes nonce : List ℕ) (n : ℕ) → nonce ≡ take 16 (drop at bytes) → length bytes ≡ at + 16 + n
+behind-nonce : (k : FileKey) (max at : ℕ) (bytes nonce : Bytes) (n : ℕ) → nonce ≡ take 16 (drop at bytes)
+    → length bytes ≡ at + 16 + n
     → range_outcome k max (drop at bytes) ≡ last_outcome (payload_key k nonce) max (drop (at + 16) bytes)
 behind-nonce k max at bytes nonce n is size =
     let d : length (drop at bytes) ≡ length bytes - at = length-drop at bytes in
@@ -133,13 +152,16 @@ behind-nonce k max at bytes nonce n is size =
     ∙ ap (last_outcome (payload_key k nonce) max) (drop-drop 16 at bytes)
 
 -- the last piece's fault
-pub judged-err : (k : FileKey) (max at : ℕ) (told : Option (List ℕ)) (nonce after : List ℕ) (n : ℕ) (fault : StreamFault) → IsNonce told at nonce n
+pub judged-err : (k : FileKey) (max at : ℕ) (told : Known) (nonce after : Bytes) (n : ℕ) (fault : StreamFault)
+    → IsNonce told at nonce n
     → JudgesLast (payload_key k nonce) max (at + 16) n told after (Err fault) → OpensRanges k max at told (Err fault)
 judged-err k max at told nonce after n fault h (inl e) = inl e
 judged-err k max at None nonce after n fault h (inr j) = inr (inr tt)
-judged-err k max at (Some bytes) nonce after n fault h (inr j) = inr (inr (behind-nonce k max at bytes nonce n h.0 h.1 ∙ j h.1))
+judged-err k max at (Some bytes) nonce after n fault h (inr j) =
+    inr (inr (behind-nonce k max at bytes nonce n h.0 h.1 ∙ j h.1))
 
-plain-there : (layout : Layout) (rest : List ℕ) → length rest ≡ layout.plain + 16 * layout.count → plain_len rest ≡ layout.plain
+plain-there : (layout : Layout) (rest : Bytes) → length rest ≡ layout.plain + 16 * layout.count
+    → plain_len rest ≡ layout.plain
 plain-there layout rest size =
     let some : 0 < layout.count = layout.some in
     let covers : layout.plain ≤ 65536 * layout.count = layout.covers in
@@ -148,7 +170,8 @@ plain-there layout rest size =
       | inl lt ↦ inr (let tight : 65536 * (layout.count - 1) < layout.plain = layout.tight lt in omega arith)
       | inr ge ↦ inl (omega arith)
     ] in
-    let n : plain_len rest + 16 * (layout.count - 1 + 1) ≡ length rest = plain-count (layout.count - 1) rest more (omega arith) (omega arith) in
+    let n : plain_len rest + 16 * (layout.count - 1 + 1) ≡ length rest =
+        plain-count (layout.count - 1) rest more (omega arith) (omega arith) in
     omega arith
 
 count-there : (layout : Layout) (n : ℕ) → layout.plain + 16 * layout.count ≡ n → layout.count - 1 ≡ (n - 1) / 65552
@@ -164,18 +187,23 @@ same-some : (a b : ℕ) → ◌≡◌ {A = Option ℕ} (Some a) (Some b) → a �
 same-some a b e = ap (λ o. unwrap_or o 0) e
 
 -- the last piece opened
-pub judged-ok : (k : FileKey) (max at : ℕ) (told : Option (List ℕ)) (nonce buf : List ℕ) (n : ℕ) (layout : Layout) → IsNonce told at nonce n
+pub judged-ok : (k : FileKey) (max at : ℕ) (told : Known) (nonce buf : Bytes) (n : ℕ) (layout : Layout)
+    → IsNonce told at nonce n
     → JudgesLast (payload_key k nonce) max (at + 16) n told buf (Ok layout)
-    → OpensRanges k max at told (Ok (record { layout = layout; index = Some (layout.count - 1); buf = buf; opened = 1 }))
+    → OpensRanges k max at told (Ok (record
+    { layout = layout; index = Some (layout.count - 1); buf = buf; opened = 1 }))
 judged-ok k max at None nonce buf n layout h j = (refl, refl, tt)
 judged-ok k max at (Some bytes) nonce buf n layout h j =
-    let text : List ℕ = take (chunk_len layout.plain (layout.count - 1)) buf in
+    let text : Bytes = take (chunk_len layout.plain (layout.count - 1)) buf in
     let size : length (drop (at + 16) bytes) ≡ n = behind-len (at + 16) n bytes h.1 in
     let gives : last_outcome (payload_key k nonce) max (drop (at + 16) bytes) ≡ Ok text = j.3 h.1 in
-    let there : length (drop layout.first bytes) ≡ layout.plain + 16 * layout.count = ap (λ f. length (drop f bytes)) j.1 ∙ size ∙ sym j.2 in
+    let there : length (drop layout.first bytes) ≡ layout.plain + 16 * layout.count =
+        ap (λ f. length (drop f bytes)) j.1 ∙ size ∙ sym j.2 in
     let opens : opens_to (Some bytes) layout (layout.count - 1) ≡ Some text =
-    ap (λ x. opening x (drop layout.first bytes) (layout.count - 1)) j.0 ∙ ap (λ f. opening (payload_key k nonce) (drop f bytes) (layout.count - 1)) j.1
-    ∙ last-opens (payload_key k nonce) max (drop (at + 16) bytes) text (layout.count - 1) (count-there layout n j.2 ∙ ap (λ m. (m - 1) / 65552) (sym size)) gives in (
+    ap (λ x. opening x (drop layout.first bytes) (layout.count - 1)) j.0
+        ∙ ap (λ f. opening (payload_key k nonce) (drop f bytes) (layout.count - 1)) j.1
+    ∙ last-opens (payload_key k nonce) max (drop (at + 16) bytes) text (layout.count - 1)
+    (count-there layout n j.2 ∙ ap (λ m. (m - 1) / 65552) (sym size)) gives in (
       refl,
       refl,
       record {
@@ -185,17 +213,20 @@ judged-ok k max at (Some bytes) nonce buf n layout h j =
         plain = sym (plain-there layout (drop layout.first bytes) there) ∙ ap (λ f. plain_len (drop f bytes)) j.1;
         sound = record {
           there = record { known = refl; size = there };
-          keeps = λ i e. subst (λ m. opens_to (Some bytes) layout m ≡ Some (take (chunk_len layout.plain m) buf)) (same-some (layout.count - 1) i e) opens;
+          keeps = λ i e. subst (λ m. opens_to (Some bytes) layout m ≡ Some (take (chunk_len layout.plain m) buf))
+              (same-some (layout.count - 1) i e) opens;
         };
       },
     )
 
 -- what was given, with the last piece
-pub given-last : (told : Option (List ℕ)) (nonce : List ℕ) (at n new mid old : ℕ) → IsNonce told at nonce n → new ≤ mid + last_len n → mid ≤ old + 16
+pub given-last : (told : Known) (nonce : Bytes) (at n new mid old : ℕ) → IsNonce told at nonce n
+    → new ≤ mid + last_len n → mid ≤ old + 16
     → IfSome told (λ bytes. new ≤ old + (16 + length (last_piece (drop (at + 16) bytes))))
 given-last None nonce at n new mid old h le le2 = tt
 given-last (Some bytes) nonce at n new mid old h le le2 =
-    let l : length (last_piece (drop (at + 16) bytes)) ≡ last_len n = length-last (drop (at + 16) bytes) ∙ ap last_len (behind-len (at + 16) n bytes h.1) in
+    let l : length (last_piece (drop (at + 16) bytes)) ≡ last_len n = length-last (drop (at + 16) bytes)
+        ∙ ap last_len (behind-len (at + 16) n bytes h.1) in
     omega (arith, l, le, le2)
 
 -- a fault of a piece is one of opening

@@ -1,7 +1,9 @@
 -- A piece that was read at its offset.
-use Rattle.std.proofs.Common.{◌≡◌, ◌⊎◌, ℕ, List, [], ◌+◌, ◌-◌, ◌*◌, ◌<◌, ◌≤◌, length, take, drop, nat_le, nat_eq, ◌∙◌, sym, ap, arith, inl, inr, false, Option, Some, None}
+use Rattle.std.proofs.Common.{◌≡◌, ◌⊎◌, ℕ, [], ◌+◌, ◌-◌, ◌*◌, ◌<◌, ◌≤◌, length, take, drop, nat_le, nat_eq, ◌∙◌, sym, ap, arith, inl, inr, false, Some, None}
 use Rattle.std.proofs.lemmas.Bool.{cases_lt, le-leb, lt-leb, eq-eqb, eqb-true, false_from_ne_true, false≢true}
 use Rattle.std.proofs.lemmas.List.{take_all, length-drop, length-take-le, drop-drop}
+use Rattle.age_kdf.specs.Bytes.{Bytes}
+use Rattle.age_header.specs.Device.{Known}
 use Rattle.age_cipher.specs.Sealing.{opened}
 use Rattle.age_stream.specs.Payload.{chunk_nonce, pieces}
 use Rattle.age_stream.specs.Reading.{opened_at}
@@ -13,7 +15,8 @@ use Rattle.age_stream.specs.Slice.{chunk_len}
 use Rattle.age_stream.proofs.SliceLemmas.{opening-at}
 
 -- there are as many pieces as are counted
-pub there-count : (layout : Layout) (rest : List ℕ) → length rest ≡ layout.plain + 16 * layout.count → length (pieces rest) ≡ layout.count
+pub there-count : (layout : Layout) (rest : Bytes) → length rest ≡ layout.plain + 16 * layout.count
+    → length (pieces rest) ≡ layout.count
 there-count layout rest size =
     let some : 0 < layout.count = layout.some in
     let covers : layout.plain ≤ 65536 * layout.count = layout.covers in
@@ -21,7 +24,8 @@ there-count layout rest size =
       | inl lt ↦ inr (let tight : 65536 * (layout.count - 1) < layout.plain = layout.tight lt in omega arith)
       | inr ge ↦ inl (omega arith)
     ] in
-    let n : length (pieces rest) ≡ layout.count - 1 + 1 = cut-count 65552 (layout.count - 1) rest (omega arith) more (omega arith) in
+    let n : length (pieces rest) ≡ layout.count - 1 + 1 =
+        cut-count 65552 (layout.count - 1) rest (omega arith) more (omega arith) in
     omega arith
 
 pub tight-at : (layout : Layout) (i : ℕ) → i < layout.count → 65536 * i ≤ layout.plain
@@ -33,7 +37,8 @@ tight-at layout i lt = elim (cases_lt 1 layout.count) [
 full-at : (layout : Layout) (i : ℕ) → i + 1 < layout.count → 65536 * (i + 1) < layout.plain
 full-at layout i lt = let tight : 65536 * (layout.count - 1) < layout.plain = layout.tight (omega arith) in omega arith
 
-there-last : (layout : Layout) (rest : List ℕ) (i : ℕ) → length rest ≡ layout.plain + 16 * layout.count → i < layout.count
+there-last : (layout : Layout) (rest : Bytes) (i : ℕ) → length rest ≡ layout.plain + 16 * layout.count
+    → i < layout.count
     → nat_eq (i + 1) layout.count ≡ nat_le (length rest) (65552 * (i + 1))
 there-last layout rest i size lt =
     let covers : layout.plain ≤ 65536 * layout.count = layout.covers in
@@ -47,34 +52,40 @@ there-last layout rest i size lt =
     ne-eqb : (a b : ℕ) → a < b → nat_eq a b ≡ false
     ne-eqb a b l = false_from_ne_true (nat_eq a b) (λ e. let same : a ≡ b = eqb-true a b e in absurd (omega arith))
 
-there-piece : (told : Option (List ℕ)) (layout : Layout) (i : ℕ) (piece : List ℕ) → IsThere told layout → i < layout.count
+there-piece : (told : Known) (layout : Layout) (i : ℕ) (piece : Bytes) → IsThere told layout → i < layout.count
     → HasAt told (layout.first + 65552 * i) piece → length piece ≡ chunk_len layout.plain i + 16
     → piece ≡ take 65552 (drop (65552 * i) (bytes_from told layout.first))
 there-piece None layout i piece there lt has len = absurd (false≢true there.known)
 there-piece (Some bytes) layout i piece there lt has len =
-    let rest : List ℕ = drop layout.first bytes in
+    let rest : Bytes = drop layout.first bytes in
     let size : length rest ≡ layout.plain + 16 * layout.count = there.size in
     let covers : layout.plain ≤ 65536 * layout.count = layout.covers in
     let low : 65536 * i ≤ layout.plain = tight-at layout i lt in
     let d : length (drop (65552 * i) rest) ≡ length rest - 65552 * i = length-drop (65552 * i) rest in
-    let at : piece ≡ take (length piece) (drop (65552 * i) rest) = has ∙ ap (take (length piece)) (sym (drop-drop (65552 * i) layout.first bytes)) in
+    let at : piece ≡ take (length piece) (drop (65552 * i) rest) = has
+        ∙ ap (take (length piece)) (sym (drop-drop (65552 * i) layout.first bytes)) in
     elim (cases_lt (i + 1) layout.count) [
       | inl more ↦
           let full : 65536 * (i + 1) < layout.plain = full-at layout i more in
           let e : length piece ≡ 65552 = omega arith in
           at ∙ ap (λ k. take k (drop (65552 * i) rest)) e
-      | inr ge ↦ at ∙ take_all (length piece) (drop (65552 * i) rest) (omega arith) ∙ sym (take_all 65552 (drop (65552 * i) rest) (omega arith))
+      | inr ge ↦ at ∙ take_all (length piece) (drop (65552 * i) rest) (omega arith)
+          ∙ sym (take_all 65552 (drop (65552 * i) rest) (omega arith))
     ]
 
 -- what was read at the offset of piece i and opened there
-pub open-there : (told : Option (List ℕ)) (layout : Layout) (nonce buf : List ℕ) (i end : ℕ) (o : Option (List ℕ)) → IsThere told layout → i < layout.count
+pub open-there : (told : Known) (layout : Layout) (nonce buf : Bytes) (i end : ℕ) (o : Known) → IsThere told layout
+    → i < layout.count
     → HasAt told (layout.first + 65552 * i) (take end buf) → end ≡ chunk_len layout.plain i + 16 → length buf ≡ 65553
-    → nonce ≡ chunk_nonce i (nat_eq (i + 1) layout.count) → opened layout.key nonce [] (take end buf) ≡ o → opens_to told layout i ≡ o
+    → nonce ≡ chunk_nonce i (nat_eq (i + 1) layout.count) → opened layout.key nonce [] (take end buf) ≡ o
+    → opens_to told layout i ≡ o
 open-there told layout nonce buf i end o there lt has len room at opens =
-    let rest : List ℕ = bytes_from told layout.first in
+    let rest : Bytes = bytes_from told layout.first in
     let count : length (pieces rest) ≡ layout.count = there-count layout rest there.size in
     let size : length (take end buf) ≡ end = length-take-le end buf (omega arith) in
     opening-at layout.key rest i (omega arith)
-    ∙ ap (λ b. opened_at layout.key i b (take 65552 (drop (65552 * i) rest))) (sym (there-last layout rest i there.size lt))
-    ∙ ap (opened_at layout.key i (nat_eq (i + 1) layout.count)) (sym (there-piece told layout i (take end buf) there lt has (size ∙ len)))
+    ∙ ap (λ b. opened_at layout.key i b (take 65552 (drop (65552 * i) rest)))
+    (sym (there-last layout rest i there.size lt))
+    ∙ ap (opened_at layout.key i (nat_eq (i + 1) layout.count))
+    (sym (there-piece told layout i (take end buf) there lt has (size ∙ len)))
     ∙ ap (λ n. opened layout.key n [] (take end buf)) (sym at) ∙ opens

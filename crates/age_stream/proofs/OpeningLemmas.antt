@@ -1,12 +1,13 @@
 -- The next piece, by what was read ahead, what was given, and what may still come.
-use Rattle.std.proofs.Common.{◌≡◌, ◌∙◌, ◌++◌, ◌+◌, ◌-◌, ◌^◌, ◌<◌, ◌≤◌, ℕ, List, [], length, take, drop, ap, sym, arith, append_assoc, length-append, refl, Option, Some, None, true, false, Bool, nat_le, cond, Ok, Err}
+use Rattle.std.proofs.Common.{◌≡◌, ◌∙◌, ◌++◌, ◌+◌, ◌-◌, ◌^◌, ◌<◌, ◌≤◌, ℕ, [], length, take, drop, ap, sym, arith, append_assoc, length-append, refl, Option, Some, None, true, false, Bool, nat_le, cond, Ok, Err}
 use Rattle.std.proofs.KnownBytes.{Consumes-nil}
 use Rattle.std.proofs.lemmas.Bool.{le-leb, lt-leb}
 use Rattle.std.proofs.lemmas.List.{take_all, take-append-le, drop-append-le, length-drop, length-take-le}
 use Rattle.age_stream.specs.declared.fault.StreamFault.{StreamFault}
 use Rattle.std.proofs.Common.{◌⊎◌, inl, inr, subst}
 use Rattle.std.specs.Prelude.{IfNone, IfSome, IsErrOf}
-use Rattle.age_header.specs.Device.{GaveAtMost, MayGive}
+use Rattle.age_kdf.specs.Bytes.{Bytes}
+use Rattle.age_header.specs.Device.{GaveAtMost, MayGive, Known}
 use Rattle.age_stream.specs.declared.fault.StreamFault.TheVariants.{NonceTruncated, ChunkShort, EmptyFinal, BadChunk, TooManyChunks, Read, Write, Memory}
 use Rattle.age_stream.specs.declared.opening.Piece.{Piece}
 use Rattle.age_stream.specs.Counts.{CountsReadFault}
@@ -14,7 +15,8 @@ use Rattle.age_stream.specs.Opening.{Advances, IsAtPiece, OpenerState, OpensPiec
 use Rattle.age_stream.specs.Reading.{outcome, first_outcome, after_first}
 
 -- a full buffer: a piece and the byte that follows it
-pub outcome-more : (key : List ℕ) (max i : ℕ) (ahead given d filled : List ℕ) → length filled ≡ 65553 → filled ≡ ahead ++ given
+pub outcome-more : (key : Bytes) (max i : ℕ) (ahead given d filled : Bytes) → length filled ≡ 65553
+    → filled ≡ ahead ++ given
     → first_outcome key max i (ahead ++ (given ++ d)) ≡ outcome key max i false (take 65552 filled)
 outcome-more key max i ahead given d filled len is =
     let l : length (filled ++ d) ≡ length filled + length d = length-append filled d in
@@ -23,7 +25,7 @@ outcome-more key max i ahead given d filled len is =
     ∙ ap (λ b. outcome key max i b (take 65552 (filled ++ d))) no
     ∙ ap (outcome key max i false) (take-append-le 65552 filled d (omega arith))
 
-pub after-more : (ahead given d filled : List ℕ) → length filled ≡ 65553 → filled ≡ ahead ++ given
+pub after-more : (ahead given d filled : Bytes) → length filled ≡ 65553 → filled ≡ ahead ++ given
     → after_first (ahead ++ (given ++ d)) ≡ Some (drop 65552 filled ++ d)
 after-more ahead given d filled len is =
     let l : length (filled ++ d) ≡ length filled + length d = length-append filled d in
@@ -33,7 +35,7 @@ after-more ahead given d filled len is =
     ∙ ap Some (drop-append-le 65552 filled d (omega arith))
 
 -- no byte follows
-pub outcome-last : (key : List ℕ) (max i : ℕ) (ahead given front : List ℕ) → length front < 65553 → front ≡ ahead ++ given
+pub outcome-last : (key : Bytes) (max i : ℕ) (ahead given front : Bytes) → length front < 65553 → front ≡ ahead ++ given
     → first_outcome key max i (ahead ++ given) ≡ outcome key max i true front
 outcome-last key max i ahead given front len is =
     let yes : nat_le (length front) 65552 ≡ true = le-leb (length front) 65552 (omega arith) in
@@ -41,26 +43,30 @@ outcome-last key max i ahead given front len is =
     ∙ ap (λ b. outcome key max i b (take 65552 front)) yes
     ∙ ap (outcome key max i true) (take_all 65552 front (omega arith))
 
-pub after-last : (ahead given front : List ℕ) → length front < 65553 → front ≡ ahead ++ given → after_first (ahead ++ given) ≡ None
+pub after-last : (ahead given front : Bytes) → length front < 65553 → front ≡ ahead ++ given
+    → after_first (ahead ++ given) ≡ None
 after-last ahead given front len is =
     let yes : nat_le (length front) 65552 ≡ true = le-leb (length front) 65552 (omega arith) in
     ap after_first (sym is) ∙ ap (λ b. cond b None (Some (drop 65552 front))) yes
 
 -- what a call returns while pieces are left
-pub opens-err : (key : List ℕ) (max i : ℕ) (held : Option (List ℕ)) (ahead c : List ℕ) (left : Option (List ℕ)) (text : List ℕ) (fault : StreamFault) → held ≡ Some ahead
+pub opens-err : (key : Bytes) (max i : ℕ) (held : Known) (ahead c : Bytes) (left : Known) (text : Bytes)
+    (fault : StreamFault) → held ≡ Some ahead
     → first_outcome key max i (ahead ++ c) ≡ Err fault → OpensNext key max i (left_of held c) left text (Err fault)
 opens-err key max i held ahead c left text fault is h = rw is h
 
-pub opens-ok : (key : List ℕ) (max i : ℕ) (held left : Option (List ℕ)) (ahead c text : List ℕ) → held ≡ Some ahead
-    → first_outcome key max i (ahead ++ c) ≡ Ok text → left ≡ after_first (ahead ++ c) → OpensNext key max i (left_of held c) left text (Ok true)
+pub opens-ok : (key : Bytes) (max i : ℕ) (held left : Known) (ahead c text : Bytes) → held ≡ Some ahead
+    → first_outcome key max i (ahead ++ c) ≡ Ok text → left ≡ after_first (ahead ++ c)
+    → OpensNext key max i (left_of held c) left text (Ok true)
 opens-ok key max i held left ahead c text is h l = rw is (refl, h, l)
 
 -- the byte that was read ahead is all that follows the first 65,552 bytes
-pub ahead-one : (bytes : List ℕ) → length bytes ≡ 65553 → take 1 (drop 65552 bytes) ≡ drop 65552 bytes
+pub ahead-one : (bytes : Bytes) → length bytes ≡ 65553 → take 1 (drop 65552 bytes) ≡ drop 65552 bytes
 ahead-one bytes size = take_all 1 (drop 65552 bytes) (omega (arith, length-drop 65552 bytes, size))
 
 -- a fault of a piece is none of a read
-pub counts-piece : (max i old new : ℕ) (fault : StreamFault) → IsAtPiece max i fault → new ≡ old → CountsReadFault old new fault
+pub counts-piece : (max i old new : ℕ) (fault : StreamFault) → IsAtPiece max i fault → new ≡ old
+    → CountsReadFault old new fault
 counts-piece max i old new NonceTruncated at is = absurd at
 counts-piece max i old new (ChunkShort j) at is = is
 counts-piece max i old new (EmptyFinal j) at is = is
@@ -74,24 +80,26 @@ unkept : {P : Type 0} (fault : Option StreamFault) → P → IfNone fault P
 unkept None p = p
 unkept (Some f) p = tt
 
-gave-held : (old : OpenerState) (ahead : List ℕ) (from to : Option (List ℕ)) → old.held ≡ Some ahead → GaveAtMost (65553 - length ahead) from to → GaveAtMost (65553 - ahead_len old.held) from to
+gave-held : (old : OpenerState) (ahead : Bytes) (from to : Known) → old.held ≡ Some ahead
+    → GaveAtMost (65553 - length ahead) from to → GaveAtMost (65553 - ahead_len old.held) from to
 gave-held old ahead from to is h = rw is h
 
 -- one byte is read ahead, and the text before it is a full chunk
-pub one-ahead : (more : Bool) (len : ℕ) (bytes : List ℕ) → length bytes ≡ 65553 → (more ≡ true → len ≡ 65536)
-    → IfSome (held_of more (take 1 (drop 65552 bytes))) (λ ahead. (length ahead ≡ 1) × (length (take len bytes) ≡ 65536))
+pub one-ahead : (more : Bool) (len : ℕ) (bytes : Bytes) → length bytes ≡ 65553 → (more ≡ true → len ≡ 65536)
+    → IfSome (held_of more (take 1 (drop 65552 bytes)))
+    (λ ahead. (length ahead ≡ 1) × (length (take len bytes) ≡ 65536))
 one-ahead true len bytes size full =
     let l : length (drop 65552 bytes) ≡ length bytes - 65552 = length-drop 65552 bytes in
     let one : length (drop 65552 bytes) ≡ 1 = omega arith in
     (ap length (ahead-one bytes size) ∙ one, length-take-le len bytes (omega (arith, full refl)) ∙ full refl)
 one-ahead false len bytes size full = tt
 
-short-ahead : (more : Bool) (ahead : List ℕ) → length ahead ≤ 1 → ahead_len (held_of more ahead) ≤ 1
+short-ahead : (more : Bool) (ahead : Bytes) → length ahead ≤ 1 → ahead_len (held_of more ahead) ≤ 1
 short-ahead true ahead le = le
 short-ahead false ahead le = omega arith
 
 -- an opener between two calls, by its parts
-abbrev pub parts : List ℕ → ℕ → ℕ → Bool → ℕ → List ℕ → ℕ → Option StreamFault → OpenerState
+abbrev pub parts : Bytes → ℕ → ℕ → Bool → ℕ → Bytes → ℕ → Option StreamFault → OpenerState
 parts key max i more ahead bytes len fault = record {
   key = key;
   max_chunks = max;
@@ -105,28 +113,39 @@ unread : {X : Type 0} (p : Piece) → IsErrOf {T = Piece} (Ok p) Read ⊎ X → 
 unread p (inl e) = absurd (cc)
 unread p (inr x) = x
 
-ahead-len : (ahead : ℕ) (bytes : List ℕ) → length bytes ≡ 65553 → ahead ≤ 1 → length (take ahead (drop 65552 bytes)) ≡ ahead
+ahead-len : (ahead : ℕ) (bytes : Bytes) → length bytes ≡ 65553 → ahead ≤ 1
+    → length (take ahead (drop 65552 bytes)) ≡ ahead
 ahead-len ahead bytes size le = length-take-le ahead (drop 65552 bytes) (omega (arith, length-drop 65552 bytes))
 
 -- a piece was opened
-pub advances-ok : (now : OpenerState) (from to : Option (List ℕ)) (key : List ℕ) (max i ahead len : ℕ) (more : Bool) (old slice bytes items : List ℕ) (fault : Option StreamFault) (piece : Piece)
-    → parts key max i more ahead old len fault ≡ now → more ≡ true → fault ≡ None → slice ≡ old → length old ≡ 65553 → ahead ≤ 1 → length bytes ≡ 65553 → items ≡ bytes
+pub advances-ok : (now : OpenerState) (from to : Known) (key : Bytes) (max i ahead len : ℕ) (more : Bool)
+    (old slice bytes items : Bytes) (fault : Option StreamFault) (piece : Piece)
+    → parts key max i more ahead old len fault ≡ now → more ≡ true → fault ≡ None → slice ≡ old → length old ≡ 65553
+    → ahead ≤ 1 → length bytes ≡ 65553 → items ≡ bytes
     → max ≤ 2 ^ 88 → i < max → (piece.more ≡ true → piece.len ≡ 65536)
-    → IsErrOf {T = Piece} (Ok piece) Read ⊎ ((d : List ℕ) → MayGive to d → (c : List ℕ) × MayGive from c × OpensPiece key max i (take ahead (drop 65552 slice) ++ c) bytes d (Ok piece))
+    → IsErrOf {T = Piece} (Ok piece) Read
+    ⊎ ((d : Bytes) → MayGive to d → (c : Bytes) × MayGive from c
+    × OpensPiece key max i (take ahead (drop 65552 slice) ++ c) bytes d (Ok piece))
     → IsErrOf {T = Piece} (Ok piece) Read ⊎ GaveAtMost (65553 - ahead) from to
-    → IfNone now.fault (IsErrOf {T = Bool} (Ok true) Read ⊎ Advances now (parts key max (i + 1) piece.more 1 items piece.len fault) from to (Ok true))
-advances-ok now from to key max i ahead len more old slice bytes items fault piece view is_more none same size le new_size all small within full opens gave =
-    let front : List ℕ = take ahead (drop 65552 old) in
+    → IfNone now.fault (IsErrOf {T = Bool} (Ok true) Read
+    ⊎ Advances now (parts key max (i + 1) piece.more 1 items piece.len fault) from to (Ok true))
+advances-ok now from to key max i ahead len more old slice bytes items fault piece view is_more none same size le
+    new_size all small within full opens gave =
+    let front : Bytes = take ahead (drop 65552 old) in
     let l : length front ≡ ahead = ahead-len ahead old size le in
     let held : held_of more front ≡ Some front = ap (λ m. held_of m front) is_more in
     let next : OpenerState = parts key max (i + 1) piece.more 1 items piece.len fault in
-    let one : IfSome (held_of piece.more (take 1 (drop 65552 items))) (λ a. (length a ≡ 1) × (length (take piece.len items) ≡ 65536)) =
+    let one : IfSome (held_of piece.more (take 1 (drop 65552 items)))
+        (λ a. (length a ≡ 1) × (length (take piece.len items) ≡ 65536)) =
     one-ahead piece.more piece.len items (ap length all ∙ new_size) full in
-    let left : take 1 (drop 65552 items) ≡ drop 65552 bytes = ap (λ t. take 1 (drop 65552 t)) all ∙ ahead-one bytes new_size in
+    let left : take 1 (drop 65552 items) ≡ drop 65552 bytes = ap (λ t. take 1 (drop 65552 t)) all
+        ∙ ahead-one bytes new_size in
     let short : ahead_len (held_of more front) ≤ 1 = short-ahead more front (omega arith) in
     let given : GaveAtMost (65553 - ahead_len (held_of more front)) from to =
-    subst (λ h. GaveAtMost (65553 - ahead_len h) from to) (sym held) (subst (λ n. GaveAtMost (65553 - n) from to) (sym l) (unread piece gave)) in
-    subst (λ s. IfNone s.fault (IsErrOf {T = Bool} (Ok true) Read ⊎ Advances s next from to (Ok true))) view (unkept fault (inr (record {
+    subst (λ h. GaveAtMost (65553 - ahead_len h) from to) (sym held)
+        (subst (λ n. GaveAtMost (65553 - n) from to) (sym l) (unread piece gave)) in
+    subst (λ s. IfNone s.fault (IsErrOf {T = Bool} (Ok true) Read ⊎ Advances s next from to (Ok true))) view
+        (unkept fault (inr (record {
       key = refl;
       max_chunks = refl;
       small = small;
@@ -136,40 +155,56 @@ advances-ok now from to key max i ahead len more old slice bytes items fault pie
       opens = λ d may.
           let o = unread piece opens d may in
           let at : first_outcome key max i (front ++ o.0) ≡ Ok (take piece.len items) =
-          ap (λ t. first_outcome key max i (take ahead (drop 65552 t) ++ o.0)) (sym same) ∙ o.2.0 ∙ ap (λ t. Ok (take piece.len t)) (sym all) in
+          ap (λ t. first_outcome key max i (take ahead (drop 65552 t) ++ o.0)) (sym same) ∙ o.2.0
+              ∙ ap (λ t. Ok (take piece.len t)) (sym all) in
           let rest : left_of (held_of piece.more (take 1 (drop 65552 items))) d ≡ after_first (front ++ o.0) =
-          ap (λ t. left_of (held_of piece.more t) d) left ∙ o.2.2 ∙ ap (λ t. after_first (take ahead (drop 65552 t) ++ o.0)) same in
-          (o.0, o.1, opens-ok key max i (held_of more front) (left_of (held_of piece.more (take 1 (drop 65552 items))) d) front o.0 (take piece.len items) held at rest);
+          ap (λ t. left_of (held_of piece.more t) d) left ∙ o.2.2
+              ∙ ap (λ t. after_first (take ahead (drop 65552 t) ++ o.0)) same in
+          (o.0, o.1, opens-ok key max i (held_of more front)
+              (left_of (held_of piece.more (take 1 (drop 65552 items))) d) front o.0 (take piece.len items) held at
+              rest);
     })))
 
-pub advances-read : (old new : OpenerState) (from to : Option (List ℕ)) (fault : StreamFault) → fault ≡ Read → IfNone old.fault (IsErrOf {T = Bool} (Err fault) Read ⊎ Advances old new from to (Err fault))
+pub advances-read : (old new : OpenerState) (from to : Known) (fault : StreamFault) → fault ≡ Read
+    → IfNone old.fault (IsErrOf {T = Bool} (Err fault) Read ⊎ Advances old new from to (Err fault))
 advances-read old new from to fault is = unkept old.fault (inl (ap Err is))
 
 same-fault : (f : StreamFault) → IsErrOf {T = Piece} (Err f) Read → f ≡ Read
 same-fault f e = cc
 
 -- a fault was met
-pub advances-err : (now : OpenerState) (from to : Option (List ℕ)) (key : List ℕ) (max i ahead len : ℕ) (more : Bool) (old slice bytes items : List ℕ) (kept : Option StreamFault) (fault : StreamFault)
-    → parts key max i more ahead old len kept ≡ now → more ≡ true → slice ≡ old → length old ≡ 65553 → ahead ≤ 1 → max ≤ 2 ^ 88
-    → IsErrOf {T = Piece} (Err fault) Read ⊎ ((d : List ℕ) → MayGive to d → (c : List ℕ) × MayGive from c × OpensPiece key max i (take ahead (drop 65552 slice) ++ c) bytes d (Err fault))
+pub advances-err : (now : OpenerState) (from to : Known) (key : Bytes) (max i ahead len : ℕ) (more : Bool)
+    (old slice bytes items : Bytes) (kept : Option StreamFault) (fault : StreamFault)
+    → parts key max i more ahead old len kept ≡ now → more ≡ true → slice ≡ old → length old ≡ 65553 → ahead ≤ 1
+    → max ≤ 2 ^ 88
+    → IsErrOf {T = Piece} (Err fault) Read
+    ⊎ ((d : Bytes) → MayGive to d → (c : Bytes) × MayGive from c
+    × OpensPiece key max i (take ahead (drop 65552 slice) ++ c) bytes d (Err fault))
     → IsErrOf {T = Piece} (Err fault) Read ⊎ GaveAtMost (65553 - ahead) from to
     → (fault ≡ Read) ⊎ IsAtPiece max i fault
-    → IfNone now.fault (IsErrOf {T = Bool} (Err fault) Read ⊎ Advances now (parts key max i false ahead items 0 (Some fault)) from to (Err fault))
-advances-err now from to key max i ahead len more old slice bytes items kept fault view is_more same size le small (inl e) gave at =
+    → IfNone now.fault (IsErrOf {T = Bool} (Err fault) Read
+    ⊎ Advances now (parts key max i false ahead items 0 (Some fault)) from to (Err fault))
+advances-err now from to key max i ahead len more old slice bytes items kept fault view is_more same size le small
+    (inl e) gave at =
     advances-read now (parts key max i false ahead items 0 (Some fault)) from to fault (same-fault fault e)
-advances-err now from to key max i ahead len more old slice bytes items kept fault view is_more same size le small (inr opens) (inl e) at =
+advances-err now from to key max i ahead len more old slice bytes items kept fault view is_more same size le small
+    (inr opens) (inl e) at =
     advances-read now (parts key max i false ahead items 0 (Some fault)) from to fault (same-fault fault e)
-advances-err now from to key max i ahead len more old slice bytes items kept fault view is_more same size le small (inr opens) (inr gave) (inl read) =
+advances-err now from to key max i ahead len more old slice bytes items kept fault view is_more same size le small
+    (inr opens) (inr gave) (inl read) =
     advances-read now (parts key max i false ahead items 0 (Some fault)) from to fault read
-advances-err now from to key max i ahead len more old slice bytes items kept fault view is_more same size le small (inr opens) (inr gave) (inr at) =
-    let front : List ℕ = take ahead (drop 65552 old) in
+advances-err now from to key max i ahead len more old slice bytes items kept fault view is_more same size le small
+    (inr opens) (inr gave) (inr at) =
+    let front : Bytes = take ahead (drop 65552 old) in
     let l : length front ≡ ahead = ahead-len ahead old size le in
     let held : held_of more front ≡ Some front = ap (λ m. held_of m front) is_more in
     let next : OpenerState = parts key max i false ahead items 0 (Some fault) in
     let short : ahead_len (held_of more front) ≤ 1 = short-ahead more front (omega arith) in
     let given : GaveAtMost (65553 - ahead_len (held_of more front)) from to =
-    subst (λ h. GaveAtMost (65553 - ahead_len h) from to) (sym held) (subst (λ n. GaveAtMost (65553 - n) from to) (sym l) gave) in
-    subst (λ s. IfNone s.fault (IsErrOf {T = Bool} (Err fault) Read ⊎ Advances s next from to (Err fault))) view (unkept kept (inr (record {
+    subst (λ h. GaveAtMost (65553 - ahead_len h) from to) (sym held)
+        (subst (λ n. GaveAtMost (65553 - n) from to) (sym l) gave) in
+    subst (λ s. IfNone s.fault (IsErrOf {T = Bool} (Err fault) Read ⊎ Advances s next from to (Err fault))) view
+        (unkept kept (inr (record {
       key = refl;
       max_chunks = refl;
       small = small;
@@ -178,12 +213,13 @@ advances-err now from to key max i ahead len more old slice bytes items kept fau
       gave = given;
       opens = λ d may.
           let o = opens d may in
-          let is : first_outcome key max i (front ++ o.0) ≡ Err fault = ap (λ t. first_outcome key max i (take ahead (drop 65552 t) ++ o.0)) (sym same) ∙ o.2 in
+          let is : first_outcome key max i (front ++ o.0) ≡ Err fault =
+              ap (λ t. first_outcome key max i (take ahead (drop 65552 t) ++ o.0)) (sym same) ∙ o.2 in
           (o.0, o.1, opens-err key max i (held_of more front) front o.0 (left_of next.held d) next.text fault held is);
     })))
 
 -- after the last piece
-advances-end : (key : List ℕ) (max i : ℕ) (text text2 : List ℕ) (from : Option (List ℕ)) → max ≤ 2 ^ 88
+advances-end : (key : Bytes) (max i : ℕ) (text text2 : Bytes) (from : Known) → max ≤ 2 ^ 88
     → Advances (record { key = key; max_chunks = max; index = i; held = None; text = text; fault = None })
     (record { key = key; max_chunks = max; index = i; held = None; text = text2; fault = None }) from from (Ok false)
 advances-end key max i text text2 from small = record {
@@ -196,11 +232,14 @@ advances-end key max i text text2 from small = record {
   opens = λ d may. (d, may, (refl, refl));
 }
 
-pub advances-none : (now : OpenerState) (from : Option (List ℕ)) (key : List ℕ) (max i ahead len : ℕ) (more : Bool) (bytes : List ℕ) (fault : Option StreamFault)
+pub advances-none : (now : OpenerState) (from : Known) (key : Bytes) (max i ahead len : ℕ) (more : Bool) (bytes : Bytes)
+    (fault : Option StreamFault)
     → parts key max i more ahead bytes len fault ≡ now → more ≡ false → fault ≡ None → max ≤ 2 ^ 88
-    → IfNone now.fault (IsErrOf {T = Bool} (Ok false) Read ⊎ Advances now (parts key max i more ahead bytes 0 fault) from from (Ok false))
+    → IfNone now.fault (IsErrOf {T = Bool} (Ok false) Read
+    ⊎ Advances now (parts key max i more ahead bytes 0 fault) from from (Ok false))
 advances-none now from key max i ahead len true bytes fault view over none small = absurd (cc)
 advances-none now from key max i ahead len false bytes (Some fault) view over none small = absurd (cc)
 advances-none now from key max i ahead len false bytes None view over none small =
-    subst (λ s. IfNone s.fault (IsErrOf {T = Bool} (Ok false) Read ⊎ Advances s (parts key max i false ahead bytes 0 None) from from (Ok false))) view
+    subst (λ s. IfNone s.fault (IsErrOf {T = Bool} (Ok false) Read
+        ⊎ Advances s (parts key max i false ahead bytes 0 None) from from (Ok false))) view
     (inr (advances-end key max i (take len bytes) (take 0 bytes) from small))

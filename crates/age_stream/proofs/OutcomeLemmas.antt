@@ -1,27 +1,35 @@
 -- Each case of a piece's outcome.
-use Rattle.std.proofs.Common.{[], ◌≡◌, ℕ, List, ◌<◌, ◌≤◌, ◌&&◌, length, nat_lt, nat_le, nat_eq, true, false, Bool, ◌∙◌, ap, Option, Err}
+use Rattle.std.proofs.Common.{[], ◌≡◌, ℕ, ◌<◌, ◌≤◌, ◌&&◌, length, nat_lt, nat_le, nat_eq, true, false, Bool, ◌∙◌, ap, Err}
 use Rattle.std.specs.Prelude.{ok_or}
 use Rattle.std.proofs.lemmas.Bool.{le-ltb, lt-ltb, le-leb, lt-leb, cond-false, cond-true}
+use Rattle.age_kdf.specs.Bytes.{Bytes}
+use Rattle.age_header.specs.Device.{Known}
 use Rattle.age_stream.specs.declared.fault.StreamFault.TheVariants.{ChunkShort, EmptyFinal, BadChunk, TooManyChunks}
 use Rattle.age_cipher.specs.Sealing.{opened}
 use Rattle.age_stream.specs.Payload.{chunk_nonce}
 use Rattle.age_stream.specs.Reading.{outcome}
 
-pub outcome-many : (key : List ℕ) (max i : ℕ) (last : Bool) (c : List ℕ) → max ≤ i → outcome key max i last c ≡ Err TooManyChunks
+pub outcome-many : (key : Bytes) (max i : ℕ) (last : Bool) (c : Bytes) → max ≤ i
+    → outcome key max i last c ≡ Err TooManyChunks
 unfolding outcome
 outcome-many key max i last c le = cond-true (nat_le max i) _ _ (le-leb max i le)
 
-pub outcome-short : (key : List ℕ) (max i : ℕ) (last : Bool) (c : List ℕ) → i < max → length c < 16 → outcome key max i last c ≡ Err (ChunkShort i)
+pub outcome-short : (key : Bytes) (max i : ℕ) (last : Bool) (c : Bytes) → i < max → length c < 16
+    → outcome key max i last c ≡ Err (ChunkShort i)
 unfolding outcome
-outcome-short key max i last c lt short = cond-false (nat_le max i) _ _ (lt-leb max i lt) ∙ cond-true (nat_lt (length c) 16) _ _ (lt-ltb (length c) 16 short)
+outcome-short key max i last c lt short = cond-false (nat_le max i) _ _ (lt-leb max i lt)
+    ∙ cond-true (nat_lt (length c) 16) _ _ (lt-ltb (length c) 16 short)
 
-pub outcome-empty : (key : List ℕ) (max i : ℕ) (last : Bool) (c : List ℕ) → i < max → 16 ≤ length c → (last && nat_lt 0 i && nat_eq (length c) 16) ≡ true
+pub outcome-empty : (key : Bytes) (max i : ℕ) (last : Bool) (c : Bytes) → i < max → 16 ≤ length c
+    → (last && nat_lt 0 i && nat_eq (length c) 16) ≡ true
     → outcome key max i last c ≡ Err (EmptyFinal i)
 unfolding outcome
 outcome-empty key max i last c lt some empty =
-    cond-false (nat_le max i) _ _ (lt-leb max i lt) ∙ cond-false (nat_lt (length c) 16) _ _ (le-ltb (length c) 16 some) ∙ cond-true (last && nat_lt 0 i && nat_eq (length c) 16) _ _ empty
+    cond-false (nat_le max i) _ _ (lt-leb max i lt) ∙ cond-false (nat_lt (length c) 16) _ _ (le-ltb (length c) 16 some)
+        ∙ cond-true (last && nat_lt 0 i && nat_eq (length c) 16) _ _ empty
 
-pub outcome-open : (key : List ℕ) (max i : ℕ) (last : Bool) (c : List ℕ) (o : Option (List ℕ)) → i < max → 16 ≤ length c → (last && nat_lt 0 i && nat_eq (length c) 16) ≡ false
+pub outcome-open : (key : Bytes) (max i : ℕ) (last : Bool) (c : Bytes) (o : Known) → i < max → 16 ≤ length c
+    → (last && nat_lt 0 i && nat_eq (length c) 16) ≡ false
     → opened key (chunk_nonce i last) [] c ≡ o → outcome key max i last c ≡ ok_or o (BadChunk i)
 unfolding outcome
 outcome-open key max i last c o lt some empty is =

@@ -5,6 +5,7 @@ use Rattle.std.specs.List.{concat}
 use Rattle.std.proofs.lemmas.Bool.{le-ltb, lt-ltb, cases_lt, leb-false, lt-leb, and_parts, false_from_ne_true, ltb-true, eqb-true, true≢false, false≢true, and_from, eq-eqb, cond-false, cond-true}
 use Rattle.std.proofs.lemmas.Option.{none-some}
 use Rattle.std.proofs.lemmas.List.{take-append-drop, take_at, drop_at, length-take-le}
+use Rattle.age_kdf.specs.Bytes.{Bytes}
 use Rattle.age_stream.specs.declared.fault.StreamFault.{StreamFault}
 use Rattle.age_stream.specs.declared.fault.StreamFault.TheVariants.{NonceTruncated, ChunkShort, EmptyFinal, BadChunk, TooManyChunks}
 use Rattle.age_stream.specs.Cutting.{IsCut, IsFilled}
@@ -20,7 +21,8 @@ pub result_cases : {A F : Type 0} (r : Result A F) → ((t : A) × (r ≡ Ok t))
 result_cases (Ok t) = inl (t, refl)
 result_cases (Err f) = inr (f, refl)
 
-cond-ok : {A F : Type 0} (b : Bool) (f : F) (r : Result A F) (t : A) → cond b (Err f) r ≡ Ok t → (b ≡ false) × (r ≡ Ok t)
+cond-ok : {A F : Type 0} (b : Bool) (f : F) (r : Result A F) (t : A) → cond b (Err f) r ≡ Ok t
+    → (b ≡ false) × (r ≡ Ok t)
 cond-ok true f r t h = absurd (cc)
 cond-ok false f r t h = (refl, h)
 
@@ -32,37 +34,42 @@ two_not_one : {A : Type 0} {x y z : A} {zs : List A} → x ∷ y ∷ zs ≡ z �
 two_not_one h = cc
 
 -- piece i opens to t
-pub record Opens (key : List ℕ) (max i : ℕ) (last : Bool) (c t : List ℕ) : Type 0 where
+pub record Opens (key : Bytes) (max i : ℕ) (last : Bool) (c t : Bytes) : Type 0 where
   pub within : i < max
   pub sealed_so : c ≡ sealed key (chunk_nonce i last) [] t
   pub some : last ≡ true → 0 < i → 0 < length t
 
-pub outcome-opens : (key : List ℕ) (max i : ℕ) (last : Bool) (c t : List ℕ) → outcome key max i last c ≡ Ok t → Opens key max i last c t
+pub outcome-opens : (key : Bytes) (max i : ℕ) (last : Bool) (c t : Bytes) → outcome key max i last c ≡ Ok t
+    → Opens key max i last c t
 unfolding outcome
 outcome-opens key max i last c t h =
     let empty : Bool = last && nat_lt 0 i && nat_eq (length c) 16 in
-    let inner : Result (List ℕ) StreamFault = ok_or (opened key (chunk_nonce i last) [] c) (BadChunk i) in
-    let a = cond-ok (nat_le max i) TooManyChunks (cond (nat_lt (length c) 16) (Err (ChunkShort i)) (cond empty (Err (EmptyFinal i)) inner)) t h in
+    let inner : Result Bytes StreamFault = ok_or (opened key (chunk_nonce i last) [] c) (BadChunk i) in
+    let a = cond-ok (nat_le max i) TooManyChunks
+        (cond (nat_lt (length c) 16) (Err (ChunkShort i)) (cond empty (Err (EmptyFinal i)) inner)) t h in
     let b = cond-ok (nat_lt (length c) 16) (ChunkShort i) (cond empty (Err (EmptyFinal i)) inner) t a.1 in
     let d = cond-ok empty (EmptyFinal i) inner t b.1 in
-    let is : c ≡ sealed key (chunk_nonce i last) [] t = sym ((opened_is key (chunk_nonce i last) [] c t).0 (ok_or-ok _ (BadChunk i) t d.1)) in
+    let is : c ≡ sealed key (chunk_nonce i last) [] t =
+        sym ((opened_is key (chunk_nonce i last) [] c t).0 (ok_or-ok _ (BadChunk i) t d.1)) in
     let len : length c ≡ length t + 16 = ap length is ∙ length-sealed key (chunk_nonce i last) [] t in
     record {
       within = leb-false max i a.0;
       sealed_so = is;
       some = λ l pos. elim (cases_lt 0 (length t)) [
         | inl some ↦ some
-        | inr none ↦ absurd (true≢false (sym (and_from _ _ (and_from _ _ l (lt-ltb 0 i pos)) (eq-eqb (length c) 16 (omega arith))) ∙ d.0))
+        | inr none ↦ absurd (true≢false
+            (sym (and_from _ _ (and_from _ _ l (lt-ltb 0 i pos)) (eq-eqb (length c) 16 (omega arith))) ∙ d.0))
       ];
     }
 
-pub opens-outcome : (key : List ℕ) (max i : ℕ) (last : Bool) (c t : List ℕ) → Opens key max i last c t → outcome key max i last c ≡ Ok t
+pub opens-outcome : (key : Bytes) (max i : ℕ) (last : Bool) (c t : Bytes) → Opens key max i last c t
+    → outcome key max i last c ≡ Ok t
 unfolding outcome
 opens-outcome key max i last c t h =
     let within : i < max = h.within in
     let len : length c ≡ length t + 16 = ap length h.sealed_so ∙ length-sealed key (chunk_nonce i last) [] t in
     let empty : Bool = last && nat_lt 0 i && nat_eq (length c) 16 in
-    let inner : Result (List ℕ) StreamFault = ok_or (opened key (chunk_nonce i last) [] c) (BadChunk i) in
+    let inner : Result Bytes StreamFault = ok_or (opened key (chunk_nonce i last) [] c) (BadChunk i) in
     let not_empty : empty ≡ false = false_from_ne_true empty (λ e.
     let both = and_parts (last && nat_lt 0 i) (nat_eq (length c) 16) e in
     let one = and_parts last (nat_lt 0 i) both.0 in
@@ -75,43 +82,46 @@ opens-outcome key max i last c t h =
     ∙ ap (λ o. ok_or o (BadChunk i)) ((opened_is key (chunk_nonce i last) [] c t).1 (sym h.sealed_so))
 
 -- texts numbered from i on: all but the last are full, and the last is empty only if its number is 0
-abbrev pub Sized : ℕ → List (List ℕ) → Type 0
+abbrev pub Sized : ℕ → List Bytes → Type 0
 Sized i ts = ((ts ≡ [] ∷ []) × (i ≡ 0)) ⊎ IsFilled 65536 ts
 
-pub sized-one : (i : ℕ) (t : List ℕ) → length t ≤ 65536 → (0 < i → 0 < length t) → Sized i (t ∷ [])
+pub sized-one : (i : ℕ) (t : Bytes) → length t ≤ 65536 → (0 < i → 0 < length t) → Sized i (t ∷ [])
 sized-one i [] le h = elim (cases_lt 0 i) [
   | inl pos ↦ absurd (let z : 0 < 0 = h pos in omega arith)
   | inr zero ↦ inl (refl, omega arith)
 ]
 sized-one i (x ∷ t) le h = inr (omega arith, le)
 
-pub sized-more : (i : ℕ) (t : List ℕ) (ts : List (List ℕ)) → length t ≡ 65536 → Sized (i + 1) ts → Sized i (t ∷ ts)
+pub sized-more : (i : ℕ) (t : Bytes) (ts : List Bytes) → length t ≡ 65536 → Sized (i + 1) ts → Sized i (t ∷ ts)
 sized-more i t [] len (inl e) = absurd (let z : i + 1 ≡ 0 = e.1 in omega arith)
 sized-more i t [] len (inr f) = absurd f
 sized-more i t (u ∷ ts) len (inl e) = absurd (let z : i + 1 ≡ 0 = e.1 in omega arith)
 sized-more i t (u ∷ ts) len (inr f) = inr (len, f)
 
-pub is_end-each : (key : List ℕ) (i : ℕ) (ts : List (List ℕ)) → is_end (sealed_from key i ts) ≡ is_end ts
+pub is_end-each : (key : Bytes) (i : ℕ) (ts : List Bytes) → is_end (sealed_from key i ts) ≡ is_end ts
 is_end-each key i [] = refl
 is_end-each key i (t ∷ ts) = refl
 
 -- the pieces cs open to texts, of which p is the join
-pub record AllOpen (key : List ℕ) (max i : ℕ) (cs : List (List ℕ)) (p : List ℕ) : Type 0 where
-  pub texts : List (List ℕ)
+pub record AllOpen (key : Bytes) (max i : ℕ) (cs : List Bytes) (p : Bytes) : Type 0 where
+  pub texts : List Bytes
   pub sealed_so : sealed_from key i texts ≡ cs
   pub joined : concat texts ≡ p
   pub count : length texts + i ≤ max
   pub sizes : AtMost 65552 cs → Sized i texts
 
 -- pieces without a fault open
-pub no_fault-open : (key : List ℕ) (max i : ℕ) (c : List ℕ) (cs : List (List ℕ)) → first_fault (outcomes key max i (c ∷ cs)) ≡ None → AllOpen key max i (c ∷ cs) (front (outcomes key max i (c ∷ cs)))
+pub no_fault-open : (key : Bytes) (max i : ℕ) (c : Bytes) (cs : List Bytes)
+    → first_fault (outcomes key max i (c ∷ cs)) ≡ None
+    → AllOpen key max i (c ∷ cs) (front (outcomes key max i (c ∷ cs)))
 no_fault-open key max i c [] h =
     elim (result_cases (outcome key max i true c)) [
       | inr r ↦ absurd (none-some r.0 (sym h ∙ ap (λ x. first_fault (x ∷ [])) r.1))
       | inl r ↦
           let o = outcome-opens key max i true c r.0 r.1 in
           let within : i < max = o.within in
-          let len : length c ≡ length r.0 + 16 = ap length o.sealed_so ∙ length-sealed key (chunk_nonce i true) [] r.0 in
+          let len : length c ≡ length r.0 + 16 = ap length o.sealed_so
+              ∙ length-sealed key (chunk_nonce i true) [] r.0 in
           record {
             texts = r.0 ∷ [];
             sealed_so = ap (λ x. x ∷ []) (sym o.sealed_so);
@@ -125,24 +135,29 @@ no_fault-open key max i c (d ∷ more) h =
       | inr r ↦ absurd (none-some r.0 (sym h ∙ ap (λ x. first_fault (x ∷ outcomes key max (i + 1) (d ∷ more))) r.1))
       | inl r ↦
           let o = outcome-opens key max i false c r.0 r.1 in
-          let rest = no_fault-open key max (i + 1) d more (sym (ap (λ x. first_fault (x ∷ outcomes key max (i + 1) (d ∷ more))) r.1) ∙ h) in
+          let rest = no_fault-open key max (i + 1) d more
+              (sym (ap (λ x. first_fault (x ∷ outcomes key max (i + 1) (d ∷ more))) r.1) ∙ h) in
           let count : length rest.texts + (i + 1) ≤ max = rest.count in
-          let more_left : is_end rest.texts ≡ false = sym (is_end-each key (i + 1) rest.texts) ∙ ap is_end rest.sealed_so in
+          let more_left : is_end rest.texts ≡ false = sym (is_end-each key (i + 1) rest.texts)
+              ∙ ap is_end rest.sealed_so in
           record {
             texts = r.0 ∷ rest.texts;
             sealed_so = ap (λ b. sealed key (chunk_nonce i b) [] r.0 ∷ sealed_from key (i + 1) rest.texts) more_left
                 ∙ ap (λ x. x ∷ sealed_from key (i + 1) rest.texts) (sym o.sealed_so) ∙ ap (λ x. c ∷ x) rest.sealed_so;
-            joined = ap (λ x. r.0 ++ x) rest.joined ∙ sym (ap (λ x. front (x ∷ outcomes key max (i + 1) (d ∷ more))) r.1);
+            joined = ap (λ x. r.0 ++ x) rest.joined
+                ∙ sym (ap (λ x. front (x ∷ outcomes key max (i + 1) (d ∷ more))) r.1);
             count = omega arith;
             sizes = λ le.
-                let len : length c ≡ length r.0 + 16 = ap length o.sealed_so ∙ length-sealed key (chunk_nonce i false) [] r.0 in
+                let len : length c ≡ length r.0 + 16 = ap length o.sealed_so
+                    ∙ length-sealed key (chunk_nonce i false) [] r.0 in
                 let full : length c ≡ 65552 = le.0 in
                 sized-more i r.0 rest.texts (omega arith) (rest.sizes le.1);
           }
     ]
 
 -- sealed texts open
-pub each-opens : (key : List ℕ) (max i : ℕ) (ts : List (List ℕ)) → Sized i ts → length ts + i ≤ max → outcomes key max i (sealed_from key i ts) ≡ map Ok ts
+pub each-opens : (key : Bytes) (max i : ℕ) (ts : List Bytes) → Sized i ts → length ts + i ≤ max
+    → outcomes key max i (sealed_from key i ts) ≡ map Ok ts
 each-opens key max i [] s le = refl
 each-opens key max i (t ∷ []) s le =
     ap (λ r. r ∷ []) (opens-outcome key max i true (sealed key (chunk_nonce i true) [] t) t (record {
@@ -152,53 +167,61 @@ each-opens key max i (t ∷ []) s le =
     }))
 each-opens key max i (t ∷ u ∷ ts) s le =
     let rest : Sized (i + 1) (u ∷ ts) = elim s [ inl e ↦ absurd (two_not_one e.0) | inr f ↦ inr f.1 ] in
-    ap (λ b. outcome key max i b (sealed key (chunk_nonce i false) [] t) ∷ outcomes key max (i + 1) (sealed_from key (i + 1) (u ∷ ts))) (is_end-each key (i + 1) (u ∷ ts))
-    ∙ ap (λ r. r ∷ outcomes key max (i + 1) (sealed_from key (i + 1) (u ∷ ts))) (opens-outcome key max i false (sealed key (chunk_nonce i false) [] t) t (record {
+    ap (λ b. outcome key max i b (sealed key (chunk_nonce i false) [] t)
+        ∷ outcomes key max (i + 1) (sealed_from key (i + 1) (u ∷ ts))) (is_end-each key (i + 1) (u ∷ ts))
+    ∙ ap (λ r. r ∷ outcomes key max (i + 1) (sealed_from key (i + 1) (u ∷ ts)))
+    (opens-outcome key max i false (sealed key (chunk_nonce i false) [] t) t (record {
       within = omega arith;
       sealed_so = refl;
       some = λ no _. absurd (false≢true no);
     }))
     ∙ ap (λ rs. Ok t ∷ rs) (each-opens key max (i + 1) (u ∷ ts) rest (omega arith))
 
-front-all : (ts : List (List ℕ)) → front {F = StreamFault} (map Ok ts) ≡ concat ts
+front-all : (ts : List Bytes) → front {F = StreamFault} (map Ok ts) ≡ concat ts
 front-all [] = refl
 front-all (t ∷ ts) = ap (λ x. t ++ x) (front-all ts)
 
-fault-all : (ts : List (List ℕ)) → first_fault {F = StreamFault} (map Ok ts) ≡ None
+fault-all : (ts : List Bytes) → first_fault {F = StreamFault} (map Ok ts) ≡ None
 fault-all [] = refl
 fault-all (t ∷ ts) = fault-all ts
 
 -- sealed texts are cut as pieces are
-each-filled : (key : List ℕ) (i : ℕ) (ts : List (List ℕ)) → AtMost 65536 ts → IsFilled 65552 (sealed_from key i ts)
+each-filled : (key : Bytes) (i : ℕ) (ts : List Bytes) → AtMost 65536 ts → IsFilled 65552 (sealed_from key i ts)
 each-filled key i [] h = h
 each-filled key i (t ∷ []) h =
-    let l : length (sealed key (chunk_nonce i true) [] t) ≡ length t + 16 = length-sealed key (chunk_nonce i true) [] t in
+    let l : length (sealed key (chunk_nonce i true) [] t) ≡ length t + 16 =
+        length-sealed key (chunk_nonce i true) [] t in
     let le : length t ≤ 65536 = h in (omega arith, omega arith)
 each-filled key i (t ∷ u ∷ ts) h =
-    let l : length (sealed key (chunk_nonce i false) [] t) ≡ length t + 16 = length-sealed key (chunk_nonce i false) [] t in
+    let l : length (sealed key (chunk_nonce i false) [] t) ≡ length t + 16 =
+        length-sealed key (chunk_nonce i false) [] t in
     let le : length t ≡ 65536 = h.0 in (omega arith, each-filled key (i + 1) (u ∷ ts) h.1)
 
-pub pieces-each : (key : List ℕ) (ts : List (List ℕ)) → AtMost 65536 ts → pieces (concat (sealed_from key 0 ts)) ≡ sealed_from key 0 ts
+pub pieces-each : (key : Bytes) (ts : List Bytes) → AtMost 65536 ts
+    → pieces (concat (sealed_from key 0 ts)) ≡ sealed_from key 0 ts
 pieces-each key ts h = filled-cut 65552 (sealed_from key 0 ts) (omega arith) (each-filled key 0 ts h)
 
 -- what reading a payload to its end says of it
-pub record IsPayload (k : FileKey) (b p : List ℕ) (max : ℕ) : Type 0 where
-  pub nonce : List ℕ
+pub record IsPayload (k : FileKey) (b p : Bytes) (max : ℕ) : Type 0 where
+  pub nonce : Bytes
   pub nonce_len : length nonce ≡ 16
   pub spelled : b ≡ payload k nonce p
   pub count : length (chunks p) ≤ max
 
 -- the sizes of texts numbered from 0 on are those of a cut
-pub sized-cut : (ts : List (List ℕ)) → Sized 0 ts → IsCut 65536 (concat ts) ts
+pub sized-cut : (ts : List Bytes) → Sized 0 ts → IsCut 65536 (concat ts) ts
 sized-cut ts (inl e) = record { joined = refl; sizes = inl e.0 }
 sized-cut ts (inr f) = record { joined = refl; sizes = inr f }
 
-all_open-payload : (k : FileKey) (b p : List ℕ) (max : ℕ) → 16 ≤ length b → AllOpen (payload_key k (take 16 b)) max 0 (pieces (drop 16 b)) p → IsPayload k b p max
+all_open-payload : (k : FileKey) (b p : Bytes) (max : ℕ) → 16 ≤ length b
+    → AllOpen (payload_key k (take 16 b)) max 0 (pieces (drop 16 b)) p → IsPayload k b p max
 all_open-payload k b p max le o =
-    let key : List ℕ = payload_key k (take 16 b) in
-    let same : o.texts ≡ chunks p = one-cut 65536 (concat o.texts) o.texts (omega arith) (sized-cut o.texts (o.sizes (cut-at_most 65552 (drop 16 b) (omega arith)))) ∙ ap chunks o.joined in
+    let key : Bytes = payload_key k (take 16 b) in
+    let same : o.texts ≡ chunks p = one-cut 65536 (concat o.texts) o.texts (omega arith)
+        (sized-cut o.texts (o.sizes (cut-at_most 65552 (drop 16 b) (omega arith)))) ∙ ap chunks o.joined in
     let rest : drop 16 b ≡ concat (sealed_from key 0 (chunks p)) =
-    sym (is_cut 65552 (drop 16 b) (omega arith)).joined ∙ ap concat (sym o.sealed_so) ∙ ap (λ ts. concat (sealed_from key 0 ts)) same in
+    sym (is_cut 65552 (drop 16 b) (omega arith)).joined ∙ ap concat (sym o.sealed_so)
+        ∙ ap (λ ts. concat (sealed_from key 0 ts)) same in
     let count : length o.texts + 0 ≤ max = o.count in
     let n : length o.texts ≡ length (chunks p) = ap length same in
     record {
@@ -208,58 +231,73 @@ all_open-payload k b p max le o =
       count = omega arith;
     }
 
-some-open : (key : List ℕ) (max : ℕ) (cs : List (List ℕ)) → AtMost 65552 cs → first_fault (outcomes key max 0 cs) ≡ None → AllOpen key max 0 cs (front (outcomes key max 0 cs))
+some-open : (key : Bytes) (max : ℕ) (cs : List Bytes) → AtMost 65552 cs → first_fault (outcomes key max 0 cs) ≡ None
+    → AllOpen key max 0 cs (front (outcomes key max 0 cs))
 some-open key max [] at h = absurd at
 some-open key max (c ∷ cs) at h = no_fault-open key max 0 c cs h
 
-pub ok-payload : (k : FileKey) (b p : List ℕ) (max : ℕ) → payload_reading k max b ≡ record { front = p; fault = None } → IsPayload k b p max
+pub ok-payload : (k : FileKey) (b p : Bytes) (max : ℕ) → payload_reading k max b ≡ record { front = p; fault = None }
+    → IsPayload k b p max
 ok-payload k b p max h = elim (cases_lt (length b) 16) [
   | inl lt ↦
-      let cut_off : payload_reading k max b ≡ stops NonceTruncated = cond-true (nat_lt (length b) 16) _ _ (lt-ltb _ _ lt) in
-      absurd (none-some NonceTruncated (sym (ap (λ (r : Reading StreamFault). r.fault) h) ∙ ap (λ (r : Reading StreamFault). r.fault) cut_off))
+      let cut_off : payload_reading k max b ≡ stops NonceTruncated =
+          cond-true (nat_lt (length b) 16) _ _ (lt-ltb _ _ lt) in
+      absurd (none-some NonceTruncated (sym (ap (λ (r : Reading StreamFault). r.fault) h)
+          ∙ ap (λ (r : Reading StreamFault). r.fault) cut_off))
   | inr ge ↦
-      let key : List ℕ = payload_key k (take 16 b) in
-      let is : payload_reading k max b ≡ reading_from key max 0 (drop 16 b) = cond-false (nat_lt (length b) 16) _ _ (le-ltb _ _ ge) in
-      let all = some-open key max (pieces (drop 16 b)) (cut-at_most 65552 (drop 16 b) (omega arith)) (ap (λ (r : Reading StreamFault). r.fault) (sym is ∙ h)) in
-      all_open-payload k b p max ge (subst (AllOpen key max 0 (pieces (drop 16 b))) (ap (λ (r : Reading StreamFault). r.front) (sym is ∙ h)) all)
+      let key : Bytes = payload_key k (take 16 b) in
+      let is : payload_reading k max b ≡ reading_from key max 0 (drop 16 b) =
+          cond-false (nat_lt (length b) 16) _ _ (le-ltb _ _ ge) in
+      let all = some-open key max (pieces (drop 16 b)) (cut-at_most 65552 (drop 16 b) (omega arith))
+          (ap (λ (r : Reading StreamFault). r.fault) (sym is ∙ h)) in
+      all_open-payload k b p max ge (subst (AllOpen key max 0 (pieces (drop 16 b)))
+          (ap (λ (r : Reading StreamFault). r.front) (sym is ∙ h)) all)
 ]
 
-pub at_most-chunks : (p : List ℕ) → Sized 0 (chunks p)
+pub at_most-chunks : (p : Bytes) → Sized 0 (chunks p)
 at_most-chunks p = elim (is_cut 65536 p (omega arith)).sizes [ inl e ↦ inl (e, refl) | inr f ↦ inr f ]
 
-pub payload-ok : (k : FileKey) (b p : List ℕ) (max : ℕ) → IsPayload k b p max → payload_reading k max b ≡ record { front = p; fault = None }
+pub payload-ok : (k : FileKey) (b p : Bytes) (max : ℕ) → IsPayload k b p max
+    → payload_reading k max b ≡ record { front = p; fault = None }
 payload-ok k b p max h =
-    let key : List ℕ = payload_key k h.nonce in
-    let sealed_text : List ℕ = concat (sealed_from key 0 (chunks p)) in
-    let len : length b ≡ length h.nonce + length sealed_text = ap length h.spelled ∙ length-append h.nonce sealed_text in
+    let key : Bytes = payload_key k h.nonce in
+    let sealed_text : Bytes = concat (sealed_from key 0 (chunks p)) in
+    let len : length b ≡ length h.nonce + length sealed_text = ap length h.spelled
+        ∙ length-append h.nonce sealed_text in
     let sixteen : length h.nonce ≡ 16 = h.nonce_len in
     let head : take 16 b ≡ h.nonce = ap (take 16) h.spelled ∙ take_at h.nonce sealed_text 16 sixteen in
     let rest : drop 16 b ≡ sealed_text = ap (drop 16) h.spelled ∙ drop_at h.nonce sealed_text 16 sixteen in
     let count : length (chunks p) ≤ max = h.count in
     let outs : outcomes key max 0 (pieces sealed_text) ≡ map Ok (chunks p) =
-    ap (outcomes key max 0) (pieces-each key (chunks p) (cut-at_most 65536 p (omega arith))) ∙ each-opens key max 0 (chunks p) (at_most-chunks p) (omega arith) in
-    let the_front : front (outcomes key max 0 (pieces sealed_text)) ≡ p = ap front outs ∙ front-all (chunks p) ∙ (is_cut 65536 p (omega arith)).joined in
-    let the_fault : first_fault (outcomes key max 0 (pieces sealed_text)) ≡ None = ap first_fault outs ∙ fault-all (chunks p) in
+    ap (outcomes key max 0) (pieces-each key (chunks p) (cut-at_most 65536 p (omega arith)))
+        ∙ each-opens key max 0 (chunks p) (at_most-chunks p) (omega arith) in
+    let the_front : front (outcomes key max 0 (pieces sealed_text)) ≡ p = ap front outs ∙ front-all (chunks p)
+        ∙ (is_cut 65536 p (omega arith)).joined in
+    let the_fault : first_fault (outcomes key max 0 (pieces sealed_text)) ≡ None = ap first_fault outs
+        ∙ fault-all (chunks p) in
     cond-false (nat_lt (length b) 16) _ _ (le-ltb (length b) 16 (omega arith))
     ∙ ap (λ x. reading_from (payload_key k x) max 0 (drop 16 b)) head
     ∙ ap (reading_from key max 0) rest
     ∙ ap (λ x. record { front = x; fault = first_fault (outcomes key max 0 (pieces sealed_text)) }) the_front
     ∙ ap (λ x. record { front = p; fault = x }) the_fault
 
-pub ok_is_payload_both : (k : FileKey) (b p : List ℕ) (max : ℕ) → (payload_reading k max b ≡ record { front = p; fault = None }) ↔ ((nonce : List ℕ) × (length nonce ≡ 16) × (b ≡ payload k nonce p) × (length (chunks p) ≤ max))
+pub ok_is_payload_both : (k : FileKey) (b p : Bytes) (max : ℕ)
+    → (payload_reading k max b ≡ record { front = p; fault = None }) ↔
+    ((nonce : Bytes) × (length nonce ≡ 16) × (b ≡ payload k nonce p) × (length (chunks p) ≤ max))
 ok_is_payload_both k b p max = (
   (λ h. let i = ok-payload k b p max h in (i.nonce, i.nonce_len, i.spelled, i.count)),
   (λ h. payload-ok k b p max (record { nonce = h.0; nonce_len = h.1; spelled = h.2; count = h.3 })),
 )
 
-pub length-each : (key : List ℕ) (i : ℕ) (ts : List (List ℕ)) → length (sealed_from key i ts) ≡ length ts
+pub length-each : (key : Bytes) (i : ℕ) (ts : List Bytes) → length (sealed_from key i ts) ≡ length ts
 length-each key i [] = refl
 length-each key i (t ∷ ts) = ap suc (length-each key (i + 1) ts)
 
 -- a payload that reads whole has as many pieces as chunks
-pub whole-count : (k : FileKey) (max : ℕ) (b p : List ℕ) → payload_reading k max b ≡ whole p → length (pieces (drop 16 b)) ≡ length (chunks p)
+pub whole-count : (k : FileKey) (max : ℕ) (b p : Bytes) → payload_reading k max b ≡ whole p
+    → length (pieces (drop 16 b)) ≡ length (chunks p)
 whole-count k max b p e =
     let i = ok-payload k b p max e in
-    let key : List ℕ = payload_key k i.nonce in
+    let key : Bytes = payload_key k i.nonce in
     ap (λ x. length (pieces x)) (ap (drop 16) i.spelled ∙ drop_at i.nonce _ 16 i.nonce_len)
     ∙ ap length (pieces-each key (chunks p) (cut-at_most 65536 p (omega arith))) ∙ length-each key 0 (chunks p)

@@ -1,12 +1,15 @@
 -- Bytes that a source has at an offset.
-use Rattle.std.proofs.Common.{◌≡◌, ℕ, List, ◌++◌, ◌+◌, ◌-◌, ◌<◌, ◌≤◌, length, take, drop, slice_index, ◌∙◌, sym, ap, subst, arith, inl, inr, Option, Some, None}
+use Rattle.std.proofs.Common.{◌≡◌, ℕ, ◌++◌, ◌+◌, ◌-◌, ◌<◌, ◌≤◌, length, take, drop, slice_index, ◌∙◌, sym, ap, subst, arith, inl, inr, Some, None}
 use Rattle.std.proofs.lemmas.Bool.{cases_lt}
 use Rattle.std.proofs.lemmas.List.{length-take-le, length-drop, drop-drop, get_or-take, get_or-drop}
 use Rattle.std.proofs.Math.Seq.{take-add}
+use Rattle.age_kdf.specs.Bytes.{Bytes}
+use Rattle.age_header.specs.Device.{Known}
 use Rattle.age_stream.specs.Places.{HasAt, StaysRead, WereRead}
 
 -- further bytes after those that were read
-pub has-on : (told : Option (List ℕ)) (at got n : ℕ) (old new : List ℕ) → got + n ≤ length new → length new ≡ length old → take got new ≡ take got old
+pub has-on : (told : Known) (at got n : ℕ) (old new : Bytes) → got + n ≤ length new → length new ≡ length old
+    → take got new ≡ take got old
     → HasAt told at (take got old) → HasAt told (at + got) (take n (drop got new)) → HasAt told at (take (got + n) new)
 has-on None at got n old new le len same so_far more = tt
 has-on (Some bytes) at got n old new le len same so_far more =
@@ -15,12 +18,15 @@ has-on (Some bytes) at got n old new le len same so_far more =
     let b : length (take n (drop got new)) ≡ n = length-take-le n (drop got new) (omega arith) in
     let c : length (take (got + n) new) ≡ got + n = length-take-le (got + n) new le in
     take-add got n new ∙ ap (λ x. x ++ take n (drop got new)) (same ∙ so_far ∙ ap (λ k. take k (drop at bytes)) a)
-    ∙ ap (λ x. take got (drop at bytes) ++ x) (more ∙ ap (λ k. take k (drop (at + got) bytes)) b ∙ ap (take n) (sym (drop-drop got at bytes)))
+    ∙ ap (λ x. take got (drop at bytes) ++ x)
+    (more ∙ ap (λ k. take k (drop (at + got) bytes)) b ∙ ap (take n) (sym (drop-drop got at bytes)))
     ∙ sym (take-add got n (drop at bytes)) ∙ ap (λ k. take k (drop at bytes)) (sym c)
 
 -- what was read before, and then the next bytes
-pub read-on : (old_read new_read : ℕ → ℕ → Type 0) (at got n : ℕ) (old new : List ℕ) → got + n ≤ length new → length new ≡ length old → take got new ≡ take got old
-    → StaysRead old_read new_read → WereRead old_read at (take got old) → WereRead new_read (at + got) (take n (drop got new)) → WereRead new_read at (take (got + n) new)
+pub read-on : (old_read new_read : ℕ → ℕ → Type 0) (at got n : ℕ) (old new : Bytes) → got + n ≤ length new
+    → length new ≡ length old → take got new ≡ take got old
+    → StaysRead old_read new_read → WereRead old_read at (take got old)
+    → WereRead new_read (at + got) (take n (drop got new)) → WereRead new_read at (take (got + n) new)
 read-on old_read new_read at got n old new le len same stays so_far more k lt =
     let c : length (take (got + n) new) ≡ got + n = length-take-le (got + n) new le in
     let a : length (take got old) ≡ got = length-take-le got old (omega arith) in
@@ -32,7 +38,8 @@ read-on old_read new_read at got n old new le len same stays so_far more k lt =
       | inl before ↦
           let value : slice_index (take got old) k ≡ slice_index new k =
           ap (λ x. slice_index x k) (sym same) ∙ get_or-take got new k 0 before in
-          subst (new_read (at + k)) (value ∙ sym here) (stays (at + k) (slice_index (take got old) k) (so_far k (omega (arith, a, before))))
+          subst (new_read (at + k)) (value ∙ sym here)
+              (stays (at + k) (slice_index (take got old) k) (so_far k (omega (arith, a, before))))
       | inr ge ↦
           let j : ℕ = k - got in
           let sum : got + j ≡ k = omega arith in
@@ -40,5 +47,6 @@ read-on old_read new_read at got n old new le len same stays so_far more k lt =
           let value : slice_index (take n (drop got new)) j ≡ slice_index new k =
           get_or-take n (drop got new) j 0 inside ∙ get_or-drop got new j 0 ∙ ap (slice_index new) sum in
           subst (new_read (at + k)) (value ∙ sym here)
-          (subst (λ p. new_read p (slice_index (take n (drop got new)) j)) (omega (arith, sum)) (more j (omega (arith, b, inside))))
+          (subst (λ p. new_read p (slice_index (take n (drop got new)) j)) (omega (arith, sum))
+              (more j (omega (arith, b, inside))))
     ]

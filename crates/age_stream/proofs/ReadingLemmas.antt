@@ -2,6 +2,7 @@
 use Rattle.std.proofs.Common.{◌≡◌, ◌⊎◌, ℕ, List, [], ◌∷◌, ◌++◌, ◌+◌, ◌-◌, ◌*◌, ◌<◌, ◌≤◌, length, take, drop, sym, ◌∙◌, ap, arith, nat_lt, cond, true, false, refl, inl, inr, None, Result, Ok, Err, suc, zero}
 use Rattle.std.proofs.lemmas.Bool.{true≢false}
 use Rattle.std.proofs.lemmas.List.{take-append-drop, length-take-le, length-drop}
+use Rattle.age_kdf.specs.Bytes.{Bytes}
 use Rattle.age_stream.specs.declared.fault.StreamFault.{StreamFault}
 use Rattle.age_stream.specs.Cutting.{cut, cut_into}
 use Rattle.age_stream.specs.Payload.{pieces, is_end}
@@ -13,55 +14,64 @@ abbrev pub ends : Reading StreamFault
 ends = record { front = []; fault = None }
 
 -- what one piece gives, then what the rest gives
-abbrev pub then_read : Result (List ℕ) StreamFault → Reading StreamFault → Reading StreamFault
+abbrev pub then_read : Result Bytes StreamFault → Reading StreamFault → Reading StreamFault
 then_read (Ok text) rest = record { front = text ++ rest.front; fault = rest.fault }
 then_read (Err fault) rest = stops fault
 
 -- more than one list
-pub cut-step : (size : ℕ) (p : List ℕ) → 0 < size → size < length p → cut size p ≡ take size p ∷ cut size (drop size p)
+pub cut-step : (size : ℕ) (p : Bytes) → 0 < size → size < length p → cut size p ≡ take size p ∷ cut size (drop size p)
 cut-step size p pos lt =
     let l : length (take size p) ≡ size = length-take-le size p (omega arith) in
     let d : length (drop size p) ≡ length p - size = length-drop size p in
     ap (cut size) (sym (take-append-drop size p)) ∙ cut-first size (take size p) (drop size p) pos (omega arith) l
 
 -- a cut has a list
-pub is_end-cut : (size : ℕ) (held p : List ℕ) → is_end (cut_into size held p) ≡ false
+pub is_end-cut : (size : ℕ) (held p : Bytes) → is_end (cut_into size held p) ≡ false
 is_end-cut size held [] = refl
 is_end-cut size held (x ∷ xs) =
-    elim (nat_lt (length held) size) as (λ t. is_end (cond t (cut_into size (held ++ x ∷ []) xs) (held ∷ cut_into size (x ∷ []) xs)) ≡ false) [
+    elim (nat_lt (length held) size) as (λ t. is_end
+        (cond t (cut_into size (held ++ x ∷ []) xs) (held ∷ cut_into size (x ∷ []) xs)) ≡ false) [
       | true ↦ is_end-cut size (held ++ x ∷ []) xs
       | false ↦ refl
     ]
 
-pub cut-some : (size : ℕ) (held p : List ℕ) → 0 < length (cut_into size held p)
+pub cut-some : (size : ℕ) (held p : Bytes) → 0 < length (cut_into size held p)
 cut-some size held p = go (cut_into size held p) (is_end-cut size held p)
   where
-    go : (cs : List (List ℕ)) → is_end cs ≡ false → 0 < length cs
+    go : (cs : List Bytes) → is_end cs ≡ false → 0 < length cs
     go [] e = absurd (true≢false e)
     go (c ∷ cs) e = omega arith
 
 -- the reading of some outcomes, the first at the front
-reading_first : (r : Result (List ℕ) StreamFault) (rs : List (Result (List ℕ) StreamFault))
-    → record { front = front (r ∷ rs); fault = first_fault (r ∷ rs) } ≡ then_read r (record { front = front rs; fault = first_fault rs })
+reading_first : (r : Result Bytes StreamFault) (rs : List (Result Bytes StreamFault))
+    → record { front = front (r ∷ rs); fault = first_fault (r ∷ rs) }
+    ≡ then_read r (record { front = front rs; fault = first_fault rs })
 reading_first (Ok p) rs = refl
 reading_first (Err f) rs = refl
 
 -- the last piece
-pub reading-last : (key : List ℕ) (max i : ℕ) (c : List ℕ) → length c ≤ 65552 → reading_from key max i c ≡ then_read (outcome key max i true c) ends
+pub reading-last : (key : Bytes) (max i : ℕ) (c : Bytes) → length c ≤ 65552
+    → reading_from key max i c ≡ then_read (outcome key max i true c) ends
 reading-last key max i c le =
-    ap (λ cs. record { front = front (outcomes key max i cs); fault = first_fault (outcomes key max i cs) }) (cut-last 65552 c le)
+    ap (λ cs. record { front = front (outcomes key max i cs); fault = first_fault (outcomes key max i cs) })
+        (cut-last 65552 c le)
     ∙ reading_first (outcome key max i true c) []
 
 -- a piece with more after it
-pub reading-more : (key : List ℕ) (max i : ℕ) (c : List ℕ) → 65552 < length c
-    → reading_from key max i c ≡ then_read (outcome key max i false (take 65552 c)) (reading_from key max (i + 1) (drop 65552 c))
+pub reading-more : (key : Bytes) (max i : ℕ) (c : Bytes) → 65552 < length c
+    → reading_from key max i c ≡ then_read (outcome key max i false (take 65552 c))
+    (reading_from key max (i + 1) (drop 65552 c))
 reading-more key max i c lt =
-    ap (λ cs. record { front = front (outcomes key max i cs); fault = first_fault (outcomes key max i cs) }) (cut-step 65552 c (omega arith) lt)
-    ∙ reading_first (outcome key max i (is_end (pieces (drop 65552 c))) (take 65552 c)) (outcomes key max (i + 1) (pieces (drop 65552 c)))
-    ∙ ap (λ b. then_read (outcome key max i b (take 65552 c)) (reading_from key max (i + 1) (drop 65552 c))) (is_end-cut 65552 [] (drop 65552 c))
+    ap (λ cs. record { front = front (outcomes key max i cs); fault = first_fault (outcomes key max i cs) })
+        (cut-step 65552 c (omega arith) lt)
+    ∙ reading_first (outcome key max i (is_end (pieces (drop 65552 c))) (take 65552 c))
+    (outcomes key max (i + 1) (pieces (drop 65552 c)))
+    ∙ ap (λ b. then_read (outcome key max i b (take 65552 c)) (reading_from key max (i + 1) (drop 65552 c)))
+    (is_end-cut 65552 [] (drop 65552 c))
 
 -- how many lists a cut has
-pub cut-count : (size n : ℕ) (p : List ℕ) → 0 < size → (n ≡ 0) ⊎ (size * n < length p) → length p ≤ size * (n + 1) → length (cut size p) ≡ n + 1
+pub cut-count : (size n : ℕ) (p : Bytes) → 0 < size → (n ≡ 0) ⊎ (size * n < length p) → length p ≤ size * (n + 1)
+    → length (cut size p) ≡ n + 1
 cut-count size zero p pos some le = ap length (cut-last size p (omega arith)) ∙ one
   where
     one : 1 ≡ 0 + 1
@@ -70,16 +80,17 @@ cut-count size (suc n) p pos (inl e) le = absurd (omega arith)
 cut-count size (suc n) p pos (inr lt) le =
     let more : size < length p = omega arith in
     let d : length (drop size p) ≡ length p - size = length-drop size p in
-    let rest : length (cut size (drop size p)) ≡ n + 1 = cut-count size n (drop size p) pos (inr (omega arith)) (omega arith) in
+    let rest : length (cut size (drop size p)) ≡ n + 1 =
+        cut-count size n (drop size p) pos (inr (omega arith)) (omega arith) in
     let all : length (cut size p) ≡ suc (length (cut size (drop size p))) = ap length (cut-step size p pos more) in
     omega arith
 
 -- a piece more, and the last
-pub count-more : (c : List ℕ) → 65552 < length c → length (pieces c) ≡ length (pieces (drop 65552 c)) + 1
+pub count-more : (c : Bytes) → 65552 < length c → length (pieces c) ≡ length (pieces (drop 65552 c)) + 1
 count-more c lt = ap length (cut-step 65552 c (omega arith) lt) ∙ one
   where
     one : suc (length (pieces (drop 65552 c))) ≡ length (pieces (drop 65552 c)) + 1
     one = omega arith
 
-pub count-last : (c : List ℕ) → length c ≤ 65552 → length (pieces c) ≡ 1
+pub count-last : (c : Bytes) → length c ≤ 65552 → length (pieces c) ≡ 1
 count-last c le = ap length (cut-last 65552 c le)

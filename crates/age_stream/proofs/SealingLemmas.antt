@@ -7,7 +7,7 @@ use Rattle.std.proofs.Math.Seq.{take-add, take-append-add, drop-append-add}
 use Rattle.std.proofs.lemmas.List.{take-append-drop, length-take-le, take_at, drop_at, length-drop}
 use Rattle.age_cipher.specs.Sealing.{sealed}
 use Rattle.age_cipher.proofs.OpeningLemmas.{length-sealed}
-use Rattle.age_header.specs.Device.{GaveAtMost, WritesPart}
+use Rattle.age_header.specs.Device.{GaveAtMost, WritesPart, Known}
 use Rattle.age_header.specs.Filling.{Filled}
 use Rattle.age_header.proofs.MayGiveLemmas.{may-end, may-more, may-some}
 use Rattle.age_header.proofs.WriteLemmas.{Done, done_part}
@@ -16,6 +16,7 @@ use Rattle.age_stream.specs.declared.fault.StreamFault.TheVariants.{Read, Write,
 use Rattle.age_stream.specs.Cutting.{cut, cut_into}
 use Rattle.age_stream.specs.Payload.{chunk_nonce, sealed_from}
 use Rattle.std.specs.Prelude.{IfNone}
+use Rattle.age_kdf.specs.Bytes.{Bytes}
 use Rattle.age_stream.specs.declared.done.Done.{Done as StreamDone}
 use Rattle.age_stream.specs.Sealing.{FinishesBy, Fills, SealerState, SealsAll, StopsIn, TakesAll, Fed, IsFed, Stopped, WroteAtLeast, at_start, sealed_after}
 use Rattle.age_stream.proofs.CuttingLemmas.{concat-append, cut-fits, cut-full}
@@ -23,13 +24,14 @@ use Rattle.age_stream.proofs.PayloadLemmas.{length-each}
 use Rattle.age_stream.proofs.ReadingLemmas.{is_end-cut, cut-some}
 
 -- a full chunk with more to come is sealed as one that is not the last
-pub chunks-full : (key : List ℕ) (i : ℕ) (held text : List ℕ) → 0 < length text → length held ≡ 65536
+pub chunks-full : (key : Bytes) (i : ℕ) (held text : Bytes) → 0 < length text → length held ≡ 65536
     → sealed_after key i held text ≡ sealed key (chunk_nonce i false) [] held ∷ sealed_after key (i + 1) [] text
 chunks-full key i held text some full =
     ap (λ cs. sealed_from key i cs) (cut-full 65536 held text (omega arith) some full)
-    ∙ ap (λ b. sealed key (chunk_nonce i b) [] held ∷ sealed_from key (i + 1) (cut 65536 text)) (is_end-cut 65536 [] text)
+    ∙ ap (λ b. sealed key (chunk_nonce i b) [] held ∷ sealed_from key (i + 1) (cut 65536 text))
+    (is_end-cut 65536 [] text)
 
-pub fed-none : (key : List ℕ) (i : ℕ) (held : List ℕ) (a : Option (List ℕ)) → Fed key i i held [] held a a
+pub fed-none : (key : Bytes) (i : ℕ) (held : Bytes) (a : Known) → Fed key i i held [] held a a
 fed-none key i held a = record {
   gone = [];
   count = omega arith;
@@ -40,7 +42,7 @@ fed-none key i held a = record {
 }
 
 -- what fits is held
-pub fed-held : (key : List ℕ) (i j : ℕ) (held text now piece : List ℕ) (a b : Option (List ℕ)) → length now + length piece ≤ 65536
+pub fed-held : (key : Bytes) (i j : ℕ) (held text now piece : Bytes) (a b : Known) → length now + length piece ≤ 65536
     → Fed key i j held text now a b → Fed key i j held (text ++ piece) (now ++ piece) a b
 fed-held key i j held text now piece a b fits f = record {
   gone = f.gone;
@@ -55,49 +57,60 @@ fed-held key i j held text now piece a b fits f = record {
 }
 
 -- `now` and a piece are a full chunk and the byte that follows it
-pub record IsFull (now piece full next : List ℕ) : Type 0 where
+pub record IsFull (now piece full next : Bytes) : Type 0 where
   pub size : length full ≡ 65536
   pub one : length next ≡ 1
   pub all : now ++ piece ≡ full ++ next
   pub fits : length now ≤ 65536
 
-piece-len : (now piece full next : List ℕ) → IsFull now piece full next → length now + length piece ≡ 65537
+piece-len : (now piece full next : Bytes) → IsFull now piece full next → length now + length piece ≡ 65537
 piece-len now piece full next h =
-    let l : length now + length piece ≡ length full + length next = sym (length-append now piece) ∙ ap length h.all ∙ length-append full next in
+    let l : length now + length piece ≡ length full + length next = sym (length-append now piece) ∙ ap length h.all
+        ∙ length-append full next in
     omega (arith, h.size, h.one)
 
 -- the chunks of what came, of the full chunk, and of what may still come
-pub chunks-after : (key : List ℕ) (i j : ℕ) (held text now piece full next more : List ℕ) (a b : Option (List ℕ)) (h : IsFull now piece full next) (f : Fed key i j held text now a b)
-    → sealed_after key i held ((text ++ piece) ++ more) ≡ f.gone ++ sealed key (chunk_nonce j false) [] full ∷ sealed_after key (j + 1) next more
+pub chunks-after : (key : Bytes) (i j : ℕ) (held text now piece full next more : Bytes) (a b : Known)
+    (h : IsFull now piece full next) (f : Fed key i j held text now a b)
+    → sealed_after key i held ((text ++ piece) ++ more)
+    ≡ f.gone ++ sealed key (chunk_nonce j false) [] full ∷ sealed_after key (j + 1) next more
 chunks-after key i j held text now piece full next more a b h f =
     let m : ℕ = 65536 - length now in
     let at : length now + m ≡ 65536 = omega (arith, h.fits) in
-    let front : List ℕ = take m piece in
-    let back : List ℕ = drop m piece in
+    let front : Bytes = take m piece in
+    let back : Bytes = drop m piece in
     let lp : length now + length piece ≡ 65537 = piece-len now piece full next h in
     let lf : length front ≡ m = length-take-le m piece (omega arith) in
-    let whole : now ++ front ≡ full = sym (take-append-add now piece m) ∙ ap (λ k. take k (now ++ piece)) at ∙ ap (take 65536) h.all ∙ take_at full next 65536 h.size in
-    let rest : back ≡ next = sym (drop-append-add now piece m) ∙ ap (λ k. drop k (now ++ piece)) at ∙ ap (drop 65536) h.all ∙ drop_at full next 65536 h.size in
+    let whole : now ++ front ≡ full = sym (take-append-add now piece m) ∙ ap (λ k. take k (now ++ piece)) at
+        ∙ ap (take 65536) h.all ∙ take_at full next 65536 h.size in
+    let rest : back ≡ next = sym (drop-append-add now piece m) ∙ ap (λ k. drop k (now ++ piece)) at
+        ∙ ap (drop 65536) h.all ∙ drop_at full next 65536 h.size in
     let lm : length (next ++ more) ≡ length next + length more = length-append next more in
     ap (λ t. sealed_after key i held t) (append_assoc text piece more)
     ∙ f.chunks (piece ++ more)
-    ∙ ap (λ t. f.gone ++ sealed_after key j now t) (ap (λ t. t ++ more) (sym (take-append-drop m piece)) ∙ append_assoc front back more)
+    ∙ ap (λ t. f.gone ++ sealed_after key j now t)
+    (ap (λ t. t ++ more) (sym (take-append-drop m piece)) ∙ append_assoc front back more)
     ∙ ap (λ cs. f.gone ++ sealed_from key j cs) (cut-fits 65536 now front (back ++ more) (omega arith))
     ∙ ap (λ t. f.gone ++ sealed_after key j t (back ++ more)) whole
     ∙ ap (λ t. f.gone ++ sealed_after key j full (t ++ more)) rest
     ∙ ap (λ cs. f.gone ++ cs) (chunks-full key j full (next ++ more) (omega (arith, h.one)) h.size)
-    ∙ ap (λ cs. f.gone ++ sealed key (chunk_nonce j false) [] full ∷ sealed_from key (j + 1) cs) (cut-fits 65536 [] next more (omega (arith, h.one)))
+    ∙ ap (λ cs. f.gone ++ sealed key (chunk_nonce j false) [] full ∷ sealed_from key (j + 1) cs)
+    (cut-fits 65536 [] next more (omega (arith, h.one)))
 
 -- a chunk became full and one byte more came: the chunk went out
-pub fed-full : (key : List ℕ) (i j : ℕ) (held text now piece full next : List ℕ) (a b c : Option (List ℕ)) → IsFull now piece full next
-    → Fed key i j held text now a b → Appends b c (sealed key (chunk_nonce j false) [] full) → Fed key i (j + 1) held (text ++ piece) next a c
+pub fed-full : (key : Bytes) (i j : ℕ) (held text now piece full next : Bytes) (a b c : Known)
+    → IsFull now piece full next
+    → Fed key i j held text now a b → Appends b c (sealed key (chunk_nonce j false) [] full)
+    → Fed key i (j + 1) held (text ++ piece) next a c
 fed-full key i j held text now piece full next a b c h f put =
-    let chunk : List ℕ = sealed key (chunk_nonce j false) [] full in
+    let chunk : Bytes = sealed key (chunk_nonce j false) [] full in
     let l : length chunk ≡ 65552 = length-sealed key (chunk_nonce j false) [] full ∙ ap (λ n. n + 16) h.size in
-    let gone : List (List ℕ) = f.gone ++ chunk ∷ [] in
+    let gone : List Bytes = f.gone ++ chunk ∷ [] in
     let lg : length gone ≡ length f.gone + 1 = length-append f.gone (chunk ∷ []) in
-    let joined : concat gone ≡ concat f.gone ++ chunk = concat-append f.gone (chunk ∷ []) ∙ ap (λ t. concat f.gone ++ t) (append-nil chunk) in
-    let lc : length (concat gone) ≡ length (concat f.gone) + length chunk = ap length joined ∙ length-append (concat f.gone) chunk in
+    let joined : concat gone ≡ concat f.gone ++ chunk = concat-append f.gone (chunk ∷ [])
+        ∙ ap (λ t. concat f.gone ++ t) (append-nil chunk) in
+    let lc : length (concat gone) ≡ length (concat f.gone) + length chunk = ap length joined
+        ∙ length-append (concat f.gone) chunk in
     let lp : length now + length piece ≡ 65537 = piece-len now piece full next h in
     record {
       gone = gone;
@@ -110,16 +123,21 @@ fed-full key i j held text now piece full next a b c h f put =
     }
 
 -- what was written is a prefix of what is to be written
-done-fed : (key : List ℕ) (i j : ℕ) (held text now more : List ℕ) (rest : List (List ℕ)) (a b : Option (List ℕ)) (f : Fed key i j held text now a b)
+done-fed : (key : Bytes) (i j : ℕ) (held text now more : Bytes) (rest : List Bytes) (a b : Known)
+    (f : Fed key i j held text now a b)
     → sealed_after key i held more ≡ f.gone ++ rest → Done a b (concat (sealed_after key i held more)) (concat rest)
-done-fed key i j held text now more rest a b f is = record { front = concat f.gone; took = f.written; is = ap concat is ∙ concat-append f.gone rest }
+done-fed key i j held text now more rest a b f is =
+    record { front = concat f.gone; took = f.written; is = ap concat is ∙ concat-append f.gone rest }
 
-wrote-fed : (key : List ℕ) (i j : ℕ) (held text now part : List ℕ) (a b c : Option (List ℕ)) → Fed key i j held text now a b → Appends b c part → WroteAtLeast (65552 * (j - i)) a c
+wrote-fed : (key : Bytes) (i j : ℕ) (held text now part : Bytes) (a b c : Known) → Fed key i j held text now a b
+    → Appends b c part → WroteAtLeast (65552 * (j - i)) a c
 wrote-fed key i j held text now part a b c f put =
-    (concat f.gone ++ part, Appends-trans a b c (concat f.gone) part f.written put, omega (arith, length-append (concat f.gone) part, f.size, f.count))
+    (concat f.gone ++ part, Appends-trans a b c (concat f.gone) part f.written put,
+        omega (arith, length-append (concat f.gone) part, f.size, f.count))
 
 -- a read failed
-pub stopped-read : (key : List ℕ) (max i j : ℕ) (held text now : List ℕ) (from mid to a b : Option (List ℕ)) → Consumes from mid text
+pub stopped-read : (key : Bytes) (max i j : ℕ) (held text now : Bytes) (from mid to a b : Known)
+    → Consumes from mid text
     → Fed key i j held text now a b → Stopped key max i j held from to a b Read
 stopped-read key max i j held text now from mid to a b took f =
     let d = may-some mid in
@@ -132,19 +150,24 @@ stopped-read key max i j held text now from mid to a b took f =
       gave = inl refl;
     }
 
-gave-full : (key : List ℕ) (i j : ℕ) (held text now piece full next : List ℕ) (from mid to a b : Option (List ℕ)) → IsFull now piece full next → Fed key i j held text now a b
+gave-full : (key : Bytes) (i j : ℕ) (held text now piece full next : Bytes) (from mid to a b : Known)
+    → IsFull now piece full next → Fed key i j held text now a b
     → Consumes from mid text → Consumes mid to piece → GaveAtMost (65536 * (j + 1 - i) + 1 - length held) from to
 gave-full key i j held text now piece full next from mid to a b h f took more =
-    (text ++ piece, Consumes-trans from mid to text piece took more, omega (arith, length-append text piece, f.bytes, f.count, piece-len now piece full next h))
+    (text ++ piece, Consumes-trans from mid to text piece took more,
+        omega (arith, length-append text piece, f.bytes, f.count, piece-len now piece full next h))
 
 -- a write failed
-pub stopped-write : (key : List ℕ) (max i j : ℕ) (held text now piece full next : List ℕ) (from mid to a b c : Option (List ℕ)) → IsFull now piece full next
-    → Consumes from mid text → Consumes mid to piece → Fed key i j held text now a b → WritesPart b c (sealed key (chunk_nonce j false) [] full) → Stopped key max i j held from to a c Write
+pub stopped-write : (key : Bytes) (max i j : ℕ) (held text now piece full next : Bytes) (from mid to a b c : Known)
+    → IsFull now piece full next
+    → Consumes from mid text → Consumes mid to piece → Fed key i j held text now a b
+    → WritesPart b c (sealed key (chunk_nonce j false) [] full) → Stopped key max i j held from to a c Write
 stopped-write key max i j held text now piece full next from mid to a b c h took more f part =
     let d = may-some to in
-    let chunk : List ℕ = sealed key (chunk_nonce j false) [] full in
-    let rest : List (List ℕ) = sealed_after key (j + 1) next d.0 in
-    let done = done-fed key i j held text now ((text ++ piece) ++ d.0) (chunk ∷ rest) a b f (chunks-after key i j held text now piece full next d.0 a b h f) in
+    let chunk : Bytes = sealed key (chunk_nonce j false) [] full in
+    let rest : List Bytes = sealed_after key (j + 1) next d.0 in
+    let done = done-fed key i j held text now ((text ++ piece) ++ d.0) (chunk ∷ rest) a b f
+        (chunks-after key i j held text now piece full next d.0 a b h f) in
     record {
       text = (text ++ piece) ++ d.0;
       may = may-more from to (text ++ piece) d.0 (Consumes-trans from mid to text piece took more) d.1;
@@ -154,21 +177,28 @@ stopped-write key max i j held text now piece full next from mid to a b c h took
     }
 
 -- no chunk more is allowed
-pub stopped-many : (key : List ℕ) (max i j : ℕ) (held text now piece full next : List ℕ) (from mid to a b c : Option (List ℕ)) → IsFull now piece full next → j < max → max ≤ j + 1
-    → Consumes from mid text → Consumes mid to piece → Fed key i j held text now a b → Appends b c [] → Stopped key max i j held from to a c TooManyChunks
+pub stopped-many : (key : Bytes) (max i j : ℕ) (held text now piece full next : Bytes) (from mid to a b c : Known)
+    → IsFull now piece full next → j < max → max ≤ j + 1
+    → Consumes from mid text → Consumes mid to piece → Fed key i j held text now a b → Appends b c []
+    → Stopped key max i j held from to a c TooManyChunks
 stopped-many key max i j held text now piece full next from mid to a b c h within many took more f none =
     let d = may-some to in
-    let all : List ℕ = (text ++ piece) ++ d.0 in
-    let chunk : List ℕ = sealed key (chunk_nonce j false) [] full in
-    let rest : List (List ℕ) = sealed_after key (j + 1) next d.0 in
-    let is : sealed_after key i held all ≡ f.gone ++ chunk ∷ rest = chunks-after key i j held text now piece full next d.0 a b h f in
+    let all : Bytes = (text ++ piece) ++ d.0 in
+    let chunk : Bytes = sealed key (chunk_nonce j false) [] full in
+    let rest : List Bytes = sealed_after key (j + 1) next d.0 in
+    let is : sealed_after key i held all ≡ f.gone ++ chunk ∷ rest =
+        chunks-after key i j held text now piece full next d.0 a b h f in
     let lr : length rest ≡ length (cut_into 65536 next d.0) = length-each key (j + 1) (cut_into 65536 next d.0) in
     let some : 0 < length (cut_into 65536 next d.0) = cut-some 65536 next d.0 in
-    let ll : length (cut_into 65536 held all) ≡ length f.gone + length (chunk ∷ rest) = sym (length-each key i (cut_into 65536 held all)) ∙ ap length is ∙ length-append f.gone (chunk ∷ rest) in
+    let ll : length (cut_into 65536 held all) ≡ length f.gone + length (chunk ∷ rest) =
+        sym (length-each key i (cut_into 65536 held all)) ∙ ap length is ∙ length-append f.gone (chunk ∷ rest) in
     let n : max - 1 - i ≡ length f.gone = omega (arith, f.count) in
-    let gone : take (max - 1 - i) (sealed_after key i held all) ≡ f.gone = ap (take (max - 1 - i)) is ∙ take_at f.gone (chunk ∷ rest) (max - 1 - i) (sym n) in
+    let gone : take (max - 1 - i) (sealed_after key i held all) ≡ f.gone = ap (take (max - 1 - i)) is
+        ∙ take_at f.gone (chunk ∷ rest) (max - 1 - i) (sym n) in
     let lc : length (chunk ∷ rest) ≡ suc (length rest) = refl in
-    let wrote : Appends a c (concat f.gone) = subst (λ t. Appends a c t) (append-nil (concat f.gone)) (Appends-trans a b c (concat f.gone) [] f.written none) in
+    let wrote : Appends a c (concat f.gone) =
+        subst (λ t. Appends a c t) (append-nil (concat f.gone))
+        (Appends-trans a b c (concat f.gone) [] f.written none) in
     record {
       text = all;
       may = may-more from to (text ++ piece) d.0 (Consumes-trans from mid to text piece took more) d.1;
@@ -178,7 +208,8 @@ stopped-many key max i j held text now piece full next from mid to a b c h withi
     }
 
 -- the source is at its end
-pub fed-end : (key : List ℕ) (i j : ℕ) (held text now piece : List ℕ) (from mid to a b : Option (List ℕ)) → length now + length piece ≤ 65536 → Consumes from mid text → Consumes mid to piece → IsAtEnd to
+pub fed-end : (key : Bytes) (i j : ℕ) (held text now piece : Bytes) (from mid to a b : Known)
+    → length now + length piece ≤ 65536 → Consumes from mid text → Consumes mid to piece → IsAtEnd to
     → Fed key i j held text now a b → IsFed key i j held (now ++ piece) from to a b
 fed-end key i j held text now piece from mid to a b fits took more end f = record {
   text = text ++ piece;
@@ -188,20 +219,28 @@ fed-end key i j held text now piece from mid to a b fits took more end f = recor
 }
 
 -- a chunk that did not go out
-pub stopped-full : (key : List ℕ) (max i j k : ℕ) (held text now piece full next : List ℕ) (from mid to a b c : Option (List ℕ)) (fault : StreamFault) → IsFull now piece full next → j < max
+pub stopped-full : (key : Bytes) (max i j k : ℕ) (held text now piece full next : Bytes) (from mid to a b c : Known)
+    (fault : StreamFault) → IsFull now piece full next → j < max
     → Consumes from mid text → Consumes mid to piece → Fed key i j held text now a b
-    → (k ≡ j) × (((fault ≡ Write) × WritesPart b c (sealed key (chunk_nonce j false) [] full)) ⊎ ((fault ≡ TooManyChunks) × (max ≤ j + 1) × Appends b c []))
+    → (k ≡ j) × (((fault ≡ Write) × WritesPart b c (sealed key (chunk_nonce j false) [] full))
+    ⊎ ((fault ≡ TooManyChunks) × (max ≤ j + 1) × Appends b c []))
     → Stopped key max i k held from to a c fault
-stopped-full key max i j k held text now piece full next from mid to a b c fault h within took more f (same, inl (is, part)) =
+stopped-full key max i j k held text now piece full next from mid to a b c fault h within took more f
+    (same, inl (is, part)) =
     subst (λ n. Stopped key max i n held from to a c fault) (sym same)
-    (subst (Stopped key max i j held from to a c) (sym is) (stopped-write key max i j held text now piece full next from mid to a b c h took more f part))
-stopped-full key max i j k held text now piece full next from mid to a b c fault h within took more f (same, inr (is, many, none)) =
+    (subst (Stopped key max i j held from to a c) (sym is)
+        (stopped-write key max i j held text now piece full next from mid to a b c h took more f part))
+stopped-full key max i j k held text now piece full next from mid to a b c fault h within took more f
+    (same, inr (is, many, none)) =
     subst (λ n. Stopped key max i n held from to a c fault) (sym same)
-    (subst (Stopped key max i j held from to a c) (sym is) (stopped-many key max i j held text now piece full next from mid to a b c h within many took more f none))
+    (subst (Stopped key max i j held from to a c) (sym is)
+        (stopped-many key max i j held text now piece full next from mid to a b c h within many took more f none))
 
 -- a buffer that was filled up to the byte after a full chunk
-pub full-is : (held n : ℕ) (bytes filled : List ℕ) (a b : Option (List ℕ)) → 65536 < n → n ≤ 65537 → held ≤ 65536 → length bytes ≡ 65553 → length filled ≡ 65553
-    → (f : Filled held n bytes filled a b) → IsFull (take held bytes) f.piece (take 65536 filled) (take 1 (drop 65536 filled))
+pub full-is : (held n : ℕ) (bytes filled : Bytes) (a b : Known) → 65536 < n → n ≤ 65537 → held ≤ 65536
+    → length bytes ≡ 65553 → length filled ≡ 65553
+    → (f : Filled held n bytes filled a b)
+    → IsFull (take held bytes) f.piece (take 65536 filled) (take 1 (drop 65536 filled))
 full-is held n bytes filled a b low high le size full_size f =
     let is : n ≡ 65536 + 1 = omega arith in
     record {
@@ -211,33 +250,39 @@ full-is held n bytes filled a b low high le size full_size f =
       fits = omega (arith, length-take-le held bytes (omega arith));
     }
 
-pub first-set : (xs : List ℕ) (v : ℕ) → 0 < length xs → take 1 (slice_set xs 0 v) ≡ v ∷ []
+pub first-set : (xs : Bytes) (v : ℕ) → 0 < length xs → take 1 (slice_set xs 0 v) ≡ v ∷ []
 first-set [] v some = absurd (omega arith)
 first-set (x ∷ xs) v some = refl
 
-pub first-of : (xs : List ℕ) (k : ℕ) → k < length xs → take 1 (drop k xs) ≡ slice_index_or xs k 0 ∷ []
+pub first-of : (xs : Bytes) (k : ℕ) → k < length xs → take 1 (drop k xs) ≡ slice_index_or xs k 0 ∷ []
 first-of [] k lt = absurd (omega arith)
 first-of (x ∷ xs) zero lt = refl
 first-of (x ∷ xs) (suc k) lt = first-of xs k (omega arith)
 
 -- a chunk that went out, by the byte that is then in front
-pub fed-next : (key : List ℕ) (i j k : ℕ) (held text now piece full next front : List ℕ) (a b c : Option (List ℕ)) → IsFull now piece full next → Fed key i j held text now a b
-    → k ≡ j + 1 → front ≡ next → Appends b c (sealed key (chunk_nonce j false) [] full) → Fed key i k held (text ++ piece) front a c
+pub fed-next : (key : Bytes) (i j k : ℕ) (held text now piece full next front : Bytes) (a b c : Known)
+    → IsFull now piece full next → Fed key i j held text now a b
+    → k ≡ j + 1 → front ≡ next → Appends b c (sealed key (chunk_nonce j false) [] full)
+    → Fed key i k held (text ++ piece) front a c
 fed-next key i j k held text now piece full next front a b c h f is same put =
     subst (λ n. Fed key i n held (text ++ piece) front a c) (sym is)
-    (subst (λ t. Fed key i (j + 1) held (text ++ piece) t a c) (sym same) (fed-full key i j held text now piece full next a b c h f put))
+    (subst (λ t. Fed key i (j + 1) held (text ++ piece) t a c) (sym same)
+        (fed-full key i j held text now piece full next a b c h f put))
 
 -- a sealer between two calls, by its parts
-abbrev pub parts : List ℕ → ℕ → ℕ → ℕ → List ℕ → Option StreamFault → SealerState
-parts key max i len bytes fault = record { key = key; max_chunks = max; index = i; held = take len bytes; fault = fault }
+abbrev pub parts : Bytes → ℕ → ℕ → ℕ → Bytes → Option StreamFault → SealerState
+parts key max i len bytes fault = record
+    { key = key; max_chunks = max; index = i; held = take len bytes; fault = fault }
 
 unkept : {P : Type 0} (fault : Option StreamFault) → P → IfNone fault P
 unkept None p = p
 unkept (Some f) p = tt
 
 -- all was taken
-pub takes-ok : (u : Unit {0}) (now : SealerState) (from to a b : Option (List ℕ)) (key : List ℕ) (max i j len n : ℕ) (old slice bytes items : List ℕ) (fault : Option StreamFault)
-    → parts key max i len old fault ≡ now → fault ≡ None → slice ≡ old → length bytes ≡ 65553 → items ≡ bytes → n ≤ 65536 → j < max
+pub takes-ok : (u : Unit {0}) (now : SealerState) (from to a b : Known) (key : Bytes) (max i j len n : ℕ)
+    (old slice bytes items : Bytes) (fault : Option StreamFault)
+    → parts key max i len old fault ≡ now → fault ≡ None → slice ≡ old → length bytes ≡ 65553 → items ≡ bytes
+    → n ≤ 65536 → j < max
     → IsFed key i j (take len slice) (take n bytes) from to a b × IsAtEnd to
     → IfNone now.fault (TakesAll {A = Unit {0}} now (parts key max j n items fault) from to a b (Ok u))
 takes-ok u now from to a b key max i j len n old slice bytes items fault view none same size all le within (fed, end) =
@@ -248,18 +293,21 @@ takes-ok u now from to a b key max i j len n old slice bytes items fault view no
         none,
         omega (arith, length-take-le n items (omega (arith, ap length all))),
         within,
-        subst (λ t. IsFed key i j (take len t) (take n items) from to a b) same (subst (λ t. IsFed key i j (take len slice) (take n t) from to a b) (sym all) fed),
+        subst (λ t. IsFed key i j (take len t) (take n items) from to a b) same
+            (subst (λ t. IsFed key i j (take len slice) (take n t) from to a b) (sym all) fed),
         end,
       ),
     ))
 
 -- a fault was met
-pub takes-err : (now : SealerState) (from to a b : Option (List ℕ)) (key : List ℕ) (max i j len : ℕ) (old slice items : List ℕ) (kept : Option StreamFault) (fault : StreamFault)
+pub takes-err : (now : SealerState) (from to a b : Known) (key : Bytes) (max i j len : ℕ) (old slice items : Bytes)
+    (kept : Option StreamFault) (fault : StreamFault)
     → parts key max i len old kept ≡ now → slice ≡ old
     → Stopped key max i j (take len slice) from to a b fault
     → IfNone now.fault (TakesAll {A = Unit {0}} now (parts key max j len items (Some fault)) from to a b (Err fault))
 takes-err now from to a b key max i j len old slice items kept fault view same stopped =
-    subst (λ s. IfNone s.fault (TakesAll {A = Unit {0}} s (parts key max j len items (Some fault)) from to a b (Err fault))) view (unkept kept (
+    subst (λ s. IfNone s.fault (TakesAll {A = Unit {0}} s (parts key max j len items (Some fault)) from to a b
+        (Err fault))) view (unkept kept (
       refl,
       refl,
       (refl, subst (λ t. Stopped key max i j (take len t) from to a b fault) same stopped),
@@ -268,63 +316,79 @@ takes-err now from to a b key max i j len old slice items kept fault view same s
 -- ---- a whole payload
 
 -- the chunks of a whole text: those that went out, and the last
-chunks-all : (key : List ℕ) (i j : ℕ) (held text now : List ℕ) (a b : Option (List ℕ)) (f : Fed key i j held text now a b) → sealed_after key i held text ≡ f.gone ++ sealed_after key j now []
+chunks-all : (key : Bytes) (i j : ℕ) (held text now : Bytes) (a b : Known) (f : Fed key i j held text now a b)
+    → sealed_after key i held text ≡ f.gone ++ sealed_after key j now []
 chunks-all key i j held text now a b f = ap (sealed_after key i held) (sym (append-nil text)) ∙ f.chunks []
 
-answer-all : (key : List ℕ) (i j : ℕ) (held text now : List ℕ) (a b : Option (List ℕ)) (f : Fed key i j held text now a b)
+answer-all : (key : Bytes) (i j : ℕ) (held text now : Bytes) (a b : Known) (f : Fed key i j held text now a b)
     → concat (sealed_after key i held text) ≡ concat f.gone ++ concat (sealed_after key j now [])
-answer-all key i j held text now a b f = ap concat (chunks-all key i j held text now a b f) ∙ concat-append f.gone (sealed_after key j now [])
+answer-all key i j held text now a b f = ap concat (chunks-all key i j held text now a b f)
+    ∙ concat-append f.gone (sealed_after key j now [])
 
-count-all : (key : List ℕ) (i j : ℕ) (held text now : List ℕ) (a b : Option (List ℕ)) (f : Fed key i j held text now a b) → i + length (cut_into 65536 held text) ≡ j + 1
+count-all : (key : Bytes) (i j : ℕ) (held text now : Bytes) (a b : Known) (f : Fed key i j held text now a b)
+    → i + length (cut_into 65536 held text) ≡ j + 1
 count-all key i j held text now a b f =
     let l : length (cut_into 65536 held text) ≡ length f.gone + length (sealed_after key j now []) =
-    sym (length-each key i (cut_into 65536 held text)) ∙ ap length (chunks-all key i j held text now a b f) ∙ length-append f.gone (sealed_after key j now []) in
+    sym (length-each key i (cut_into 65536 held text)) ∙ ap length (chunks-all key i j held text now a b f)
+        ∙ length-append f.gone (sealed_after key j now []) in
     let one : length (sealed_after key j now []) ≡ 1 = refl in
     omega (arith, l, one, f.count)
 
-pub seals-ok : (s t : SealerState) (u : Unit {0}) (from to a b c : Option (List ℕ)) (done : StreamDone) → s.fault ≡ None → IfNone s.fault (TakesAll s t from to a b (Ok u)) → IfNone t.fault (FinishesBy t b c (Ok done))
+pub seals-ok : (s t : SealerState) (u : Unit {0}) (from to a b c : Known) (done : StreamDone) → s.fault ≡ None
+    → IfNone s.fault (TakesAll s t from to a b (Ok u)) → IfNone t.fault (FinishesBy t b c (Ok done))
     → SealsAll s from to a c (Ok done)
 seals-ok s t u from to a b c done none takes finishes =
     let h = subst (λ (x : Option StreamFault). IfNone x (TakesAll s t from to a b (Ok u))) none takes in
     let e = subst (λ (x : Option StreamFault). IfNone x (FinishesBy t b c (Ok done))) h.2.0 finishes in
     let fed = h.2.3 in
-    let last : Appends b c (concat (sealed_after s.key t.index t.held [])) = subst (λ k. Appends b c (concat (sealed_after k t.index t.held []))) h.0 e.0 in
-    let count : s.index + length (cut_into 65536 s.held fed.text) ≡ t.index + 1 = count-all s.key s.index t.index s.held fed.text t.held a b fed.fed in
+    let last : Appends b c (concat (sealed_after s.key t.index t.held [])) =
+        subst (λ k. Appends b c (concat (sealed_after k t.index t.held []))) h.0 e.0 in
+    let count : s.index + length (cut_into 65536 s.held fed.text) ≡ t.index + 1 =
+        count-all s.key s.index t.index s.held fed.text t.held a b fed.fed in
     let fits : t.index < s.max_chunks = subst (λ m. t.index < m) h.1 h.2.2 in (
       fed.text,
       fed.may,
-      subst (Appends a c) (sym (answer-all s.key s.index t.index s.held fed.text t.held a b fed.fed)) (Appends-trans a b c (concat fed.fed.gone) _ fed.fed.written last),
+      subst (Appends a c) (sym (answer-all s.key s.index t.index s.held fed.text t.held a b fed.fed))
+          (Appends-trans a b c (concat fed.fed.gone) _ fed.fed.written last),
       omega (arith, count, fits),
       omega (arith, e.1, fed.fed.bytes, fed.fed.count),
       e.2 ∙ sym count,
     )
 
-pub seals-last : (s t : SealerState) (u : Unit {0}) (from to a b c : Option (List ℕ)) (fault : StreamFault) → s.fault ≡ None → IfNone s.fault (TakesAll s t from to a b (Ok u)) → IfNone t.fault (FinishesBy t b c (Err fault))
+pub seals-last : (s t : SealerState) (u : Unit {0}) (from to a b c : Known) (fault : StreamFault) → s.fault ≡ None
+    → IfNone s.fault (TakesAll s t from to a b (Ok u)) → IfNone t.fault (FinishesBy t b c (Err fault))
     → SealsAll s from to a c (Err fault)
 seals-last s t u from to a b c fault none takes finishes =
     let h = subst (λ (x : Option StreamFault). IfNone x (TakesAll s t from to a b (Ok u))) none takes in
     let e = subst (λ (x : Option StreamFault). IfNone x (FinishesBy t b c (Err fault))) h.2.0 finishes in
     let fed = h.2.3 in
-    let part : WritesPart b c (concat (sealed_after s.key t.index t.held [])) = subst (λ k. WritesPart b c (concat (sealed_after k t.index t.held []))) h.0 e.1 in
-    let done = done-fed s.key s.index t.index s.held fed.text t.held fed.text (sealed_after s.key t.index t.held []) a b fed.fed (chunks-all s.key s.index t.index s.held fed.text t.held a b fed.fed) in (
+    let part : WritesPart b c (concat (sealed_after s.key t.index t.held [])) =
+        subst (λ k. WritesPart b c (concat (sealed_after k t.index t.held []))) h.0 e.1 in
+    let done = done-fed s.key s.index t.index s.held fed.text t.held fed.text (sealed_after s.key t.index t.held []) a b
+        fed.fed (chunks-all s.key s.index t.index s.held fed.text t.held a b fed.fed) in (
       t.index,
       subst (Stopped s.key s.max_chunks s.index t.index s.held from to a c) (sym e.0) (record {
         text = fed.text;
         may = fed.may;
         stops = done_part a b c _ _ (concat (sealed_after s.key t.index t.held [])) [] done (sym (append-nil _)) part;
-        wrote = wrote-fed s.key s.index t.index s.held fed.text t.held (take part.0 (concat (sealed_after s.key t.index t.held []))) a b c fed.fed part.1;
+        wrote = wrote-fed s.key s.index t.index s.held fed.text t.held
+            (take part.0 (concat (sealed_after s.key t.index t.held []))) a b c fed.fed part.1;
         gave = inr (fed.text, fed.took, omega (arith, fed.fed.bytes, fed.fed.count, h.2.1));
       }),
     )
 
-pub seals-finish : (s t : SealerState) (u : Unit {0}) (from to a b c : Option (List ℕ)) (r : Result StreamDone StreamFault) → s.fault ≡ None → IfNone s.fault (TakesAll s t from to a b (Ok u)) → IfNone t.fault (FinishesBy t b c r)
+pub seals-finish : (s t : SealerState) (u : Unit {0}) (from to a b c : Known) (r : Result StreamDone StreamFault)
+    → s.fault ≡ None → IfNone s.fault (TakesAll s t from to a b (Ok u)) → IfNone t.fault (FinishesBy t b c r)
     → SealsAll s from to a c r
 seals-finish s t u from to a b c (Ok done) none takes finishes = seals-ok s t u from to a b c done none takes finishes
-seals-finish s t u from to a b c (Err fault) none takes finishes = seals-last s t u from to a b c fault none takes finishes
+seals-finish s t u from to a b c (Err fault) none takes finishes =
+    seals-last s t u from to a b c fault none takes finishes
 
-pub seals-err : (s t : SealerState) (from to a b : Option (List ℕ)) (fault : StreamFault) → s.fault ≡ None → IfNone s.fault (TakesAll {A = Unit {0}} s t from to a b (Err fault)) → SealsAll s from to a b (Err fault)
+pub seals-err : (s t : SealerState) (from to a b : Known) (fault : StreamFault) → s.fault ≡ None
+    → IfNone s.fault (TakesAll {A = Unit {0}} s t from to a b (Err fault)) → SealsAll s from to a b (Err fault)
 seals-err s t from to a b fault none takes =
-    let h = subst (λ (x : Option StreamFault). IfNone x (TakesAll {A = Unit {0}} s t from to a b (Err fault))) none takes in
+    let h = subst (λ (x : Option StreamFault). IfNone x (TakesAll {A = Unit {0}} s t from to a b (Err fault))) none
+        takes in
     (t.index, h.2.1)
 
 -- a clause on what is so where no fault is kept
@@ -335,27 +399,30 @@ when-none (Some kept) f = tt
 -- ---- a payload whose first chunk was filled before anything was written
 
 -- what was held is cut as if it came
-cut-held : (x more : List ℕ) → length x ≤ 65536 → cut_into 65536 [] (x ++ more) ≡ cut_into 65536 x more
+cut-held : (x more : Bytes) → length x ≤ 65536 → cut_into 65536 [] (x ++ more) ≡ cut_into 65536 x more
 cut-held x more fits = cut-fits 65536 [] x more (omega (arith, fits))
 
 -- a sealer that was filled seals what came and what comes
-pub filled-seals : (key : List ℕ) (max : ℕ) (t : SealerState) (more : Bool) (from mid to a c : Option (List ℕ)) (r : Result StreamDone StreamFault)
-    → Fills (at_start key max) t from mid (Ok more) → SealsAll t mid to a c r → SealsAll (at_start key max) from to a c r
+pub filled-seals : (key : Bytes) (max : ℕ) (t : SealerState) (more : Bool) (from mid to a c : Known)
+    (r : Result StreamDone StreamFault)
+    → Fills (at_start key max) t from mid (Ok more) → SealsAll t mid to a c r
+    → SealsAll (at_start key max) from to a c r
 filled-seals key max t more from mid to a c r (x, took, is, fits, full, ended) seals =
     go r (subst (λ (u : SealerState). SealsAll u mid to a c r) is seals)
   where
     le : length x ≤ 65536
     le = subst (λ (u : SealerState). length u.held ≤ 65536) is fits
 
-    go : (q : Result StreamDone StreamFault) → SealsAll (record (at_start key max) { held = x }) mid to a c q → SealsAll (at_start key max) from to a c q
+    go : (q : Result StreamDone StreamFault) → SealsAll (record (at_start key max) { held = x }) mid to a c q
+        → SealsAll (at_start key max) from to a c q
     go (Ok done) (text, may, put, within, bytes, count) =
         let same : cut_into 65536 [] (x ++ text) ≡ cut_into 65536 x text = cut-held x text le in (
           x ++ text,
           may-more from mid x text took may,
           subst (λ cs. Appends a c (concat (sealed_from key 0 cs))) (sym same) put,
-          subst (λ (cs : List (List ℕ)). 0 + length cs ≤ max) (sym same) within,
+          subst (λ (cs : List Bytes). 0 + length cs ≤ max) (sym same) within,
           omega (arith, bytes, length-append x text),
-          subst (λ (cs : List (List ℕ)). done.chunks ≡ 0 + length cs) (sym same) count,
+          subst (λ (cs : List Bytes). done.chunks ≡ 0 + length cs) (sym same) count,
         )
     go (Err fault) (j, s) = (
       j,
@@ -375,15 +442,19 @@ filled-seals key max t more from mid to a c r (x, took, is, fits, full, ended) s
         stops Read h = subst (λ cs. WritesPart a c (concat (sealed_from key 0 cs))) (sym same) h
         stops Write h = subst (λ cs. WritesPart a c (concat (sealed_from key 0 cs))) (sym same) h
         stops TooManyChunks h =
-            subst (λ (cs : List (List ℕ)). (max < 0 + length cs) × Appends a c (concat (take (max - 1 - 0) (sealed_from key 0 cs)))) (sym same) h
+            subst (λ (cs : List Bytes). (max < 0 + length cs)
+                × Appends a c (concat (take (max - 1 - 0) (sealed_from key 0 cs)))) (sym same) h
         stops _ h = absurd h
 
-        gave : (fault ≡ Read) ⊎ GaveAtMost (65536 * (j + 1 - 0) + 1 - length x) mid to → (fault ≡ Read) ⊎ GaveAtMost (65536 * (j + 1 - 0) + 1 - 0) from to
+        gave : (fault ≡ Read) ⊎ GaveAtMost (65536 * (j + 1 - 0) + 1 - length x) mid to
+            → (fault ≡ Read) ⊎ GaveAtMost (65536 * (j + 1 - 0) + 1 - 0) from to
         gave (inl e) = inl e
-        gave (inr g) = inr (x ++ g.0, Consumes-trans from mid to x g.0 took g.1, omega (arith, length-append x g.0, g.2, le))
+        gave (inr g) = inr (x ++ g.0, Consumes-trans from mid to x g.0 took g.1,
+            omega (arith, length-append x g.0, g.2, le))
 
 -- a sealer that was filled with all that came seals it as the last chunk
-pub filled-finishes : (key : List ℕ) (max : ℕ) (t : SealerState) (from to a c : Option (List ℕ)) (r : Result StreamDone StreamFault) → 1 ≤ max
+pub filled-finishes : (key : Bytes) (max : ℕ) (t : SealerState) (from to a c : Known)
+    (r : Result StreamDone StreamFault) → 1 ≤ max
     → Fills (at_start key max) t from to (Ok false) → FinishesBy t a c r → SealsAll (at_start key max) from to a c r
 filled-finishes key max t from to a c r some (x, took, is, fits, full, ended) finishes =
     go r (subst (λ (u : SealerState). FinishesBy u a c r) is finishes)
@@ -394,21 +465,23 @@ filled-finishes key max t from to a c r some (x, took, is, fits, full, ended) fi
     same : cut_into 65536 [] x ≡ x ∷ []
     same = ap (cut_into 65536 []) (sym (append-nil x)) ∙ cut-held x [] le
 
-    go : (q : Result StreamDone StreamFault) → FinishesBy (record (at_start key max) { held = x }) a c q → SealsAll (at_start key max) from to a c q
+    go : (q : Result StreamDone StreamFault) → FinishesBy (record (at_start key max) { held = x }) a c q
+        → SealsAll (at_start key max) from to a c q
     go (Ok done) (put, bytes, count) = (
       x,
       may-end from to x took (ended refl),
       subst (λ cs. Appends a c (concat (sealed_from key 0 cs))) (sym same) put,
-      subst (λ (cs : List (List ℕ)). 0 + length cs ≤ max) (sym same) (omega (arith, some)),
+      subst (λ (cs : List Bytes). 0 + length cs ≤ max) (sym same) (omega (arith, some)),
       omega (arith, bytes),
-      subst (λ (cs : List (List ℕ)). done.chunks ≡ 0 + length cs) (sym same) (omega (arith, count)),
+      subst (λ (cs : List Bytes). done.chunks ≡ 0 + length cs) (sym same) (omega (arith, count)),
     )
     go (Err fault) (write, part) = (
       0,
       record {
         text = x;
         may = may-end from to x took (ended refl);
-        stops = subst (λ f. StopsIn key max 0 [] x a c f) (sym write) (subst (λ cs. WritesPart a c (concat (sealed_from key 0 cs))) (sym same) part);
+        stops = subst (λ f. StopsIn key max 0 [] x a c f) (sym write)
+            (subst (λ cs. WritesPart a c (concat (sealed_from key 0 cs))) (sym same) part);
         wrote = (_, part.1, omega arith);
         gave = inr (x, took, omega (arith, le));
       },

@@ -5,6 +5,7 @@ use Rattle.std.proofs.lemmas.Bool.{cases_lt, le-leb, lt-leb}
 use Rattle.std.proofs.lemmas.List.{length-drop, length-append, length-take-le, take_all, drop_all, drop-drop, get_or_append_left, get_or-append-add, get_or-take, get_or-drop}
 use Rattle.std.proofs.lemmas.List.Sums.{sum_by-cons}
 use Rattle.std.proofs.lemmas.Option.{slice_get-get_or}
+use Rattle.age_kdf.specs.Bytes.{Bytes}
 use Rattle.age_stream.specs.Cutting.{cut}
 use Rattle.age_stream.specs.Payload.{pieces, is_end}
 use Rattle.age_stream.specs.Reading.{opened_at}
@@ -13,10 +14,11 @@ use Rattle.age_stream.proofs.ReadingLemmas.{cut-step, is_end-cut}
 use Rattle.age_stream.specs.Slice.{openings, opening, plain_len, IsSlice}
 
 -- list i of a cut, by its offset
-pub cut-at : (size i : ℕ) (p : List ℕ) → 0 < size → get_or (cut size p) i [] ≡ take size (drop (size * i) p)
+pub cut-at : (size i : ℕ) (p : Bytes) → 0 < size → get_or (cut size p) i [] ≡ take size (drop (size * i) p)
 cut-at size zero p pos = elim (cases_lt size (length p)) [
   | inl lt ↦ ap (λ cs. get_or cs 0 []) (cut-step size p pos lt) ∙ ap (λ n. take size (drop n p)) none
-  | inr ge ↦ ap (λ cs. get_or cs 0 []) (cut-last size p ge) ∙ sym (take_all size p ge) ∙ ap (λ n. take size (drop n p)) none
+  | inr ge ↦ ap (λ cs. get_or cs 0 []) (cut-last size p ge) ∙ sym (take_all size p ge)
+      ∙ ap (λ n. take size (drop n p)) none
 ]
   where
     none : 0 ≡ size * 0
@@ -39,18 +41,21 @@ shifted size n len lt = elim (cases_lt (size * suc n) len) [
 ]
 
 -- whether list i of a cut is the last
-pub last-cut : (size i : ℕ) (p : List ℕ) → 0 < size → is_end (drop (suc i) (cut size p)) ≡ nat_le (length p) (size * suc i)
+pub last-cut : (size i : ℕ) (p : Bytes) → 0 < size
+    → is_end (drop (suc i) (cut size p)) ≡ nat_le (length p) (size * suc i)
 last-cut size zero p pos = elim (cases_lt size (length p)) [
-  | inl lt ↦ ap (λ cs. is_end (drop 1 cs)) (cut-step size p pos lt) ∙ is_end-cut size [] (drop size p) ∙ sym (lt-leb (length p) (size * 1) (omega arith))
+  | inl lt ↦ ap (λ cs. is_end (drop 1 cs)) (cut-step size p pos lt) ∙ is_end-cut size [] (drop size p)
+      ∙ sym (lt-leb (length p) (size * 1) (omega arith))
   | inr ge ↦ ap (λ cs. is_end (drop 1 cs)) (cut-last size p ge) ∙ sym (le-leb (length p) (size * 1) (omega arith))
 ]
 last-cut size (suc i) p pos = elim (cases_lt size (length p)) [
   | inl lt ↦ ap (λ cs. is_end (drop (suc (suc i)) cs)) (cut-step size p pos lt) ∙ last-cut size i (drop size p) pos
       ∙ ap (λ n. nat_le n (size * suc i)) (length-drop size p) ∙ shifted size (suc i) (length p) lt
-  | inr ge ↦ ap (λ cs. is_end (drop (suc (suc i)) cs)) (cut-last size p ge) ∙ sym (le-leb (length p) (size * suc (suc i)) (omega arith))
+  | inr ge ↦ ap (λ cs. is_end (drop (suc (suc i)) cs)) (cut-last size p ge)
+      ∙ sym (le-leb (length p) (size * suc (suc i)) (omega arith))
 ]
 
-openings-at : (key : List ℕ) (j i : ℕ) (cs : List (List ℕ)) → i < length cs
+openings-at : (key : Bytes) (j i : ℕ) (cs : List Bytes) → i < length cs
     → get_or (openings key j cs) i None ≡ opened_at key (j + i) (is_end (drop (suc i) cs)) (get_or cs i [])
 openings-at key j i [] lt = absurd (omega arith)
 openings-at key j zero (c ∷ cs) lt = ap (λ n. opened_at key n (is_end cs) c) zero_more
@@ -58,18 +63,20 @@ openings-at key j zero (c ∷ cs) lt = ap (λ n. opened_at key n (is_end cs) c) 
     zero_more : j ≡ j + 0
     zero_more = omega arith
 openings-at key j (suc i) (c ∷ cs) lt =
-    openings-at key (j + 1) i cs (omega arith) ∙ ap (λ n. opened_at key n (is_end (drop (suc i) cs)) (get_or cs i [])) one_more
+    openings-at key (j + 1) i cs (omega arith)
+        ∙ ap (λ n. opened_at key n (is_end (drop (suc i) cs)) (get_or cs i [])) one_more
   where
     one_more : j + 1 + i ≡ j + suc i
     one_more = omega arith
 
 -- what piece i opens to, by its offset
-pub opening-at : (key rest : List ℕ) (i : ℕ) → i < length (pieces rest)
+pub opening-at : (key rest : Bytes) (i : ℕ) → i < length (pieces rest)
     → opening key rest i ≡ opened_at key i (nat_le (length rest) (65552 * (i + 1))) (take 65552 (drop (65552 * i) rest))
 opening-at key rest i lt =
     openings-at key 0 i (pieces rest) lt
     ∙ ap (λ n. opened_at key n (is_end (drop (suc i) (pieces rest))) (get_or (pieces rest) i [])) none
-    ∙ ap (λ b. opened_at key i b (get_or (pieces rest) i [])) (last-cut 65552 i rest (omega arith) ∙ ap (λ n. nat_le (length rest) (65552 * n)) one)
+    ∙ ap (λ b. opened_at key i b (get_or (pieces rest) i []))
+    (last-cut 65552 i rest (omega arith) ∙ ap (λ n. nat_le (length rest) (65552 * n)) one)
     ∙ ap (λ x. opened_at key i (nat_le (length rest) (65552 * (i + 1))) x) (cut-at 65552 i rest (omega arith))
   where
     none : 0 + i ≡ i
@@ -79,26 +86,32 @@ opening-at key rest i lt =
     one = omega arith
 
 -- how long the plaintext is, where the last piece has a tag
-pub plain-count : (n : ℕ) (rest : List ℕ) → (n ≡ 0) ⊎ (65552 * n < length rest) → length rest ≤ 65552 * (n + 1) → 65552 * n + 16 ≤ length rest
+pub plain-count : (n : ℕ) (rest : Bytes) → (n ≡ 0) ⊎ (65552 * n < length rest) → length rest ≤ 65552 * (n + 1)
+    → 65552 * n + 16 ≤ length rest
     → plain_len rest + 16 * (n + 1) ≡ length rest
 plain-count zero rest some le tag =
-    let one : plain_len rest ≡ (length rest - 16) + 0 = ap (sum_by (λ piece. length piece - 16)) (cut-last 65552 rest (omega arith)) ∙ sum_by-cons (λ piece. length piece - 16) rest [] in
+    let one : plain_len rest ≡ (length rest - 16) + 0 =
+        ap (sum_by (λ piece. length piece - 16)) (cut-last 65552 rest (omega arith))
+        ∙ sum_by-cons (λ piece. length piece - 16) rest [] in
     omega arith
 plain-count (suc n) rest (inl e) le tag = absurd (omega arith)
 plain-count (suc n) rest (inr lt) le tag =
     let more : 65552 < length rest = omega arith in
     let d : length (drop 65552 rest) ≡ length rest - 65552 = length-drop 65552 rest in
     let t : length (take 65552 rest) ≡ 65552 = length-take-le 65552 rest (omega arith) in
-    let behind : plain_len (drop 65552 rest) + 16 * (n + 1) ≡ length (drop 65552 rest) = plain-count n (drop 65552 rest) (inr (omega arith)) (omega arith) (omega arith) in
+    let behind : plain_len (drop 65552 rest) + 16 * (n + 1) ≡ length (drop 65552 rest) =
+        plain-count n (drop 65552 rest) (inr (omega arith)) (omega arith) (omega arith) in
     let step : plain_len rest ≡ (length (take 65552 rest) - 16) + plain_len (drop 65552 rest) =
-    ap (sum_by (λ piece. length piece - 16)) (cut-step 65552 rest (omega arith) more) ∙ sum_by-cons (λ piece. length piece - 16) (take 65552 rest) (pieces (drop 65552 rest)) in
+    ap (sum_by (λ piece. length piece - 16)) (cut-step 65552 rest (omega arith) more)
+        ∙ sum_by-cons (λ piece. length piece - 16) (take 65552 rest) (pieces (drop 65552 rest)) in
     omega arith
 
 -- a slice goes on within one chunk
-pub slice-on : (key rest xs text : List ℕ) (at i skip n : ℕ) → at + length xs ≡ 65536 * i + skip → opening key rest i ≡ Some text → skip + n ≤ length text → length text ≤ 65536
+pub slice-on : (key rest xs text : Bytes) (at i skip n : ℕ) → at + length xs ≡ 65536 * i + skip
+    → opening key rest i ≡ Some text → skip + n ≤ length text → length text ≤ 65536
     → IsSlice key rest at xs → IsSlice key rest at (xs ++ take n (drop skip text))
 slice-on key rest xs text at i skip n pos opens within size so_far k lt =
-    let ys : List ℕ = take n (drop skip text) in
+    let ys : Bytes = take n (drop skip text) in
     let d : length (drop skip text) ≡ length text - skip = length-drop skip text in
     let l : length ys ≡ n = length-take-le n (drop skip text) (omega arith) in
     let all : length (xs ++ ys) ≡ length xs + length ys = length-append xs ys in
@@ -113,6 +126,8 @@ slice-on key rest xs text at i skip n pos opens within size so_far k lt =
           let there : (at + k) % 65536 ≡ skip + j = omega arith in
           let inside : j < n = omega arith in
           let value : slice_index (xs ++ ys) k ≡ slice_index text (skip + j) =
-          ap (slice_index (xs ++ ys)) sum ∙ get_or-append-add xs ys j 0 ∙ get_or-take n (drop skip text) j 0 inside ∙ get_or-drop skip text j 0 in
-          (text, ap (opening key rest) here ∙ opens, ap (slice_get text) there ∙ slice_get-get_or text (skip + j) 0 (omega arith) ∙ ap Some (sym value))
+          ap (slice_index (xs ++ ys)) sum ∙ get_or-append-add xs ys j 0 ∙ get_or-take n (drop skip text) j 0 inside
+              ∙ get_or-drop skip text j 0 in
+          (text, ap (opening key rest) here ∙ opens,
+              ap (slice_get text) there ∙ slice_get-get_or text (skip + j) 0 (omega arith) ∙ ap Some (sym value))
     ]

@@ -1,32 +1,36 @@
 -- Texts that were verified, whatever is known of their source.
-use Rattle.std.proofs.Common.{◌≡◌, ◌⊎◌, ℕ, List, ◌++◌, ◌+◌, ◌-◌, ◌*◌, ◌/◌, ◌%◌, ◌<◌, ◌≤◌, length, take, drop, slice_get, slice_index, ◌∙◌, sym, ap, subst, arith, inl, inr, Some}
+use Rattle.std.proofs.Common.{◌≡◌, ◌⊎◌, ℕ, ◌++◌, ◌+◌, ◌-◌, ◌*◌, ◌/◌, ◌%◌, ◌<◌, ◌≤◌, length, take, drop, slice_get, slice_index, ◌∙◌, sym, ap, subst, arith, inl, inr, Some}
 use Rattle.std.proofs.lemmas.Bool.{cases_lt}
 use Rattle.std.proofs.lemmas.List.{length-drop, length-take-le, get_or_append_left, get_or-append-add, get_or-take, get_or-drop}
 use Rattle.std.proofs.lemmas.Option.{slice_get-get_or}
+use Rattle.age_kdf.specs.Bytes.{Bytes}
 use Rattle.age_stream.specs.declared.layout.Layout.{Layout}
 use Rattle.age_stream.specs.Places.{StaysRead}
 use Rattle.age_stream.specs.Ranges.{IsVerified, IsVerifiedByte, KeepsVerified, RangeState, kept_text}
 use Rattle.age_stream.specs.Slice.{chunk_len}
 
 -- what was verified stays so
-pub verified-stays : (old new : ℕ → ℕ → Type 0) (layout : Layout) (i : ℕ) (text : List ℕ) → StaysRead old new → IsVerified old layout i text → IsVerified new layout i text
+pub verified-stays : (old new : ℕ → ℕ → Type 0) (layout : Layout) (i : ℕ) (text : Bytes) → StaysRead old new
+    → IsVerified old layout i text → IsVerified new layout i text
 verified-stays old new layout i text stays v = record {
   piece = v.piece;
   read = λ k lt. stays (layout.first + 65552 * i + k) (slice_index v.piece k) (v.read k lt);
   opens = v.opens;
 }
 
-pub byte-stays : (old new : ℕ → ℕ → Type 0) (layout : Layout) (at byte : ℕ) → StaysRead old new → IsVerifiedByte old layout at byte → IsVerifiedByte new layout at byte
+pub byte-stays : (old new : ℕ → ℕ → Type 0) (layout : Layout) (at byte : ℕ) → StaysRead old new
+    → IsVerifiedByte old layout at byte → IsVerifiedByte new layout at byte
 byte-stays old new layout at byte stays v = (v.0, verified-stays old new layout (at / 65536) v.0 stays v.1, v.2)
 
 -- the text of the kept chunk
-pub verified-text : (was_read : ℕ → ℕ → Type 0) (s : RangeState) (layout : Layout) (i : ℕ) (text : List ℕ) → s.layout ≡ layout → s.index ≡ Some i → text ≡ kept_text s i
+pub verified-text : (was_read : ℕ → ℕ → Type 0) (s : RangeState) (layout : Layout) (i : ℕ) (text : Bytes)
+    → s.layout ≡ layout → s.index ≡ Some i → text ≡ kept_text s i
     → KeepsVerified was_read s → IsVerified was_read layout i text
 verified-text was_read s layout i text same at is keeps =
     subst (λ l. IsVerified was_read l i text) same (subst (IsVerified was_read s.layout i) (sym is) (keeps i at))
 
 -- the last chunk is kept
-pub keeps-last : (was_read : ℕ → ℕ → Type 0) (layout : Layout) (opened : ℕ) (items new : List ℕ) → items ≡ new
+pub keeps-last : (was_read : ℕ → ℕ → Type 0) (layout : Layout) (opened : ℕ) (items new : Bytes) → items ≡ new
     → IsVerified was_read layout (layout.count - 1) (take (chunk_len layout.plain (layout.count - 1)) new)
     → KeepsVerified was_read (record { layout = layout; index = Some (layout.count - 1); buf = items; opened = opened })
 keeps-last was_read layout opened items new same v i e =
@@ -35,17 +39,22 @@ keeps-last was_read layout opened items new same v i e =
     (subst (λ j. IsVerified was_read layout j (take (chunk_len layout.plain j) new)) at v)
 
 -- so far, one chunk on
-pub verified-on : (old_read new_read : ℕ → ℕ → Type 0) (layout : Layout) (text old new : List ℕ) (at done i skip n : ℕ) → StaysRead old_read new_read
-    → at + done ≡ 65536 * i + skip → done ≤ length old → done + n ≤ length new → skip + n ≤ length text → length text ≤ 65536 → IsVerified new_read layout i text
-    → ((k : ℕ) → k < done → IsVerifiedByte old_read layout (at + k) (slice_index old k)) → take (done + n) new ≡ take done old ++ take n (drop skip text)
+pub verified-on : (old_read new_read : ℕ → ℕ → Type 0) (layout : Layout) (text old new : Bytes) (at done i skip n : ℕ)
+    → StaysRead old_read new_read
+    → at + done ≡ 65536 * i + skip → done ≤ length old → done + n ≤ length new → skip + n ≤ length text
+    → length text ≤ 65536 → IsVerified new_read layout i text
+    → ((k : ℕ) → k < done → IsVerifiedByte old_read layout (at + k) (slice_index old k))
+    → take (done + n) new ≡ take done old ++ take n (drop skip text)
     → (k : ℕ) → k < done + n → IsVerifiedByte new_read layout (at + k) (slice_index new k)
-verified-on old_read new_read layout text old new at done i skip n stays pos le room within size verified so_far is k lt =
-    let xs : List ℕ = take done old in
-    let ys : List ℕ = take n (drop skip text) in
+verified-on old_read new_read layout text old new at done i skip n stays pos le room within size verified so_far is k
+    lt =
+    let xs : Bytes = take done old in
+    let ys : Bytes = take n (drop skip text) in
     let a : length xs ≡ done = length-take-le done old le in
     let d : length (drop skip text) ≡ length text - skip = length-drop skip text in
     let l : length ys ≡ n = length-take-le n (drop skip text) (omega arith) in
-    let whole : slice_index new k ≡ slice_index (xs ++ ys) k = sym (get_or-take (done + n) new k 0 lt) ∙ ap (λ z. slice_index z k) is in
+    let whole : slice_index new k ≡ slice_index (xs ++ ys) k = sym (get_or-take (done + n) new k 0 lt)
+        ∙ ap (λ z. slice_index z k) is in
     elim (cases_lt k done) [
       | inl before ↦
           let value : slice_index new k ≡ slice_index old k =
@@ -59,12 +68,15 @@ verified-on old_read new_read layout text old new at done i skip n stays pos le 
           let there : (at + k) % 65536 ≡ skip + j = omega arith in
           let inside : j < n = omega arith in
           let value : slice_index new k ≡ slice_index text (skip + j) =
-          whole ∙ ap (slice_index (xs ++ ys)) sum ∙ get_or-append-add xs ys j 0 ∙ get_or-take n (drop skip text) j 0 inside ∙ get_or-drop skip text j 0 in
-          (text, subst (λ c. IsVerified new_read layout c text) here verified, ap (slice_get text) there ∙ slice_get-get_or text (skip + j) 0 (omega arith) ∙ ap Some (sym value))
+          whole ∙ ap (slice_index (xs ++ ys)) sum ∙ get_or-append-add xs ys j 0
+              ∙ get_or-take n (drop skip text) j 0 inside ∙ get_or-drop skip text j 0 in
+          (text, subst (λ c. IsVerified new_read layout c text) here verified,
+              ap (slice_get text) there ∙ slice_get-get_or text (skip + j) 0 (omega arith) ∙ ap Some (sym value))
     ]
 
 -- each byte is as it was, or was verified
-pub changed-verified : (old_read new_read : ℕ → ℕ → Type 0) (layout : Layout) (old new : List ℕ) (at done : ℕ) → StaysRead old_read new_read → drop done new ≡ drop done old
+pub changed-verified : (old_read new_read : ℕ → ℕ → Type 0) (layout : Layout) (old new : Bytes) (at done : ℕ)
+    → StaysRead old_read new_read → drop done new ≡ drop done old
     → ((k : ℕ) → k < done → IsVerifiedByte old_read layout (at + k) (slice_index new k))
     → (k : ℕ) → (slice_index new k ≡ slice_index old k) ⊎ IsVerifiedByte new_read layout (at + k) (slice_index new k)
 changed-verified old_read new_read layout old new at done stays rest so_far k = elim (cases_lt k done) [
@@ -72,5 +84,6 @@ changed-verified old_read new_read layout old new at done stays rest so_far k = 
   | inr ge ↦
       let j : ℕ = k - done in
       let sum : k ≡ done + j = omega arith in
-      inl (ap (slice_index new) sum ∙ sym (get_or-drop done new j 0) ∙ ap (λ z. slice_index z j) rest ∙ get_or-drop done old j 0 ∙ ap (slice_index old) (sym sum))
+      inl (ap (slice_index new) sum ∙ sym (get_or-drop done new j 0) ∙ ap (λ z. slice_index z j) rest
+          ∙ get_or-drop done old j 0 ∙ ap (slice_index old) (sym sum))
 ]

@@ -6,6 +6,7 @@ use Rattle.std.proofs.lemmas.Bool.{cases_lt, le-ltb, cond-false}
 use Rattle.std.proofs.lemmas.Option.{none-some, get_or_from_slice_get, slice_get_within}
 use Rattle.std.proofs.lemmas.List.{length-drop, length-append, length-take, take_at, drop_at, drop_all, get_or-take, get_or-drop, ext_get_or, get_or-map}
 use Rattle.std.proofs.lemmas.List.Sums.{sum_by-cons}
+use Rattle.age_kdf.specs.Bytes.{Bytes}
 use Rattle.age_cipher.specs.Sealing.{sealed}
 use Rattle.age_cipher.proofs.OpeningLemmas.{length-sealed, opened-sealed}
 use Rattle.age_recipient.specs.declared.key.FileKey.{FileKey}
@@ -20,44 +21,54 @@ use Rattle.age_stream.specs.Slice.{openings, opening, plain_len, IsSlice, last_p
 use Rattle.age_stream.proofs.SliceLemmas.{cut-at}
 
 -- what is known of a payload that reads whole
-pub record IsWhole (key rest p : List ℕ) (max : ℕ) : Type 0 where
+pub record IsWhole (key rest p : Bytes) (max : ℕ) : Type 0 where
   pub sealed_so : pieces rest ≡ sealed_from key 0 (chunks p)
   pub count : length (chunks p) ≤ max
 
-pub whole-is : (k : FileKey) (b p : List ℕ) (max : ℕ) → payload_reading k max b ≡ whole p → IsWhole (payload_key k (take 16 b)) (drop 16 b) p max
+pub whole-is : (k : FileKey) (b p : Bytes) (max : ℕ) → payload_reading k max b ≡ whole p
+    → IsWhole (payload_key k (take 16 b)) (drop 16 b) p max
 whole-is k b p max h =
     let i = ok-payload k b p max h in
-    let key : List ℕ = payload_key k i.nonce in
-    let text : List ℕ = concat (sealed_from key 0 (chunks p)) in
+    let key : Bytes = payload_key k i.nonce in
+    let text : Bytes = concat (sealed_from key 0 (chunks p)) in
     let head : take 16 b ≡ i.nonce = ap (take 16) i.spelled ∙ take_at i.nonce text 16 i.nonce_len in
     let rest : drop 16 b ≡ text = ap (drop 16) i.spelled ∙ drop_at i.nonce text 16 i.nonce_len in
     record {
-      sealed_so = ap pieces rest ∙ pieces-each key (chunks p) (cut-at_most 65536 p (omega arith)) ∙ ap (λ n. sealed_from (payload_key k n) 0 (chunks p)) (sym head);
+      sealed_so = ap pieces rest ∙ pieces-each key (chunks p) (cut-at_most 65536 p (omega arith))
+          ∙ ap (λ n. sealed_from (payload_key k n) 0 (chunks p)) (sym head);
       count = i.count;
     }
 
-openings-each : (key : List ℕ) (i : ℕ) (ts : List (List ℕ)) → openings key i (sealed_from key i ts) ≡ map Some ts
+openings-each : (key : Bytes) (i : ℕ) (ts : List Bytes) → openings key i (sealed_from key i ts) ≡ map Some ts
 openings-each key i [] = refl
 openings-each key i (t ∷ ts) =
-    ap (λ b. opened_at key i b (sealed key (chunk_nonce i (is_end ts)) [] t) ∷ openings key (i + 1) (sealed_from key (i + 1) ts)) (is_end-each key (i + 1) ts)
-    ∙ ap (λ o. o ∷ openings key (i + 1) (sealed_from key (i + 1) ts)) (opened-sealed key (chunk_nonce i (is_end ts)) [] t)
+    ap (λ b. opened_at key i b (sealed key (chunk_nonce i (is_end ts)) [] t)
+        ∷ openings key (i + 1) (sealed_from key (i + 1) ts)) (is_end-each key (i + 1) ts)
+    ∙ ap (λ o. o ∷ openings key (i + 1) (sealed_from key (i + 1) ts))
+    (opened-sealed key (chunk_nonce i (is_end ts)) [] t)
     ∙ ap (λ x. Some t ∷ x) (openings-each key (i + 1) ts)
 
-plain-each : (key : List ℕ) (i : ℕ) (ts : List (List ℕ)) → sum_by (λ piece. length piece - 16) (sealed_from key i ts) ≡ length (concat ts)
+plain-each : (key : Bytes) (i : ℕ) (ts : List Bytes)
+    → sum_by (λ piece. length piece - 16) (sealed_from key i ts) ≡ length (concat ts)
 plain-each key i [] = refl
 plain-each key i (t ∷ ts) =
-    let l : length (sealed key (chunk_nonce i (is_end ts)) [] t) ≡ length t + 16 = length-sealed key (chunk_nonce i (is_end ts)) [] t in
+    let l : length (sealed key (chunk_nonce i (is_end ts)) [] t) ≡ length t + 16 =
+        length-sealed key (chunk_nonce i (is_end ts)) [] t in
     let a : length (t ++ concat ts) ≡ length t + length (concat ts) = length-append t (concat ts) in
-    let rest : sum_by (λ piece. length piece - 16) (sealed_from key (i + 1) ts) ≡ length (concat ts) = plain-each key (i + 1) ts in
+    let rest : sum_by (λ piece. length piece - 16) (sealed_from key (i + 1) ts) ≡ length (concat ts) =
+        plain-each key (i + 1) ts in
     sum_by-cons (λ piece. length piece - 16) (sealed key (chunk_nonce i (is_end ts)) [] t) (sealed_from key (i + 1) ts)
-    ∙ ap (λ n. (length (sealed key (chunk_nonce i (is_end ts)) [] t) - 16) + n) rest ∙ ap (λ n. (n - 16) + length (concat ts)) l ∙ omega arith
+    ∙ ap (λ n. (length (sealed key (chunk_nonce i (is_end ts)) [] t) - 16) + n) rest
+    ∙ ap (λ n. (n - 16) + length (concat ts)) l ∙ omega arith
 
-pub whole-len : (k : FileKey) (b p : List ℕ) (max : ℕ) → payload_reading k max b ≡ whole p → plain_len (drop 16 b) ≡ length p
+pub whole-len : (k : FileKey) (b p : Bytes) (max : ℕ) → payload_reading k max b ≡ whole p
+    → plain_len (drop 16 b) ≡ length p
 whole-len k b p max h =
     let w = whole-is k b p max h in
-    ap (sum_by (λ piece. length piece - 16)) w.sealed_so ∙ plain-each (payload_key k (take 16 b)) 0 (chunks p) ∙ ap length (is_cut 65536 p (omega arith)).joined
+    ap (sum_by (λ piece. length piece - 16)) w.sealed_so ∙ plain-each (payload_key k (take 16 b)) 0 (chunks p)
+        ∙ ap length (is_cut 65536 p (omega arith)).joined
 
-outcomes-at : (key : List ℕ) (max j i : ℕ) (cs : List (List ℕ)) (d : Result (List ℕ) StreamFault) → i < length cs
+outcomes-at : (key : Bytes) (max j i : ℕ) (cs : List Bytes) (d : Result Bytes StreamFault) → i < length cs
     → get_or (outcomes key max j cs) i d ≡ outcome key max (j + i) (is_end (drop (suc i) cs)) (get_or cs i [])
 outcomes-at key max j i [] d lt = absurd (omega arith)
 outcomes-at key max j zero (c ∷ cs) d lt = ap (λ n. outcome key max n (is_end cs) c) zero_more
@@ -65,64 +76,76 @@ outcomes-at key max j zero (c ∷ cs) d lt = ap (λ n. outcome key max n (is_end
     zero_more : j ≡ j + 0
     zero_more = omega arith
 outcomes-at key max j (suc i) (c ∷ cs) d lt =
-    outcomes-at key max (j + 1) i cs d (omega arith) ∙ ap (λ n. outcome key max n (is_end (drop (suc i) cs)) (get_or cs i [])) one_more
+    outcomes-at key max (j + 1) i cs d (omega arith)
+        ∙ ap (λ n. outcome key max n (is_end (drop (suc i) cs)) (get_or cs i [])) one_more
   where
     one_more : j + 1 + i ≡ j + suc i
     one_more = omega arith
 
-pub whole-opens : (k : FileKey) (b p : List ℕ) (max : ℕ) → payload_reading k max b ≡ whole p → (last : List ℕ) × (range_outcome k max b ≡ Ok last)
+pub whole-opens : (k : FileKey) (b p : Bytes) (max : ℕ) → payload_reading k max b ≡ whole p
+    → (last : Bytes) × (range_outcome k max b ≡ Ok last)
 whole-opens k b p max h =
     let w = whole-is k b p max h in
     let i = ok-payload k b p max h in
-    let key : List ℕ = payload_key k (take 16 b) in
-    let rest : List ℕ = drop 16 b in
+    let key : Bytes = payload_key k (take 16 b) in
+    let rest : Bytes = drop 16 b in
     let count : length (chunks p) ≤ max = w.count in
     let n : length (pieces rest) ≡ length (chunks p) = ap length w.sealed_so ∙ length-each key 0 (chunks p) in
     let some : 0 < length (pieces rest) = cut-some 65552 [] rest in
     let last : ℕ = length (pieces rest) - 1 in
     let none : 0 + last ≡ last = omega arith in
     let sixteen : length i.nonce ≡ 16 = i.nonce_len in
-    let size : length b ≡ length i.nonce + length (concat (sealed_from (payload_key k i.nonce) 0 (chunks p))) = ap length i.spelled ∙ length-append i.nonce _ in
-    let all : outcomes key max 0 (pieces rest) ≡ map Ok (chunks p) = ap (outcomes key max 0) w.sealed_so ∙ each-opens key max 0 (chunks p) (at_most-chunks p) (omega arith) in
-    let end : is_end (drop (suc last) (pieces rest)) ≡ true = ap is_end (drop_all (suc last) (pieces rest) (omega arith)) in (
+    let size : length b ≡ length i.nonce + length (concat (sealed_from (payload_key k i.nonce) 0 (chunks p))) =
+        ap length i.spelled ∙ length-append i.nonce _ in
+    let all : outcomes key max 0 (pieces rest) ≡ map Ok (chunks p) = ap (outcomes key max 0) w.sealed_so
+        ∙ each-opens key max 0 (chunks p) (at_most-chunks p) (omega arith) in
+    let end : is_end (drop (suc last) (pieces rest)) ≡ true =
+        ap is_end (drop_all (suc last) (pieces rest) (omega arith)) in (
       get_or (chunks p) last [],
       cond-false (nat_lt (length b) 16) _ _ (le-ltb (length b) 16 (omega arith))
           ∙ ap (λ e. outcome key max last e (last_piece rest)) (sym end)
           ∙ ap (λ m. outcome key max m (is_end (drop (suc last) (pieces rest))) (last_piece rest)) (sym none)
           ∙ sym (outcomes-at key max 0 last (pieces rest) (Err TooManyChunks) (omega arith))
-          ∙ ap (λ rs. get_or rs last (Err TooManyChunks)) all ∙ get_or-map Ok (chunks p) last [] (Err TooManyChunks) (omega arith),
+          ∙ ap (λ rs. get_or rs last (Err TooManyChunks)) all
+          ∙ get_or-map Ok (chunks p) last [] (Err TooManyChunks) (omega arith),
     )
 
-got : (cs : List (List ℕ)) (i : ℕ) (t : List ℕ) → get_or (map Some cs) i None ≡ Some t → t ≡ get_or cs i []
+got : (cs : List Bytes) (i : ℕ) (t : Bytes) → get_or (map Some cs) i None ≡ Some t → t ≡ get_or cs i []
 got [] i t h = absurd (none-some t h)
 got (c ∷ cs) zero t h = sym (ap (λ o. unwrap_or o []) h)
 got (c ∷ cs) (suc i) t h = got cs i t h
 
 -- a byte of a slice is the plaintext's byte at its offset
-byte-of : (key rest p text : List ℕ) (max x v : ℕ) → IsWhole key rest p max → opening key rest (x / 65536) ≡ Some text → slice_get text (x % 65536) ≡ Some v
+byte-of : (key rest p text : Bytes) (max x v : ℕ) → IsWhole key rest p max → opening key rest (x / 65536) ≡ Some text
+    → slice_get text (x % 65536) ≡ Some v
     → (x < length p) × (v ≡ get_or p x 0)
 byte-of key rest p text max x v w opens at =
     let i : ℕ = x / 65536 in
     let r : ℕ = x % 65536 in
     let same : text ≡ take 65536 (drop (65536 * i) p) =
-    got (chunks p) i text (sym (ap (λ os. get_or os i None) (ap (openings key 0) w.sealed_so ∙ openings-each key 0 (chunks p))) ∙ opens) ∙ cut-at 65536 i p (omega arith) in
+    got (chunks p) i text (sym (ap (λ os. get_or os i None)
+        (ap (openings key 0) w.sealed_so ∙ openings-each key 0 (chunks p))) ∙ opens) ∙ cut-at 65536 i p (omega arith) in
     let d : length (drop (65536 * i) p) ≡ length p - 65536 * i = length-drop (65536 * i) p in
-    let l : length text ≡ min 65536 (length (drop (65536 * i) p)) = ap length same ∙ length-take 65536 (drop (65536 * i) p) in
+    let l : length text ≡ min 65536 (length (drop (65536 * i) p)) = ap length same
+        ∙ length-take 65536 (drop (65536 * i) p) in
     let within : r < length text = slice_get_within text r v at in
     let sum : 65536 * i + r ≡ x = omega arith in (
       omega (arith, within, l, d, sum),
-      sym (get_or_from_slice_get text r v 0 at) ∙ ap (λ t. get_or t r 0) same ∙ get_or-take 65536 (drop (65536 * i) p) r 0 (omega arith) ∙ get_or-drop (65536 * i) p r 0
+      sym (get_or_from_slice_get text r v 0 at) ∙ ap (λ t. get_or t r 0) same
+          ∙ get_or-take 65536 (drop (65536 * i) p) r 0 (omega arith) ∙ get_or-drop (65536 * i) p r 0
           ∙ ap (λ y. get_or p y 0) sum,
     )
 
-pub whole-slice : (k : FileKey) (b p xs : List ℕ) (max at : ℕ) → payload_reading k max b ≡ whole p → IsSlice (payload_key k (take 16 b)) (drop 16 b) at xs
+pub whole-slice : (k : FileKey) (b p xs : Bytes) (max at : ℕ) → payload_reading k max b ≡ whole p
+    → IsSlice (payload_key k (take 16 b)) (drop 16 b) at xs
     → xs ≡ take (length xs) (drop at p)
 whole-slice k b p xs max at h s =
     let w = whole-is k b p max h in
-    let key : List ℕ = payload_key k (take 16 b) in
-    let rest : List ℕ = drop 16 b in
+    let key : Bytes = payload_key k (take 16 b) in
+    let rest : Bytes = drop 16 b in
     let d : length (drop at p) ≡ length p - at = length-drop at p in
-    let t : length (take (length xs) (drop at p)) ≡ min (length xs) (length (drop at p)) = length-take (length xs) (drop at p) in
+    let t : length (take (length xs) (drop at p)) ≡ min (length xs) (length (drop at p)) =
+        length-take (length xs) (drop at p) in
     let reach : length xs ≤ length p - at = elim (cases_lt 0 (length xs)) [
       | inl some ↦
           let k : ℕ = length xs - 1 in
@@ -133,4 +156,5 @@ whole-slice k b p xs max at h s =
     ] in
     ext_get_or 0 xs (take (length xs) (drop at p)) (omega arith) (λ k lt.
     let z = s k lt in
-    (byte-of key rest p z.0 max (at + k) (slice_index xs k) w z.1 z.2).1 ∙ sym (get_or-drop at p k 0) ∙ sym (get_or-take (length xs) (drop at p) k 0 lt))
+    (byte-of key rest p z.0 max (at + k) (slice_index xs k) w z.1 z.2).1 ∙ sym (get_or-drop at p k 0)
+        ∙ sym (get_or-take (length xs) (drop at p) k 0 lt))

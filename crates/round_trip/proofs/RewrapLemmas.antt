@@ -1,6 +1,8 @@
 -- One identity's file with one recipient's header.
-use Rattle.std.proofs.Common.{◌≡◌, ◌∙◌, ◌+◌, ◌^◌, ◌<◌, ◌≤◌, ℕ, List, [], ◌∷◌, length, map, sym, ap, subst, arith, refl, inl, inr, Option, Some, Result, Ok, Err}
+use Rattle.std.proofs.Common.{◌≡◌, ◌∙◌, ◌+◌, ◌^◌, ◌<◌, ◌≤◌, ℕ, List, [], ◌∷◌, length, map, sym, ap, subst, arith, refl, inl, inr, Some, Result, Ok, Err}
 use Rattle.std.specs.Prelude.{IfErr, IfOk}
+use Rattle.age_file.specs.Words.{Bytes}
+use Rattle.age_header.specs.Device.{Known}
 use Rattle.age_header.specs.declared.fault.HeaderFault.{HeaderFault}
 use Rattle.age_header.specs.Header.{StanzaParts}
 use Rattle.age_header.specs.Mac.{header_mac}
@@ -26,104 +28,154 @@ use Rattle.round_trip.specs.Losses.{IsUnwritten}
 use Rattle.round_trip.proofs.TripLemmas.{gathered_one}
 
 -- the header that an age file has
-abbrev found_of : (limits : Bounds) (k : FileKey) (stanzas : List StanzaParts) (plain b : List ℕ) → AgeFile limits k stanzas plain b → Found
+abbrev found_of : (limits : Bounds) (k : FileKey) (stanzas : List StanzaParts) (plain b : Bytes)
+    → AgeFile limits k stanzas plain b → Found
 found_of limits k stanzas plain b file = record { stanzas = stanzas; mac = header_mac k.0 stanzas; text = file.header }
 
-header_is : (limits : Bounds) (answers : Answering) (k : FileKey) (stanzas : List StanzaParts) (plain b : List ℕ) (file : AgeFile limits k stanzas plain b) (r : Result Found HeaderFault)
-    → choice (answers stanzas) ≡ Ok k → HeaderVerdict b limits.max_header r → r ≡ Ok (found_of limits k stanzas plain b file)
+header_is : (limits : Bounds) (answers : Answering) (k : FileKey) (stanzas : List StanzaParts) (plain b : Bytes)
+    (file : AgeFile limits k stanzas plain b) (r : Result Found HeaderFault)
+    → choice (answers stanzas) ≡ Ok k → HeaderVerdict b limits.max_header r
+    → r ≡ Ok (found_of limits k stanzas plain b file)
 header_is limits answers k stanzas plain b file r chosen h =
     let found = found_of limits k stanzas plain b file in
-    let begins : BeginsWith b limits.max_header found = record { rest = payload k file.nonce plain; head = file.head; front = file.spelled; fits = file.header_fits } in
+    let begins : BeginsWith b limits.max_header found =
+        record { rest = payload k file.nonce plain; head = file.head; front = file.spelled; fits = file.header_fits } in
     headers.one_verdict b limits.max_header r (Ok found) h (headers.found_begins b limits.max_header found begins)
 
-unlocked_is : (limits : Bounds) (answers : Answering) (k : FileKey) (stanzas : List StanzaParts) (plain b : List ℕ) (file : AgeFile limits k stanzas plain b)
+unlocked_is : (limits : Bounds) (answers : Answering) (k : FileKey) (stanzas : List StanzaParts) (plain b : Bytes)
+    (file : AgeFile limits k stanzas plain b)
     → choice (answers stanzas) ≡ Ok k → unlocked answers (parts_of (found_of limits k stanzas plain b file)) ≡ Ok k
 unlocked_is limits answers k stanzas plain b file chosen =
-    key-unlocked answers (parts_of (found_of limits k stanzas plain b file)) k (record { unmixed = file.unmixed; chosen = chosen; mac = refl })
+    key-unlocked answers (parts_of (found_of limits k stanzas plain b file)) k
+        (record { unmixed = file.unmixed; chosen = chosen; mac = refl })
 
 ok-key : (a b : FileKey) → ◌≡◌ {A = Result FileKey Fault} (Ok a) (Ok b) → a ≡ b
 ok-key a b e = cc
 
 -- the key that rewrapping finds is the file's
-pub key_is : (limits : Bounds) (answers : Answering) (k : FileKey) (stanzas : List StanzaParts) (plain b c : List ℕ) → AgeFile limits k stanzas plain b
+pub key_is : (limits : Bounds) (answers : Answering) (k : FileKey) (stanzas : List StanzaParts) (plain b c : Bytes)
+    → AgeFile limits k stanzas plain b
     → choice (answers stanzas) ≡ Ok k → (is : Rewrapped limits answers b c) → is.key ≡ k
 key_is limits answers k stanzas plain b c file chosen is =
-    let same : is.found ≡ found_of limits k stanzas plain b file = cc (header_is limits answers k stanzas plain b file (Ok is.found) chosen is.header) in
-    ok-key is.key k (sym is.chosen ∙ ap (λ f. unlocked answers (parts_of f)) same ∙ unlocked_is limits answers k stanzas plain b file chosen)
+    let same : is.found ≡ found_of limits k stanzas plain b file =
+        cc (header_is limits answers k stanzas plain b file (Ok is.found) chosen is.header) in
+    ok-key is.key k (sym is.chosen ∙ ap (λ f. unlocked answers (parts_of f)) same
+        ∙ unlocked_is limits answers k stanzas plain b file chosen)
 
 -- such a file is refused for its new header alone
-refused_by : (limits : Bounds) (answers : Answering) (gathered : FileKey → Gathering) (k : FileKey) (stanzas : List StanzaParts) (plain b : List ℕ) (fault : Fault) → AgeFile limits k stanzas plain b
-    → choice (answers stanzas) ≡ Ok k → RefusesRewrap limits answers gathered b fault → IsRefusal limits k (gathered k) fault
+refused_by : (limits : Bounds) (answers : Answering) (gathered : FileKey → Gathering) (k : FileKey)
+    (stanzas : List StanzaParts) (plain b : Bytes) (fault : Fault) → AgeFile limits k stanzas plain b
+    → choice (answers stanzas) ≡ Ok k → RefusesRewrap limits answers gathered b fault
+    → IsRefusal limits k (gathered k) fault
 refused_by limits answers gathered k stanzas plain b fault file chosen h =
     let found = found_of limits k stanzas plain b file in
     let unlocks = unlocked_is limits answers k stanzas plain b file chosen in
-    elim (subst (λ r. IsRefusedBy limits answers gathered r fault) (header_is limits answers k stanzas plain b file h.0 chosen h.1) h.2) [
+    elim (subst (λ r. IsRefusedBy limits answers gathered r fault)
+        (header_is limits answers k stanzas plain b file h.0 chosen h.1) h.2) [
       | inl stopped ↦ absurd (ok-err (sym unlocks ∙ stopped))
-      | inr refused ↦ subst (λ key. IsRefusal limits key (gathered key) fault) (ok-key refused.0 k (sym refused.1 ∙ unlocks)) refused.2
+      | inr refused ↦ subst (λ key. IsRefusal limits key (gathered key) fault)
+          (ok-key refused.0 k (sym refused.1 ∙ unlocks)) refused.2
     ]
   where
     ok-err : ◌≡◌ {A = Result FileKey Fault} (Ok k) (Err fault) → ⊥
     ok-err e = absurd (cc)
 
-unrewrapped : (limits : Bounds) (answers : Answering) (gathered : FileKey → Gathering) (k : FileKey) (stanzas : List StanzaParts) (plain b : List ℕ) (fault : Fault) (old new : Option (List ℕ)) → length b < 2 ^ 64
-    → AgeFile limits k stanzas plain b → choice (answers stanzas) ≡ Ok k → CountsRead {A = Unit {0}} 0 0 (Err fault) → RewrapsText limits answers gathered b old new (Err fault)
+unrewrapped : (limits : Bounds) (answers : Answering) (gathered : FileKey → Gathering) (k : FileKey)
+    (stanzas : List StanzaParts) (plain b : Bytes) (fault : Fault) (old new : Known) → length b < 2 ^ 64
+    → AgeFile limits k stanzas plain b → choice (answers stanzas) ≡ Ok k → CountsRead {A = Unit {0}} 0 0 (Err fault)
+    → RewrapsText limits answers gathered b old new (Err fault)
     → IsUnwritten (IsRefusal limits k (gathered k)) limits plain fault
-unrewrapped limits answers gathered k stanzas plain b NotAge old new short file chosen count h = inr (inr (refused_by limits answers gathered k stanzas plain b NotAge file chosen h))
-unrewrapped limits answers gathered k stanzas plain b (BadLine n) old new short file chosen count h = inr (inr (refused_by limits answers gathered k stanzas plain b (BadLine n) file chosen h))
-unrewrapped limits answers gathered k stanzas plain b HeaderTruncated old new short file chosen count h = inr (inr (refused_by limits answers gathered k stanzas plain b HeaderTruncated file chosen h))
-unrewrapped limits answers gathered k stanzas plain b HeaderTooLarge old new short file chosen count h = inr (inr (refused_by limits answers gathered k stanzas plain b HeaderTooLarge file chosen h))
-unrewrapped limits answers gathered k stanzas plain b MixedPassphrase old new short file chosen count h = inr (inr (refused_by limits answers gathered k stanzas plain b MixedPassphrase file chosen h))
-unrewrapped limits answers gathered k stanzas plain b NoMatch old new short file chosen count h = inr (inr (refused_by limits answers gathered k stanzas plain b NoMatch file chosen h))
-unrewrapped limits answers gathered k stanzas plain b WrongKey old new short file chosen count h = inr (inr (refused_by limits answers gathered k stanzas plain b WrongKey file chosen h))
-unrewrapped limits answers gathered k stanzas plain b (Malformed part) old new short file chosen count h = inr (inr (refused_by limits answers gathered k stanzas plain b (Malformed part) file chosen h))
-unrewrapped limits answers gathered k stanzas plain b BadMac old new short file chosen count h = inr (inr (refused_by limits answers gathered k stanzas plain b BadMac file chosen h))
-unrewrapped limits answers gathered k stanzas plain b NonceTruncated old new short file chosen count h = inr (inr (refused_by limits answers gathered k stanzas plain b NonceTruncated file chosen h))
-unrewrapped limits answers gathered k stanzas plain b (ChunkShort i) old new short file chosen count h = inr (inr (refused_by limits answers gathered k stanzas plain b (ChunkShort i) file chosen h))
-unrewrapped limits answers gathered k stanzas plain b (EmptyFinal i) old new short file chosen count h = inr (inr (refused_by limits answers gathered k stanzas plain b (EmptyFinal i) file chosen h))
-unrewrapped limits answers gathered k stanzas plain b (BadChunk i) old new short file chosen count h = inr (inr (refused_by limits answers gathered k stanzas plain b (BadChunk i) file chosen h))
-unrewrapped limits answers gathered k stanzas plain b NoRecipients old new short file chosen count h = inr (inr (refused_by limits answers gathered k stanzas plain b NoRecipients file chosen h))
-unrewrapped limits answers gathered k stanzas plain b (Refused i code) old new short file chosen count h = inr (inr (refused_by limits answers gathered k stanzas plain b (Refused i code) file chosen h))
-unrewrapped limits answers gathered k stanzas plain b (IncompatibleRecipients i) old new short file chosen count h = inr (inr (refused_by limits answers gathered k stanzas plain b (IncompatibleRecipients i) file chosen h))
+unrewrapped limits answers gathered k stanzas plain b NotAge old new short file chosen count h =
+    inr (inr (refused_by limits answers gathered k stanzas plain b NotAge file chosen h))
+unrewrapped limits answers gathered k stanzas plain b (BadLine n) old new short file chosen count h =
+    inr (inr (refused_by limits answers gathered k stanzas plain b (BadLine n) file chosen h))
+unrewrapped limits answers gathered k stanzas plain b HeaderTruncated old new short file chosen count h =
+    inr (inr (refused_by limits answers gathered k stanzas plain b HeaderTruncated file chosen h))
+unrewrapped limits answers gathered k stanzas plain b HeaderTooLarge old new short file chosen count h =
+    inr (inr (refused_by limits answers gathered k stanzas plain b HeaderTooLarge file chosen h))
+unrewrapped limits answers gathered k stanzas plain b MixedPassphrase old new short file chosen count h =
+    inr (inr (refused_by limits answers gathered k stanzas plain b MixedPassphrase file chosen h))
+unrewrapped limits answers gathered k stanzas plain b NoMatch old new short file chosen count h =
+    inr (inr (refused_by limits answers gathered k stanzas plain b NoMatch file chosen h))
+unrewrapped limits answers gathered k stanzas plain b WrongKey old new short file chosen count h =
+    inr (inr (refused_by limits answers gathered k stanzas plain b WrongKey file chosen h))
+unrewrapped limits answers gathered k stanzas plain b (Malformed part) old new short file chosen count h =
+    inr (inr (refused_by limits answers gathered k stanzas plain b (Malformed part) file chosen h))
+unrewrapped limits answers gathered k stanzas plain b BadMac old new short file chosen count h =
+    inr (inr (refused_by limits answers gathered k stanzas plain b BadMac file chosen h))
+unrewrapped limits answers gathered k stanzas plain b NonceTruncated old new short file chosen count h =
+    inr (inr (refused_by limits answers gathered k stanzas plain b NonceTruncated file chosen h))
+unrewrapped limits answers gathered k stanzas plain b (ChunkShort i) old new short file chosen count h =
+    inr (inr (refused_by limits answers gathered k stanzas plain b (ChunkShort i) file chosen h))
+unrewrapped limits answers gathered k stanzas plain b (EmptyFinal i) old new short file chosen count h =
+    inr (inr (refused_by limits answers gathered k stanzas plain b (EmptyFinal i) file chosen h))
+unrewrapped limits answers gathered k stanzas plain b (BadChunk i) old new short file chosen count h =
+    inr (inr (refused_by limits answers gathered k stanzas plain b (BadChunk i) file chosen h))
+unrewrapped limits answers gathered k stanzas plain b NoRecipients old new short file chosen count h =
+    inr (inr (refused_by limits answers gathered k stanzas plain b NoRecipients file chosen h))
+unrewrapped limits answers gathered k stanzas plain b (Refused i code) old new short file chosen count h =
+    inr (inr (refused_by limits answers gathered k stanzas plain b (Refused i code) file chosen h))
+unrewrapped limits answers gathered k stanzas plain b (IncompatibleRecipients i) old new short file chosen count h =
+    inr (inr (refused_by limits answers gathered k stanzas plain b (IncompatibleRecipients i) file chosen h))
 unrewrapped limits answers gathered k stanzas plain b OutOfMemory old new short file chosen count h = inl (inl refl)
 unrewrapped limits answers gathered k stanzas plain b Write old new short file chosen count h = inl (inr refl)
 unrewrapped limits answers gathered k stanzas plain b Read old new short file chosen count h = absurd (omega arith)
-unrewrapped limits answers gathered k stanzas plain b TooManyChunks old new short file chosen count h = let long : most_copied ≤ length b = h.1 in absurd (omega arith)
+unrewrapped limits answers gathered k stanzas plain b TooManyChunks old new short file chosen count h = let long :
+    most_copied ≤ length b = h.1 in absurd (omega arith)
 
 -- the same where identity and recipient stand alone in their lists
-pub unrewrapped_one : {X Y : Type 0} (limits : Bounds) (meaning : X → List StanzaParts → Unwrapped) (xs : List X) (x : X) (wraps : Y → FileKey → Result (List StanzaParts) ℕ) (labels : Y → Labels) (ys : List Y) (y : Y)
-    (a b : List ℕ) (fault : Fault) (old new : Option (List ℕ)) → length b < 2 ^ 64 → xs ≡ x ∷ [] → ys ≡ y ∷ [] → a ≡ b → CountsRead {A = Unit {0}} 0 0 (Err fault)
-    → RewrapsText limits (λ s. map (λ i. meaning i s) xs) (λ key. Gathered (map (λ r. wraps r key) ys) (map labels ys)) a old new (Err fault)
-    → (stanzas : List StanzaParts) (k : FileKey) (plain : List ℕ) → AgeFile limits k stanzas plain b → meaning x stanzas ≡ Key k
+pub unrewrapped_one : {X Y : Type 0} (limits : Bounds) (meaning : X → List StanzaParts → Unwrapped) (xs : List X)
+    (x : X) (wraps : Y → FileKey → Result (List StanzaParts) ℕ) (labels : Y → Labels) (ys : List Y) (y : Y)
+    (a b : Bytes) (fault : Fault) (old new : Known) → length b < 2 ^ 64 → xs ≡ x ∷ [] → ys ≡ y ∷ [] → a ≡ b
+        → CountsRead {A = Unit {0}} 0 0 (Err fault)
+    → RewrapsText limits (λ s. map (λ i. meaning i s) xs) (λ key. Gathered (map (λ r. wraps r key) ys) (map labels ys))
+    a old new (Err fault)
+    → (stanzas : List StanzaParts) (k : FileKey) (plain : Bytes) → AgeFile limits k stanzas plain b
+    → meaning x stanzas ≡ Key k
     → IsUnwritten (IsRefusal limits k (Gathered (wraps y k ∷ []) (labels y ∷ []))) limits plain fault
-unrewrapped_one limits meaning xs x wraps labels ys y a b fault old new short list to come count h = λ stanzas k plain file means.
-    unrewrapped limits (λ s. meaning x s ∷ []) (λ key. Gathered (wraps y key ∷ []) (labels y ∷ [])) k stanzas plain b fault old new short file (ap (λ u. choice (u ∷ [])) means) count
-    (subst (λ z. RewrapsText limits (λ s. meaning x s ∷ []) (λ key. Gathered (wraps y key ∷ []) (labels y ∷ [])) z old new (Err fault)) come
-    (subst (λ z. RewrapsText limits (λ s. meaning x s ∷ []) (λ key. Gathered (map (λ r. wraps r key) z) (map labels z)) a old new (Err fault)) to
-    (subst (λ z. RewrapsText limits (λ s. map (λ i. meaning i s) z) (λ key. Gathered (map (λ r. wraps r key) ys) (map labels ys)) a old new (Err fault)) list h)))
+unrewrapped_one limits meaning xs x wraps labels ys y a b fault old new short list to come count h =
+    λ stanzas k plain file means.
+    unrewrapped limits (λ s. meaning x s ∷ []) (λ key. Gathered (wraps y key ∷ []) (labels y ∷ [])) k stanzas plain b
+        fault old new short file (ap (λ u. choice (u ∷ [])) means) count
+    (subst (λ z. RewrapsText limits (λ s. meaning x s ∷ []) (λ key. Gathered (wraps y key ∷ []) (labels y ∷ [])) z old
+        new (Err fault)) come
+    (subst (λ z. RewrapsText limits (λ s. meaning x s ∷ []) (λ key. Gathered (map (λ r. wraps r key) z) (map labels z))
+        a old new (Err fault)) to
+    (subst (λ z. RewrapsText limits (λ s. map (λ i. meaning i s) z)
+        (λ key. Gathered (map (λ r. wraps r key) ys) (map labels ys)) a old new (Err fault)) list h)))
 
 -- what was written of one recipient
-pub rewrapped_one : {X Y : Type 0} (limits : Bounds) (meaning : X → List StanzaParts → Unwrapped) (xs : List X) (x : X) (wraps : Y → FileKey → Result (List StanzaParts) ℕ) (labels : Y → Labels) (ys : List Y) (y : Y)
-    (a b c : List ℕ) → xs ≡ x ∷ [] → ys ≡ y ∷ [] → a ≡ b
-    → RewrapsText limits (λ s. map (λ i. meaning i s) xs) (λ key. Gathered (map (λ r. wraps r key) ys) (map labels ys)) a (Some []) (Some c) (Ok tt)
+pub rewrapped_one : {X Y : Type 0} (limits : Bounds) (meaning : X → List StanzaParts → Unwrapped) (xs : List X) (x : X)
+    (wraps : Y → FileKey → Result (List StanzaParts) ℕ) (labels : Y → Labels) (ys : List Y) (y : Y)
+    (a b c : Bytes) → xs ≡ x ∷ [] → ys ≡ y ∷ [] → a ≡ b
+    → RewrapsText limits (λ s. map (λ i. meaning i s) xs) (λ key. Gathered (map (λ r. wraps r key) ys) (map labels ys))
+    a (Some []) (Some c) (Ok tt)
     → (is : Rewrapped limits (λ s. meaning x s ∷ []) b c) × (wraps y is.key ≡ Ok is.stanzas)
 rewrapped_one limits meaning xs x wraps labels ys y a b c list to come h =
-    let t = subst (λ z. RewrapsText limits (λ s. meaning x s ∷ []) (λ key. Gathered (wraps y key ∷ []) (labels y ∷ [])) z (Some []) (Some c) (Ok tt)) come
-    (subst (λ z. RewrapsText limits (λ s. meaning x s ∷ []) (λ key. Gathered (map (λ r. wraps r key) z) (map labels z)) a (Some []) (Some c) (Ok tt)) to
-    (subst (λ z. RewrapsText limits (λ s. map (λ i. meaning i s) z) (λ key. Gathered (map (λ r. wraps r key) ys) (map labels ys)) a (Some []) (Some c) (Ok tt)) list h)) in
+    let t = subst (λ z. RewrapsText limits (λ s. meaning x s ∷ []) (λ key. Gathered (wraps y key ∷ []) (labels y ∷ []))
+        z (Some []) (Some c) (Ok tt)) come
+    (subst (λ z. RewrapsText limits (λ s. meaning x s ∷ []) (λ key. Gathered (map (λ r. wraps r key) z) (map labels z))
+        a (Some []) (Some c) (Ok tt)) to
+    (subst (λ z. RewrapsText limits (λ s. map (λ i. meaning i s) z)
+        (λ key. Gathered (map (λ r. wraps r key) ys) (map labels ys)) a (Some []) (Some c) (Ok tt)) list h)) in
     let is : c ≡ t.0 = t.2 in
     subst (λ z. (is : Rewrapped limits (λ s. meaning x s ∷ []) b z) × (wraps y is.key ≡ Ok is.stanzas)) (sym is)
     (t.1.0, gathered_one (wraps y t.1.0.key) (labels y ∷ []) t.1.0.stanzas t.1.1)
 
 -- a rewrapped file reads whole for an identity that finds the key
-pub whole_of_rewrapped : (limits : Bounds) (old new : List StanzaParts → Unwrapped) (k : FileKey) (stanzas : List StanzaParts) (plain b c : List ℕ) (wraps : FileKey → Result (List StanzaParts) ℕ)
+pub whole_of_rewrapped : (limits : Bounds) (old new : List StanzaParts → Unwrapped) (k : FileKey)
+    (stanzas : List StanzaParts) (plain b c : Bytes) (wraps : FileKey → Result (List StanzaParts) ℕ)
     → ((key : FileKey) → key ≡ k → (made : List StanzaParts) → wraps key ≡ Ok made → new made ≡ Key key)
-    → AgeFile limits k stanzas plain b → old stanzas ≡ Key k → (is : Rewrapped limits (λ s. old s ∷ []) b c) → wraps is.key ≡ Ok is.stanzas
-    → ((v : Reading Fault) → choice (new is.stanzas ∷ []) ≡ Ok is.key → IsVerdict limits (λ s. old s ∷ []) b v → IsVerdict limits (λ s. new s ∷ []) c v)
+    → AgeFile limits k stanzas plain b → old stanzas ≡ Key k → (is : Rewrapped limits (λ s. old s ∷ []) b c)
+    → wraps is.key ≡ Ok is.stanzas
+    → ((v : Reading Fault) → choice (new is.stanzas ∷ []) ≡ Ok is.key → IsVerdict limits (λ s. old s ∷ []) b v
+    → IsVerdict limits (λ s. new s ∷ []) c v)
     → IsVerdict limits (λ s. new s ∷ []) c (whole plain)
 whole_of_rewrapped limits old new k stanzas plain b c wraps opens file means is made keeps =
     let chosen = ap (λ u. choice (u ∷ [])) means in
     let same = key_is limits (λ s. old s ∷ []) k stanzas plain b c file chosen is in
-    keeps (whole plain) (ap (λ u. choice (u ∷ [])) (opens is.key same is.stanzas made)) (file-whole limits (λ s. old s ∷ []) b plain stanzas k file chosen)
+    keeps (whole plain) (ap (λ u. choice (u ∷ [])) (opens is.key same is.stanzas made))
+        (file-whole limits (λ s. old s ∷ []) b plain stanzas k file chosen)
 
 -- what a result's value, or its error, also has
 pub if_ok : {A E : Type 0} (r : Result A E) (P Q : A → Type 0) → ((x : A) → P x → Q x) → IfOk r P → IfOk r Q

@@ -1,5 +1,5 @@
 -- One recipient's file, and what one identity reads of it.
-use Rattle.std.proofs.Common.{◌≡◌, ◌∙◌, ℕ, List, [], ◌∷◌, ◌++◌, map, sym, ap, subst, arith, refl, inl, inr, ◌<◌, length, Option, Some, None, Result, Ok, Err}
+use Rattle.std.proofs.Common.{◌≡◌, ◌∙◌, ℕ, List, [], ◌∷◌, ◌++◌, map, sym, ap, subst, arith, refl, inl, inr, ◌<◌, length, Some, None, Result, Ok, Err}
 use Rattle.std.specs.Prelude.{IfErr}
 use Rattle.std.proofs.lemmas.List.{append-nil}
 use Rattle.std.proofs.lemmas.Option.{none-some}
@@ -11,18 +11,21 @@ use Rattle.age_file.specs.Decrypt.{Decrypts, GivesVerdict}
 use Rattle.age_file.specs.Device.{CountsRead}
 use Rattle.age_file.specs.NewFile.{EncryptsText, Gathered, Gathering, RefusesFirst, IsRefusal}
 use Rattle.age_file.specs.Verdict.{Answering, IsVerdict}
-use Rattle.age_file.specs.Words.{Done, Labels, Reading, StanzaParts, Unwrapped, whole}
+use Rattle.age_file.specs.Words.{Bytes, Done, Known, Labels, Reading, StanzaParts, Unwrapped, whole}
 use Rattle.round_trip.specs.Losses.{IsLoss, IsMemoryFault, IsUnwritten, none}
 use Rattle.round_trip.specs.declared.pairs.Lost.{Lost}
 use Rattle.round_trip.specs.declared.pairs.Lost.TheVariants.{Unpaired, Memory, Encrypting, Rewrapping, Decrypting}
 
 -- what one recipient gives is what all give
-pub gathered_one : (wrapped : Result (List StanzaParts) ℕ) (meant : List Labels) (stanzas : List StanzaParts) → Gathered (wrapped ∷ []) meant (Ok stanzas) → wrapped ≡ Ok stanzas
-gathered_one (Ok given) meant stanzas (None, apart, e) = let same : stanzas ≡ given ++ [] = cc in ap Ok (sym (append-nil given) ∙ sym same)
+pub gathered_one : (wrapped : Result (List StanzaParts) ℕ) (meant : List Labels) (stanzas : List StanzaParts)
+    → Gathered (wrapped ∷ []) meant (Ok stanzas) → wrapped ≡ Ok stanzas
+gathered_one (Ok given) meant stanzas (None, apart, e) = let same : stanzas ≡ given ++ [] = cc in
+    ap Ok (sym (append-nil given) ∙ sym same)
 gathered_one (Ok given) meant stanzas (Some i, apart, e) = cc
 gathered_one (Err code) meant stanzas (place, apart, e) = cc
 
-pub file_of_one : (limits : Bounds) (fresh : Fresh) (wrapped : Result (List StanzaParts) ℕ) (meant : List Labels) (plain file : List ℕ) (done : Done)
+pub file_of_one : (limits : Bounds) (fresh : Fresh) (wrapped : Result (List StanzaParts) ℕ) (meant : List Labels)
+    (plain file : Bytes) (done : Done)
     → EncryptsText limits fresh (Gathered (wrapped ∷ []) meant) plain (Some []) (Some file) (Ok done)
     → (stanzas : List StanzaParts) × (wrapped ≡ Ok stanzas) × AgeFile limits fresh.file_key stanzas plain file
 file_of_one limits fresh wrapped meant plain file done h =
@@ -30,54 +33,82 @@ file_of_one limits fresh wrapped meant plain file done h =
     (h.1.stanzas, gathered_one wrapped meant h.1.stanzas h.1.heading.gives, rw is h.1.file)
 
 -- bytes have one verdict
-abbrev pub IsOnce : Bounds → Answering → List ℕ → Type 0
+abbrev pub IsOnce : Bounds → Answering → Bytes → Type 0
 IsOnce limits answers b = (v w : Reading Fault) → IsVerdict limits answers b v → IsVerdict limits answers b w → v ≡ w
 
-pub text_of_whole : (limits : Bounds) (answers : Answering) (b plain text : List ℕ) (done : Done) → IsOnce limits answers b
-    → IsVerdict limits answers b (whole plain) → Decrypts limits answers (Some b) (Some []) (Some text) (Ok done) → text ≡ plain
-text_of_whole limits answers b plain text done once is h = h.3 ∙ ap (λ (v : Reading Fault). v.front) (once h.0 (whole plain) h.1 is)
+pub text_of_whole : (limits : Bounds) (answers : Answering) (b plain text : Bytes) (done : Done)
+    → IsOnce limits answers b
+    → IsVerdict limits answers b (whole plain) → Decrypts limits answers (Some b) (Some []) (Some text) (Ok done)
+    → text ≡ plain
+text_of_whole limits answers b plain text done once is h = h.3
+    ∙ ap (λ (v : Reading Fault). v.front) (once h.0 (whole plain) h.1 is)
 
 -- what is read whole has no fault
-no_fault : (limits : Bounds) (answers : Answering) (b plain : List ℕ) (fault : Fault) (old new : Option (List ℕ)) → IsOnce limits answers b
+no_fault : (limits : Bounds) (answers : Answering) (b plain : Bytes) (fault : Fault) (old new : Known)
+    → IsOnce limits answers b
     → IsVerdict limits answers b (whole plain) → GivesVerdict limits answers b old new (Err fault) → ⊥
 no_fault limits answers b plain fault old new once is h =
     none-some fault (ap (λ (v : Reading Fault). v.fault) (once (whole plain) h.0 is h.1) ∙ h.2)
 
-pub lost_of_whole : (limits : Bounds) (answers : Answering) (b plain : List ℕ) (fault : Fault) (old new : Option (List ℕ)) → IsOnce limits answers b
-    → IsVerdict limits answers b (whole plain) → CountsRead {A = Done} 0 0 (Err fault) → Decrypts limits answers (Some b) old new (Err fault) → IsMemoryFault fault
+pub lost_of_whole : (limits : Bounds) (answers : Answering) (b plain : Bytes) (fault : Fault) (old new : Known)
+    → IsOnce limits answers b
+    → IsVerdict limits answers b (whole plain) → CountsRead {A = Done} 0 0 (Err fault)
+    → Decrypts limits answers (Some b) old new (Err fault) → IsMemoryFault fault
 lost_of_whole limits answers b plain OutOfMemory old new once is count h = inl refl
 lost_of_whole limits answers b plain Write old new once is count h = inr refl
 lost_of_whole limits answers b plain Read old new once is count h = absurd (omega arith)
-lost_of_whole limits answers b plain NotAge old new once is count h = absurd (no_fault limits answers b plain NotAge old new once is h)
-lost_of_whole limits answers b plain (BadLine n) old new once is count h = absurd (no_fault limits answers b plain (BadLine n) old new once is h)
-lost_of_whole limits answers b plain HeaderTruncated old new once is count h = absurd (no_fault limits answers b plain HeaderTruncated old new once is h)
-lost_of_whole limits answers b plain HeaderTooLarge old new once is count h = absurd (no_fault limits answers b plain HeaderTooLarge old new once is h)
-lost_of_whole limits answers b plain MixedPassphrase old new once is count h = absurd (no_fault limits answers b plain MixedPassphrase old new once is h)
-lost_of_whole limits answers b plain NoMatch old new once is count h = absurd (no_fault limits answers b plain NoMatch old new once is h)
-lost_of_whole limits answers b plain WrongKey old new once is count h = absurd (no_fault limits answers b plain WrongKey old new once is h)
-lost_of_whole limits answers b plain (Malformed stanza) old new once is count h = absurd (no_fault limits answers b plain (Malformed stanza) old new once is h)
-lost_of_whole limits answers b plain BadMac old new once is count h = absurd (no_fault limits answers b plain BadMac old new once is h)
-lost_of_whole limits answers b plain NonceTruncated old new once is count h = absurd (no_fault limits answers b plain NonceTruncated old new once is h)
-lost_of_whole limits answers b plain (ChunkShort i) old new once is count h = absurd (no_fault limits answers b plain (ChunkShort i) old new once is h)
-lost_of_whole limits answers b plain (EmptyFinal i) old new once is count h = absurd (no_fault limits answers b plain (EmptyFinal i) old new once is h)
-lost_of_whole limits answers b plain (BadChunk i) old new once is count h = absurd (no_fault limits answers b plain (BadChunk i) old new once is h)
-lost_of_whole limits answers b plain TooManyChunks old new once is count h = absurd (no_fault limits answers b plain TooManyChunks old new once is h)
-lost_of_whole limits answers b plain NoRecipients old new once is count h = absurd (no_fault limits answers b plain NoRecipients old new once is h)
-lost_of_whole limits answers b plain (Refused i code) old new once is count h = absurd (no_fault limits answers b plain (Refused i code) old new once is h)
-lost_of_whole limits answers b plain (IncompatibleRecipients i) old new once is count h = absurd (no_fault limits answers b plain (IncompatibleRecipients i) old new once is h)
+lost_of_whole limits answers b plain NotAge old new once is count h =
+    absurd (no_fault limits answers b plain NotAge old new once is h)
+lost_of_whole limits answers b plain (BadLine n) old new once is count h =
+    absurd (no_fault limits answers b plain (BadLine n) old new once is h)
+lost_of_whole limits answers b plain HeaderTruncated old new once is count h =
+    absurd (no_fault limits answers b plain HeaderTruncated old new once is h)
+lost_of_whole limits answers b plain HeaderTooLarge old new once is count h =
+    absurd (no_fault limits answers b plain HeaderTooLarge old new once is h)
+lost_of_whole limits answers b plain MixedPassphrase old new once is count h =
+    absurd (no_fault limits answers b plain MixedPassphrase old new once is h)
+lost_of_whole limits answers b plain NoMatch old new once is count h =
+    absurd (no_fault limits answers b plain NoMatch old new once is h)
+lost_of_whole limits answers b plain WrongKey old new once is count h =
+    absurd (no_fault limits answers b plain WrongKey old new once is h)
+lost_of_whole limits answers b plain (Malformed stanza) old new once is count h =
+    absurd (no_fault limits answers b plain (Malformed stanza) old new once is h)
+lost_of_whole limits answers b plain BadMac old new once is count h =
+    absurd (no_fault limits answers b plain BadMac old new once is h)
+lost_of_whole limits answers b plain NonceTruncated old new once is count h =
+    absurd (no_fault limits answers b plain NonceTruncated old new once is h)
+lost_of_whole limits answers b plain (ChunkShort i) old new once is count h =
+    absurd (no_fault limits answers b plain (ChunkShort i) old new once is h)
+lost_of_whole limits answers b plain (EmptyFinal i) old new once is count h =
+    absurd (no_fault limits answers b plain (EmptyFinal i) old new once is h)
+lost_of_whole limits answers b plain (BadChunk i) old new once is count h =
+    absurd (no_fault limits answers b plain (BadChunk i) old new once is h)
+lost_of_whole limits answers b plain TooManyChunks old new once is count h =
+    absurd (no_fault limits answers b plain TooManyChunks old new once is h)
+lost_of_whole limits answers b plain NoRecipients old new once is count h =
+    absurd (no_fault limits answers b plain NoRecipients old new once is h)
+lost_of_whole limits answers b plain (Refused i code) old new once is count h =
+    absurd (no_fault limits answers b plain (Refused i code) old new once is h)
+lost_of_whole limits answers b plain (IncompatibleRecipients i) old new once is count h =
+    absurd (no_fault limits answers b plain (IncompatibleRecipients i) old new once is h)
 
 -- the same where the identity stands alone in a list
-pub lost_of_one : {X : Type 0} (limits : Bounds) (meaning : X → List StanzaParts → Unwrapped) (xs : List X) (x : X) (a b plain : List ℕ) (fault : Fault)
-    (old new : Option (List ℕ)) → xs ≡ x ∷ [] → a ≡ b → IsOnce limits (λ s. meaning x s ∷ []) b → IsVerdict limits (λ s. meaning x s ∷ []) b (whole plain)
-    → CountsRead {A = Done} 0 0 (Err fault) → Decrypts limits (λ s. map (λ i. meaning i s) xs) (Some a) old new (Err fault) → IsMemoryFault fault
+pub lost_of_one : {X : Type 0} (limits : Bounds) (meaning : X → List StanzaParts → Unwrapped) (xs : List X) (x : X)
+    (a b plain : Bytes) (fault : Fault)
+    (old new : Known) → xs ≡ x ∷ [] → a ≡ b → IsOnce limits (λ s. meaning x s ∷ []) b
+        → IsVerdict limits (λ s. meaning x s ∷ []) b (whole plain)
+    → CountsRead {A = Done} 0 0 (Err fault)
+    → Decrypts limits (λ s. map (λ i. meaning i s) xs) (Some a) old new (Err fault) → IsMemoryFault fault
 lost_of_one limits meaning xs x a b plain fault old new list come once is count h =
     lost_of_whole limits (λ s. meaning x s ∷ []) b plain fault old new once is count
     (subst (λ z. Decrypts limits (λ s. meaning x s ∷ []) (Some z) old new (Err fault)) come
     (subst (λ z. Decrypts limits (λ s. map (λ i. meaning i s) z) (Some a) old new (Err fault)) list h))
 
 -- why no file was written from memory
-unwritten : (limits : Bounds) (fresh : Fresh) (gathered : Gathering) (plain : List ℕ) (fault : Fault) (old new : Option (List ℕ)) → CountsRead {A = Done} 0 0 (Err fault)
-    → RefusesFirst limits fresh.file_key gathered fault → EncryptsText limits fresh gathered plain old new (Err fault) → IsUnwritten (IsRefusal limits fresh.file_key gathered) limits plain fault
+unwritten : (limits : Bounds) (fresh : Fresh) (gathered : Gathering) (plain : Bytes) (fault : Fault) (old new : Known)
+    → CountsRead {A = Done} 0 0 (Err fault)
+    → RefusesFirst limits fresh.file_key gathered fault → EncryptsText limits fresh gathered plain old new (Err fault)
+    → IsUnwritten (IsRefusal limits fresh.file_key gathered) limits plain fault
 unwritten limits fresh gathered plain NotAge old new count refused h = inr (inr refused)
 unwritten limits fresh gathered plain (BadLine n) old new count refused h = inr (inr refused)
 unwritten limits fresh gathered plain HeaderTruncated old new count refused h = inr (inr refused)
@@ -100,8 +131,9 @@ unwritten limits fresh gathered plain Read old new count refused h = absurd (ome
 unwritten limits fresh gathered plain TooManyChunks old new count refused h = inr (inl (refl, h.1.too_many))
 
 -- the same where the recipient stands alone in a list
-pub unwritten_of_one : {X : Type 0} (limits : Bounds) (fresh : Fresh) (wraps : X → Result (List StanzaParts) ℕ) (labels : X → Labels) (xs : List X) (x : X) (a plain : List ℕ) (fault : Fault)
-    (old new : Option (List ℕ)) → xs ≡ x ∷ [] → a ≡ plain → CountsRead {A = Done} 0 0 (Err fault)
+pub unwritten_of_one : {X : Type 0} (limits : Bounds) (fresh : Fresh) (wraps : X → Result (List StanzaParts) ℕ)
+    (labels : X → Labels) (xs : List X) (x : X) (a plain : Bytes) (fault : Fault)
+    (old new : Known) → xs ≡ x ∷ [] → a ≡ plain → CountsRead {A = Done} 0 0 (Err fault)
     → RefusesFirst limits fresh.file_key (Gathered (map wraps xs) (map labels xs)) fault
     → EncryptsText limits fresh (Gathered (map wraps xs) (map labels xs)) a old new (Err fault)
     → IsUnwritten (IsRefusal limits fresh.file_key (Gathered (wraps x ∷ []) (labels x ∷ []))) limits plain fault
@@ -112,13 +144,15 @@ unwritten_of_one limits fresh wraps labels xs x a plain fault old new list come 
     (subst (λ z. EncryptsText limits fresh (Gathered (map wraps z) (map labels z)) a old new (Err fault)) list h))
 
 -- a loss where no header is refused
-pub no_refusal : (refuses : Fault → Type 0) (limits : Bounds) (plain : List ℕ) (fault : Fault) → ((fault : Fault) → refuses fault → ⊥)
+pub no_refusal : (refuses : Fault → Type 0) (limits : Bounds) (plain : Bytes) (fault : Fault)
+    → ((fault : Fault) → refuses fault → ⊥)
     → IsUnwritten refuses limits plain fault → IsUnwritten none limits plain fault
 no_refusal refuses limits plain fault never (inl memory) = inl memory
 no_refusal refuses limits plain fault never (inr (inl long)) = inr (inl long)
 no_refusal refuses limits plain fault never (inr (inr refused)) = absurd (never fault refused)
 
-no_loss : (refuses : Fault → Type 0) (limits : Bounds) (plain : List ℕ) (lost : Lost) → ((fault : Fault) → refuses fault → ⊥)
+no_loss : (refuses : Fault → Type 0) (limits : Bounds) (plain : Bytes) (lost : Lost)
+    → ((fault : Fault) → refuses fault → ⊥)
     → IsLoss refuses limits plain lost → IsLoss none limits plain lost
 no_loss refuses limits plain (Unpaired error) never loss = tt
 no_loss refuses limits plain Memory never loss = tt
@@ -126,7 +160,8 @@ no_loss refuses limits plain (Encrypting fault) never loss = no_refusal refuses 
 no_loss refuses limits plain (Rewrapping fault) never loss = no_refusal refuses limits plain fault never loss
 no_loss refuses limits plain (Decrypting fault) never loss = loss
 
-pub without_refusal : {A : Type 0} (refuses : Fault → Type 0) (limits : Bounds) (plain : List ℕ) (r : Result A Lost) → ((fault : Fault) → refuses fault → ⊥)
+pub without_refusal : {A : Type 0} (refuses : Fault → Type 0) (limits : Bounds) (plain : Bytes) (r : Result A Lost)
+    → ((fault : Fault) → refuses fault → ⊥)
     → IfErr r (IsLoss refuses limits plain) → IfErr r (IsLoss none limits plain)
 without_refusal refuses limits plain (Ok x) never h = tt
 without_refusal refuses limits plain (Err lost) never h = no_loss refuses limits plain lost never h

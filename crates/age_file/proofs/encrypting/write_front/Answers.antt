@@ -1,16 +1,18 @@
-use Rattle.std.proofs.Common.{List, ℕ, ◌++◌, refl}
+use Rattle.std.proofs.Common.{◌++◌, refl}
+use Rattle.age_header.specs.Device.{Bytes}
 use Rattle.age_header.proofs.WriteLemmas.{done_start, done_more, done_part, part_at_exit, writes_last}
 use Rattle.age_file.proofs.encrypting.write_front.Goals as goal
 
 pub returns-in_err-write_header-clause-text : goal.returns-in_err-write_header-clause-text
 returns-in_err-write_header-clause-text g c =
     let h = c.in_err-write_header.ensures.text in
-    let text : List ℕ = h.0 ++ c.args.nonce.now in
-    (h.0, h.1, part_at_exit _ _ _ _ _ c.from_residual.ensures.1 (done_part _ _ _ text text h.0 c.args.nonce.now (done_start _ text) refl h.2))
+    let text : Bytes = h.0 ++ c.args.nonce.now in
+    (h.0, h.1, part_at_exit _ _ _ _ _ c.from_residual.ensures.1
+        (done_part _ _ _ text text h.0 c.args.nonce.now (done_start _ text) refl h.2))
 
 pub returns-clause-text : goal.returns-clause-text
 returns-clause-text g c =
     let h = c.in_ok-write_header.ensures.text in
-    let text : List ℕ = h.0 ++ c.args.nonce.now in
+    let text : Bytes = h.0 ++ c.args.nonce.now in
     let one = done_more _ _ _ text text h.0 c.args.nonce.now (done_start _ text) refl h.2 in
     (h.0, h.1, writes_last _ _ _ c.write_all.result text c.args.nonce.now one c.write_all.ensures.text)

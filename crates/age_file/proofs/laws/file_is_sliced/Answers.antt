@@ -5,5 +5,6 @@ pub returns : goal.returns
 returns c = record {
   opens = file-opens;
   len = λ limits answers b plain chunks before after. file-len limits answers b plain chunks before after;
-  slice = λ limits answers b plain xs chunks before after at. file-slice limits answers b plain xs chunks before after at;
+  slice = λ limits answers b plain xs chunks before after at. file-slice limits answers b plain xs chunks before after
+      at;
 }

@@ -5,5 +5,6 @@ use Rattle.age_file.proofs.new_header.wrap_all.Given as goal
 -- what was gathered, followed by what is left, is what there is to gather
 abbrev pub invariant-loop-i : goal.invariant-loop-i
 invariant-loop-i g l =
-    preceded_by l.all.items (gathered_from l.i (drop l.i (map (λ r. (goal.Recipient-dyn g (r.vtable, r.value)).wraps r.value l.key) l.recipients)))
+    preceded_by l.all.items (gathered_from l.i
+        (drop l.i (map (λ r. (goal.Recipient-dyn g (r.vtable, r.value)).wraps r.value l.key) l.recipients)))
     ≡ gathered_from 0 (map (λ r. (goal.Recipient-dyn g (r.vtable, r.value)).wraps r.value l.key) l.recipients)

@@ -13,10 +13,12 @@ returns-in-Ok-clause-header g c =
 pub returns-in-Err-clause-misses : goal.returns-in-Err-clause-misses
 returns-in-Err-clause-misses g c =
     subst (MissesHeader c.args.limits.now g.K.Origin.bytes) (sym c.of.ensures.fault)
-    (header-missed c.args.limits.now g.K.Origin.bytes _ c.in-Err.fault (rw (c.new-source.ensures, sym c.requires.bytes) at c.in-Err.ensures.verdict))
+    (header-missed c.args.limits.now g.K.Origin.bytes _ c.in-Err.fault
+        (rw (c.new-source.ensures, sym c.requires.bytes) at c.in-Err.ensures.verdict))
 
 pub returns-in-Err-clause-named : goal.returns-in-Err-clause-named
-returns-in-Err-clause-named g c = subst IsOpenFault (sym c.of.ensures.fault) (header-named c.args.limits.now _ _ c.in-Err.fault c.in-Err.ensures.verdict)
+returns-in-Err-clause-named g c = subst IsOpenFault (sym c.of.ensures.fault)
+    (header-named c.args.limits.now _ _ c.in-Err.fault c.in-Err.ensures.verdict)
 
 pub returns-in-Ok-clause-some : goal.returns-in-Ok-clause-some
 returns-in-Ok-clause-some g c = header-some c.args.limits.now _ _ c.in-Ok.header c.in-Ok.ensures.verdict

@@ -8,5 +8,6 @@ returns-in-Err-clause-counted g c =
     let refuses = c.in-Err.ensures.refuses in (
       last,
       refuses.stay,
-      subst (λ f. CountsRead {A = ℕ} (g.D.ReadAt.failed c.args.dev.now) (g.D.ReadAt.failed last) (Err f)) (sym c.fault.ensures.fault) refuses.counted,
+      subst (λ f. CountsRead {A = ℕ} (g.D.ReadAt.failed c.args.dev.now) (g.D.ReadAt.failed last) (Err f))
+          (sym c.fault.ensures.fault) refuses.counted,
     )

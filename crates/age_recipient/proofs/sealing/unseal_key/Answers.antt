@@ -1,4 +1,5 @@
-use Rattle.std.proofs.Common.{◌∙◌, ℕ, List, [], sym, ap}
+use Rattle.std.proofs.Common.{◌∙◌, [], sym, ap}
+use Rattle.age_kdf.specs.Bytes.{Bytes}
 use Rattle.age_cipher.specs.Sealing.{opened}
 use Rattle.age_recipient.specs.Sealing.{key_answer, unsealed, zero_nonce}
 use Rattle.age_recipient.proofs.SealingLemmas.{joined}
@@ -8,12 +9,14 @@ pub returns-then-open_in_place : goal.returns-then-open_in_place
 unfolding unsealed
 returns-then-open_in_place c =
     let e = rw c.if-open_in_place.true at c.open_in_place.ensures.opened in
-    let whole = joined c.args.body.now _ _ _ _ c.split_at.ensures.front c.split_at.ensures.back c.copy_from_slice.ensures.after c.copy_from_slice-2.ensures.after in
-    sym (ap key_answer (ap (λ (z : List ℕ). opened c.args.wrap_key.now zero_nonce [] z) (sym whole) ∙ e))
+    let whole = joined c.args.body.now _ _ _ _ c.split_at.ensures.front c.split_at.ensures.back
+        c.copy_from_slice.ensures.after c.copy_from_slice-2.ensures.after in
+    sym (ap key_answer (ap (λ (z : Bytes). opened c.args.wrap_key.now zero_nonce [] z) (sym whole) ∙ e))
 
 pub returns : goal.returns
 unfolding unsealed
 returns c =
     let e = rw c.if-open_in_place.false at c.open_in_place.ensures.opened in
-    let whole = joined c.args.body.now _ _ _ _ c.split_at.ensures.front c.split_at.ensures.back c.copy_from_slice.ensures.after c.copy_from_slice-2.ensures.after in
-    sym (ap key_answer (ap (λ (z : List ℕ). opened c.args.wrap_key.now zero_nonce [] z) (sym whole) ∙ e))
+    let whole = joined c.args.body.now _ _ _ _ c.split_at.ensures.front c.split_at.ensures.back
+        c.copy_from_slice.ensures.after c.copy_from_slice-2.ensures.after in
+    sym (ap key_answer (ap (λ (z : Bytes). opened c.args.wrap_key.now zero_nonce [] z) (sym whole) ∙ e))

@@ -1,5 +1,6 @@
-use Rattle.std.proofs.Common.{arith, ◌≡◌, ◌+◌, ◌-◌, ◌∙◌, ap, sym, refl, inr, take, ℕ, List, [], Some, None}
+use Rattle.std.proofs.Common.{arith, ◌≡◌, ◌+◌, ◌-◌, ◌∙◌, ap, sym, refl, inr, take, [], Some, None}
 use Rattle.std.proofs.lemmas.Bool.{OnTrue_at, OnFalse_at}
+use Rattle.age_kdf.specs.Bytes.{Bytes}
 use Rattle.age_cipher.specs.Sealing.{opened}
 use Rattle.age_stream.specs.Slice.{chunk_len}
 use Rattle.age_stream.proofs.LoadLemmas.{open-there}
@@ -10,9 +11,11 @@ returns-then-open_front-clause-opens g c there =
     let n = chunk_len c.args.layout.plain c.args.i in
     let end = ap (λ k. k + 16) c.chunk_len-end.ensures in
     let len : c.chunk_len-end.result + 16 - 16 ≡ n = omega (arith, c.chunk_len-end.ensures) in
-    open-there (g.D.ReadAt.bytes c.args.dev.now) c.args.layout c.chunk_nonce-nonce.result c.read_full.new.buf c.args.i (c.chunk_len-end.result + 16)
+    open-there (g.D.ReadAt.bytes c.args.dev.now) c.args.layout c.chunk_nonce-nonce.result c.read_full.new.buf c.args.i
+        (c.chunk_len-end.result + 16)
     (Some (take n c.open_front.new.bytes))
-    there c.requires.within (OnTrue_at c.in-Ok-true.field-0-test c.in-Ok-true.ensures.full) end (c.read_full.auto.buf ∙ c.requires.room) c.chunk_nonce-nonce.ensures
+    there c.requires.within (OnTrue_at c.in-Ok-true.field-0-test c.in-Ok-true.ensures.full) end
+        (c.read_full.auto.buf ∙ c.requires.room) c.chunk_nonce-nonce.ensures
     (OnTrue_at c.if-open_front.true c.open_front.ensures.opened ∙ ap (λ k. Some (take k c.open_front.new.bytes)) len)
 
 pub returns-else-open_front-clause-lost : goal.returns-else-open_front-clause-lost
@@ -20,8 +23,10 @@ returns-else-open_front-clause-lost g c =
     inr (
       refl,
       λ there.
-          open-there (g.D.ReadAt.bytes c.args.dev.now) c.args.layout c.chunk_nonce-nonce.result c.read_full.new.buf c.args.i (c.chunk_len-end.result + 16) None
-          there c.requires.within (OnTrue_at c.in-Ok-true.field-0-test c.in-Ok-true.ensures.full) (ap (λ k. k + 16) c.chunk_len-end.ensures) (c.read_full.auto.buf ∙ c.requires.room)
+          open-there (g.D.ReadAt.bytes c.args.dev.now) c.args.layout c.chunk_nonce-nonce.result c.read_full.new.buf
+              c.args.i (c.chunk_len-end.result + 16) None
+          there c.requires.within (OnTrue_at c.in-Ok-true.field-0-test c.in-Ok-true.ensures.full)
+              (ap (λ k. k + 16) c.chunk_len-end.ensures) (c.read_full.auto.buf ∙ c.requires.room)
           c.chunk_nonce-nonce.ensures (OnFalse_at c.if-open_front.false c.open_front.ensures.refused),
     )
 
@@ -29,10 +34,11 @@ pub returns-then-open_front-clause-verified : goal.returns-then-open_front-claus
 returns-then-open_front-clause-verified g c =
     let n = chunk_len c.args.layout.plain c.args.i in
     let len : c.chunk_len-end.result + 16 - 16 ≡ n = omega (arith, c.chunk_len-end.ensures) in
-    let piece : List ℕ = take (c.chunk_len-end.result + 16) c.read_full.new.buf in
+    let piece : Bytes = take (c.chunk_len-end.result + 16) c.read_full.new.buf in
     record {
       piece = piece;
       read = OnTrue_at c.in-Ok-true.field-0-test c.in-Ok-true.ensures.read;
       opens = ap (λ k. opened c.args.layout.key k [] piece) (sym c.chunk_nonce-nonce.ensures)
-          ∙ OnTrue_at c.if-open_front.true c.open_front.ensures.opened ∙ ap (λ k. Some (take k c.open_front.new.bytes)) len;
+          ∙ OnTrue_at c.if-open_front.true c.open_front.ensures.opened
+          ∙ ap (λ k. Some (take k c.open_front.new.bytes)) len;
     }

@@ -12,15 +12,18 @@ loop-got-preserved g c =
     let same : length c.read_after.new.buf ≡ length c.loop-got.buf = c.read_after.auto.buf in
     let within : got + n ≤ c.args.end = c.in_ok-n.ensures.within in
     let room : got + n ≤ length c.read_after.new.buf = omega (arith, within, same, old.len, c.requires.room) in
-    let more = subst (λ t. HasAt t (c.args.at + got) (take n (drop got c.read_after.new.buf))) old.stay c.in_ok-n.ensures.gives in
+    let more = subst (λ t. HasAt t (c.args.at + got) (take n (drop got c.read_after.new.buf))) old.stay
+        c.in_ok-n.ensures.gives in
     record {
       stay = c.read_after.ensures.stay ∙ old.stay;
       len = same ∙ old.len;
       within = within;
-      so_far = has-on told c.args.at got n c.loop-got.buf c.read_after.new.buf room same c.read_after.ensures.front old.so_far more;
+      so_far = has-on told c.args.at got n c.loop-got.buf c.read_after.new.buf room same c.read_after.ensures.front
+          old.so_far more;
       found = c.read_after.ensures.found ∙ old.found;
       kept = λ at byte was. c.read_after.ensures.stays_read at byte (old.kept at byte was);
-      read = read-on (g.D.ReadAt.was_read c.loop-got.dev) (g.D.ReadAt.was_read c.read_after.new.dev) c.args.at got n c.loop-got.buf c.read_after.new.buf room same c.read_after.ensures.front
+      read = read-on (g.D.ReadAt.was_read c.loop-got.dev) (g.D.ReadAt.was_read c.read_after.new.dev) c.args.at got n
+          c.loop-got.buf c.read_after.new.buf room same c.read_after.ensures.front
           c.read_after.ensures.stays_read old.read c.in_ok-n.ensures.read;
       given = omega (arith, c.in_ok-n.ensures.given, old.given);
       failed = c.in_ok-n.ensures.count ∙ old.failed;

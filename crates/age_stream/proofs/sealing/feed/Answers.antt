@@ -1,6 +1,7 @@
-use Rattle.std.proofs.Common.{rules, arith, ◌≡◌, ◌++◌, ◌∙◌, refl, [], length, take, drop, ℕ, List}
+use Rattle.std.proofs.Common.{rules, arith, ◌≡◌, ◌++◌, ◌∙◌, refl, [], length, take, drop}
 use Rattle.std.proofs.lemmas.List.{length-take-le}
 use Rattle.std.proofs.KnownBytes.{Consumes-nil, Consumes-trans}
+use Rattle.age_kdf.specs.Bytes.{Bytes}
 use Rattle.age_stream.proofs.SealingLemmas.{fed-end, fed-next, fed-none, full-is, stopped-full, stopped-read}
 use Rattle.age_stream.proofs.sealing.feed.Goals as goal
 
@@ -17,16 +18,19 @@ loop-n-init g c = record {
 pub returns-in-Err-clause-fed : goal.returns-in-Err-clause-fed
 returns-in-Err-clause-fed g c =
     let inv = c.loop-n.invariant.fed in
-    stopped-read c.args.key.now c.args.max c.args.index.now c.loop-n.index (take c.args.len c.args.bytes.now) inv.0 _ _ _ _ _ _ inv.1 inv.2
+    stopped-read c.args.key.now c.args.max c.args.index.now c.loop-n.index (take c.args.len c.args.bytes.now) inv.0 _ _
+        _ _ _ _ inv.1 inv.2
 
 pub returns-then-n-le-CHUNK_SIZE-clause-fed : goal.returns-then-n-le-CHUNK_SIZE-clause-fed
 returns-then-n-le-CHUNK_SIZE-clause-fed g c =
     let inv = c.loop-n.invariant.fed in
     let f = c.in-Ok.ensures.bytes.1 in
-    let now : List ℕ = take c.loop-n.held c.loop-n.bytes in
-    let l : length now ≡ c.loop-n.held = length-take-le c.loop-n.held c.loop-n.bytes (omega (arith, c.loop-n.invariant.held, c.loop-n.invariant.size)) in
+    let now : Bytes = take c.loop-n.held c.loop-n.bytes in
+    let l : length now ≡ c.loop-n.held =
+        length-take-le c.loop-n.held c.loop-n.bytes (omega (arith, c.loop-n.invariant.held, c.loop-n.invariant.size)) in
     let end = c.in-Ok.ensures.end (search rules) in (
-      rw f.is (fed-end c.args.key.now c.args.index.now c.loop-n.index (take c.args.len c.args.bytes.now) inv.0 now f.piece _ _ _ _ _
+      rw f.is (fed-end c.args.key.now c.args.index.now c.loop-n.index (take c.args.len c.args.bytes.now) inv.0 now
+          f.piece _ _ _ _ _
           (omega (arith, f.len)) inv.1 f.bytes end inv.2),
       end,
     )
@@ -35,16 +39,19 @@ pub returns-in-Err-put_full-clause-fed : goal.returns-in-Err-put_full-clause-fed
 returns-in-Err-put_full-clause-fed g c =
     let inv = c.loop-n.invariant.fed in
     let f = c.in-Ok.ensures.bytes.1 in
-    let h = full-is c.loop-n.held c.in-Ok.n c.loop-n.bytes c.fill_up_to.new.bytes _ _ (omega arith) c.in-Ok.ensures.bytes.0 c.loop-n.invariant.held c.loop-n.invariant.size c.in-Ok.ensures.size f in
-    stopped-full c.args.key.now c.args.max c.args.index.now c.loop-n.index c.put_full.new.index (take c.args.len c.args.bytes.now) inv.0 _ f.piece _ _ _ _ _ _ _ _ c.in-Err-put_full.fault
+    let h = full-is c.loop-n.held c.in-Ok.n c.loop-n.bytes c.fill_up_to.new.bytes _ _ (omega arith)
+        c.in-Ok.ensures.bytes.0 c.loop-n.invariant.held c.loop-n.invariant.size c.in-Ok.ensures.size f in
+    stopped-full c.args.key.now c.args.max c.args.index.now c.loop-n.index c.put_full.new.index
+        (take c.args.len c.args.bytes.now) inv.0 _ f.piece _ _ _ _ _ _ _ _ c.in-Err-put_full.fault
     h c.loop-n.invariant.within inv.1 f.bytes inv.2 c.in-Err-put_full.ensures.puts
 
 pub loop-n-preserved : goal.loop-n-preserved
 loop-n-preserved g c =
     let inv = c.loop-n.invariant.fed in
     let f = c.in-Ok.ensures.bytes.1 in
-    let filled : List ℕ = c.fill_up_to.new.bytes in
-    let h = full-is c.loop-n.held c.in-Ok.n c.loop-n.bytes filled _ _ (omega arith) c.in-Ok.ensures.bytes.0 c.loop-n.invariant.held c.loop-n.invariant.size c.in-Ok.ensures.size f in
+    let filled : Bytes = c.fill_up_to.new.bytes in
+    let h = full-is c.loop-n.held c.in-Ok.n c.loop-n.bytes filled _ _ (omega arith) c.in-Ok.ensures.bytes.0
+        c.loop-n.invariant.held c.loop-n.invariant.size c.in-Ok.ensures.size f in
     let puts = c.in_default.ensures.puts in
     record {
       size = c.put_full.ensures.size;
@@ -55,7 +62,9 @@ loop-n-preserved g c =
       fed = (
         inv.0 ++ f.piece,
         Consumes-trans _ _ _ inv.0 f.piece inv.1 f.bytes,
-        fed-next c.args.key.now c.args.index.now c.loop-n.index c.put_full.new.index (take c.args.len c.args.bytes.now) inv.0 (take c.loop-n.held c.loop-n.bytes) f.piece
-            (take 65536 filled) (take 1 (drop 65536 filled)) (take 1 c.put_full.new.bytes) _ _ _ h inv.2 puts.0 puts.2 puts.1,
+        fed-next c.args.key.now c.args.index.now c.loop-n.index c.put_full.new.index (take c.args.len c.args.bytes.now)
+            inv.0 (take c.loop-n.held c.loop-n.bytes) f.piece
+            (take 65536 filled) (take 1 (drop 65536 filled)) (take 1 c.put_full.new.bytes) _ _ _ h inv.2 puts.0 puts.2
+                puts.1,
       );
     }

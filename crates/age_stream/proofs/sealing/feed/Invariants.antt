@@ -1,5 +1,6 @@
-use Rattle.std.proofs.Common.{◌≡◌, ◌≤◌, ◌<◌, ◌-◌, List, ℕ, length, take}
+use Rattle.std.proofs.Common.{◌≡◌, ◌≤◌, ◌<◌, ◌-◌, length, take}
 use Rattle.std.specs.Io.KnownBytes.{Consumes}
+use Rattle.age_kdf.specs.Bytes.{Bytes}
 use Rattle.age_stream.specs.Sealing.{Fed}
 use Rattle.age_stream.specs.Sizes.{chunk_size, chunk_buf_size}
 use Rattle.age_stream.proofs.sealing.feed.Given as goal
@@ -11,7 +12,7 @@ invariant-loop-n g l = record {
   within : l.index < l.max;
   reads : g.S.Source.failed l.plain ≡ g.S.Source.failed l.fn.plain;
   writes : g.W.Sink.failed l.out ≡ g.W.Sink.failed l.fn.out;
-  fed : (text : List ℕ)
+  fed : (text : Bytes)
       × Consumes (g.S.Source.to_come l.fn.plain) (g.S.Source.to_come l.plain) text
       × Fed l.key l.fn.index l.index (take l.len l.fn.bytes) text (take l.held l.bytes)
       (g.W.Sink.taken l.fn.out) (g.W.Sink.taken l.out);

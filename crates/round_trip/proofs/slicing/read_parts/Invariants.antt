@@ -1,4 +1,5 @@
-use Rattle.std.proofs.Common.{◌≡◌, ℕ, List, take}
+use Rattle.std.proofs.Common.{◌≡◌, take}
+use Rattle.age_file.specs.Words.{Bytes}
 use Rattle.age_stream.specs.Ranges.{IsSound}
 use Rattle.round_trip.specs.Slices.{IsSliced, parts}
 use Rattle.round_trip.proofs.slicing.read_parts.Given as goal
@@ -13,5 +14,6 @@ invariant-loop-range g l =
       same : l.reader.chunks.layout ≡ s.layout;
       failed : g.D.ReadAt.failed l.reader.dev.now ≡ g.D.ReadAt.failed l.fn.reader.dev.now;
       sound : IsSound told s → IsSound told l.reader.chunks;
-      text : IsSound told s → (plain : List ℕ) → IsSliced told s.layout plain → l.text.items ≡ parts plain (take l.range-index l.ranges);
+      text : IsSound told s → (plain : Bytes) → IsSliced told s.layout plain
+          → l.text.items ≡ parts plain (take l.range-index l.ranges);
     }

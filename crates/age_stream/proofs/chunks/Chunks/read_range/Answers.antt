@@ -11,7 +11,8 @@ returns-clause-filled g c =
     let inv = c.loop-done.invariant in
     let end : c.loop-done.done ≡ c.range_len-end.result = omega (arith, inv.within, c.loop-done-test.false) in (
       subst (λ n. drop n c.loop-done.buf ≡ drop n c.args.buf.now) end inv.rest,
-      λ sound. subst (λ n. HasPlain (g.D.ReadAt.bytes c.args.dev.now) c.args.self.now.layout c.args.at (take n c.loop-done.buf)) end (inv.front sound),
+      λ sound. subst (λ n. HasPlain (g.D.ReadAt.bytes c.args.dev.now) c.args.self.now.layout c.args.at
+          (take n c.loop-done.buf)) end (inv.front sound),
     )
 
 pub returns-in-Err-clause-stop : goal.returns-in-Err-clause-stop
@@ -48,8 +49,10 @@ returns-in-Err-clause-stop g c =
         )
       ];
       counts = elim inv.stage [
-        | inl z ↦ counts-at_first l.index s.index c.hold-held.new.self.opened l.opened s.opened c.args.at i z.3 z.1 c.hold-held.ensures.counts z.4
-        | inr z ↦ counts-later (is_kept s.index (c.args.at / 65536)) l.index c.hold-held.new.self.opened l.opened s.opened (c.args.at / 65536) i z.4 z.2
+        | inl z ↦ counts-at_first l.index s.index c.hold-held.new.self.opened l.opened s.opened c.args.at i z.3 z.1
+            c.hold-held.ensures.counts z.4
+        | inr z ↦ counts-later (is_kept s.index (c.args.at / 65536)) l.index c.hold-held.new.self.opened l.opened
+            s.opened (c.args.at / 65536) i z.4 z.2
             c.hold-held.ensures.counts inv.counts
       ];
     }
@@ -61,7 +64,8 @@ returns-clause-verified g c keeps k lt =
 
 pub returns-in-Err-clause-verified : goal.returns-in-Err-clause-verified
 returns-in-Err-clause-verified g c keeps =
-    changed-verified (g.D.ReadAt.was_read c.loop-done.dev) (g.D.ReadAt.was_read c.hold-held.new.dev) c.args.self.now.layout c.args.buf.now c.loop-done.buf c.args.at c.loop-done.done
+    changed-verified (g.D.ReadAt.was_read c.loop-done.dev) (g.D.ReadAt.was_read c.hold-held.new.dev)
+        c.args.self.now.layout c.args.buf.now c.loop-done.buf c.args.at c.loop-done.done
     c.hold-held.ensures.stays_read c.loop-done.invariant.rest (c.loop-done.invariant.verified keeps)
 
 pub loop-done-preserved : goal.loop-done-preserved
@@ -82,7 +86,8 @@ loop-done-preserved g c =
     let pos : at + done ≡ 65536 * i + skip = inv.pos c.loop-done-test.true in
     let more : done < end = c.loop-done-test.true in
     let first : c.layout-layout.result.plain ≡ plain = ap (λ (x : Layout). x.plain) c.layout-layout.ensures in
-    let is : end ≡ min (length c.args.buf.now) (plain - at) = c.range_len-end.ensures ∙ ap (λ p. min (length c.args.buf.now) (p - at)) first in
+    let is : end ≡ min (length c.args.buf.now) (plain - at) = c.range_len-end.ensures
+        ∙ ap (λ p. min (length c.args.buf.now) (p - at)) first in
     let touched : 65536 * i < plain = omega (arith, pos, more, is) in
     let lies : h.layout ≡ s.layout = c.hold-held.ensures.same ∙ inv.layout in
     let same : h.layout.plain ≡ plain = ap (λ (x : Layout). x.plain) lies in
@@ -99,7 +104,8 @@ loop-done-preserved g c =
     let put = c.put-n.ensures.bytes in
     let size : length t ≤ 65536 = omega (arith, len) in
     let sound : IsSound told s → IsSound told h = λ told_so.
-    subst (λ x. IsSound x h) inv.stay (c.hold-held.ensures.sound (subst (λ x. IsSound x l) (sym inv.stay) (inv.sound told_so))) in
+    subst (λ x. IsSound x h) inv.stay (c.hold-held.ensures.sound
+        (subst (λ x. IsSound x l) (sym inv.stay) (inv.sound told_so))) in
     let opens : IsSound told s → opens_to told s.layout i ≡ Some t = λ told_so.
     opens-moved told told h.layout s.layout i (Some t) refl lies
     ((sound told_so).keeps i c.in_default.ensures.kept_chunk ∙ ap Some (sym c.text.ensures.text)) in
@@ -108,7 +114,9 @@ loop-done-preserved g c =
       | inl z ↦ let e : i ≡ at / 65536 = z.1 in omega (arith, e)
       | inr z ↦ let e : at / 65536 < i = z.2 in omega (arith, e)
     ] in
-    let more_given = subst (λ (x : Layout). g.D.ReadAt.given c.hold-held.new.dev ≤ g.D.ReadAt.given c.loop-done.dev + (if is_kept l.index i then 0 else chunk_len x.plain i + 16)) inv.layout c.hold-held.ensures.given in
+    let more_given = subst (λ (x : Layout). g.D.ReadAt.given c.hold-held.new.dev
+        ≤ g.D.ReadAt.given c.loop-done.dev + (if is_kept l.index i then 0 else chunk_len x.plain i + 16)) inv.layout
+        c.hold-held.ensures.given in
     record {
       stay = c.hold-held.ensures.stay ∙ inv.stay;
       layout = lies;
@@ -118,28 +126,39 @@ loop-done-preserved g c =
       skip = omega arith;
       pos = λ lt. omega (arith, lt, count, len, pos, is);
       below = omega (arith, next);
-      rest = rest-on c.loop-done.buf c.put-n.new.buf c.args.buf.now done n inv.rest (put-rest c.loop-done.buf (take n (drop skip t)) c.put-n.new.buf done n (omega (arith, room)) sized put);
-      front = λ told_so. front-on s.layout.key (bytes_from told s.layout.first) t c.loop-done.buf c.put-n.new.buf at done i skip n pos (omega (arith, room)) part size (opens told_so) (inv.front told_so)
+      rest = rest-on c.loop-done.buf c.put-n.new.buf c.args.buf.now done n inv.rest
+          (put-rest c.loop-done.buf (take n (drop skip t)) c.put-n.new.buf done n (omega (arith, room)) sized put);
+      front = λ told_so. front-on s.layout.key (bytes_from told s.layout.first) t c.loop-done.buf c.put-n.new.buf at
+          done i skip n pos (omega (arith, room)) part size (opens told_so) (inv.front told_so)
           (put-front c.loop-done.buf (take n (drop skip t)) c.put-n.new.buf done n (omega (arith, room)) sized put);
       keeps = λ keeps. c.hold-held.ensures.keeps_verified (inv.keeps keeps);
-      verified = λ keeps. verified-on (g.D.ReadAt.was_read c.loop-done.dev) (g.D.ReadAt.was_read c.hold-held.new.dev) s.layout t c.loop-done.buf c.put-n.new.buf at done i skip n
+      verified = λ keeps. verified-on (g.D.ReadAt.was_read c.loop-done.dev) (g.D.ReadAt.was_read c.hold-held.new.dev)
+          s.layout t c.loop-done.buf c.put-n.new.buf at done i skip n
           c.hold-held.ensures.stays_read pos (omega (arith, room)) (omega (arith, room, new_len)) part size
-          (verified-text (g.D.ReadAt.was_read c.hold-held.new.dev) h s.layout i t lies c.in_default.ensures.kept_chunk c.text.ensures.text (c.hold-held.ensures.keeps_verified (inv.keeps keeps)))
-          (inv.verified keeps) (put-front c.loop-done.buf (take n (drop skip t)) c.put-n.new.buf done n (omega (arith, room)) sized put);
+          (verified-text (g.D.ReadAt.was_read c.hold-held.new.dev) h s.layout i t lies c.in_default.ensures.kept_chunk
+              c.text.ensures.text (c.hold-held.ensures.keeps_verified (inv.keeps keeps)))
+          (inv.verified keeps) (put-front c.loop-done.buf (take n (drop skip t)) c.put-n.new.buf done n
+              (omega (arith, room)) sized put);
       counts = elim inv.stage [
         | inl z ↦ counts-at_first l.index s.index h.opened l.opened s.opened at i z.3 z.1 c.hold-held.ensures.counts z.4
-        | inr z ↦ counts-later (is_kept s.index (at / 65536)) l.index h.opened l.opened s.opened (at / 65536) i z.4 z.2 c.hold-held.ensures.counts inv.counts
+        | inr z ↦ counts-later (is_kept s.index (at / 65536)) l.index h.opened l.opened s.opened (at / 65536) i z.4 z.2
+            c.hold-held.ensures.counts inv.counts
       ];
       rises = omega (arith, inv.rises, c.hold-held.ensures.rises);
       opened = elim inv.stage [
         | inl z ↦ opened-at_first l.index s.index h.opened l.opened s.opened at i z.3 z.1 c.hold-held.ensures.opened z.4
-        | inr z ↦ opened-later (is_kept s.index (at / 65536)) h.opened l.opened s.opened (at / 65536) i (if is_kept l.index i then 1 else 0) c.hold-held.ensures.opened z.2 inv.opened
+        | inr z ↦ opened-later (is_kept s.index (at / 65536)) h.opened l.opened s.opened (at / 65536) i
+            (if is_kept l.index i then 1 else 0) c.hold-held.ensures.opened z.2 inv.opened
       ];
       given = elim inv.stage [
-        | inl z ↦ given-at_first l.index s.index (g.D.ReadAt.given c.hold-held.new.dev) (g.D.ReadAt.given c.loop-done.dev) (g.D.ReadAt.given c.args.dev.now) at i s.layout z.3 z.1 more_given z.5 touched
-        | inr z ↦ given-later (is_kept s.index (at / 65536)) (is_kept l.index i) (g.D.ReadAt.given c.hold-held.new.dev) (g.D.ReadAt.given c.loop-done.dev) (g.D.ReadAt.given c.args.dev.now) (at / 65536) i s.layout
+        | inl z ↦ given-at_first l.index s.index (g.D.ReadAt.given c.hold-held.new.dev)
+            (g.D.ReadAt.given c.loop-done.dev) (g.D.ReadAt.given c.args.dev.now) at i s.layout z.3 z.1 more_given z.5
+            touched
+        | inr z ↦ given-later (is_kept s.index (at / 65536)) (is_kept l.index i) (g.D.ReadAt.given c.hold-held.new.dev)
+            (g.D.ReadAt.given c.loop-done.dev) (g.D.ReadAt.given c.args.dev.now) (at / 65536) i s.layout
             more_given z.2 touched inv.given
       ];
       failed = c.in_default.ensures.count ∙ inv.failed;
-      stage = inr (omega (arith, some), refl, next-chunk, omega (arith, pos, some), c.in_default.ensures.kept_chunk ∙ ap Some (omega arith));
+      stage = inr (omega (arith, some), refl, next-chunk, omega (arith, pos, some),
+          c.in_default.ensures.kept_chunk ∙ ap Some (omega arith));
     }
