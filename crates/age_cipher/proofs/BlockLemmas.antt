@@ -18,7 +18,7 @@ pub lane_written : (state : List Words) (j : ℕ) → length state ≡ 16
     → map (λ k. slice_index (slice_index_or state k []) j) (range_with_len 0 16) ≡ lane j state
 lane_written state j long =
     sym (fill_by_all (λ k. slice_index (slice_index_or state k []) j) (lane j state) 16 0
-        (length-map state (λ v. slice_index v j) ∙ long) (λ k h. lane-word state j k (omega arith)))
+    (length-map state (λ v. slice_index v j) ∙ long) (λ k h. lane-word state j k (omega arith)))
 
 -- the bytes of a vector of words
 pub digits-bytes : (words : Words) → Each1 (λ w. w < 2 ^ 32) words
@@ -33,7 +33,7 @@ digits-bytes (w ∷ words) below =
     let b3 : (w + 2 ^ 32 * rest) / 256 / 256 / 256 % 256 ≡ w / 256 ^ 3 % 256 = omega arith in
     let left : (w + 2 ^ 32 * rest) / 256 / 256 / 256 / 256 ≡ rest = omega (arith, below.0) in
     rw (e, b0, b1, b2, b3, left) (ap (λ bs. w % 256 ∷ w / 256 % 256 ∷ w / 256 ^ 2 % 256 ∷ w / 256 ^ 3 % 256 ∷ bs)
-        (digits-bytes words below.1))
+    (digits-bytes words below.1))
 
 -- a word has four bytes
 pub length-bytes : (words : Words) → length (bytes words) ≡ 4 * length words
@@ -57,8 +57,8 @@ pub xored_on : (at next : ℕ) (s t old mid new : Bytes) → next ≡ at + lengt
     → IsXoredAt next t mid new → IsXoredAt at (s ++ t) old new
 xored_on at next s t old mid new e first then =
     let inside : (j : ℕ) → j < length (s ++ t) → (j < length s) ⊎ (length s ≤ j)
-        → slice_index new (at + j) ≡ bit_xor (slice_index old (at + j)) (slice_index (s ++ t) j) =
-        λ j below here. elim here [
+    → slice_index new (at + j) ≡ bit_xor (slice_index old (at + j)) (slice_index (s ++ t) j) =
+    λ j below here. elim here [
       | inl low ↦ then.0 (at + j) (omega arith) ∙ first.1 j low
           ∙ ap (bit_xor (slice_index old (at + j))) (sym (get_or_append_left s t 0 j low))
       | inr high ↦
@@ -80,7 +80,7 @@ chunk_xored n at buf digits stream e long room =
     let chunk_long : length (take n (drop at buf)) ≡ n = length-chunk at n buf room in
     let mixed = zip2 bit_xor (take n (drop at buf)) stream in
     let mixed_long : length mixed ≡ n = length-zip2 bit_xor (take n (drop at buf)) stream (chunk_long ∙ sym long)
-        ∙ chunk_long in
+    ∙ chunk_long in
     rw e (
       λ j below. get_or-put_chunk_below at buf mixed j 0 below,
       λ j below. get_or-put_chunk_at at buf mixed j 0 (omega arith) (omega arith)
@@ -113,7 +113,7 @@ pub stream_on : (key nonce : Bytes) (counter next m n : ℕ) (front back : Bytes
     → IsStream key nonce counter (64 * m + n) (front ++ back)
 stream_on key nonce counter next m n front back e one two =
     let cases : (j : ℕ) → j < 64 * m + n → (j < 64 * m) ⊎ (64 * m ≤ j)
-        → slice_index (front ++ back) j ≡ stream_byte key nonce counter j = λ j below here. elim here [
+    → slice_index (front ++ back) j ≡ stream_byte key nonce counter j = λ j below here. elim here [
       | inl low ↦ get_or_append_left front back 0 j (omega (arith, one.0)) ∙ one.1 j low
       | inr high ↦
           let block_number : next + (j - 64 * m) / 64 ≡ counter + j / 64 = omega arith in
@@ -134,7 +134,7 @@ four_stream key nonce counter a b c d ea eb ec ed =
     stream_on key nonce counter (counter + 1) 1 192 _ _ (omega arith) (block-stream key nonce counter a ea)
     (stream_on key nonce (counter + 1) (counter + 2) 1 128 _ _ (omega arith) (block-stream key nonce (counter + 1) b eb)
     (stream_on key nonce (counter + 2) (counter + 3) 1 64 _ _ (omega arith) (block-stream key nonce (counter + 2) c ec)
-        (block-stream key nonce (counter + 3) d ed)))
+    (block-stream key nonce (counter + 3) d ed)))
 
 -- xored with a list that is the stream, byte by byte
 pub xored_with_stream : (key nonce : Bytes) (counter at n : ℕ) (stream old new : Bytes)

@@ -32,7 +32,7 @@ pub with_splat : (n : ℕ) (f : ℕ → ℕ → ℕ) (x : Words) (m j : ℕ) →
     → slice_index (zip2 f x (replicate n m)) j ≡ f (slice_index x j) m
 with_splat n f x m j long inside =
     get_or-zip2 f x (replicate n m) j 0 0 0 (omega arith) (omega (arith, length-replicate n m))
-        ∙ ap (f (slice_index x j)) (get_or-replicate n j m 0 inside)
+    ∙ ap (f (slice_index x j)) (get_or-replicate n j m 0 inside)
 
 -- two shifts of each lane and an or rotate it
 pub shifts_rotate : (n : ℕ) (x : Words) (by j : ℕ) → length x ≡ n → 0 < by → by < 32 → j < n
@@ -47,7 +47,7 @@ shifts_rotate n x by j long low high inside =
     let same : by % 32 ≡ by = omega arith in
     let rest : (32 - by) % 32 ≡ 32 - by = omega arith in
     get_or-zip2 bit_or (zip2 left x (replicate n by)) (zip2 right x (replicate n (32 - by))) j 0 0 0 (here left by)
-        (here right (32 - by))
+    (here right (32 - by))
     ∙ ap₂ bit_or (with_splat n left x by j long inside) (with_splat n right x (32 - by) j long inside)
     ∙ rw (same, rest) refl
 
@@ -66,11 +66,11 @@ lane-line state a b d by j sum turned a_in b_in d_in es et =
     let a_still : a < length next = omega (arith, length-set state a sum) in
     let d_still : d < length next = omega (arith, length-set state a sum) in
     let f : Words → Words = λ words. set words d
-        (rotate_left w32 (bit_xor (slice_index words d) (slice_index words a)) by) in
+    (rotate_left w32 (bit_xor (slice_index words d) (slice_index words a)) by) in
     let first : lane j next ≡ set (lane j state) a
-        (add_words (slice_index (lane j state) a) (slice_index (lane j state) b)) =
+    (add_words (slice_index (lane j state) a) (slice_index (lane j state) b)) =
     lane-set state j a sum ∙ ap (set (lane j state) a)
-        (es ∙ ap₂ add_words (sym (lane-word state j a a_in)) (sym (lane-word state j b b_in))) in
+    (es ∙ ap₂ add_words (sym (lane-word state j a a_in)) (sym (lane-word state j b b_in))) in
     lane-set next j d turned
     ∙ ap (set (lane j next) d) (et ∙ ap₂ (λ x y. rotate_left w32 (bit_xor x y) by) (sym (lane-word next j d d_still))
     (sym (lane-word next j a a_still)))
@@ -122,7 +122,7 @@ step_swap f g i k m n w im kn km =
     let x = f (slice_index w i) (slice_index w k) in
     let y = g (slice_index w m) (slice_index w n) in
     ap (set (set w i x) m) (ap₂ g (get_or-set_other w i m x 0 (λ e. im (sym e)))
-        (get_or-set_other w i n x 0 (λ e. kn (sym e))))
+    (get_or-set_other w i n x 0 (λ e. kn (sym e))))
     ∙ set_swap w i m x y im
     ∙ ap (set (set w m y) i) (sym (ap₂ f (get_or-set_other w m i y 0 im) (get_or-set_other w m k y 0 km)))
 
@@ -144,7 +144,7 @@ line_swap p q apart m n i k l r s t w hi hk hl hr hs ht =
     let q_add : Words → Words = λ v. step add_words (on r) (on s) v in
     let q_turn : Words → Words = λ v. step (turned n) (on t) (on r) v in
     ap p_turn (sym (step_swap add_words (turned n) (at i) (at k) (on t) (on r) (q_add w) (apart i t hi ht)
-        (apart i r hi hr) (apart k t hk ht)))
+    (apart i r hi hr) (apart k t hk ht)))
     ∙ sym (step_swap (turned m) (turned n) (at l) (at i) (on t) (on r) (p_add (q_add w)) (apart l t hl ht)
     (apart l r hl hr) (apart i t hi ht))
     ∙ ap (λ v. q_turn (p_turn v)) (sym (step_swap add_words add_words (at i) (at k) (on r) (on s) w (apart i r hi hr)

@@ -33,7 +33,7 @@ grown xs more (Some ys) (Some zs) a k = ap Some (k ∙ a)
 abbrev pub OkIsAgeFile : Type 0
 OkIsAgeFile = (limits : Bounds) (answers : Answering) (b plain : Bytes) → IsVerdict limits answers b (whole plain)
     ↔ ((stanzas : List StanzaParts) × (k : FileKey) × AgeFile limits k stanzas plain b
-        × (choice (answers stanzas) ≡ Ok k))
+    × (choice (answers stanzas) ≡ Ok k))
 
 abbrev pub Gained : (limits : Bounds) (b xs : Bytes) (new : Known) → Type 0
 Gained limits b xs new = (stanzas : List StanzaParts) × (k : FileKey) × (plain : Bytes)

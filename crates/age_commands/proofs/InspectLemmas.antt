@@ -40,7 +40,7 @@ missed limits l raw key from to old fault same (Err e, is, reads) =
     let one : ◌≡◌ {A = Fault} fault (header_fault e) = cc in
     subst (λ f. Inspecting limits raw key from old old (Err f)) (sym one)
     (missed_from limits raw key from to old e
-        (subst (λ (m : Bounds). ReadsHeader from to m.max_header (Err e)) same reads))
+    (subst (λ (m : Bounds). ReadsHeader from to m.max_header (Err e)) same reads))
 
 -- the same of a header that was not shown to its end
 front_of : (limits : Bounds) (raw : Bool) (key : Option Bytes) (b : Bytes) (from to old new : Known) (h : HeaderParts)
@@ -68,7 +68,7 @@ shown_of : (limits : Bounds) (raw : Bool) (key : Option Bytes) (from to old new 
     → Inspecting limits raw key from old new (Err fault)
 shown_of limits raw key from to old new h fault reads (inl (is, front)) =
     subst (λ f. Inspecting limits raw key from old new (Err f)) (sym is)
-        (front_from limits raw key from to old new h reads front)
+    (front_from limits raw key from to old new h reads front)
 shown_of limits raw key from to old new h fault reads (inr (is, k)) =
     subst (λ f. Inspecting limits raw key from old new (Err f)) (sym is) (unshown limits raw key from old new k)
 
@@ -81,7 +81,7 @@ shown_in_part limits l raw key from to old new h checked fault same (Ok g, is, r
     let one : ◌≡◌ {A = HeaderParts} g h = cc in
     shown_of limits raw key from to old new h fault
     (subst (λ (m : Bounds). ReadsHeader from to m.max_header (Ok h)) same
-        (subst (λ (x : HeaderParts). ReadsHeader from to l.max_header (Ok x)) one reads))
+    (subst (λ (x : HeaderParts). ReadsHeader from to l.max_header (Ok x)) one reads))
     (subst (λ (x : Check). Shows raw h x old new (Err fault)) made shows)
 
 -- the rows of one more stanza
@@ -100,8 +100,8 @@ rows_more old mid new xs x d i low is before one =
     let start : 0 + length (take i xs) ≡ i = omega arith in
     let at : rows 0 (take (i + 1) xs) ≡ rows 0 (take i xs) ++ row i x =
     ap (rows 0) (take_more xs i d low) ∙ rows_push 0 (take i xs) (get_or xs i d)
-        ∙ ap (λ k. rows 0 (take i xs) ++ row k (get_or xs i d)) start
-        ∙ ap (λ (y : StanzaParts). rows 0 (take i xs) ++ row i y) (sym is) in
+    ∙ ap (λ k. rows 0 (take i xs) ++ row k (get_or xs i d)) start
+    ∙ ap (λ (y : StanzaParts). rows 0 (take i xs) ++ row i y) (sym is) in
     subst (Appends old new) (sym at) (Appends-trans old mid new (rows 0 (take i xs)) (row i x) before one)
 
 -- the parts of a table, one after the other
@@ -128,5 +128,5 @@ tabled header checked one two three four five six characters text n (Ok u) is ma
       Appends-trans one five six (front ++ lines ++ codes "mac " ++ characters) (last_lines n checked)
           (Appends-trans one four five (front ++ lines ++ codes "mac ") characters
           (Appends-trans one three four (front ++ lines) (codes "mac ") (Appends-trans one two three front lines a b) c)
-              d) f,
+          d) f,
     )

@@ -50,9 +50,11 @@ slices told layout at xs ys one more k lt =
           let same : at + k ≡ at + length xs + j = omega arith in
           let byte = more j (omega arith) in
           let value : slice_index (xs ++ ys) k ≡ slice_index ys j = ap (slice_index (xs ++ ys)) sum
-              ∙ get_or-append-add xs ys j 0 in
-          (byte.0, ap (λ x. opening layout.key (bytes_from told layout.first) (x / 65536)) same ∙ byte.1,
-              ap (λ x. slice_get byte.0 (x % 65536)) same ∙ byte.2 ∙ ap Some (sym value))
+          ∙ get_or-append-add xs ys j 0 in (
+            byte.0,
+            ap (λ x. opening layout.key (bytes_from told layout.first) (x / 65536)) same ∙ byte.1,
+            ap (λ x. slice_get byte.0 (x % 65536)) same ∙ byte.2 ∙ ap Some (sym value),
+          )
     ]
 
 -- a chunk of a range ends in the first piece
@@ -127,8 +129,8 @@ joined told again layout same at k from n m old mid new et el ef em one more =
       size = omega arith;
       plain = slices told layout at one.part more.part one.plain
           (subst (λ x. HasPlain told layout x more.part) here
-              (subst (λ l. HasPlain told l from more.part) el
-              (subst (λ t. HasPlain t same from more.part) et more.plain)));
+          (subst (λ l. HasPlain told l from more.part) el
+          (subst (λ t. HasPlain t same from more.part) et more.plain)));
       appends = Appends-trans old mid new one.part more.part one.appends more.appends;
     }
 
@@ -187,9 +189,15 @@ failed_on told again s t begin len at left old mid new fault et el end low some 
 failed_on told again s t begin len at left old mid new fault et el end low some whole one
     (inr (which, (n, within, more))) =
     let plain : t.layout.plain ≡ s.layout.plain = ap (λ (l : Layout). l.plain) el in
-    inr (which, (at - begin + n, omega arith,
+    inr (
+      which,
+      (
+        at - begin + n,
+        omega arith,
         joined told again s.layout t.layout begin (at - begin) at n (at - begin + n) old mid new et el (omega arith)
-        refl one more))
+            refl one more,
+      ),
+    )
 
 -- a source that was opened, by one identity in a list
 pub ranged : {X : Type 0} (m : X → List StanzaParts → Unwrapped) (items : List X) (x : X) (l limits : Bounds)

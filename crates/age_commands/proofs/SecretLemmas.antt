@@ -22,7 +22,7 @@ pub decrypts_alone : {X : Type 0} (m : X → List StanzaParts → Unwrapped) (it
     → Decrypts limits (λ s. m x s ∷ []) from old new r
 decrypts_alone m items x l limits from old new r one is h =
     subst (λ b. Decrypts b (λ s. m x s ∷ []) from old new r) is
-        (subst (λ xs. Decrypts l (λ s. map (λ i. m i s) xs) from old new r) one h)
+    (subst (λ xs. Decrypts l (λ s. map (λ i. m i s) xs) from old new r) one h)
 
 pub decrypting_meant : (f g : List StanzaParts → Unwrapped) (limits : Bounds) (from old new : Known)
     (r : Result Done Fault) → f ≡ g
@@ -37,7 +37,7 @@ pub encrypting_meant : (w v : FileKey → Result (List StanzaParts) ℕ) (l m : 
 encrypting_meant w v l m limits fresh from old new r same labels h =
     subst (λ (x : Labels). Encrypting limits fresh (Gathered (v fresh.file_key ∷ []) (x ∷ [])) from old new r) labels
     (subst (λ (x : FileKey → Result (List StanzaParts) ℕ). Encrypting limits fresh
-        (Gathered (x fresh.file_key ∷ []) (l ∷ [])) from old new r) same h)
+    (Gathered (x fresh.file_key ∷ []) (l ∷ [])) from old new r) same h)
 
 pub rewraps_alone : {X Y : Type 0} (m : X → List StanzaParts → Unwrapped)
     (w : Y → FileKey → Result (List StanzaParts) ℕ) (labels : Y → Labels)
@@ -49,9 +49,9 @@ pub rewraps_alone : {X Y : Type 0} (m : X → List StanzaParts → Unwrapped)
 rewraps_alone m w labels items x others y l limits from old new r one other is h =
     subst (λ b. Rewraps b (λ s. m x s ∷ []) (λ key. Gathered (w y key ∷ []) (labels y ∷ [])) from old new r) is
     (subst (λ ys. Rewraps l (λ s. m x s ∷ []) (λ key. Gathered (map (λ o. w o key) ys) (map (λ o. labels o) ys)) from
-        old new r) other
+    old new r) other
     (subst (λ xs. Rewraps l (λ s. map (λ i. m i s) xs)
-        (λ key. Gathered (map (λ o. w o key) others) (map (λ o. labels o) others)) from old new r) one h))
+    (λ key. Gathered (map (λ o. w o key) others) (map (λ o. labels o) others)) from old new r) one h))
 
 pub rewrapping_meant : (f g : List StanzaParts → Unwrapped) (w v : FileKey → Result (List StanzaParts) ℕ) (l m : Labels)
     (limits : Bounds) (from old new : Known) (r : Result ⊤ Fault)
@@ -61,14 +61,14 @@ pub rewrapping_meant : (f g : List StanzaParts → Unwrapped) (w v : FileKey →
 rewrapping_meant f g w v l m limits from old new r same wraps labels h =
     subst (λ (x : Labels). Rewraps limits (λ s. g s ∷ []) (λ key. Gathered (v key ∷ []) (x ∷ [])) from old new r) labels
     (subst (λ (x : FileKey → Result (List StanzaParts) ℕ). Rewraps limits (λ s. g s ∷ [])
-        (λ key. Gathered (x key ∷ []) (l ∷ [])) from old new r) wraps
+    (λ key. Gathered (x key ∷ []) (l ∷ [])) from old new r) wraps
     (subst (λ (x : List StanzaParts → Unwrapped). Rewraps limits (λ s. x s ∷ []) (λ key. Gathered (w key ∷ []) (l ∷ []))
-        from old new r) same h))
+    from old new r) same h))
 
 -- one more is made for the next key
 pub wrapped_more : {S : Type 0} (f : Bytes → S) (keys : List Bytes) (i : ℕ) (old one new : List S) → i < length keys
     → new ≡ old ++ one → one ≡ f (get_or keys i []) ∷ [] → old ≡ map f (take i keys) → new ≡ map f (take (i + 1) keys)
 wrapped_more f keys i old one new low added is before =
     added ∙ ap (λ xs. xs ++ one) before ∙ ap (λ ys. map f (take i keys) ++ ys) is
-        ∙ sym (map_push f (take i keys) (get_or keys i []))
+    ∙ sym (map_push f (take i keys) (get_or keys i []))
     ∙ ap (map f) (sym (take_more keys i [] low))

@@ -34,15 +34,17 @@ pub copied_all : (size : ℕ) (from a b old m n : Known) (k : ℕ) (more : Bool)
     → CopiesPiece size a b m n (Ok more)
     → Copies from old n (Ok tt)
 copied_all size from a b old m n k true is c h = absurd (true≢false is)
-copied_all size from a b old m n k false is c (piece, took, put, end) =
-    (c.bytes ++ piece, may-end from b (c.bytes ++ piece) (Consumes-trans from a b c.bytes piece c.took took) end,
-        Appends-trans old m n c.bytes piece c.put put)
+copied_all size from a b old m n k false is c (piece, took, put, end) = (
+  c.bytes ++ piece,
+  may-end from b (c.bytes ++ piece) (Consumes-trans from a b c.bytes piece c.took took) end,
+  Appends-trans old m n c.bytes piece c.put put,
+)
 
 -- a prefix of a text was written
 front : (old new : Known) (bytes rest : Bytes) → Appends old new bytes → WritesPart old new (bytes ++ rest)
 front old new bytes rest put =
     done_part old new new (bytes ++ rest) rest [] rest (record { front = bytes; took = put; is = refl }) refl
-        (0, Appends-nil new)
+    (0, Appends-nil new)
 
 -- what was copied, and what may still come
 begun : (from a old m : Known) (k : ℕ) → Copied from a old m k
@@ -98,10 +100,11 @@ copied_beyond from a old m k beyond c = let s = begun from a old m k c in (s.0, 
 after_piece : (from a old m n : Known) (piece rest : Bytes) → Consumes from a piece → Appends old m piece
     → MayGive a rest → WritesPart m n rest
     → MayGive from (piece ++ rest) × WritesPart old n (piece ++ rest)
-after_piece from a old m n piece rest took put may part =
-    (may-more from a piece rest took may,
-        done_part old m n (piece ++ rest) rest rest [] (record { front = piece; took = put; is = refl })
-        (sym (append-nil rest)) part)
+after_piece from a old m n piece rest took put may part = (
+  may-more from a piece rest took may,
+  done_part old m n (piece ++ rest) rest rest [] (record { front = piece; took = put; is = refl })
+      (sym (append-nil rest)) part,
+)
 
 pub copied_after : (size : ℕ) (from a old m n : Known) (more : Bool) (r : Result (Unit {0}) Fault) → more ≡ true
     → CopiesPiece size from a old m (Ok more)

@@ -118,7 +118,7 @@ pub inspect-decrypts : (limits : Bounds) (answers : Answering) (come mid old : K
 inspect-decrypts limits answers come mid old fault (Ok parts, is, h) = absurd (cc)
 inspect-decrypts limits answers come mid old fault (Err g, is, h) =
     subst (λ f. Decrypts limits answers come old old (Err f))
-        (sym (err-err {A = HeaderParts} fault (header_fault g) is)) (header-decrypts limits answers come mid old g h)
+    (sym (err-err {A = HeaderParts} fault (header_fault g) is)) (header-decrypts limits answers come mid old g h)
 
 -- the header that was read, and whatever may follow it
 pub record IsHeaded (limits : Bounds) (come mid : Known) (h : HeaderParts) : Type 0 where
@@ -176,14 +176,14 @@ pub locked-decrypts : (limits : Bounds) (answers : Answering) (come mid old : Kn
     → Decrypts limits answers come old old (Err fault)
 locked-decrypts limits answers come mid old h fault i (inl memory) =
     subst (λ f. Decrypts limits answers come old old (Err f)) (sym (err-err {A = FileKey} fault OutOfMemory memory))
-        (memory-decrypts limits answers come old old)
+    (memory-decrypts limits answers come old old)
 locked-decrypts limits answers come mid old h fault i (inr key) =
     let is = headed limits come mid h i in
     let d = may-some mid in
     decrypts-of limits answers come (is.text ++ d.0) old old (Err fault) (is.may d.0 d.1)
     (stops-decrypts limits answers (is.text ++ d.0) old fault
-        (subst (λ k. IsVerdict limits answers (is.text ++ d.0) (read_under limits d.0 k)) (sym key)
-        (verdict-of limits answers come mid h is d.0 d.1)))
+    (subst (λ k. IsVerdict limits answers (is.text ++ d.0) (read_under limits d.0 k)) (sym key)
+    (verdict-of limits answers come mid h is d.0 d.1)))
 
 -- ---- the payload
 
@@ -239,7 +239,7 @@ payload-decrypts limits answers come mid old new h k max r i (inr key) same (c, 
     let is = headed limits come mid h i in
     let w = subst (λ m. WritesReading (payload_reading k m c) (length (pieces (drop 16 c))) old new r) same x in
     decrypts-of limits answers come (is.text ++ c) old new (file_result r) (is.may c may)
-        (payload-text limits answers come mid h is k c may old new r key w)
+    (payload-text limits answers come mid h is k c may old new r key w)
 
 -- there is no nonce, or no memory
 pub missed-decrypts : (P : Type 0) (limits : Bounds) (answers : Answering) (come mid to old : Known) (before after : ℕ)
@@ -249,10 +249,10 @@ pub missed-decrypts : (P : Type 0) (limits : Bounds) (answers : Answering) (come
     → Decrypts limits answers come old old (Err (stream_fault fault))
 missed-decrypts P limits answers come mid to old before after h k max fault i key same (inl m) =
     subst (λ f. Decrypts limits answers come old old (Err (stream_fault f))) (sym m.0)
-        (memory-decrypts limits answers come old old)
+    (memory-decrypts limits answers come old old)
 missed-decrypts P limits answers come mid to old before after h k max fault i key same (inr m) =
     payload-decrypts limits answers come mid old old h k max (Err fault) i key same
-        (nonce-writes k max mid to old fault m.0)
+    (nonce-writes k max mid to old fault m.0)
 
 -- ---- counts, and what was taken
 
@@ -294,8 +294,11 @@ ends-takes limits come mid to old new h i stream.Write e = go e.at
 
     go : ((◌≡◌ {A = StreamFault} stream.Write stream.Write) × (65536 * e.piece ≤ length e.text))
         ⊎ IsAtPiece limits.max_chunks e.piece stream.Write → TookUpTo limits come to old new Write
-    go (inl (is, le)) = (e.text, e.written,
-        took-piece limits come mid to old new h i stream.Write (length e.text / 65536) e (omega arith))
+    go (inl (is, le)) = (
+      e.text,
+      e.written,
+      took-piece limits come mid to old new h i stream.Write (length e.text / 65536) e (omega arith),
+    )
     go (inr at) = absurd (not-piece at)
 ends-takes limits come mid to old new h i (stream.ChunkShort j) e = go e.at
   where

@@ -44,7 +44,7 @@ pub made : (limits : Bounds) (k : FileKey) (gathered : Gathering) (stanzas : Lis
     → HeaderMade limits k gathered stanzas mac → Head stanzas mac written → Made limits k gathered written
 made limits k gathered stanzas mac written (is, (text, heading)) head =
     let same : text ≡ written = one_text stanzas (header_mac k.0 stanzas) text written heading.head
-        (subst (λ (m : Bytes). Head stanzas m written) is head) in
+    (subst (λ (m : Bytes). Head stanzas m written) is head) in
     record { stanzas = stanzas; heading = subst (λ (t : Bytes). IsHeading limits k gathered stanzas t) same heading }
 
 -- of a plaintext that the source may give
@@ -74,7 +74,7 @@ encrypts_begun limits fresh gathered stanzas mac from old new header (text, head
     let front : Bytes = text ++ fresh.nonce in
     let rest : Bytes = concat (sealed_chunks fresh.file_key fresh.nonce plain.0) in
     let is : text ++ payload fresh.file_key fresh.nonce plain.0 ≡ front ++ rest =
-        sym (append_assoc text fresh.nonce rest) in
+    sym (append_assoc text fresh.nonce rest) in
     encrypts_of limits fresh gathered plain.0 from old new (Err Write) plain.1 (record {
       stanzas = m.stanzas;
       text = text;
@@ -91,7 +91,7 @@ pub encrypts_unread : (limits : Bounds) (fresh : Fresh) (gathered : Gathering) (
 encrypts_unread limits fresh gathered stanzas mac from old (is, (text, heading)) =
     let plain = may-some from in
     encrypts_of limits fresh gathered plain.0 from old old (Err Read) plain.1
-        (record { stanzas = stanzas; text = text; heading = heading; part = (0, Appends-nil old) })
+    (record { stanzas = stanzas; text = text; heading = heading; part = (0, Appends-nil old) })
 
 -- a prefix of the payload was written after them
 begun : (limits : Bounds) (fresh : Fresh) (gathered : Gathering) (text plain : Bytes) (a b c : Known)
@@ -106,7 +106,7 @@ begun limits fresh gathered text plain a b c m front part =
       heading = m.heading;
       part = done_part a b c (text ++ payload fresh.file_key fresh.nonce plain) rest rest []
           (record { front = text ++ fresh.nonce; took = front; is = sym (append_assoc text fresh.nonce rest) })
-              (sym (append-nil rest)) part;
+          (sym (append-nil rest)) part;
     }
 
 -- a whole file
@@ -151,7 +151,7 @@ up_to_limit limits fresh gathered text plain a b c m front many rest =
     let n : limits.max_chunks - 1 - 0 ≡ limits.max_chunks - 1 = omega arith in
     let out : Bytes = concat (take (limits.max_chunks - 1) (sealed_chunks fresh.file_key fresh.nonce plain)) in
     let put : Appends b c out = subst (λ k. Appends b c
-        (concat (take k (sealed_chunks fresh.file_key fresh.nonce plain)))) n rest in (
+    (concat (take k (sealed_chunks fresh.file_key fresh.nonce plain)))) n rest in (
       text ++ (fresh.nonce ++ out),
       record { stanzas = m.stanzas; text = text; heading = m.heading; too_many = omega (arith, many); spelled = refl },
       subst (Appends a c) (append_assoc text fresh.nonce out) (Appends-trans a b c (text ++ fresh.nonce) out front put),
@@ -163,7 +163,7 @@ pub filled : (s t : SealerState) (key : Bytes) (m max : ℕ) (more : Bool) (from
     → Fills (at_start key max) t from mid (Ok more)
 filled s t key m max more from mid is same h =
     subst (λ n. Fills (at_start key n) t from mid (Ok more)) same
-        (subst (λ x. IfNone x.fault (Fills x t from mid (Ok more))) is h)
+    (subst (λ x. IfNone x.fault (Fills x t from mid (Ok more))) is h)
 
 -- and then sealed what it held and what came
 pub sealed_filled : (key : Bytes) (max : ℕ) (t : SealerState) (more : Bool) (from mid to a c : Known)
@@ -174,7 +174,7 @@ sealed_filled key max t true from mid to a c r some fills seals =
     filled-seals key max t true from mid to a c r fills seals
 sealed_filled key max t false from mid to a c r some fills (finishes, same) =
     subst (λ k. SealsAll (at_start key max) from k a c r) (sym same)
-        (filled-finishes key max t from mid a c r some fills finishes)
+    (filled-finishes key max t from mid a c r some fills finishes)
 
 -- the payload after the header and the nonce
 encrypts_payload : (limits : Bounds) (fresh : Fresh) (gathered : Gathering) (text : Bytes) (from to a b c : Known)
@@ -185,7 +185,7 @@ encrypts_payload : (limits : Bounds) (fresh : Fresh) (gathered : Gathering) (tex
 encrypts_payload limits fresh gathered text from to a b c (Ok done) sixteen m front
     (plain, may, rest, fits, bytes, count) =
     encrypts_of limits fresh gathered plain from a c (Ok done) may
-        (whole limits fresh gathered text plain a b c done sixteen m front rest fits bytes count)
+    (whole limits fresh gathered text plain a b c done sixteen m front rest fits bytes count)
 encrypts_payload limits fresh gathered text from to a b c (Err fault) sixteen m front (chunk, s) = go fault s.stops
   where
     key : Bytes
@@ -214,7 +214,7 @@ pub encrypts_sealed : (limits : Bounds) (fresh : Fresh) (gathered : Gathering) (
     → EncryptsGiven limits fresh gathered from a c (file_result r)
 encrypts_sealed limits fresh gathered stanzas mac from to a b c r header (text, head, front) sixteen seals =
     encrypts_payload limits fresh gathered text from to a b c r sixteen
-        (made limits fresh.file_key gathered stanzas mac text header head) front seals
+    (made limits fresh.file_key gathered stanzas mac text header head) front seals
 
 -- a read failed after something was written: the source may give a whole chunk
 pub read_late : (key : Bytes) (max : ℕ) (t : SealerState) (more : Bool) (from mid to a c : Known) (fault : StreamFault)
@@ -235,7 +235,7 @@ read_late key max t false from mid to a c fault fills ((write, part), same) read
 pub takes_begun : (limits : Bounds) (fresh : Fresh) (gathered : Gathering) (stanzas : List StanzaParts) (mac : Bytes)
     (key : Bytes) (max : ℕ) (t : SealerState) (more : Bool)
     (from mid old new : Known) → HeaderMade limits fresh.file_key gathered stanzas mac
-        → FrontWritten stanzas mac (λ text. WritesPart old new (text ++ fresh.nonce))
+    → FrontWritten stanzas mac (λ text. WritesPart old new (text ++ fresh.nonce))
     → Fills (at_start key max) t from mid (Ok more) → TookWhileEncrypting limits fresh gathered from mid old new Write
 takes_begun limits fresh gathered stanzas mac key max t more from mid old new header (text, head, part)
     (x, gave, is, fits, full, ended) =
@@ -259,7 +259,7 @@ took : (limits : Bounds) (fresh : Fresh) (gathered : Gathering) (text : Bytes) (
     → GaveAtMost (65536 * (chunk + 1 - 0) + 1 - 0) from to → TookChunks limits fresh gathered from to a c
 took limits fresh gathered text from to a b c chunk fault sixteen m front s gave =
     let l : length ((text ++ fresh.nonce) ++ s.wrote.0) ≡ length (text ++ fresh.nonce) + length s.wrote.0 =
-        length-append (text ++ fresh.nonce) s.wrote.0 in
+    length-append (text ++ fresh.nonce) s.wrote.0 in
     let h : length (text ++ fresh.nonce) ≡ length text + length fresh.nonce = length-append text fresh.nonce in
     record {
       stanzas = m.stanzas;
@@ -323,4 +323,4 @@ pub takes_sealed : (limits : Bounds) (fresh : Fresh) (gathered : Gathering) (sta
     → TookWhileEncrypting limits fresh gathered from to a c (stream_fault fault)
 takes_sealed limits fresh gathered stanzas mac from to a b c fault header (text, head, front) sixteen seals =
     takes_payload limits fresh gathered text from to a b c fault sixteen
-        (made limits fresh.file_key gathered stanzas mac text header head) front seals
+    (made limits fresh.file_key gathered stanzas mac text header head) front seals

@@ -108,7 +108,7 @@ under-file limits answers b p found begins (Ok k) is h =
     let rest : Bytes = drop (length found.text) b in
     let has = unlocked-key answers (parts_of found) k is in
     let body = ok-payload k rest p limits.max_chunks
-        (with_file_fault-whole p (payload_reading k limits.max_chunks rest) h) in
+    (with_file_fault-whole p (payload_reading k limits.max_chunks rest) h) in
     record {
       stanzas = found.stanzas;
       key = k;
@@ -132,7 +132,7 @@ judged-file : (limits : Bounds) (answers : Answering) (b p : Bytes) (r : Result 
 judged-file limits answers b p (Err f) v h = absurd (never_stops p (header_fault f) h)
 judged-file limits answers b p (Ok found) v h =
     under-file limits answers b p found (headers.begins_found b limits.max_header found v)
-        (unlocked answers (parts_of found)) refl h
+    (unlocked answers (parts_of found)) refl h
 
 -- an age file for the chosen key reads whole
 pub file-whole : (limits : Bounds) (answers : Answering) (b p : Bytes) (stanzas : List StanzaParts) (k : FileKey)
@@ -143,7 +143,7 @@ file-whole limits answers b p stanzas k file chosen =
     let found : Found = record { stanzas = stanzas; mac = mac; text = file.header } in
     let body : Bytes = payload k file.nonce p in
     let begins : BeginsWith b limits.max_header found =
-        record { rest = body; head = file.head; front = file.spelled; fits = file.header_fits } in
+    record { rest = body; head = file.head; front = file.spelled; fits = file.header_fits } in
     let reads : payload_reading k limits.max_chunks (drop (length file.header) b) ≡ whole p =
     ap (payload_reading k limits.max_chunks) (behind b limits.max_header found begins)
     ∙ payload-ok k body p limits.max_chunks
@@ -167,7 +167,7 @@ pub one_verdict : (limits : Bounds) (answers : Answering) (b : Bytes) (v w : Rea
     → IsVerdict limits answers b v → IsVerdict limits answers b w → v ≡ w
 one_verdict limits answers b v w h k =
     h.is ∙ ap (judged limits answers b)
-        (headers.one_verdict b limits.max_header h.header k.header h.header_verdict k.header_verdict) ∙ sym k.is
+    (headers.one_verdict b limits.max_header h.header k.header h.header_verdict k.header_verdict) ∙ sym k.is
 
 -- one identity that means the key
 pub opens-whole : (limits : Bounds) (meaning : List StanzaParts → Unwrapped) (k : FileKey) (stanzas : List StanzaParts)

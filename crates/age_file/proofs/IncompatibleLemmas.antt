@@ -25,7 +25,7 @@ pub meant_at : {A : Type 0} (f : A → Labels) (xs : List A) (i : ℕ) (x : A) �
     → drop i (map f xs) ≡ f x ∷ drop (i + 1) (map f xs)
 meant_at f xs i x low is =
     drop-map f i xs ∙ ap (map f) (drop_more xs i x low) ∙ ap (λ y. f y ∷ map f (drop (i + 1) xs)) (sym is)
-        ∙ ap (λ t. f x ∷ t) (sym (drop-map f (i + 1) xs))
+    ∙ ap (λ t. f x ∷ t) (sym (drop-map f (i + 1) xs))
 
 nil_cons : (m : Labels) (rest : List Labels) → [] ≡ m ∷ rest → ⊥
 nil_cons m rest e = cc
@@ -47,7 +47,7 @@ pub collects : {A : Type 0} (f : A → Labels) (xs : List A) (i : ℕ) (x : A) (
 collects f xs i x l before after low is may joined h =
     subst (AllZip MayLabel (take (i + 1) (map f xs))) (sym joined)
     (subst (λ t. AllZip MayLabel t (before ++ l ∷ []))
-        (sym (one_taken (map f xs) (drop (i + 1) (map f xs)) i (f x) (meant_at f xs i x low is)))
+    (sym (one_taken (map f xs) (drop (i + 1) (map f xs)) i (f x) (meant_at f xs i x low is)))
     (both MayLabel (take i (map f xs)) (f x ∷ []) before (l ∷ []) h (may, tt)))
 
 -- all recipients

@@ -25,7 +25,7 @@ pub payload-writes : (k : FileKey) (max : ℕ) (s : OpenerState) (from mid a b :
     → WritesPayload k max from a b r
 payload-writes k max s from mid a b r (nonce, len, is, may) h =
     let all : WritesAll (at_start (payload_key k nonce) max) mid a b r =
-        subst (λ (x : OpenerState). IfNone x.fault (WritesAll x mid a b r)) is h in
+    subst (λ (x : OpenerState). IfNone x.fault (WritesAll x mid a b r)) is h in
     let c = all.0 in
     let l : length (nonce ++ c) ≡ length nonce + length c = length-append nonce c in
     let long : nat_lt (length (nonce ++ c)) 16 ≡ false = le-ltb (length (nonce ++ c)) 16 (omega arith) in
@@ -34,8 +34,8 @@ payload-writes k max s from mid a b r (nonce, len, is, may) h =
     let key : Bytes = payload_key k nonce in
     let reads : payload_reading k max (nonce ++ c) ≡ reading_from key max 0 c =
     cond-false (nat_lt (length (nonce ++ c)) 16) _ _ long
-    ∙ ap (λ n. reading_from (payload_key k n) max 0 (drop 16 (nonce ++ c))) front ∙ ap (reading_from key max 0) back in
-    (
+    ∙ ap (λ n. reading_from (payload_key k n) max 0 (drop 16 (nonce ++ c))) front
+    ∙ ap (reading_from key max 0) back in (
       nonce ++ c,
       may c all.1,
       subst (λ x. WritesReading x (length (pieces (drop 16 (nonce ++ c)))) a b r) (sym reads)
@@ -48,9 +48,12 @@ pub nonce-writes : (k : FileKey) (max : ℕ) (from mid a : Known) (fault : Strea
 nonce-writes k max from mid a Read h = let d = may-some from in (d.0, d.1, (0, Appends-nil a))
 nonce-writes k max from mid a NonceTruncated h =
     let short : nat_lt (length h.1.0) 16 ≡ true = lt-ltb (length h.1.0) 16 h.1.2 in
-    let all : payload_reading k max h.1.0 ≡ stops NonceTruncated = cond-true (nat_lt (length h.1.0) 16) _ _ short in
-    (h.1.0, h.1.1, subst (λ x. WritesReading x (length (pieces (drop 16 h.1.0))) a a (Err NonceTruncated)) (sym all)
-        (refl, Appends-nil a))
+    let all : payload_reading k max h.1.0 ≡ stops NonceTruncated = cond-true (nat_lt (length h.1.0) 16) _ _ short in (
+      h.1.0,
+      h.1.1,
+      subst (λ x. WritesReading x (length (pieces (drop 16 h.1.0))) a a (Err NonceTruncated)) (sym all)
+          (refl, Appends-nil a),
+    )
 nonce-writes k max from mid a (ChunkShort i) h = absurd (cc)
 nonce-writes k max from mid a (EmptyFinal i) h = absurd (cc)
 nonce-writes k max from mid a (BadChunk i) h = absurd (cc)
@@ -65,11 +68,17 @@ pub payload-ends : (k : FileKey) (max : ℕ) (s : OpenerState) (from mid to a b 
     → (fault ≡ Read) ⊎ EndsAt max 16 from to a b fault
 payload-ends k max s from mid to a b fault starts nonce h =
     go (subst (λ (x : OpenerState). IfNone x.fault ((fault ≡ Read) ⊎ EndsAt x.max_chunks 0 mid to a b fault)) starts.2
-        h)
+    h)
   where
     go : (fault ≡ Read) ⊎ EndsAt max 0 mid to a b fault → (fault ≡ Read) ⊎ EndsAt max 16 from to a b fault
     go (inl e) = inl e
     go (inr e) =
         let all = gave-more from mid to 16 (0 + (65552 * (e.piece + 1) + 1)) nonce e.gave in
-        inr (record { piece = e.piece; text = e.text; written = e.written; at = e.at; gave =
-            (all.0, all.1, omega (arith, all.2)) })
+        inr (record {
+          piece = e.piece;
+          text = e.text;
+          written = e.written;
+          at = e.at;
+          gave =
+              (all.0, all.1, omega (arith, all.2));
+        })

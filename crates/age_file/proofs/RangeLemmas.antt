@@ -41,9 +41,12 @@ header-found limits (Some b) at h w i =
     let all : b ≡ is.text ++ drop at b = is.may (drop at b) refl in
     let d : length (drop at b) ≡ length b - at = length-drop at b in
     let l : length b ≡ length is.text + length (drop at b) = ap length all ∙ length-append is.text (drop at b) in
-    let inside : at ≤ length b = w in
-    (is.text, omega arith, subst (λ x. HeaderVerdict x limits.max_header (Ok (found_in is.text h))) (sym all)
-        (is.verdict (drop at b) refl))
+    let inside : at ≤ length b = w in (
+      is.text,
+      omega arith,
+      subst (λ x. HeaderVerdict x limits.max_header (Ok (found_in is.text h))) (sym all)
+          (is.verdict (drop at b) refl),
+    )
 
 -- the header of some bytes
 pub header-some : (limits : Bounds) (from to : Known) (h : HeaderParts) → Inspects limits from to (Ok h)
@@ -145,7 +148,7 @@ locked-named answers h fault (inl memory) = subst IsOpenFault (sym (err-err {A =
 locked-named answers h fault (inr key) =
     subst (λ (r : Result FileKey Fault). IfErr r IsOpenFault) (sym key)
     (either-open (is_mixed h.stanzas) (Err MixedPassphrase) (checked h (choice (answers h.stanzas))) tt
-        (checked-open h (choice (answers h.stanzas))))
+    (checked-open h (choice (answers h.stanzas))))
 
 pub payload-named : (e : StreamFault) → stream.IsOpenFault e → IsOpenFault (stream_fault e)
 payload-named fault.NonceTruncated h = tt
@@ -197,14 +200,14 @@ pub payload-refuses : (limits : Bounds) (answers : Answering) (told mid told2 : 
     → RefusesRanges limits answers told told2 failed failed2 (stream_fault fault)
 payload-refuses limits answers told mid told2 failed failed1 failed2 at max h k fault same before most found key opens
     early stay count = record {
-  misses = payload-missed limits answers told at h k fault found key
-      (subst (λ m. OpensRanges k m at told (Err fault)) most
-      (subst (λ t. OpensRanges k max at t (Err fault)) same opens));
-  named = payload-named fault early;
-  stay = stay ∙ same;
-  counted = subst (λ n. CountsRead {A = ℕ} n failed2 (Err (stream_fault fault))) before
-      (reads-file failed1 failed2 fault count);
-}
+      misses = payload-missed limits answers told at h k fault found key
+          (subst (λ m. OpensRanges k m at told (Err fault)) most
+          (subst (λ t. OpensRanges k max at t (Err fault)) same opens));
+      named = payload-named fault early;
+      stay = stay ∙ same;
+      counted = subst (λ n. CountsRead {A = ℕ} n failed2 (Err (stream_fault fault))) before
+          (reads-file failed1 failed2 fault count);
+    }
 
 -- ---- a file that was opened
 

@@ -102,7 +102,7 @@ pub inspect_rewraps : (limits : Bounds) (answers : Answering) (gathered : FileKe
 inspect_rewraps limits answers gathered come mid old fault (Ok parts, is, h) = absurd (cc)
 inspect_rewraps limits answers gathered come mid old fault (Err g, is, h) =
     subst (λ f. Rewraps limits answers gathered come old old (Err f))
-        (sym (err-err {A = HeaderParts} fault (header_fault g) is)) (none_read limits answers gathered come mid old g h)
+    (sym (err-err {A = HeaderParts} fault (header_fault g) is)) (none_read limits answers gathered come mid old g h)
 
 -- a fault of unlocking is early
 early_checked : (h : HeaderParts) (c : Result FileKey UnlockFault) (fault : Fault) → checked h c ≡ Err fault
@@ -175,7 +175,7 @@ heading_rewraps limits answers gathered come mid old h key fault i chosen fails 
     go (inl is) = subst (λ g. RewrapsText limits answers gathered b old old (Err g)) (sym is) memory
     go (inr refusal) =
         refused limits answers gathered b old fault (early_refusal limits key (gathered key) fault refusal)
-            (Ok (found_in i.text h), i.verdict rest.0 rest.1, inr (key, chosen, refusal))
+        (Ok (found_in i.text h), i.verdict rest.0 rest.1, inr (key, chosen, refusal))
 
 -- ---- what was written
 
@@ -230,7 +230,7 @@ copied_part limits answers gathered come mid old put new h key text bytes i chos
 pub copied_rewraps : (limits : Bounds) (answers : Answering) (gathered : FileKey → Gathering)
     (come mid old put new : Known) (h : HeaderParts) (key : FileKey) (text : Bytes)
     (r : Result (Unit {0}) Fault) → IsHeaded limits come mid h → unlocked answers h ≡ Ok key
-        → Made limits key (gathered key) text → Appends old put text → Copies mid put new r
+    → Made limits key (gathered key) text → Appends old put text → Copies mid put new r
     → Rewraps limits answers gathered come old new r
 copied_rewraps limits answers gathered come mid old put new h key text (Ok done) i chosen made front
     (bytes, may, wrote) =
@@ -254,7 +254,7 @@ copied_rewraps limits answers gathered come mid old put new h key text (Err faul
         (i.may bytes may) (part bytes may wrote)
     go TooManyChunks (bytes, may, wrote, long) =
         rewraps_of limits answers gathered come old new (i.text ++ bytes) (Err TooManyChunks) (i.may bytes may)
-            (part bytes may wrote, omega (arith, length-append i.text bytes, long))
+        (part bytes may wrote, omega (arith, length-append i.text bytes, long))
     go OutOfMemory c = absurd c
     go NotAge c = absurd c
     go (BadLine n) c = absurd c
@@ -307,8 +307,12 @@ copies_late from old new K (Err fault) c = go fault c
 pub keeps : (limits : Bounds) (old new : Answering) (b c : Bytes) (is : Rewrapped limits old b c)
     → choice (new is.stanzas) ≡ Ok is.key → (v : Reading Fault) → IsVerdict limits old b v ↔ IsVerdict limits new c v
 keeps limits old new b c is chosen v = (
-  (λ h. record { header = Ok found; header_verdict = headers.found_begins c limits.max_header found begins; is =
-      of_old h ∙ sym same }),
+  (λ h. record {
+    header = Ok found;
+    header_verdict = headers.found_begins c limits.max_header found begins;
+    is =
+        of_old h ∙ sym same;
+  }),
   (λ h. record { header = Ok is.found; header_verdict = is.header; is = of_new h ∙ same }),
 )
   where

@@ -25,7 +25,7 @@ none_under : (limits : Bounds) (rest p : Bytes) (fault : Fault) (c : Result File
 none_under limits rest p fault (Err g) h is = never_stops p g h
 none_under limits rest p fault (Ok k) h is =
     let o = whole-opens k rest p limits.max_chunks
-        (with_file_fault-whole p (payload_reading k limits.max_chunks rest) h) in
+    (with_file_fault-whole p (payload_reading k limits.max_chunks rest) h) in
     absurd (ok-err o.0 (sym (ap (result_map_both (λ (text : Bytes). text) stream_fault) o.1) ∙ is))
   where
     ok-err : (x : Bytes) → ◌≡◌ {A = Result Bytes Fault} (Ok x) (Err fault) → ⊥
@@ -46,7 +46,7 @@ file-opens limits answers b p fault v (inr (inl e)) = inr e
 file-opens limits answers b p fault v (inr (inr m)) =
     absurd (none_judged limits answers b p fault v.header v.is
     (subst (λ (r : Result Found HeaderFault). IsRangeFault limits answers b r fault)
-        (headers.one_verdict b limits.max_header m.0 v.header m.1 v.header_verdict) m.2))
+    (headers.one_verdict b limits.max_header m.0 v.header m.1 v.header_verdict) m.2))
 
 -- its payload reads whole under the reader's key
 payload-whole : (limits : Bounds) (answers : Answering) (b p : Bytes) (chunks : RangeState) (given given2 : ℕ)
@@ -56,7 +56,7 @@ payload-whole : (limits : Bounds) (answers : Answering) (b p : Bytes) (chunks : 
 payload-whole limits answers b p chunks given given2 v r =
     with_file_fault-whole p (payload_reading r.key limits.max_chunks (drop (length r.found.text) b))
     (v.is ∙ ap (judged limits answers b)
-        (headers.one_verdict b limits.max_header v.header (Ok r.found) v.header_verdict r.header)
+    (headers.one_verdict b limits.max_header v.header (Ok r.found) v.header_verdict r.header)
     ∙ ap (read_under limits (drop (length r.found.text) b)) r.chosen)
 
 pub file-len : (limits : Bounds) (answers : Answering) (b p : Bytes) (chunks : RangeState) (given given2 : ℕ)
@@ -74,7 +74,7 @@ pub file-slice : (limits : Bounds) (answers : Answering) (b p xs : Bytes) (chunk
 file-slice limits answers b p xs chunks given given2 at v r s =
     let n : ℕ = length r.found.text in
     let rest : drop chunks.layout.first b ≡ drop 16 (drop n b) = ap (λ m. drop m b) r.opened.first
-        ∙ sym (drop-drop 16 n b) in
+    ∙ sym (drop-drop 16 n b) in
     whole-slice r.key (drop n b) p xs limits.max_chunks at (payload-whole limits answers b p chunks given given2 v r)
     (subst (λ k. IsSlice k (drop 16 (drop n b)) at xs) r.opened.key
-        (subst (λ t. IsSlice chunks.layout.key t at xs) rest s))
+    (subst (λ t. IsSlice chunks.layout.key t at xs) rest s))

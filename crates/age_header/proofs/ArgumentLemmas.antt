@@ -117,15 +117,17 @@ parsed_more text az rest tail w r p is cut some seen none =
 -- the end of the line
 pub parsed_all : (text : Bytes) (az : List Bytes) (rest : Bytes) → Parsed text az rest → rest ≡ [] → az ≢ []
     → AreArguments az × (line text ≡ argument_line az)
-parsed_all text az rest p end some =
-    ((some, p.each), ap line (p.spelled
-        ∙ ap (λ (x : Bytes). codes "->" ++ x) (ap (λ (x : Bytes). spaced az ++ x) end ∙ append-nil (spaced az))))
+parsed_all text az rest p end some = (
+  (some, p.each),
+  ap line (p.spelled
+      ∙ ap (λ (x : Bytes). codes "->" ++ x) (ap (λ (x : Bytes). spaced az ++ x) end ∙ append-nil (spaced az))),
+)
 
 pub parsed_nothing : (text : Bytes) (az : List Bytes) (rest : Bytes) → Parsed text az rest → rest ≡ [] → az ≡ []
     → (bs : List Bytes) → AreArguments bs → line text ≡ argument_line bs → ⊥
 parsed_nothing text az rest p end none bs h e =
     let empty : text ≡ codes "->" = p.spelled
-        ∙ ap (λ (x : Bytes). codes "->" ++ x) (ap (λ (x : List Bytes). spaced x ++ rest) none ∙ end) in
+    ∙ ap (λ (x : Bytes). codes "->" ++ x) (ap (λ (x : List Bytes). spaced x ++ rest) none ∙ end) in
     here bs h (sym (append_cancel_left (codes "->") [] (spaced bs) (sym empty ∙ line_text text bs e)))
   where
     here : (bs : List Bytes) → AreArguments bs → spaced bs ≡ [] → ⊥

@@ -44,8 +44,16 @@ candidate_is (a ∷ b ∷ c ∷ bytes) (p ∷ q ∷ r ∷ s ∷ characters) h =
     let ea : (t.0 * 4 + t.1 / 16) % 256 ≡ a = omega arith in
     let eb : (t.1 * 16 + t.2 / 4) % 256 ≡ b = omega arith in
     let ec : (t.2 * 64 + t.3) % 256 ≡ c = omega arith in
-    rw (value_is p t.0 t.4, value_is q t.1 t.5, value_is r t.2 t.6, value_is s t.3 t.7, ea, eb, ec,
-        candidate_is bytes characters h.1) refl
+    rw (
+      value_is p t.0 t.4,
+      value_is q t.1 t.5,
+      value_is r t.2 t.6,
+      value_is s t.3 t.7,
+      ea,
+      eb,
+      ec,
+      candidate_is bytes characters h.1,
+    ) refl
 candidate_is _ _ h = absurd h
 
 -- a candidate has bytes alone
@@ -71,7 +79,7 @@ decoded_b64 characters bytes h =
     let found : IsBase64 c (encode_symbols alphabet c) = IsBase64-encode c (candidate_bytes characters) in
     let both : (encode_symbols alphabet c ≡ characters) × (c ≡ bytes) =
     elim (bytes_eq (encode_symbols alphabet c) characters) as (λ b. bytes_eq (encode_symbols alphabet c) characters ≡ b
-        → (if b then Some c else None) ≡ Some bytes
+    → (if b then Some c else None) ≡ Some bytes
     → (encode_symbols alphabet c ≡ characters) × (c ≡ bytes)) [
       | true ↦ λ test e. ((bytes_eq-Decides (encode_symbols alphabet c) characters).0 test, cc)
       | false ↦ λ test e. cc
@@ -84,9 +92,9 @@ unfolding decoded base64_of
 b64_decoded characters bytes h =
     let is : candidate characters ≡ bytes = candidate_is bytes characters h in
     let spelled : characters ≡ encode_symbols alphabet (candidate characters) = IsBase64-only bytes characters h
-        ∙ ap (λ (z : Bytes). encode_symbols alphabet z) (sym is) in
+    ∙ ap (λ (z : Bytes). encode_symbols alphabet z) (sym is) in
     let same : bytes_eq (encode_symbols alphabet (candidate characters)) characters ≡ true =
-        (bytes_eq-Decides (encode_symbols alphabet (candidate characters)) characters).1 (sym spelled) in
+    (bytes_eq-Decides (encode_symbols alphabet (candidate characters)) characters).1 (sym spelled) in
     rw (same, is) refl
 
 -- characters that stand for no bytes are not decoded

@@ -58,21 +58,25 @@ pub lf_front : (b n first : Bytes) (max : ℕ) → b ≡ (first ++ 10 ∷ []) ++
 lf_front b n first max is end =
     let low : length (first ++ 10 ∷ []) ≤ min max version_size = omega (arith, length-append first (10 ∷ [])) in
     ap (λ (z : Bytes). take (min max version_size) z) is ∙ take_past (first ++ 10 ∷ []) n (min max version_size) low
-        ∙ append_assoc first (10 ∷ []) _
+    ∙ append_assoc first (10 ∷ []) _
 
 pub first_front : (b n first : Bytes) (end : LineEnd) (max : ℕ) → b ≡ taken first end ++ n
     → IsEnd end (length first) (min max version_size) (Some n)
     → (d : Bytes) × (take (min max version_size) b ≡ first ++ d)
-first_front b n first Lf max is end = (10 ∷ take (min max version_size - length (first ++ 10 ∷ [])) n,
-    lf_front b n first max is end)
+first_front b n first Lf max is end = (
+  10 ∷ take (min max version_size - length (first ++ 10 ∷ [])) n,
+  lf_front b n first max is end,
+)
 first_front b n first Input max is end =
-    let low : length first ≤ min max version_size = omega arith in
-    (take (min max version_size - length first) n,
-        ap (λ (z : Bytes). take (min max version_size) z) is ∙ take_past first n (min max version_size) low)
+    let low : length first ≤ min max version_size = omega arith in (
+      take (min max version_size - length first) n,
+      ap (λ (z : Bytes). take (min max version_size) z) is ∙ take_past first n (min max version_size) low,
+    )
 first_front b n first Room max is end =
-    let low : length first ≤ min max version_size = omega arith in
-    (take (min max version_size - length first) n,
-        ap (λ (z : Bytes). take (min max version_size) z) is ∙ take_past first n (min max version_size) low)
+    let low : length first ≤ min max version_size = omega arith in (
+      take (min max version_size - length first) n,
+      ap (λ (z : Bytes). take (min max version_size) z) is ∙ take_past first n (min max version_size) low,
+    )
 
 pub age_front : (b n first : Bytes) (end : LineEnd) (max : ℕ) → b ≡ taken first end ++ n
     → IsEnd end (length first) (min max version_size) (Some n)
@@ -122,14 +126,14 @@ short_line a new first rest max took text ends is more = answered a new (first +
         let front : t ≡ first ++ 10 ∷ x = cap_front b max ∙ lf_front b n first max came ends in
         let e : version_text ++ 10 ∷ [] ≡ first ++ 10 ∷ (x ++ drop (length t) version_line) =
         sym version_is_line ∙ whole ∙ ap (λ (z : Bytes). z ++ drop (length t) version_line) front
-            ∙ append_assoc first (10 ∷ x) (drop (length t) version_line) in
+        ∙ append_assoc first (10 ∷ x) (drop (length t) version_line) in
         let cut = line_split version_text first [] _ version_is_text text e in
         more (append_cancel_left first rest [] (sym is ∙ cut.0 ∙ sym (append-nil first)))
 
 pub front_age : (first rest : Bytes) → version_text ≡ first ++ rest → length first ≤ version_size → BeginsAsAge first
 front_age first rest is low =
     let whole : version_line ≡ first ++ (rest ++ 10 ∷ []) = version_is_line ∙ ap (λ (z : Bytes). z ++ 10 ∷ []) is
-        ∙ append_assoc first rest (10 ∷ []) in
+    ∙ append_assoc first rest (10 ∷ []) in
     let all : take version_size first ≡ first = take_all version_size first low in
     rw (all, whole) (take_at first (rest ++ 10 ∷ []) (length first) refl)
 
@@ -152,9 +156,11 @@ short_input a new first rest max took text ends is = answered_at_end a new first
         let low : length first ≤ max = omega arith in
         let cap : take max b ≡ first = ap (λ (z : Bytes). take max z) all ∙ take_all max first low in
         let age : BeginsAsAge first = front_age first rest is (omega arith) in
-        let same : length b ≡ length first = ap length all in
-        (subst (λ (z : Bytes). BeginsAsAge z) (sym cap) age,
-            subst (λ (z : Bytes). IsUndecided z) (sym cap) (line_open first text), omega arith)
+        let same : length b ≡ length first = ap length all in (
+          subst (λ (z : Bytes). BeginsAsAge z) (sym cap) age,
+          subst (λ (z : Bytes). IsUndecided z) (sym cap) (line_open first text),
+          omega arith,
+        )
 
 pub short_room : (a new : Known) (first rest : Bytes) (max : ℕ) → Consumes a new first → IsLineText first
     → length first ≡ min max version_size → version_text ≡ first ++ rest → ReadsHeader a new max (Err TooLarge)
@@ -166,9 +172,11 @@ short_room a new first rest max took text ends is = answered a new first max Too
         let size : length first ≡ max = omega arith in
         let cap : take max b ≡ first = ap (λ (z : Bytes). take max z) came ∙ take_at first n max size in
         let age : BeginsAsAge first = front_age first rest is (omega arith) in
-        let whole : length b ≡ length first + length n = ap length came ∙ length-append first n in
-        (subst (λ (z : Bytes). BeginsAsAge z) (sym cap) age,
-            subst (λ (z : Bytes). IsUndecided z) (sym cap) (line_open first text), omega arith)
+        let whole : length b ≡ length first + length n = ap length came ∙ length-append first n in (
+          subst (λ (z : Bytes). BeginsAsAge z) (sym cap) age,
+          subst (λ (z : Bytes). IsUndecided z) (sym cap) (line_open first text),
+          omega arith,
+        )
 
 -- the version line
 pub version_taken : (a new : Known) (first rest : Bytes) (max : ℕ) → Consumes a new (first ++ 10 ∷ [])
@@ -178,6 +186,6 @@ version_taken a new first rest max took ends is none =
     let sum = front_size first rest is in
     let zero : length rest ≡ 0 = ap length none in
     let same : first ++ 10 ∷ [] ≡ version_line =
-        sym (version_is_line ∙ ap (λ (z : Bytes). z ++ 10 ∷ [])
-        (is ∙ ap (λ (z : Bytes). first ++ z) none ∙ append-nil first)) in
+    sym (version_is_line ∙ ap (λ (z : Bytes). z ++ 10 ∷ [])
+    (is ∙ ap (λ (z : Bytes). first ++ z) none ∙ append-nil first)) in
     (omega arith, subst (λ (z : Bytes). Consumes a new z) same took)

@@ -60,8 +60,10 @@ visible_text (c ∷ a) h = let low : 33 ≤ c = h.0.0 in ((λ e. absurd (omega a
 
 args_text : (args : List Bytes) → AllByRecursion IsArgument args → IsLineText (flat_map (λ a. 32 ∷ a) args)
 args_text [] h = tt
-args_text (a ∷ args) h = ((λ e. absurd (omega arith)),
-    All-append (λ c. c ≢ 10) a _ (visible_text a h.0.1) (args_text args h.1))
+args_text (a ∷ args) h = (
+  (λ e. absurd (omega arith)),
+  All-append (λ c. c ≢ 10) a _ (visible_text a h.0.1) (args_text args h.1),
+)
 
 -- the text of an argument line, less its LF
 abbrev pub argument_text : List Bytes → Bytes
@@ -79,20 +81,29 @@ stanza_lead ss s text h =
     let run = full_lead ss s.args [] s.body h.full h.last h.cut.0 h.body in
     let characters = characters_text s.body (concat h.full ++ h.last) h.body in
     let parts = All-split (λ c. c ≢ 10) (concat h.full) h.last characters in
-    let ends : Leads (within ss s.args run.0) (h.last ∷ []) (between (ss ++ s ∷ [])) =
-    (between (ss ++ s ∷ []), (run.1, h.cut.1, run.4,
-        ap (λ (b : Bytes). ss ++ (record { args = s.args; body = b }) ∷ []) run.2), refl) in
+    let ends : Leads (within ss s.args run.0) (h.last ∷ []) (between (ss ++ s ∷ [])) = (
+      between (ss ++ s ∷ []),
+      (
+        run.1,
+        h.cut.1,
+        run.4,
+        ap (λ (b : Bytes). ss ++ (record { args = s.args; body = b }) ∷ []) run.2,
+      ),
+      refl,
+    ) in
     let lead = Leads-append (within ss s.args []) (within ss s.args run.0) (between (ss ++ s ∷ [])) h.full (h.last ∷ [])
-        run.5 ends in
+    run.5 ends in
     let text_is : text ≡ lines_text (first ∷ h.full ++ h.last ∷ []) = h.spelled
-        ∙ append_assoc (argument_line s.args) (flat_map line h.full) (line h.last)
+    ∙ append_assoc (argument_line s.args) (flat_map line h.full) (line h.last)
     ∙ ap (λ (x : Bytes). argument_line s.args ++ x)
     (sym (flat_map-append line h.full (h.last ∷ [])
     ∙ ap (λ (x : Bytes). flat_map line h.full ++ x) (append-nil (line h.last)))) in (
       first ∷ h.full ++ h.last ∷ [],
       text_is,
-      (argument_line_text s.args h.arguments,
-          Lines-append h.full (h.last ∷ []) (lines_of h.full parts.0) (parts.1, tt)),
+      (
+        argument_line_text s.args h.arguments,
+        Lines-append h.full (h.last ∷ []) (lines_of h.full parts.0) (parts.1, tt),
+      ),
       (within ss s.args [], (refl, refl, h.arguments, refl), lead),
     )
 
@@ -109,7 +120,7 @@ stanzas_lead pre (s ∷ ss) text h =
     let same : (pre ++ s ∷ []) ++ ss ≡ pre ++ s ∷ ss = append_assoc pre (s ∷ []) ss in
     let lead = subst (λ (t : List StanzaParts). Leads (between (pre ++ s ∷ [])) rest.0 (between t)) same rest.3 in
     let text_is : text ≡ lines_text (one.0 ++ rest.0) = h.4 ∙ ap (λ (z : Bytes). z ++ y) one.1
-        ∙ ap (λ (z : Bytes). lines_text one.0 ++ z) rest.1
+    ∙ ap (λ (z : Bytes). lines_text one.0 ++ z) rest.1
     ∙ sym (flat_map-append line one.0 rest.0) in (
       one.0 ++ rest.0,
       text_is,
@@ -122,7 +133,7 @@ pub open_lead : (pre : List StanzaParts) (text : Bytes) → IsOpenStanza text
     → (ls : List Bytes) × (s : State) × (text ≡ lines_text ls) × AllByRecursion IsLineText ls × Leads (between pre) ls s
 open_lead pre text h =
     let all : IsBase64 h.bytes (concat h.full ++ []) =
-        subst (λ (x : Bytes). IsBase64 h.bytes x) (sym (append-nil (concat h.full))) h.body in
+    subst (λ (x : Bytes). IsBase64 h.bytes x) (sym (append-nil (concat h.full))) h.body in
     let run = full_lead pre h.args [] h.bytes h.full [] h.cut all in
     let text_is : text ≡ lines_text (argument_text h.args ∷ h.full) = h.spelled in (
       argument_text h.args ∷ h.full,

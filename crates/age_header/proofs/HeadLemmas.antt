@@ -30,6 +30,6 @@ signed_front ss mac h k =
     let is : h ≡ signed ss ++ mac_end mac = one_text ss mac h (signed ss ++ mac_end mac) k (header_text_is ss mac v) in
     let end = mac_end_size mac v.mac_len in
     let size : length h ≡ length (signed ss) + length (mac_end mac) = ap length is
-        ∙ length-append (signed ss) (mac_end mac) in
+    ∙ length-append (signed ss) (mac_end mac) in
     let front : length (signed ss) ≡ length h - 45 = omega arith in
     sym (ap (λ (z : Bytes). take (length h - 45) z) is ∙ take_at (signed ss) (mac_end mac) (length h - 45) front)

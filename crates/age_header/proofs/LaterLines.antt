@@ -38,9 +38,9 @@ path_truncated a mid new max room count s text p took is ends =
     told b all =
         let size : length b ≡ version_size + length (lines_text p.ls) + length text =
         ap length all ∙ length-append front text
-            ∙ ap (λ (z : ℕ). z + length text)
-            (length-append version_line (lines_text p.ls)
-            ∙ ap (λ (z : ℕ). z + length (lines_text p.ls)) length-version_line) in
+        ∙ ap (λ (z : ℕ). z + length text)
+        (length-append version_line (lines_text p.ls)
+        ∙ ap (λ (z : ℕ). z + length (lines_text p.ls)) length-version_line) in
         let fits : length text < room = ends.0 in
         let sum : room + version_size + length (lines_text p.ls) ≡ max = p.size in
         let low : length b < max = omega arith in
@@ -48,9 +48,11 @@ path_truncated a mid new max room count s text p took is ends =
         let open' : IsUndecided b = path_open p.ls s b text p.each p.leads all is in
         let wide : version_size ≤ max = omega arith in
         let begun : take max b ≡ take max (version_line ++ (lines_text p.ls ++ text)) =
-            ap (λ (z : Bytes). take max z) (all ∙ append_assoc version_line (lines_text p.ls) text) in
-        (subst (λ (z : Bytes). BeginsAsAge z) (sym begun) (begins (lines_text p.ls ++ text) max wide),
-            subst (λ (z : Bytes). IsUndecided z) (sym cap) open', low)
+        ap (λ (z : Bytes). take max z) (all ∙ append_assoc version_line (lines_text p.ls) text) in (
+          subst (λ (z : Bytes). BeginsAsAge z) (sym begun) (begins (lines_text p.ls ++ text) max wide),
+          subst (λ (z : Bytes). IsUndecided z) (sym cap) open',
+          low,
+        )
 
 pub path_too_large : (a mid new : Known) (max room count : ℕ) (s : State) (text : Bytes)
     → Reached a mid max room count s
@@ -65,20 +67,22 @@ path_too_large a mid new max room count s text p took is ends =
     told b n all =
         let size : length (front ++ text) ≡ version_size + length (lines_text p.ls) + length text =
         length-append front text ∙ ap (λ (z : ℕ). z + length text)
-            (length-append version_line (lines_text p.ls)
-            ∙ ap (λ (z : ℕ). z + length (lines_text p.ls)) length-version_line) in
+        (length-append version_line (lines_text p.ls)
+        ∙ ap (λ (z : ℕ). z + length (lines_text p.ls)) length-version_line) in
         let sum : room + version_size + length (lines_text p.ls) ≡ max = p.size in
         let whole : length (front ++ text) ≡ max = omega arith in
         let cap : take max b ≡ front ++ text = ap (λ (z : Bytes). take max z) all
-            ∙ take_at (front ++ text) n max whole in
+        ∙ take_at (front ++ text) n max whole in
         let open' : IsUndecided (front ++ text) = path_open p.ls s (front ++ text) text p.each p.leads refl is in
         let wide : version_size ≤ max = omega arith in
         let begun : take max b ≡ take max (version_line ++ (lines_text p.ls ++ (text ++ n))) =
         ap (λ (z : Bytes). take max z) (all ∙ append_assoc front text n
-            ∙ append_assoc version_line (lines_text p.ls) (text ++ n)) in
-        let long : length b ≡ length (front ++ text) + length n = ap length all ∙ length-append (front ++ text) n in
-        (subst (λ (z : Bytes). BeginsAsAge z) (sym begun) (begins (lines_text p.ls ++ (text ++ n)) max wide),
-            subst (λ (z : Bytes). IsUndecided z) (sym cap) open', omega arith)
+        ∙ append_assoc version_line (lines_text p.ls) (text ++ n)) in
+        let long : length b ≡ length (front ++ text) + length n = ap length all ∙ length-append (front ++ text) n in (
+          subst (λ (z : Bytes). BeginsAsAge z) (sym begun) (begins (lines_text p.ls ++ (text ++ n)) max wide),
+          subst (λ (z : Bytes). IsUndecided z) (sym cap) open',
+          omega arith,
+        )
 
 -- One more whole line: where the lines through it are a header or not viable, they decide.
 record Further (b n : Bytes) (max : ℕ) (ls : List Bytes) (text : Bytes) : Type 0 where
@@ -95,14 +99,14 @@ pushed : (ls : List Bytes) (text : Bytes)
     → lines_text (version_text ∷ (ls ++ text ∷ [])) ≡ (version_line ++ lines_text ls) ++ line text
 pushed ls text =
     whole_lines (ls ++ text ∷ []) ∙ ap (λ (z : Bytes). version_line ++ z) (lines_push ls text)
-        ∙ sym (append_assoc version_line (lines_text ls) (line text))
+    ∙ sym (append_assoc version_line (lines_text ls) (line text))
 
 -- what was taken with one more line
 took_line : (a mid new : Known) (max room count : ℕ) (s : State) (text : Bytes) (p : Reached a mid max room count s)
     → Consumes mid new (text ++ 10 ∷ []) → Consumes a new (lines_text (version_text ∷ (p.ls ++ text ∷ [])))
 took_line a mid new max room count s text p took =
     subst (λ (z : Bytes). Consumes a new z) (sym (pushed p.ls text))
-        (Consumes-trans a mid new (version_line ++ lines_text p.ls) (line text) p.taken took)
+    (Consumes-trans a mid new (version_line ++ lines_text p.ls) (line text) p.taken took)
 
 further : (b n : Bytes) (max room : ℕ) (ls : List Bytes) (text : Bytes)
     → b ≡ lines_text (version_text ∷ (ls ++ text ∷ [])) ++ n
@@ -110,7 +114,7 @@ further : (b n : Bytes) (max room : ℕ) (ls : List Bytes) (text : Bytes)
 further b n max room ls text all sum low =
     let front : Bytes = version_line ++ lines_text ls in
     let size : length (lines_text (version_text ∷ (ls ++ text ∷ [])))
-        ≡ version_size + length (lines_text ls) + (length text + 1) =
+    ≡ version_size + length (lines_text ls) + (length text + 1) =
     ap length (pushed ls text) ∙ length-append front (line text)
     ∙ ap (λ (z : ℕ). z + length (line text))
     (length-append version_line (lines_text ls) ∙ ap (λ (z : ℕ). z + length (lines_text ls)) length-version_line)
@@ -131,10 +135,10 @@ decides b n max ls s text f each leads is done =
     let whole : List Bytes = version_text ∷ (ls ++ text ∷ []) in
     let cut : Bytes = take (max - length (lines_text whole)) n in
     let cap : take max b ≡ lines_text whole ++ cut = ap (λ (z : Bytes). take max z) f.all
-        ∙ take_past (lines_text whole) n max f.fits in
+    ∙ take_past (lines_text whole) n max f.fits in
     let front : Bytes = version_line ++ lines_text ls in
     let tail : take max b ≡ front ++ (line text ++ cut) = cap
-        ∙ ap (λ (z : Bytes). z ++ cut) (f.same ∙ ap (λ (z : Bytes). version_line ++ z) (lines_push ls text)
+    ∙ ap (λ (z : Bytes). z ++ cut) (f.same ∙ ap (λ (z : Bytes). version_line ++ z) (lines_push ls text)
     ∙ sym (append_assoc version_line (lines_text ls) (line text))) ∙ append_assoc front (line text) cut in
     record {
       lines = record { rest = cut; each = (version_is_text, Lines-append ls (text ∷ []) each (is, tt)); front = cap };
@@ -148,7 +152,7 @@ decides b n max ls s text f each leads is done =
 age : (b n : Bytes) (max : ℕ) (ls : List Bytes) (text : Bytes) → Further b n max ls text → BeginsAsAge (take max b)
 age b n max ls text f =
     let is : b ≡ version_line ++ (lines_text (ls ++ text ∷ []) ++ n) = f.all ∙ ap (λ (z : Bytes). z ++ n) f.same
-        ∙ append_assoc version_line (lines_text (ls ++ text ∷ [])) n in
+    ∙ append_assoc version_line (lines_text (ls ++ text ∷ [])) n in
     subst (λ (z : Bytes). BeginsAsAge (take max z)) (sym is) (begins (lines_text (ls ++ text ∷ []) ++ n) max f.wide)
 
 -- an end line
@@ -159,7 +163,7 @@ pub path_header : (a mid new : Known) (max room count : ℕ) (s : State) (text :
     → ReadsHeader a new max (Ok (record { stanzas = ss; mac = mac }))
 path_header a mid new max room count s text ss mac characters p took is low at some end h size =
     answered_header a new (lines_text whole) max (record { stanzas = ss; mac = mac })
-        (took_line a mid new max room count s text p took) told
+    (took_line a mid new max room count s text p took) told
   where
     whole : List Bytes
     whole = version_text ∷ (p.ls ++ text ∷ [])
@@ -199,7 +203,7 @@ pub path_bad : (a mid new : Known) (max room count : ℕ) (s : State) (text : By
     → ReadsHeader a new max (Err (BadLine (count + 1)))
 path_bad a mid new max room count s text p took is low end none =
     answered a new (lines_text (version_text ∷ ls)) max (BadLine (count + 1))
-        (took_line a mid new max room count s text p took) told
+    (took_line a mid new max room count s text p took) told
   where
     ls : List Bytes
     ls = p.ls ++ text ∷ []
@@ -211,13 +215,13 @@ path_bad a mid new max room count s text p took is low end none =
     not_header g =
         let q = head_path g.0 g.1 _ g.2 in
         let e : lines_text ls ≡ lines_text (q.lines ++ end_text q.characters ∷ []) =
-            append_cancel_left version_line _ _ q.is in
+        append_cancel_left version_line _ _ q.is in
         let same = same_lines ls (q.lines ++ end_text q.characters ∷ []) each q.each e in
         let cut = same_from_push p.ls q.lines text (end_text q.characters) same in
         let there : Leads (between []) p.ls (between g.0) =
-            subst (λ (z : List Bytes). Leads (between []) z (between g.0)) (sym cut.0) q.leads in
+        subst (λ (z : List Bytes). Leads (between []) z (between g.0)) (sym cut.0) q.leads in
         end g.0 g.1 q.characters g.2.some (Leads-once (between []) s (between g.0) p.ls p.leads there) g.2.mac_len cut.1
-            q.mac_text
+        q.mac_text
 
     not_viable : IsViable (version_line ++ lines_text ls) → ⊥
     not_viable (inl e) = no_nil _ e
@@ -229,7 +233,7 @@ path_bad a mid new max room count s text p took is low end none =
         let e : lines_text ls ≡ lines_text q.lines = append_cancel_left version_line _ _ q.is in
         let same = same_lines ls q.lines each q.each e in
         let cut = Leads-split (between []) q.state p.ls (text ∷ [])
-            (subst (λ (z : List Bytes). Leads (between []) z q.state) (sym same) q.leads) in
+        (subst (λ (z : List Bytes). Leads (between []) z q.state) (sym same) q.leads) in
         let here : cut.0 ≡ s = Leads-once (between []) cut.0 s p.ls cut.1 p.leads in
         none cut.2.0 (subst (λ (z : State). Step z text cut.2.0) here cut.2.1)
 
@@ -237,7 +241,7 @@ path_bad a mid new max room count s text p took is low end none =
     told b n all =
         let f = further b n max room p.ls text all p.size low in
         let size : length (version_text ∷ ls) ≡ count + 1 = ap suc (length-append p.ls (text ∷ []))
-            ∙ omega (arith, p.lines) in (
+        ∙ omega (arith, p.lines) in (
           age b n max p.ls text f,
           (
             version_text ∷ ls,
@@ -255,10 +259,10 @@ pub path_more : (a mid new : Known) (max room count : ℕ) (s t : State) (text :
 path_more a mid new max room count s t text p took is low step =
     let moved : (version_line ++ lines_text p.ls) ++ line text ≡ version_line ++ lines_text (p.ls ++ text ∷ []) =
     append_assoc version_line (lines_text p.ls) (line text)
-        ∙ ap (λ (z : Bytes). version_line ++ z) (sym (lines_push p.ls text)) in
+    ∙ ap (λ (z : Bytes). version_line ++ z) (sym (lines_push p.ls text)) in
     let size : length (lines_text (p.ls ++ text ∷ [])) ≡ length (lines_text p.ls) + (length text + 1) =
     ap length (lines_push p.ls text) ∙ length-append (lines_text p.ls) (line text)
-        ∙ ap (λ (z : ℕ). length (lines_text p.ls) + z) (length-append text (10 ∷ [])) in
+    ∙ ap (λ (z : ℕ). length (lines_text p.ls) + z) (length-append text (10 ∷ [])) in
     record {
       ls = p.ls ++ text ∷ [];
       each = Lines-append p.ls (text ∷ []) p.each (is, tt);

@@ -39,8 +39,8 @@ pub flat_size : {X : Type 0} (f : X → Bytes) (xs : List X) (i : ℕ) (x : X) �
     → length (flat_map f (take (i + 1) xs)) ≡ length (flat_map f (take i xs)) + length (f x)
 flat_size {X} f xs i x low is =
     ap length (ap (λ (z : List X). flat_map f z) (take_more xs i x low)
-        ∙ flat_map-append f (take i xs) (get_or xs i x ∷ [])
-        ∙ ap (λ (z : Bytes). flat_map f (take i xs) ++ z) (append-nil (f (get_or xs i x))))
+    ∙ flat_map-append f (take i xs) (get_or xs i x ∷ [])
+    ∙ ap (λ (z : Bytes). flat_map f (take i xs) ++ z) (append-nil (f (get_or xs i x))))
     ∙ length-append (flat_map f (take i xs)) (f (get_or xs i x))
     ∙ ap (λ (z : X). length (flat_map f (take i xs)) + length (f z)) (sym is)
 

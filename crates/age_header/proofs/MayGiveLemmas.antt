@@ -24,5 +24,8 @@ may-end (Some x) None given h end = absurd h
 may-end (Some x) (Some y) given h end = h ∙ ap (λ t. given ++ t) end ∙ append-nil given
 
 pub gave-more : (a b c : Known) (n m : ℕ) → GaveAtMost n a b → GaveAtMost m b c → GaveAtMost (n + m) a c
-gave-more a b c n m g h = (g.0 ++ h.0, Consumes-trans a b c g.0 h.0 g.1 h.1,
-    omega (arith, length-append g.0 h.0, g.2, h.2))
+gave-more a b c n m g h = (
+  g.0 ++ h.0,
+  Consumes-trans a b c g.0 h.0 g.1 h.1,
+  omega (arith, length-append g.0 h.0, g.2, h.2),
+)

@@ -30,9 +30,13 @@ regroup v w e ls is = rw (is, flat_map-append line ls (e ∷ []), append-nil (li
     (append_assoc v (lines_text ls) (line e))
 
 end_is_text : (mac characters : Bytes) → IsBase64 mac characters → IsLineText (end_text characters)
-end_is_text mac characters h =
-    ((λ e. absurd (omega arith)), ((λ e. absurd (omega arith)),
-        ((λ e. absurd (omega arith)), ((λ e. absurd (omega arith)), characters_text mac characters h))))
+end_is_text mac characters h = (
+  (λ e. absurd (omega arith)),
+  (
+    (λ e. absurd (omega arith)),
+    ((λ e. absurd (omega arith)), ((λ e. absurd (omega arith)), characters_text mac characters h)),
+  ),
+)
 
 pub head_path : (ss : List StanzaParts) (mac h : Bytes) → Head ss mac h → HeadPath ss mac h
 head_path ss mac h k =
@@ -96,17 +100,17 @@ reading ss ts m n h x a b =
     let ls : List Bytes = p.lines ++ end_text p.characters ∷ [] in
     let ms : List Bytes = q.lines ++ end_text q.characters ∷ [] in
     let e0 : (version_line ++ lines_text ls) ++ x ≡ version_line ++ lines_text ms =
-        ap (λ (z : Bytes). z ++ x) (sym p.is) ∙ q.is in
+    ap (λ (z : Bytes). z ++ x) (sym p.is) ∙ q.is in
     let e1 : lines_text ls ++ x ≡ lines_text ms ++ [] =
-        append_cancel_left version_line _ _ (sym (append_assoc version_line (lines_text ls) x) ∙ e0)
-        ∙ sym (append-nil (lines_text ms)) in
+    append_cancel_left version_line _ _ (sym (append_assoc version_line (lines_text ls) x) ∙ e0)
+    ∙ sym (append-nil (lines_text ms)) in
     elim (cases_lt (length ms) (length ls)) [
       | inl fewer ↦
           let short : length ms ≤ length ls = omega arith in
           let r = lines_front ms ls [] x q.each p.each (sym e1) short in
           let none = text_nil r.0 x r.2 in
           let same : length ls ≡ length ms =
-              ap length (r.1 ∙ ap (λ (z : List Bytes). ms ++ z) none.0 ∙ append-nil ms) in
+          ap length (r.1 ∙ ap (λ (z : List Bytes). ms ++ z) none.0 ∙ append-nil ms) in
           absurd (omega arith)
       | inr enough ↦
           let r = lines_front ls ms x [] p.each q.each e1 enough in
@@ -114,17 +118,20 @@ reading ss ts m n h x a b =
             | inl w ↦
                 let none : x ≡ [] = r.2 ∙ ap (λ (z : List Bytes). lines_text z ++ []) w.0 in
                 let lead : Leads (between []) p.lines (between ts) =
-                    subst (λ (z : List Bytes). Leads (between []) z (between ts)) w.1 q.leads in
+                subst (λ (z : List Bytes). Leads (between []) z (between ts)) w.1 q.leads in
                 let states : between ss ≡ between ts =
-                    Leads-once (between []) (between ss) (between ts) p.lines p.leads lead in
+                Leads-once (between []) (between ss) (between ts) p.lines p.leads lead in
                 let characters : q.characters ≡ p.characters =
-                    append_cancel_left (codes "--- ") q.characters p.characters w.2 in
-                let same : ss ≡ ts = cc states in
-                (none, same, IsBase64-injective m n p.characters p.mac_text
-                    (subst (λ (z : Bytes). IsBase64 n z) characters q.mac_text))
+                append_cancel_left (codes "--- ") q.characters p.characters w.2 in
+                let same : ss ≡ ts = cc states in (
+                  none,
+                  same,
+                  IsBase64-injective m n p.characters p.mac_text
+                      (subst (λ (z : Bytes). IsBase64 n z) characters q.mac_text),
+                )
             | inr w ↦
                 let lead : Leads (between []) (p.lines ++ end_text p.characters ∷ w.0) (between ts) =
-                    subst (λ (z : List Bytes). Leads (between []) z (between ts)) w.1 q.leads in
+                subst (λ (z : List Bytes). Leads (between []) z (between ts)) w.1 q.leads in
                 absurd (past_end p.lines w.0 ss p.characters (between ts) p.leads lead)
           ]
     ]

@@ -17,9 +17,9 @@ same_cut (f ∷ fs) [] x y hf hg lx ly e =
 same_cut (f ∷ fs) (g ∷ gs) x y hf hg lx ly e =
     let r : f ++ (concat fs ++ x) ≡ g ++ (concat gs ++ y) = simp append_assoc at e in
     let head : f ≡ g = sym (take_at f (concat fs ++ x) 64 hf.0) ∙ ap (λ (z : Bytes). take 64 z) r
-        ∙ take_at g (concat gs ++ y) 64 hg.0 in
+    ∙ take_at g (concat gs ++ y) 64 hg.0 in
     let tail : concat fs ++ x ≡ concat gs ++ y = sym (drop_at f (concat fs ++ x) 64 hf.0)
-        ∙ ap (λ (z : Bytes). drop 64 z) r ∙ drop_at g (concat gs ++ y) 64 hg.0 in
+    ∙ ap (λ (z : Bytes). drop 64 z) r ∙ drop_at g (concat gs ++ y) 64 hg.0 in
     let rest = same_cut fs gs x y hf.1 hg.1 lx ly tail in
     append_assoc (line f) (flat_map line fs) (line x) ∙ ap (λ (z : Bytes). line f ++ z) rest
     ∙ ap (λ (z : Bytes). line z ++ (flat_map line gs ++ line y)) head
@@ -28,7 +28,7 @@ same_cut (f ∷ fs) (g ∷ gs) x y hf hg lx ly e =
 same_stanza : (s : StanzaParts) (x y : Bytes) → IsStanza s x → IsStanza s y → x ≡ y
 same_stanza s x y h k =
     let characters : concat h.full ++ h.last ≡ concat k.full ++ k.last = IsBase64-only s.body _ h.body
-        ∙ sym (IsBase64-only s.body _ k.body) in
+    ∙ sym (IsBase64-only s.body _ k.body) in
     let lines = same_cut h.full k.full h.last k.last h.cut.0 k.cut.0 h.cut.1 k.cut.1 characters in
     h.spelled ∙ append_assoc (argument_line s.args) (flat_map line h.full) (line h.last)
     ∙ ap (λ (z : Bytes). argument_line s.args ++ z) lines
@@ -45,6 +45,6 @@ pub one_text : (ss : List StanzaParts) (m h k : Bytes) → Head ss m h → Head 
 one_text ss m h k a b =
     let body : a.body ≡ b.body = same_stanzas ss a.body b.body a.stanza_text b.stanza_text in
     let characters : a.characters ≡ b.characters = IsBase64-only m a.characters a.mac_text
-        ∙ sym (IsBase64-only m b.characters b.mac_text) in
+    ∙ sym (IsBase64-only m b.characters b.mac_text) in
     a.spelled ∙ ap (λ (z : Bytes). version_line ++ z ++ line (codes "--- " ++ a.characters)) body
     ∙ ap (λ (z : Bytes). version_line ++ b.body ++ line (codes "--- " ++ z)) characters ∙ sym b.spelled

@@ -47,7 +47,7 @@ same_found b max x y h k =
     let lines : h.lines ≡ k.lines = decides_once (take max b) h.lines k.lines h.decides k.decides in
     let text : x.text ≡ y.text = h.is ∙ ap lines_text lines ∙ sym k.is in
     let there : Head y.stanzas y.mac (x.text ++ []) =
-        subst (λ (z : Bytes). Head y.stanzas y.mac z) (sym (append-nil x.text ∙ text)) k.head in
+    subst (λ (z : Bytes). Head y.stanzas y.mac z) (sym (append-nil x.text ∙ text)) k.head in
     let r = reading x.stanzas y.stanzas x.mac y.mac x.text [] h.head there in
     ap (λ (z : List StanzaParts). record { stanzas = z; mac = x.mac; text = x.text }) r.1
     ∙ ap (λ (z : Bytes). record { stanzas = y.stanzas; mac = z; text = x.text }) r.2
@@ -107,9 +107,9 @@ one_verdict b max (Err f) (Err g) h k = ap Err (same_fault b max f g h k)
 pub begins_found : (b : Bytes) (max : ℕ) (x : Found) → Finds b max x → BeginsWith b max x
 begins_found b max x h =
     let cap : take max b ≡ x.text ++ h.decides.lines.rest = h.decides.lines.front
-        ∙ ap (λ (z : Bytes). z ++ h.decides.lines.rest) (sym h.is) in
+    ∙ ap (λ (z : Bytes). z ++ h.decides.lines.rest) (sym h.is) in
     let size : length (take max b) ≡ length x.text + length h.decides.lines.rest = ap length cap
-        ∙ length-append x.text h.decides.lines.rest in
+    ∙ length-append x.text h.decides.lines.rest in
     record {
       rest = h.decides.lines.rest ++ drop max b;
       head = h.head;
@@ -132,32 +132,36 @@ found_begins b max x h =
     let text : x.text ≡ lines_text whole = p.is ∙ sym (whole_lines ls) in
     let cut : Bytes = take (max - length x.text) h.rest in
     let cap : take max b ≡ x.text ++ cut = ap (λ (z : Bytes). take max z) h.front
-        ∙ take_past x.text h.rest max h.fits in
+    ∙ take_past x.text h.rest max h.fits in
     let path : take max b ≡ (version_line ++ lines_text p.lines) ++ (line end ++ cut) =
     cap ∙ ap (λ (z : Bytes). z ++ cut) (p.is ∙ ap (λ (z : Bytes). version_line ++ z) (lines_push p.lines end)
-        ∙ sym (append_assoc version_line (lines_text p.lines) (line end)))
+    ∙ sym (append_assoc version_line (lines_text p.lines) (line end)))
     ∙ append_assoc (version_line ++ lines_text p.lines) (line end) cut in
     let front : b ≡ version_line ++ (lines_text ls ++ h.rest) = h.front ∙ ap (λ (z : Bytes). z ++ h.rest) p.is
-        ∙ append_assoc version_line (lines_text ls) h.rest in
+    ∙ append_assoc version_line (lines_text ls) h.rest in
     let size : length x.text ≡ version_size + length (lines_text ls) = ap length p.is
-        ∙ length-append version_line (lines_text ls)
-        ∙ ap (λ (z : ℕ). z + length (lines_text ls)) length-version_line in
+    ∙ length-append version_line (lines_text ls)
+    ∙ ap (λ (z : ℕ). z + length (lines_text ls)) length-version_line in
     let fits : length x.text ≤ max = h.fits in
     let wide : version_size ≤ max = omega arith in
     let header : IsHeader (lines_text whole) =
-        (x.stanzas, x.mac, subst (λ (z : Bytes). Head x.stanzas x.mac z) text h.head) in
+    (x.stanzas, x.mac, subst (λ (z : Bytes). Head x.stanzas x.mac z) text h.head) in
     record {
       lines = whole;
       begun = subst (λ (z : Bytes). BeginsAsAge (take max z)) (sym front) (begins (lines_text ls ++ h.rest) max wide);
       decides = record {
-        lines = record { rest = cut; each = (version_is_text, p.each); front = cap
-            ∙ ap (λ (z : Bytes). z ++ cut) text };
+        lines = record {
+          rest = cut;
+          each = (version_is_text, p.each);
+          front = cap
+              ∙ ap (λ (z : Bytes). z ++ cut) text;
+        };
         decided = inl header;
         first = λ ks k fewer.
             let more : length ls ≡ length p.lines + 1 = length-append p.lines (end ∷ []) in
             let few : length ks ≤ length p.lines + 1 = omega arith in
             path_first p.lines (between x.stanzas) (take max b) (line end ++ cut) (lines_split p.lines end p.each)
-                p.leads path ks k few;
+            p.leads path ks k few;
       };
       is = text;
       head = h.head;

@@ -20,7 +20,7 @@ leads_spell s t [] text h k = subst (λ (x : Bytes). Spells t x) (sym (append-ni
 leads_spell s t (l ∷ ls) text h k =
     let one = step_spells s l h.0 text k h.1 in
     subst (λ (x : Bytes). Spells t x) (append_assoc text (line l) (lines_text ls))
-        (leads_spell h.0 t ls (text ++ line l) h.2 one)
+    (leads_spell h.0 t ls (text ++ line l) h.2 one)
 
 none : (more : List Bytes) → [] ≡ lines_text more ++ [] → more ≡ []
 none [] e = refl

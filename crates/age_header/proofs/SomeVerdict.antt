@@ -65,8 +65,14 @@ visible_front [] = record { seen = []; rest = []; is = refl; visible = tt; ends 
 visible_front (c ∷ t) = elim (visible_or_not c) [
   | inl v ↦
       let f = visible_front t in
-      record { seen = c ∷ f.seen; rest = f.rest; is = ap (λ (z : Bytes). c ∷ z) f.is; visible = (v, f.visible); ends =
-          f.ends }
+      record {
+        seen = c ∷ f.seen;
+        rest = f.rest;
+        is = ap (λ (z : Bytes). c ∷ z) f.is;
+        visible = (v, f.visible);
+        ends =
+            f.ends;
+      }
   | inr n ↦ record { seen = []; rest = c ∷ t; is = refl; visible = tt; ends = n }
 ]
 
@@ -92,7 +98,7 @@ parsed (suc n) l az (c ∷ rest) low p = elim (cases_eq c 32) [
         | inr some ↦
             let fewer : length f.rest ≤ n = omega (arith, ap length f.is, length-append f.seen f.rest) in
             parsed n l (az ++ f.seen ∷ []) f.rest fewer
-                (parsed_more l az (c ∷ rest) rest f.seen f.rest p is f.is some f.visible f.ends)
+            (parsed_more l az (c ∷ rest) rest f.seen f.rest p is f.is some f.visible f.ends)
       ]
   | inr other ↦ inr (stuck_space l az (c ∷ rest) p (λ e. cc) (λ x e. other cc))
 ]
@@ -153,20 +159,29 @@ end_of (between (s ∷ ss)) l = elim (front_of (codes "--- ") l) [
         → IsEndLine (between (s ∷ ss)) l ⊎ (IsEndLine (between (s ∷ ss)) l → ⊥)
     here characters spelled None o = inr (λ e.
         let same : e.characters ≡ characters =
-            append_cancel_left (codes "--- ") e.characters characters (sym e.spelled ∙ spelled) in
+        append_cancel_left (codes "--- ") e.characters characters (sym e.spelled ∙ spelled) in
         let some : decoded characters ≡ Some e.mac =
-            b64_decoded characters e.mac (subst (λ (z : Bytes). IsBase64 e.mac z) same e.is) in
+        b64_decoded characters e.mac (subst (λ (z : Bytes). IsBase64 e.mac z) same e.is) in
         cc)
     here characters spelled (Some mac) o =
         let is = decoded_b64 characters mac o in
         elim (cases_eq (length mac) 32) [
-          | inl size ↦ inl (record { stanzas = s ∷ ss; mac = mac; characters = characters; some = λ e. cc; at =
-              refl; size = size; spelled = spelled; is = is })
+          | inl size ↦ inl (record {
+            stanzas = s ∷ ss;
+            mac = mac;
+            characters = characters;
+            some = λ e. cc;
+            at =
+                refl;
+            size = size;
+            spelled = spelled;
+            is = is;
+          })
           | inr other ↦ inr (λ e.
               let same : e.characters ≡ characters =
-                  append_cancel_left (codes "--- ") e.characters characters (sym e.spelled ∙ spelled) in
+              append_cancel_left (codes "--- ") e.characters characters (sym e.spelled ∙ spelled) in
               let bytes : e.mac ≡ mac =
-                  IsBase64-injective e.mac mac characters (subst (λ (z : Bytes). IsBase64 e.mac z) same e.is) is in
+              IsBase64-injective e.mac mac characters (subst (λ (z : Bytes). IsBase64 e.mac z) same e.is) is in
               other (sym (ap length bytes) ∙ e.size))
         ]
 
@@ -185,20 +200,48 @@ longer : (room : ℕ) (c : ℕ) (b text : Bytes) (end : LineEnd) (rest : Bytes) 
     → b ≡ taken text end ++ rest
     → IsEnd end (length text) room (Some rest) → FirstLine (suc room) (c ∷ b)
 longer room c b text Lf rest other is took ends =
-    record { text = c ∷ text; end = Lf; rest = rest; is = (other, is); took = ap (λ (z : Bytes). c ∷ z) took; ends =
-        omega arith }
+    record {
+      text = c ∷ text;
+      end = Lf;
+      rest = rest;
+      is = (other, is);
+      took = ap (λ (z : Bytes). c ∷ z) took;
+      ends =
+          omega arith;
+    }
 longer room c b text Input rest other is took ends =
     let low : length text < room = ends.0 in
-    record { text = c ∷ text; end = Input; rest = rest; is = (other, is); took = ap (λ (z : Bytes). c ∷ z) took; ends =
-        (omega arith, ends.1) }
+    record {
+      text = c ∷ text;
+      end = Input;
+      rest = rest;
+      is = (other, is);
+      took = ap (λ (z : Bytes). c ∷ z) took;
+      ends =
+          (omega arith, ends.1);
+    }
 longer room c b text Room rest other is took ends =
-    record { text = c ∷ text; end = Room; rest = rest; is = (other, is); took = ap (λ (z : Bytes). c ∷ z) took; ends =
-        omega arith }
+    record {
+      text = c ∷ text;
+      end = Room;
+      rest = rest;
+      is = (other, is);
+      took = ap (λ (z : Bytes). c ∷ z) took;
+      ends =
+          omega arith;
+    }
 
 first_line : (room : ℕ) (b : Bytes) → FirstLine room b
 first_line zero b = record { text = []; end = Room; rest = b; is = tt; took = refl; ends = refl }
-first_line (suc room) [] = record { text = []; end = Input; rest = []; is = tt; took = refl; ends =
-    (omega arith, refl) }
+first_line (suc room) [] = record {
+  text = [];
+  end = Input;
+  rest = [];
+  is = tt;
+  took = refl;
+  ends =
+      (omega arith, refl);
+}
 first_line (suc room) (c ∷ b) = elim (cases_eq c 10) [
   | inl lf ↦ record { text = []; end = Lf; rest = b; is = tt; took = ap (λ (z : ℕ). z ∷ b) lf; ends = omega arith }
   | inr other ↦ let l = first_line room b in longer room c b l.text l.end l.rest other l.is l.took l.ends
@@ -220,7 +263,7 @@ line_verdict b m max room count s p next text Room rest is took ends =
 line_verdict b m max room count s p next text Lf rest is took ends = elim (end_of s text) [
   | inl e ↦
       let h = path_header (Some b) (Some m) (Some rest) max room count s text e.stanzas e.mac e.characters p took is
-          ends e.at e.some e.spelled e.is e.size in
+      ends e.at e.some e.spelled e.is e.size in
       (Ok (record { stanzas = e.stanzas; mac = e.mac; text = h.0 }), h.1)
   | inr other ↦ elim (step_of s text) [
     | inl w ↦ next rest (room - (length text + 1)) (count + 1) w.0 (omega arith)
@@ -229,8 +272,17 @@ line_verdict b m max room count s p next text Lf rest is took ends = elim (end_o
       Err (BadLine (count + 1)),
       path_bad (Some b) (Some m) (Some rest) max room count s text p took is ends
           (λ ss mac characters some at size spelled h. other
-              (record { stanzas = ss; mac = mac; characters = characters; some = some; at = at; size = size; spelled =
-              spelled; is = h })) none,
+          (record {
+            stanzas = ss;
+            mac = mac;
+            characters = characters;
+            some = some;
+            at = at;
+            size = size;
+            spelled =
+                spelled;
+            is = h;
+          })) none,
     )
   ]
 ]
@@ -240,12 +292,12 @@ path_verdict : (n : ℕ) (b m : Bytes) (max room count : ℕ) (s : State) → ro
 path_verdict zero b m max room count s low p =
     let l = first_line room m in
     line_verdict b m max room count s p (λ rest left more t less q. absurd (omega arith)) l.text l.end l.rest l.is
-        l.took l.ends
+    l.took l.ends
 path_verdict (suc n) b m max room count s low p =
     let l = first_line room m in
     line_verdict b m max room count s p
-        (λ rest left more t less q. path_verdict n b rest max left more t (omega arith) q) l.text l.end l.rest l.is
-        l.took l.ends
+    (λ rest left more t less q. path_verdict n b rest max left more t (omega arith) q) l.text l.end l.rest l.is
+    l.took l.ends
 
 -- a first line that the version line begins with
 begun_verdict : (b : Bytes) (max : ℕ) (text : Bytes) (end : LineEnd) (rest behind : Bytes) → IsLineText text
@@ -259,7 +311,7 @@ begun_verdict b max text Lf rest behind is took ends front = elim (nil_or_some b
   | inl none ↦
       let v = version_taken (Some b) (Some rest) text behind max took ends front none in
       path_verdict max b rest max (max - version_size) 1 (between []) (omega arith)
-          (path_start (Some b) (Some rest) max v.0 v.1)
+      (path_start (Some b) (Some rest) max v.0 v.1)
   | inr some ↦ (Err NotAge, short_line (Some b) (Some rest) text behind max took is ends front some)
 ]
 

@@ -99,7 +99,7 @@ step_spells (within ss args body) l (between ts) text h k =
     let all = stanzas_more ss s h.whole _ h.stanza_text one in
     let is : text ++ line l ≡ h.whole ++ (argument_line args ++ flat_map line h.full ++ line l) =
     ap (λ (x : Bytes). x ++ line l) h.spelled
-        ∙ regroup_two h.whole (argument_line args) (flat_map line h.full) (line l) in
+    ∙ regroup_two h.whole (argument_line args) (flat_map line h.full) (line l) in
     rw (k.3, is) all
 
 -- what a state stands for is the front of a header
@@ -117,8 +117,16 @@ spells_front (within ss args body) text h = record {
   whole = h.whole;
   rest = argument_line args ++ flat_map line h.full;
   stanza_text = h.stanza_text;
-  rest_text = inr (record { args = args; full = h.full; bytes = body; arguments = h.arguments; cut = h.cut; body =
-      h.body_text; spelled = refl });
+  rest_text = inr (record {
+    args = args;
+    full = h.full;
+    bytes = body;
+    arguments = h.arguments;
+    cut = h.cut;
+    body =
+        h.body_text;
+    spelled = refl;
+  });
   spelled = ap (λ (x : Bytes). version_line ++ x) h.spelled
       ∙ sym (append_assoc version_line h.whole (argument_line args ++ flat_map line h.full));
 }

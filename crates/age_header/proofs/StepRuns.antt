@@ -33,9 +33,9 @@ full_lead ss args body bytes (f ∷ full) last cut h =
     let rest = full_lead ss args (body ++ a) b full last cut.1 parts.4 in
     let front : Bytes = rest.0 in
     let whole : bytes ≡ (a ++ front) ++ rest.1 = parts.2 ∙ ap (λ (x : Bytes). a ++ x) rest.2
-        ∙ sym (append_assoc a front rest.1) in
+    ∙ sym (append_assoc a front rest.1) in
     let lead = subst (λ (x : Bytes). Leads (within ss args (body ++ a)) full (within ss args x))
-        (append_assoc body a front) rest.5 in (
+    (append_assoc body a front) rest.5 in (
       a ++ front,
       rest.1,
       whole,

@@ -24,7 +24,7 @@ encoded e m old new len p over is =
     let size : encoded_size_of e (length m) ≡ unpadded_len (length m) = rw p.unpadded refl in
     let fits : length (encode_symbols alphabet m) ≡ len = length-encode_symbols alphabet m ∙ sym size ∙ sym is in
     ap (λ (z : Bytes). take len z) (over ∙ ap (λ (z : Bytes). z ++ drop (encoded_size_of e (length m)) old) plain)
-        ∙ take_at (encode_symbols alphabet m) _ len fits
+    ∙ take_at (encode_symbols alphabet m) _ len fits
 
 pub encoded_size_plain : (e : GeneralPurpose) (n : ℕ) → IsPlain e → encoded_size_of e n ≡ (4 * n + 2) / 3
 encoded_size_plain e n p = rw p.unpadded refl
@@ -117,7 +117,7 @@ cut (suc n) b h low high =
     let four : length (base64_of front) ≡ 4 * 16 = full in
     let rest = cut n back (bytes_drop 48 b h) (omega (arith, length-drop 48 b)) (omega (arith, length-drop 48 b)) in
     let both = IsBase64-append 16 front (base64_of front) back (concat rest.full ++ rest.last) four
-        (characters_are front (bytes_take 48 b h)) rest.text in
+    (characters_are front (bytes_take 48 b h)) rest.text in
     record {
       full = base64_of front ∷ rest.full;
       last = rest.last;
@@ -146,8 +146,13 @@ stanza_text_is s h =
 
 stanzas_text_is : (ss : List StanzaParts) → AllByRecursion IsWhole ss → AreStanzas ss (flat_map stanza_text ss)
 stanzas_text_is [] h = refl
-stanzas_text_is (s ∷ ss) h = (stanza_text s, flat_map stanza_text ss, stanza_text_is s h.0, stanzas_text_is ss h.1,
-    refl)
+stanzas_text_is (s ∷ ss) h = (
+  stanza_text s,
+  flat_map stanza_text ss,
+  stanza_text_is s h.0,
+  stanzas_text_is ss h.1,
+  refl,
+)
 
 pub header_text_is : (ss : List StanzaParts) (mac : Bytes) → IsHeaderValue ss mac
     → Head ss mac (signed ss ++ mac_end mac)

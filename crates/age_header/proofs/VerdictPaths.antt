@@ -58,14 +58,14 @@ path_first ls s cap tail each leads is [] k n = (inl refl, no_empty)
 path_first ls s cap tail each leads is (k ∷ ks) h n =
     let all : List Bytes = version_text ∷ ls in
     let e : lines_text (k ∷ ks) ++ h.rest ≡ lines_text all ++ tail = sym h.front ∙ is
-        ∙ ap (λ (x : Bytes). x ++ tail) (sym (whole_lines ls)) in
+    ∙ ap (λ (x : Bytes). x ++ tail) (sym (whole_lines ls)) in
     let fits : length (k ∷ ks) ≤ length all = omega arith in
     let r = lines_front (k ∷ ks) all h.rest tail h.each (version_is_text, each) e fits in
     let head : k ≡ version_text = cc (r.1) in
     let back : ls ≡ ks ++ r.0 = cc (r.1) in
     let cut = Leads-split (between []) s ks r.0 (subst (λ (x : List Bytes). Leads (between []) x s) back leads) in
     let same : lines_text (k ∷ ks) ≡ version_line ++ lines_text ks = ap (λ (x : Bytes). lines_text (x ∷ ks)) head
-        ∙ whole_lines ks in (
+    ∙ whole_lines ks in (
       subst (λ (x : Bytes). IsViable x) (sym same) (leads_viable ks cut.0 cut.1),
       λ g. leads_no_header ks cut.0 h.each.1 cut.1 (subst (λ (x : Bytes). IsHeader x) same g),
     )
@@ -74,7 +74,7 @@ pub no_lf : (more : List Bytes) (rest tail : Bytes) → IsLineText tail → tail
 no_lf [] rest tail h e = refl
 no_lf (m ∷ more) rest tail h e =
     absurd (here m (lines_text more ++ rest) tail h
-        (e ∙ append_assoc (line m) (lines_text more) rest ∙ append_assoc m (10 ∷ []) (lines_text more ++ rest)))
+    (e ∙ append_assoc (line m) (lines_text more) rest ∙ append_assoc m (10 ∷ []) (lines_text more ++ rest)))
   where
     here : (m x tail : Bytes) → IsLineText tail → tail ≡ m ++ 10 ∷ x → ⊥
     here [] x [] h e = cc
@@ -95,12 +95,12 @@ path_open ls s cap tail each leads is text ks d =
     elim (cases_lt (length all) (length ks)) [
       | inl more ↦
           let e : lines_text all ++ tail ≡ lines_text ks ++ d.lines.rest =
-              ap (λ (x : Bytes). x ++ tail) (whole_lines ls) ∙ sym is ∙ d.lines.front in
+          ap (λ (x : Bytes). x ++ tail) (whole_lines ls) ∙ sym is ∙ d.lines.front in
           let fits : length all ≤ length ks = omega arith in
           let r = lines_front all ks tail d.lines.rest (version_is_text, each) d.lines.each e fits in
           let none = no_lf r.0 d.lines.rest tail text r.2 in
           let same : length ks ≡ length all =
-              ap length (r.1 ∙ ap (λ (z : List Bytes). all ++ z) none ∙ append-nil all) in
+          ap length (r.1 ∙ ap (λ (z : List Bytes). all ++ z) none ∙ append-nil all) in
           absurd (omega arith)
       | inr few ↦
           let fits : length ks ≤ length ls + 1 = omega arith in
@@ -121,5 +121,5 @@ unfolding version_line
 begins x max h =
     let low : length version_line ≤ max = h in
     let front : take version_size (take max (version_line ++ x)) ≡ version_line =
-        ap (λ (z : Bytes). take version_size z) (take_past version_line x max low) in
+    ap (λ (z : Bytes). take version_size z) (take_past version_line x max low) in
     rw front refl

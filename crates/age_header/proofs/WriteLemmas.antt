@@ -40,9 +40,11 @@ done_part a b c whole left x y d e w =
     let text : whole ≡ d.front ++ (x ++ y) = d.is ∙ ap (λ (z : Bytes). d.front ++ z) e in
     let cut : take (length d.front + n) whole ≡ d.front ++ take w.0 x =
     ap (λ (z : Bytes). take (length d.front + n) z) text ∙ take-append-add d.front (x ++ y) n
-        ∙ ap (λ (z : Bytes). d.front ++ z) same in
-    (length d.front + n, subst (λ (z : Bytes). Appends a c z) (sym cut)
-        (Appends-trans a b c d.front (take w.0 x) d.took w.1))
+    ∙ ap (λ (z : Bytes). d.front ++ z) same in (
+      length d.front + n,
+      subst (λ (z : Bytes). Appends a c z) (sym cut)
+          (Appends-trans a b c d.front (take w.0 x) d.took w.1),
+    )
 
 pub done_last : (a b c : Known) (whole left : Bytes) → Done a b whole left → WritesPart b c left → WritesPart a c whole
 done_last a b c whole left d w = done_part a b c whole left left [] d (sym (append-nil left)) w

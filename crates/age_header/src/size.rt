@@ -49,5 +49,6 @@ fn body_len(len: usize) -> u64
 {
     let full = (len / BYTES_OF_A_LINE) as u64;
     let last = ((len % BYTES_OF_A_LINE * 4 + 2) / 3 + 1) as u64;
-    full.saturating_mul(LINE_SIZE as u64 + 1).saturating_add(last)
+    full.saturating_mul(LINE_SIZE as u64 + 1)
+        .saturating_add(last)
 }

@@ -15,15 +15,15 @@ pub shifts_rotate : (x : Words) (k j : ℕ) → length x ≡ 4 → 0 < k → k <
 shifts_rotate x k j long low high inside =
     let shifted : (f : ℕ → ℕ → ℕ) (n : ℕ) → slice_index (zip2 f x (replicate 4 n)) j ≡ f (slice_index x j) n =
     λ f n. get_or-zip2 f x (replicate 4 n) j 0 0 0 (omega arith) inside
-        ∙ ap (f (slice_index x j)) (get_or-replicate 4 j n 0 inside) in
+    ∙ ap (f (slice_index x j)) (get_or-replicate 4 j n 0 inside) in
     let here : (f : ℕ → ℕ → ℕ) (n : ℕ) → j < length (zip2 f x (replicate 4 n)) =
-        λ f n. omega (arith, length-zip2 f x (replicate 4 n) long) in
+    λ f n. omega (arith, length-zip2 f x (replicate 4 n) long) in
     let left : ℕ → ℕ → ℕ = λ a n. a * 2 ^ n % 2 ^ 32 in
     let right : ℕ → ℕ → ℕ = λ a n. a / 2 ^ n in
     let whole : k % 32 ≡ k = omega arith in
     let rest : (32 - k) % 32 ≡ 32 - k = omega arith in
     get_or-zip2 bit_or (zip2 left x (replicate 4 k)) (zip2 right x (replicate 4 (32 - k))) j 0 0 0 (here left k)
-        (here right (32 - k))
+    (here right (32 - k))
     ∙ ap₂ bit_or (shifted left k) (shifted right (32 - k)) ∙ rw (whole, rest) refl
 
 -- four lanes before and after the four steps

@@ -55,9 +55,9 @@ pub one_more : (texts : List (Bor Bytes)) (i : ℕ) (d : Bor Bytes) (bytes text 
     → new ≡ list_any (λ t. bytes_eq text t.now) (take (i + 1) texts)
 one_more texts i d bytes text old new low is now before =
     let test : bytes_eq bytes text ≡ bytes_eq text (get_or texts i d).now = bytes_eq_sym bytes text
-        ∙ ap (bytes_eq text) is in
+    ∙ ap (bytes_eq text) is in
     now ∙ or_last (bytes_eq bytes text) old ∙ ap (λ b. b || bytes_eq bytes text) before
-        ∙ ap (λ b. list_any (λ t. bytes_eq text t.now) (take i texts) || b) test
+    ∙ ap (λ b. list_any (λ t. bytes_eq text t.now) (take i texts) || b) test
     ∙ sym (list_any_more (λ t. bytes_eq text t.now) texts i d low)
 
 -- the test of a text, of borrowed texts and of the texts themselves
@@ -72,7 +72,7 @@ pub names_together : (self other : Labels) (a b : List Bytes) (xs ys : List (Str
     → map string_bytes xs ≡ a → map string_bytes ys ≡ b → r ≡ pointwise string_eq xs ys → r ≡ go_together self other
 names_together self other a b xs ys r left right of_xs of_ys is =
     rw (left, right) (is ∙ sym (pointwise-map string_bytes bytes_eq xs ys)
-        ∙ ap (λ l. pointwise bytes_eq l (map string_bytes ys)) of_xs ∙ ap (pointwise bytes_eq a) of_ys)
+    ∙ ap (λ l. pointwise bytes_eq l (map string_bytes ys)) of_xs ∙ ap (pointwise bytes_eq a) of_ys)
 
 -- of no texts the set is empty
 pub no_texts : (set : List Bytes) → IsSetOf [] set → set ≡ []
@@ -80,7 +80,7 @@ no_texts [] is = refl
 no_texts (text ∷ rest) is =
     let here : (bytes_eq text text || list_any (bytes_eq text) rest) ≡ false = is.members text in
     absurd (true≢false (sym (ap (λ b. b || list_any (bytes_eq text) rest) ((lists_equiv nat_eq_equiv).refl text))
-        ∙ here))
+    ∙ here))
 
 -- a copy of strings has the same bytes
 pub same_bytes : (ks copies : List (String Global)) → AllZip (λ s t. string_bytes t ≡ string_bytes s) ks copies

@@ -14,7 +14,7 @@ cut-fits size held (b ∷ bs) r le =
     let lt : nat_lt (length held) size ≡ true = lt-ltb _ _ (omega arith) in
     let next : cut_into size (held ++ b ∷ []) (bs ++ r) ≡ cut_into size ((held ++ b ∷ []) ++ bs) r =
     cut-fits size (held ++ b ∷ []) bs r
-        (let l : length (held ++ b ∷ []) ≡ length held + 1 = length-append held (b ∷ []) in omega arith) in
+    (let l : length (held ++ b ∷ []) ≡ length held + 1 = length-append held (b ∷ []) in omega arith) in
     ap (λ t. cond t (cut_into size (held ++ b ∷ []) (bs ++ r)) (held ∷ cut_into size (b ∷ []) (bs ++ r))) lt ∙ next
     ∙ ap (λ h. cut_into size h r) (append_assoc held (b ∷ []) bs)
 
@@ -52,14 +52,14 @@ filled-cut size [] pos h = absurd h
 filled-cut size (c ∷ []) pos h = ap (cut size) (append-nil c) ∙ cut-last size c h.1
 filled-cut size (c ∷ d ∷ more) pos h =
     cut-first size c (concat (d ∷ more)) pos (filled-some size (d ∷ more) pos h.1) h.0
-        ∙ ap (λ t. c ∷ t) (filled-cut size (d ∷ more) pos h.1)
+    ∙ ap (λ t. c ∷ t) (filled-cut size (d ∷ more) pos h.1)
 
 -- the lists of a cut join to what was cut
 pub concat-cut_into : (size : ℕ) (held p : Bytes) → concat (cut_into size held p) ≡ held ++ p
 concat-cut_into size held [] = refl
 concat-cut_into size held (x ∷ xs) =
     elim (nat_lt (length held) size) as (λ t. concat
-        (cond t (cut_into size (held ++ x ∷ []) xs) (held ∷ cut_into size (x ∷ []) xs)) ≡ held ++ x ∷ xs) [
+    (cond t (cut_into size (held ++ x ∷ []) xs) (held ∷ cut_into size (x ∷ []) xs)) ≡ held ++ x ∷ xs) [
       | true ↦ concat-cut_into size (held ++ x ∷ []) xs ∙ append_assoc held (x ∷ []) xs
       | false ↦ ap (λ t. held ++ t) (concat-cut_into size (x ∷ []) xs)
     ]
@@ -77,7 +77,7 @@ filled-cut_into size held (x ∷ xs) pos le some =
       | inl lt ↦ subst (λ t. IsFilled size
           (cond t (cut_into size (held ++ x ∷ []) xs) (held ∷ cut_into size (x ∷ []) xs))) (sym (lt-ltb _ _ lt))
           (let l : length (held ++ x ∷ []) ≡ length held + 1 = length-append held (x ∷ []) in
-              filled-cut_into size (held ++ x ∷ []) xs pos (omega arith) (omega arith))
+          filled-cut_into size (held ++ x ∷ []) xs pos (omega arith) (omega arith))
       | inr ge ↦ subst (λ t. IsFilled size
           (cond t (cut_into size (held ++ x ∷ []) xs) (held ∷ cut_into size (x ∷ []) xs))) (sym (le-ltb _ _ ge))
           (filled-more size held _ (omega arith) (filled-cut_into size (x ∷ []) xs pos (omega arith) (omega arith)))
@@ -86,8 +86,11 @@ filled-cut_into size held (x ∷ xs) pos le some =
 -- the computed cut is one
 pub is_cut : (size : ℕ) (p : Bytes) → 0 < size → IsCut size p (cut size p)
 is_cut size [] pos = record { joined = refl; sizes = inl refl }
-is_cut size (x ∷ xs) pos = record { joined = concat-cut_into size [] (x ∷ xs); sizes =
-    inr (filled-cut_into size [] (x ∷ xs) pos (omega arith) (omega arith)) }
+is_cut size (x ∷ xs) pos = record {
+  joined = concat-cut_into size [] (x ∷ xs);
+  sizes =
+      inr (filled-cut_into size [] (x ∷ xs) pos (omega arith) (omega arith));
+}
 
 pub one-cut : (size : ℕ) (p : Bytes) (cs : List Bytes) → 0 < size → IsCut size p cs → cs ≡ cut size p
 one-cut size p cs pos h = elim h.sizes [

@@ -37,7 +37,7 @@ last-piece rest last is =
     let e : length (pieces rest) - 1 ≡ last = omega arith in
     let d : length (drop (65552 * last) rest) ≡ length rest - 65552 * last = length-drop (65552 * last) rest in
     ap (λ k. get_or (pieces rest) k []) e ∙ cut-at 65552 last rest (omega arith)
-        ∙ take_all 65552 (drop (65552 * last) rest) (omega arith)
+    ∙ take_all 65552 (drop (65552 * last) rest) (omega arith)
 
 -- how long the last piece is
 pub length-last : (rest : Bytes) → length (last_piece rest) ≡ last_len (length rest)
@@ -62,7 +62,7 @@ pub last-many : (key : Bytes) (max first sealed last : ℕ) (told : Known) → l
 last-many key max first sealed last None is le = tt
 last-many key max first sealed last (Some bytes) is le = λ size.
     last-is key max (drop first bytes) last (is ∙ ap (λ n. (n - 1) / 65552) (sym (behind-len first sealed bytes size)))
-        ∙ outcome-many key max last true (drop (65552 * last) (drop first bytes)) le
+    ∙ outcome-many key max last true (drop (65552 * last) (drop first bytes)) le
 
 -- the last piece was not there to be read
 pub last-gone : (key : Bytes) (max first sealed last end : ℕ) (told : Known) (fault : StreamFault)
@@ -88,10 +88,10 @@ last-read key max first sealed last end (Some bytes) buf r is len room has gives
     let l : length (take end buf) ≡ end = length-take-le end buf (omega arith) in
     let same : take end buf ≡ drop (65552 * last) rest =
     has ∙ ap (λ k. take k (drop (first + 65552 * last) bytes)) l
-        ∙ ap (take end) (sym (drop-drop (65552 * last) first bytes))
+    ∙ ap (take end) (sym (drop-drop (65552 * last) first bytes))
     ∙ take_all end (drop (65552 * last) rest) (omega arith) in
     last-is key max rest last (is ∙ ap (λ n. (n - 1) / 65552) (sym all)) ∙ ap (outcome key max last true) (sym same)
-        ∙ gives
+    ∙ gives
 
 -- how long a last piece is that opens
 pub open-len : (key : Bytes) (max i end n : ℕ) (buf after : Bytes) → length buf ≡ 65553 → end ≤ 65552
@@ -100,7 +100,7 @@ pub open-len : (key : Bytes) (max i end n : ℕ) (buf after : Bytes) → length 
 open-len key max i end n buf after room le opens within =
     let o = outcome-opens key max i true (take end buf) (take n after) opens in
     let len : length (take end buf) ≡ length (take n after) + 16 = ap length o.sealed_so
-        ∙ length-sealed key (chunk_nonce i true) [] (take n after) in
+    ∙ length-sealed key (chunk_nonce i true) [] (take n after) in
     let a : length (take end buf) ≡ end = length-take-le end buf (omega arith) in
     let b : length (take n after) ≡ n = length-take-le n after within in
     (omega arith, λ pos. let some : 0 < length (take n after) = o.some refl pos in omega arith)
@@ -133,7 +133,7 @@ last-opens key max rest t last is h =
     let n : length (pieces rest) ≡ last + 1 = piece-count rest last is in
     let o = outcome-opens key max last true piece t (sym (last-is key max rest last is) ∙ h) in
     opening-at key rest last (omega arith)
-        ∙ ap (λ b. opened_at key last b (take 65552 piece)) (le-leb (length rest) (65552 * (last + 1)) (omega arith))
+    ∙ ap (λ b. opened_at key last b (take 65552 piece)) (le-leb (length rest) (65552 * (last + 1)) (omega arith))
     ∙ ap (opened_at key last true) (take_all 65552 piece (omega arith)) ∙ ap (opened_at key last true) o.sealed_so
     ∙ opened-sealed key (chunk_nonce last true) [] t
 
@@ -171,7 +171,7 @@ plain-there layout rest size =
       | inr ge ↦ inl (omega arith)
     ] in
     let n : plain_len rest + 16 * (layout.count - 1 + 1) ≡ length rest =
-        plain-count (layout.count - 1) rest more (omega arith) (omega arith) in
+    plain-count (layout.count - 1) rest more (omega arith) (omega arith) in
     omega arith
 
 count-there : (layout : Layout) (n : ℕ) → layout.plain + 16 * layout.count ≡ n → layout.count - 1 ≡ (n - 1) / 65552
@@ -198,10 +198,10 @@ judged-ok k max at (Some bytes) nonce buf n layout h j =
     let size : length (drop (at + 16) bytes) ≡ n = behind-len (at + 16) n bytes h.1 in
     let gives : last_outcome (payload_key k nonce) max (drop (at + 16) bytes) ≡ Ok text = j.3 h.1 in
     let there : length (drop layout.first bytes) ≡ layout.plain + 16 * layout.count =
-        ap (λ f. length (drop f bytes)) j.1 ∙ size ∙ sym j.2 in
+    ap (λ f. length (drop f bytes)) j.1 ∙ size ∙ sym j.2 in
     let opens : opens_to (Some bytes) layout (layout.count - 1) ≡ Some text =
     ap (λ x. opening x (drop layout.first bytes) (layout.count - 1)) j.0
-        ∙ ap (λ f. opening (payload_key k nonce) (drop f bytes) (layout.count - 1)) j.1
+    ∙ ap (λ f. opening (payload_key k nonce) (drop f bytes) (layout.count - 1)) j.1
     ∙ last-opens (payload_key k nonce) max (drop (at + 16) bytes) text (layout.count - 1)
     (count-there layout n j.2 ∙ ap (λ m. (m - 1) / 65552) (sym size)) gives in (
       refl,
@@ -226,7 +226,7 @@ pub given-last : (told : Known) (nonce : Bytes) (at n new mid old : ℕ) → IsN
 given-last None nonce at n new mid old h le le2 = tt
 given-last (Some bytes) nonce at n new mid old h le le2 =
     let l : length (last_piece (drop (at + 16) bytes)) ≡ last_len n = length-last (drop (at + 16) bytes)
-        ∙ ap last_len (behind-len (at + 16) n bytes h.1) in
+    ∙ ap last_len (behind-len (at + 16) n bytes h.1) in
     omega (arith, l, le, le2)
 
 -- a fault of a piece is one of opening

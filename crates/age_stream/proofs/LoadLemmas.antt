@@ -25,7 +25,7 @@ there-count layout rest size =
       | inr ge ↦ inl (omega arith)
     ] in
     let n : length (pieces rest) ≡ layout.count - 1 + 1 =
-        cut-count 65552 (layout.count - 1) rest (omega arith) more (omega arith) in
+    cut-count 65552 (layout.count - 1) rest (omega arith) more (omega arith) in
     omega arith
 
 pub tight-at : (layout : Layout) (i : ℕ) → i < layout.count → 65536 * i ≤ layout.plain
@@ -63,7 +63,7 @@ there-piece (Some bytes) layout i piece there lt has len =
     let low : 65536 * i ≤ layout.plain = tight-at layout i lt in
     let d : length (drop (65552 * i) rest) ≡ length rest - 65552 * i = length-drop (65552 * i) rest in
     let at : piece ≡ take (length piece) (drop (65552 * i) rest) = has
-        ∙ ap (take (length piece)) (sym (drop-drop (65552 * i) layout.first bytes)) in
+    ∙ ap (take (length piece)) (sym (drop-drop (65552 * i) layout.first bytes)) in
     elim (cases_lt (i + 1) layout.count) [
       | inl more ↦
           let full : 65536 * (i + 1) < layout.plain = full-at layout i more in

@@ -136,16 +136,16 @@ advances-ok now from to key max i ahead len more old slice bytes items fault pie
     let held : held_of more front ≡ Some front = ap (λ m. held_of m front) is_more in
     let next : OpenerState = parts key max (i + 1) piece.more 1 items piece.len fault in
     let one : IfSome (held_of piece.more (take 1 (drop 65552 items)))
-        (λ a. (length a ≡ 1) × (length (take piece.len items) ≡ 65536)) =
+    (λ a. (length a ≡ 1) × (length (take piece.len items) ≡ 65536)) =
     one-ahead piece.more piece.len items (ap length all ∙ new_size) full in
     let left : take 1 (drop 65552 items) ≡ drop 65552 bytes = ap (λ t. take 1 (drop 65552 t)) all
-        ∙ ahead-one bytes new_size in
+    ∙ ahead-one bytes new_size in
     let short : ahead_len (held_of more front) ≤ 1 = short-ahead more front (omega arith) in
     let given : GaveAtMost (65553 - ahead_len (held_of more front)) from to =
     subst (λ h. GaveAtMost (65553 - ahead_len h) from to) (sym held)
-        (subst (λ n. GaveAtMost (65553 - n) from to) (sym l) (unread piece gave)) in
+    (subst (λ n. GaveAtMost (65553 - n) from to) (sym l) (unread piece gave)) in
     subst (λ s. IfNone s.fault (IsErrOf {T = Bool} (Ok true) Read ⊎ Advances s next from to (Ok true))) view
-        (unkept fault (inr (record {
+    (unkept fault (inr (record {
       key = refl;
       max_chunks = refl;
       small = small;
@@ -156,13 +156,16 @@ advances-ok now from to key max i ahead len more old slice bytes items fault pie
           let o = unread piece opens d may in
           let at : first_outcome key max i (front ++ o.0) ≡ Ok (take piece.len items) =
           ap (λ t. first_outcome key max i (take ahead (drop 65552 t) ++ o.0)) (sym same) ∙ o.2.0
-              ∙ ap (λ t. Ok (take piece.len t)) (sym all) in
+          ∙ ap (λ t. Ok (take piece.len t)) (sym all) in
           let rest : left_of (held_of piece.more (take 1 (drop 65552 items))) d ≡ after_first (front ++ o.0) =
           ap (λ t. left_of (held_of piece.more t) d) left ∙ o.2.2
-              ∙ ap (λ t. after_first (take ahead (drop 65552 t) ++ o.0)) same in
-          (o.0, o.1, opens-ok key max i (held_of more front)
-              (left_of (held_of piece.more (take 1 (drop 65552 items))) d) front o.0 (take piece.len items) held at
-              rest);
+          ∙ ap (λ t. after_first (take ahead (drop 65552 t) ++ o.0)) same in (
+            o.0,
+            o.1,
+            opens-ok key max i (held_of more front)
+                (left_of (held_of piece.more (take 1 (drop 65552 items))) d) front o.0 (take piece.len items) held at
+                rest,
+          );
     })))
 
 pub advances-read : (old new : OpenerState) (from to : Known) (fault : StreamFault) → fault ≡ Read
@@ -202,9 +205,9 @@ advances-err now from to key max i ahead len more old slice bytes items kept fau
     let short : ahead_len (held_of more front) ≤ 1 = short-ahead more front (omega arith) in
     let given : GaveAtMost (65553 - ahead_len (held_of more front)) from to =
     subst (λ h. GaveAtMost (65553 - ahead_len h) from to) (sym held)
-        (subst (λ n. GaveAtMost (65553 - n) from to) (sym l) gave) in
+    (subst (λ n. GaveAtMost (65553 - n) from to) (sym l) gave) in
     subst (λ s. IfNone s.fault (IsErrOf {T = Bool} (Err fault) Read ⊎ Advances s next from to (Err fault))) view
-        (unkept kept (inr (record {
+    (unkept kept (inr (record {
       key = refl;
       max_chunks = refl;
       small = small;
@@ -214,7 +217,7 @@ advances-err now from to key max i ahead len more old slice bytes items kept fau
       opens = λ d may.
           let o = opens d may in
           let is : first_outcome key max i (front ++ o.0) ≡ Err fault =
-              ap (λ t. first_outcome key max i (take ahead (drop 65552 t) ++ o.0)) (sym same) ∙ o.2 in
+          ap (λ t. first_outcome key max i (take ahead (drop 65552 t) ++ o.0)) (sym same) ∙ o.2 in
           (o.0, o.1, opens-err key max i (held_of more front) front o.0 (left_of next.held d) next.text fault held is);
     })))
 
@@ -241,5 +244,5 @@ advances-none now from key max i ahead len true bytes fault view over none small
 advances-none now from key max i ahead len false bytes (Some fault) view over none small = absurd (cc)
 advances-none now from key max i ahead len false bytes None view over none small =
     subst (λ s. IfNone s.fault (IsErrOf {T = Bool} (Ok false) Read
-        ⊎ Advances s (parts key max i false ahead bytes 0 None) from from (Ok false))) view
+    ⊎ Advances s (parts key max i false ahead bytes 0 None) from from (Ok false))) view
     (inr (advances-end key max i (take len bytes) (take 0 bytes) from small))

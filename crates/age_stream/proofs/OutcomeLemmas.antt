@@ -26,7 +26,7 @@ pub outcome-empty : (key : Bytes) (max i : ℕ) (last : Bool) (c : Bytes) → i 
 unfolding outcome
 outcome-empty key max i last c lt some empty =
     cond-false (nat_le max i) _ _ (lt-leb max i lt) ∙ cond-false (nat_lt (length c) 16) _ _ (le-ltb (length c) 16 some)
-        ∙ cond-true (last && nat_lt 0 i && nat_eq (length c) 16) _ _ empty
+    ∙ cond-true (last && nat_lt 0 i && nat_eq (length c) 16) _ _ empty
 
 pub outcome-open : (key : Bytes) (max i : ℕ) (last : Bool) (c : Bytes) (o : Known) → i < max → 16 ≤ length c
     → (last && nat_lt 0 i && nat_eq (length c) 16) ≡ false

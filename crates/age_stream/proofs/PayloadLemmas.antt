@@ -46,11 +46,11 @@ outcome-opens key max i last c t h =
     let empty : Bool = last && nat_lt 0 i && nat_eq (length c) 16 in
     let inner : Result Bytes StreamFault = ok_or (opened key (chunk_nonce i last) [] c) (BadChunk i) in
     let a = cond-ok (nat_le max i) TooManyChunks
-        (cond (nat_lt (length c) 16) (Err (ChunkShort i)) (cond empty (Err (EmptyFinal i)) inner)) t h in
+    (cond (nat_lt (length c) 16) (Err (ChunkShort i)) (cond empty (Err (EmptyFinal i)) inner)) t h in
     let b = cond-ok (nat_lt (length c) 16) (ChunkShort i) (cond empty (Err (EmptyFinal i)) inner) t a.1 in
     let d = cond-ok empty (EmptyFinal i) inner t b.1 in
     let is : c ≡ sealed key (chunk_nonce i last) [] t =
-        sym ((opened_is key (chunk_nonce i last) [] c t).0 (ok_or-ok _ (BadChunk i) t d.1)) in
+    sym ((opened_is key (chunk_nonce i last) [] c t).0 (ok_or-ok _ (BadChunk i) t d.1)) in
     let len : length c ≡ length t + 16 = ap length is ∙ length-sealed key (chunk_nonce i last) [] t in
     record {
       within = leb-false max i a.0;
@@ -121,7 +121,7 @@ no_fault-open key max i c [] h =
           let o = outcome-opens key max i true c r.0 r.1 in
           let within : i < max = o.within in
           let len : length c ≡ length r.0 + 16 = ap length o.sealed_so
-              ∙ length-sealed key (chunk_nonce i true) [] r.0 in
+          ∙ length-sealed key (chunk_nonce i true) [] r.0 in
           record {
             texts = r.0 ∷ [];
             sealed_so = ap (λ x. x ∷ []) (sym o.sealed_so);
@@ -136,10 +136,10 @@ no_fault-open key max i c (d ∷ more) h =
       | inl r ↦
           let o = outcome-opens key max i false c r.0 r.1 in
           let rest = no_fault-open key max (i + 1) d more
-              (sym (ap (λ x. first_fault (x ∷ outcomes key max (i + 1) (d ∷ more))) r.1) ∙ h) in
+          (sym (ap (λ x. first_fault (x ∷ outcomes key max (i + 1) (d ∷ more))) r.1) ∙ h) in
           let count : length rest.texts + (i + 1) ≤ max = rest.count in
           let more_left : is_end rest.texts ≡ false = sym (is_end-each key (i + 1) rest.texts)
-              ∙ ap is_end rest.sealed_so in
+          ∙ ap is_end rest.sealed_so in
           record {
             texts = r.0 ∷ rest.texts;
             sealed_so = ap (λ b. sealed key (chunk_nonce i b) [] r.0 ∷ sealed_from key (i + 1) rest.texts) more_left
@@ -149,7 +149,7 @@ no_fault-open key max i c (d ∷ more) h =
             count = omega arith;
             sizes = λ le.
                 let len : length c ≡ length r.0 + 16 = ap length o.sealed_so
-                    ∙ length-sealed key (chunk_nonce i false) [] r.0 in
+                ∙ length-sealed key (chunk_nonce i false) [] r.0 in
                 let full : length c ≡ 65552 = le.0 in
                 sized-more i r.0 rest.texts (omega arith) (rest.sizes le.1);
           }
@@ -168,7 +168,7 @@ each-opens key max i (t ∷ []) s le =
 each-opens key max i (t ∷ u ∷ ts) s le =
     let rest : Sized (i + 1) (u ∷ ts) = elim s [ inl e ↦ absurd (two_not_one e.0) | inr f ↦ inr f.1 ] in
     ap (λ b. outcome key max i b (sealed key (chunk_nonce i false) [] t)
-        ∷ outcomes key max (i + 1) (sealed_from key (i + 1) (u ∷ ts))) (is_end-each key (i + 1) (u ∷ ts))
+    ∷ outcomes key max (i + 1) (sealed_from key (i + 1) (u ∷ ts))) (is_end-each key (i + 1) (u ∷ ts))
     ∙ ap (λ r. r ∷ outcomes key max (i + 1) (sealed_from key (i + 1) (u ∷ ts)))
     (opens-outcome key max i false (sealed key (chunk_nonce i false) [] t) t (record {
       within = omega arith;
@@ -190,11 +190,11 @@ each-filled : (key : Bytes) (i : ℕ) (ts : List Bytes) → AtMost 65536 ts → 
 each-filled key i [] h = h
 each-filled key i (t ∷ []) h =
     let l : length (sealed key (chunk_nonce i true) [] t) ≡ length t + 16 =
-        length-sealed key (chunk_nonce i true) [] t in
+    length-sealed key (chunk_nonce i true) [] t in
     let le : length t ≤ 65536 = h in (omega arith, omega arith)
 each-filled key i (t ∷ u ∷ ts) h =
     let l : length (sealed key (chunk_nonce i false) [] t) ≡ length t + 16 =
-        length-sealed key (chunk_nonce i false) [] t in
+    length-sealed key (chunk_nonce i false) [] t in
     let le : length t ≡ 65536 = h.0 in (omega arith, each-filled key (i + 1) (u ∷ ts) h.1)
 
 pub pieces-each : (key : Bytes) (ts : List Bytes) → AtMost 65536 ts
@@ -218,10 +218,10 @@ all_open-payload : (k : FileKey) (b p : Bytes) (max : ℕ) → 16 ≤ length b
 all_open-payload k b p max le o =
     let key : Bytes = payload_key k (take 16 b) in
     let same : o.texts ≡ chunks p = one-cut 65536 (concat o.texts) o.texts (omega arith)
-        (sized-cut o.texts (o.sizes (cut-at_most 65552 (drop 16 b) (omega arith)))) ∙ ap chunks o.joined in
+    (sized-cut o.texts (o.sizes (cut-at_most 65552 (drop 16 b) (omega arith)))) ∙ ap chunks o.joined in
     let rest : drop 16 b ≡ concat (sealed_from key 0 (chunks p)) =
     sym (is_cut 65552 (drop 16 b) (omega arith)).joined ∙ ap concat (sym o.sealed_so)
-        ∙ ap (λ ts. concat (sealed_from key 0 ts)) same in
+    ∙ ap (λ ts. concat (sealed_from key 0 ts)) same in
     let count : length o.texts + 0 ≤ max = o.count in
     let n : length o.texts ≡ length (chunks p) = ap length same in
     record {
@@ -241,17 +241,17 @@ pub ok-payload : (k : FileKey) (b p : Bytes) (max : ℕ) → payload_reading k m
 ok-payload k b p max h = elim (cases_lt (length b) 16) [
   | inl lt ↦
       let cut_off : payload_reading k max b ≡ stops NonceTruncated =
-          cond-true (nat_lt (length b) 16) _ _ (lt-ltb _ _ lt) in
+      cond-true (nat_lt (length b) 16) _ _ (lt-ltb _ _ lt) in
       absurd (none-some NonceTruncated (sym (ap (λ (r : Reading StreamFault). r.fault) h)
-          ∙ ap (λ (r : Reading StreamFault). r.fault) cut_off))
+      ∙ ap (λ (r : Reading StreamFault). r.fault) cut_off))
   | inr ge ↦
       let key : Bytes = payload_key k (take 16 b) in
       let is : payload_reading k max b ≡ reading_from key max 0 (drop 16 b) =
-          cond-false (nat_lt (length b) 16) _ _ (le-ltb _ _ ge) in
+      cond-false (nat_lt (length b) 16) _ _ (le-ltb _ _ ge) in
       let all = some-open key max (pieces (drop 16 b)) (cut-at_most 65552 (drop 16 b) (omega arith))
-          (ap (λ (r : Reading StreamFault). r.fault) (sym is ∙ h)) in
+      (ap (λ (r : Reading StreamFault). r.fault) (sym is ∙ h)) in
       all_open-payload k b p max ge (subst (AllOpen key max 0 (pieces (drop 16 b)))
-          (ap (λ (r : Reading StreamFault). r.front) (sym is ∙ h)) all)
+      (ap (λ (r : Reading StreamFault). r.front) (sym is ∙ h)) all)
 ]
 
 pub at_most-chunks : (p : Bytes) → Sized 0 (chunks p)
@@ -263,18 +263,18 @@ payload-ok k b p max h =
     let key : Bytes = payload_key k h.nonce in
     let sealed_text : Bytes = concat (sealed_from key 0 (chunks p)) in
     let len : length b ≡ length h.nonce + length sealed_text = ap length h.spelled
-        ∙ length-append h.nonce sealed_text in
+    ∙ length-append h.nonce sealed_text in
     let sixteen : length h.nonce ≡ 16 = h.nonce_len in
     let head : take 16 b ≡ h.nonce = ap (take 16) h.spelled ∙ take_at h.nonce sealed_text 16 sixteen in
     let rest : drop 16 b ≡ sealed_text = ap (drop 16) h.spelled ∙ drop_at h.nonce sealed_text 16 sixteen in
     let count : length (chunks p) ≤ max = h.count in
     let outs : outcomes key max 0 (pieces sealed_text) ≡ map Ok (chunks p) =
     ap (outcomes key max 0) (pieces-each key (chunks p) (cut-at_most 65536 p (omega arith)))
-        ∙ each-opens key max 0 (chunks p) (at_most-chunks p) (omega arith) in
+    ∙ each-opens key max 0 (chunks p) (at_most-chunks p) (omega arith) in
     let the_front : front (outcomes key max 0 (pieces sealed_text)) ≡ p = ap front outs ∙ front-all (chunks p)
-        ∙ (is_cut 65536 p (omega arith)).joined in
+    ∙ (is_cut 65536 p (omega arith)).joined in
     let the_fault : first_fault (outcomes key max 0 (pieces sealed_text)) ≡ None = ap first_fault outs
-        ∙ fault-all (chunks p) in
+    ∙ fault-all (chunks p) in
     cond-false (nat_lt (length b) 16) _ _ (le-ltb (length b) 16 (omega arith))
     ∙ ap (λ x. reading_from (payload_key k x) max 0 (drop 16 b)) head
     ∙ ap (reading_from key max 0) rest

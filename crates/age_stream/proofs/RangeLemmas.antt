@@ -41,7 +41,7 @@ pub front-on : (key rest text old new : Bytes) (at done i skip n : ℕ) → at +
 front-on key rest text old new at done i skip n pos le within size opens so_far e =
     let l : length (take done old) ≡ done = length-take-le done old le in
     subst (IsSlice key rest at) (sym e)
-        (slice-on key rest (take done old) text at i skip n (omega arith) opens within size so_far)
+    (slice-on key rest (take done old) text at i skip n (omega arith) opens within size so_far)
 
 -- the counts
 opened-first : (b : Bool) (new old start i : ℕ) → new + (if b then 1 else 0) ≤ old + 1 → old ≡ start
@@ -72,7 +72,7 @@ counts-at_first index index0 new old start at i e is h same =
     subst (λ x. min (start + (x + 1 - first_to_open index0 at)) (2 ^ 64 - 1) ≤ new) (sym is)
     (counts-first (is_kept index0 (at / 65536)) new old start (at / 65536)
     (subst (λ x. min (old + (if is_kept x (at / 65536) then 0 else 1)) (2 ^ 64 - 1) ≤ new) e
-        (subst (λ x. min (old + (if is_kept index x then 0 else 1)) (2 ^ 64 - 1) ≤ new) is h)) same)
+    (subst (λ x. min (old + (if is_kept index x then 0 else 1)) (2 ^ 64 - 1) ≤ new) is h)) same)
 
 pub counts-later : (b : Bool) (index : Option ℕ) (new old start i0 i : ℕ) → index ≡ Some (i - 1) → i0 < i
     → min (old + (if is_kept index i then 0 else 1)) (2 ^ 64 - 1) ≤ new
@@ -83,7 +83,7 @@ counts-later b index new old start i0 i is lt h e =
     ∙ false_from_ne_true (nat_eq (i - 1) i)
     (λ t. let same : i - 1 ≡ i = eqb-true (i - 1) i t in absurd (omega arith)) in
     counts-on b new old start i0 i (subst (λ (t : Bool). min (old + (if t then 0 else 1)) (2 ^ 64 - 1) ≤ new) other h)
-        lt e
+    lt e
 
 given-first : (b : Bool) (new old start i : ℕ) (layout : Layout)
     → new ≤ old + (if b then 0 else chunk_len layout.plain i + 16) → old ≡ start → 65536 * i < layout.plain
@@ -111,7 +111,7 @@ opened-at_first index index0 new old start at i e is h same =
     subst (λ x. new ≤ start + (x + 1 - first_to_open index0 at)) (sym is)
     (opened-first (is_kept index0 (at / 65536)) new old start (at / 65536)
     (subst (λ x. new + (if is_kept x (at / 65536) then 1 else 0) ≤ old + 1) e
-        (subst (λ x. new + (if is_kept index x then 1 else 0) ≤ old + 1) is h)) same)
+    (subst (λ x. new + (if is_kept index x then 1 else 0) ≤ old + 1) is h)) same)
 
 pub given-at_first : (index index0 : Option ℕ) (new old start at i : ℕ) (layout : Layout) → index ≡ index0
     → i ≡ at / 65536 → new ≤ old + (if is_kept index i then 0 else chunk_len layout.plain i + 16) → old ≡ start
@@ -120,7 +120,7 @@ given-at_first index index0 new old start at i layout e is h same lt =
     subst (λ x. new ≤ start + sealed_span layout (first_to_open index0 at) (x + 1)) (sym is)
     (given-first (is_kept index0 (at / 65536)) new old start (at / 65536) layout
     (subst (λ x. new ≤ old + (if is_kept x (at / 65536) then 0 else chunk_len layout.plain (at / 65536) + 16)) e
-        (subst (λ x. new ≤ old + (if is_kept index x then 0 else chunk_len layout.plain x + 16)) is h)) same
+    (subst (λ x. new ≤ old + (if is_kept index x then 0 else chunk_len layout.plain x + 16)) is h)) same
     (subst (λ x. 65536 * x < layout.plain) is lt))
 
 pub at-chunk : (at i : ℕ) → i ≡ at / 65536 → at < 65536 * (i + 1)

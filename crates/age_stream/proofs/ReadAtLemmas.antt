@@ -39,7 +39,7 @@ read-on old_read new_read at got n old new le len same stays so_far more k lt =
           let value : slice_index (take got old) k ≡ slice_index new k =
           ap (λ x. slice_index x k) (sym same) ∙ get_or-take got new k 0 before in
           subst (new_read (at + k)) (value ∙ sym here)
-              (stays (at + k) (slice_index (take got old) k) (so_far k (omega (arith, a, before))))
+          (stays (at + k) (slice_index (take got old) k) (so_far k (omega (arith, a, before))))
       | inr ge ↦
           let j : ℕ = k - got in
           let sum : got + j ≡ k = omega arith in
@@ -48,5 +48,5 @@ read-on old_read new_read at got n old new le len same stays so_far more k lt =
           get_or-take n (drop got new) j 0 inside ∙ get_or-drop got new j 0 ∙ ap (slice_index new) sum in
           subst (new_read (at + k)) (value ∙ sym here)
           (subst (λ p. new_read p (slice_index (take n (drop got new)) j)) (omega (arith, sum))
-              (more j (omega (arith, b, inside))))
+          (more j (omega (arith, b, inside))))
     ]

@@ -30,7 +30,7 @@ pub is_end-cut : (size : ℕ) (held p : Bytes) → is_end (cut_into size held p)
 is_end-cut size held [] = refl
 is_end-cut size held (x ∷ xs) =
     elim (nat_lt (length held) size) as (λ t. is_end
-        (cond t (cut_into size (held ++ x ∷ []) xs) (held ∷ cut_into size (x ∷ []) xs)) ≡ false) [
+    (cond t (cut_into size (held ++ x ∷ []) xs) (held ∷ cut_into size (x ∷ []) xs)) ≡ false) [
       | true ↦ is_end-cut size (held ++ x ∷ []) xs
       | false ↦ refl
     ]
@@ -54,7 +54,7 @@ pub reading-last : (key : Bytes) (max i : ℕ) (c : Bytes) → length c ≤ 6555
     → reading_from key max i c ≡ then_read (outcome key max i true c) ends
 reading-last key max i c le =
     ap (λ cs. record { front = front (outcomes key max i cs); fault = first_fault (outcomes key max i cs) })
-        (cut-last 65552 c le)
+    (cut-last 65552 c le)
     ∙ reading_first (outcome key max i true c) []
 
 -- a piece with more after it
@@ -63,7 +63,7 @@ pub reading-more : (key : Bytes) (max i : ℕ) (c : Bytes) → 65552 < length c
     (reading_from key max (i + 1) (drop 65552 c))
 reading-more key max i c lt =
     ap (λ cs. record { front = front (outcomes key max i cs); fault = first_fault (outcomes key max i cs) })
-        (cut-step 65552 c (omega arith) lt)
+    (cut-step 65552 c (omega arith) lt)
     ∙ reading_first (outcome key max i (is_end (pieces (drop 65552 c))) (take 65552 c))
     (outcomes key max (i + 1) (pieces (drop 65552 c)))
     ∙ ap (λ b. then_read (outcome key max i b (take 65552 c)) (reading_from key max (i + 1) (drop 65552 c)))
@@ -81,7 +81,7 @@ cut-count size (suc n) p pos (inr lt) le =
     let more : size < length p = omega arith in
     let d : length (drop size p) ≡ length p - size = length-drop size p in
     let rest : length (cut size (drop size p)) ≡ n + 1 =
-        cut-count size n (drop size p) pos (inr (omega arith)) (omega arith) in
+    cut-count size n (drop size p) pos (inr (omega arith)) (omega arith) in
     let all : length (cut size p) ≡ suc (length (cut size (drop size p))) = ap length (cut-step size p pos more) in
     omega arith
 

@@ -66,7 +66,7 @@ pub record IsFull (now piece full next : Bytes) : Type 0 where
 piece-len : (now piece full next : Bytes) → IsFull now piece full next → length now + length piece ≡ 65537
 piece-len now piece full next h =
     let l : length now + length piece ≡ length full + length next = sym (length-append now piece) ∙ ap length h.all
-        ∙ length-append full next in
+    ∙ length-append full next in
     omega (arith, h.size, h.one)
 
 -- the chunks of what came, of the full chunk, and of what may still come
@@ -82,9 +82,9 @@ chunks-after key i j held text now piece full next more a b h f =
     let lp : length now + length piece ≡ 65537 = piece-len now piece full next h in
     let lf : length front ≡ m = length-take-le m piece (omega arith) in
     let whole : now ++ front ≡ full = sym (take-append-add now piece m) ∙ ap (λ k. take k (now ++ piece)) at
-        ∙ ap (take 65536) h.all ∙ take_at full next 65536 h.size in
+    ∙ ap (take 65536) h.all ∙ take_at full next 65536 h.size in
     let rest : back ≡ next = sym (drop-append-add now piece m) ∙ ap (λ k. drop k (now ++ piece)) at
-        ∙ ap (drop 65536) h.all ∙ drop_at full next 65536 h.size in
+    ∙ ap (drop 65536) h.all ∙ drop_at full next 65536 h.size in
     let lm : length (next ++ more) ≡ length next + length more = length-append next more in
     ap (λ t. sealed_after key i held t) (append_assoc text piece more)
     ∙ f.chunks (piece ++ more)
@@ -108,9 +108,9 @@ fed-full key i j held text now piece full next a b c h f put =
     let gone : List Bytes = f.gone ++ chunk ∷ [] in
     let lg : length gone ≡ length f.gone + 1 = length-append f.gone (chunk ∷ []) in
     let joined : concat gone ≡ concat f.gone ++ chunk = concat-append f.gone (chunk ∷ [])
-        ∙ ap (λ t. concat f.gone ++ t) (append-nil chunk) in
+    ∙ ap (λ t. concat f.gone ++ t) (append-nil chunk) in
     let lc : length (concat gone) ≡ length (concat f.gone) + length chunk = ap length joined
-        ∙ length-append (concat f.gone) chunk in
+    ∙ length-append (concat f.gone) chunk in
     let lp : length now + length piece ≡ 65537 = piece-len now piece full next h in
     record {
       gone = gone;
@@ -131,9 +131,11 @@ done-fed key i j held text now more rest a b f is =
 
 wrote-fed : (key : Bytes) (i j : ℕ) (held text now part : Bytes) (a b c : Known) → Fed key i j held text now a b
     → Appends b c part → WroteAtLeast (65552 * (j - i)) a c
-wrote-fed key i j held text now part a b c f put =
-    (concat f.gone ++ part, Appends-trans a b c (concat f.gone) part f.written put,
-        omega (arith, length-append (concat f.gone) part, f.size, f.count))
+wrote-fed key i j held text now part a b c f put = (
+  concat f.gone ++ part,
+  Appends-trans a b c (concat f.gone) part f.written put,
+  omega (arith, length-append (concat f.gone) part, f.size, f.count),
+)
 
 -- a read failed
 pub stopped-read : (key : Bytes) (max i j : ℕ) (held text now : Bytes) (from mid to a b : Known)
@@ -153,9 +155,11 @@ stopped-read key max i j held text now from mid to a b took f =
 gave-full : (key : Bytes) (i j : ℕ) (held text now piece full next : Bytes) (from mid to a b : Known)
     → IsFull now piece full next → Fed key i j held text now a b
     → Consumes from mid text → Consumes mid to piece → GaveAtMost (65536 * (j + 1 - i) + 1 - length held) from to
-gave-full key i j held text now piece full next from mid to a b h f took more =
-    (text ++ piece, Consumes-trans from mid to text piece took more,
-        omega (arith, length-append text piece, f.bytes, f.count, piece-len now piece full next h))
+gave-full key i j held text now piece full next from mid to a b h f took more = (
+  text ++ piece,
+  Consumes-trans from mid to text piece took more,
+  omega (arith, length-append text piece, f.bytes, f.count, piece-len now piece full next h),
+)
 
 -- a write failed
 pub stopped-write : (key : Bytes) (max i j : ℕ) (held text now piece full next : Bytes) (from mid to a b c : Known)
@@ -167,7 +171,7 @@ stopped-write key max i j held text now piece full next from mid to a b c h took
     let chunk : Bytes = sealed key (chunk_nonce j false) [] full in
     let rest : List Bytes = sealed_after key (j + 1) next d.0 in
     let done = done-fed key i j held text now ((text ++ piece) ++ d.0) (chunk ∷ rest) a b f
-        (chunks-after key i j held text now piece full next d.0 a b h f) in
+    (chunks-after key i j held text now piece full next d.0 a b h f) in
     record {
       text = (text ++ piece) ++ d.0;
       may = may-more from to (text ++ piece) d.0 (Consumes-trans from mid to text piece took more) d.1;
@@ -187,18 +191,18 @@ stopped-many key max i j held text now piece full next from mid to a b c h withi
     let chunk : Bytes = sealed key (chunk_nonce j false) [] full in
     let rest : List Bytes = sealed_after key (j + 1) next d.0 in
     let is : sealed_after key i held all ≡ f.gone ++ chunk ∷ rest =
-        chunks-after key i j held text now piece full next d.0 a b h f in
+    chunks-after key i j held text now piece full next d.0 a b h f in
     let lr : length rest ≡ length (cut_into 65536 next d.0) = length-each key (j + 1) (cut_into 65536 next d.0) in
     let some : 0 < length (cut_into 65536 next d.0) = cut-some 65536 next d.0 in
     let ll : length (cut_into 65536 held all) ≡ length f.gone + length (chunk ∷ rest) =
-        sym (length-each key i (cut_into 65536 held all)) ∙ ap length is ∙ length-append f.gone (chunk ∷ rest) in
+    sym (length-each key i (cut_into 65536 held all)) ∙ ap length is ∙ length-append f.gone (chunk ∷ rest) in
     let n : max - 1 - i ≡ length f.gone = omega (arith, f.count) in
     let gone : take (max - 1 - i) (sealed_after key i held all) ≡ f.gone = ap (take (max - 1 - i)) is
-        ∙ take_at f.gone (chunk ∷ rest) (max - 1 - i) (sym n) in
+    ∙ take_at f.gone (chunk ∷ rest) (max - 1 - i) (sym n) in
     let lc : length (chunk ∷ rest) ≡ suc (length rest) = refl in
     let wrote : Appends a c (concat f.gone) =
-        subst (λ t. Appends a c t) (append-nil (concat f.gone))
-        (Appends-trans a b c (concat f.gone) [] f.written none) in
+    subst (λ t. Appends a c t) (append-nil (concat f.gone))
+    (Appends-trans a b c (concat f.gone) [] f.written none) in
     record {
       text = all;
       may = may-more from to (text ++ piece) d.0 (Consumes-trans from mid to text piece took more) d.1;
@@ -229,12 +233,12 @@ stopped-full key max i j k held text now piece full next from mid to a b c fault
     (same, inl (is, part)) =
     subst (λ n. Stopped key max i n held from to a c fault) (sym same)
     (subst (Stopped key max i j held from to a c) (sym is)
-        (stopped-write key max i j held text now piece full next from mid to a b c h took more f part))
+    (stopped-write key max i j held text now piece full next from mid to a b c h took more f part))
 stopped-full key max i j k held text now piece full next from mid to a b c fault h within took more f
     (same, inr (is, many, none)) =
     subst (λ n. Stopped key max i n held from to a c fault) (sym same)
     (subst (Stopped key max i j held from to a c) (sym is)
-        (stopped-many key max i j held text now piece full next from mid to a b c h within many took more f none))
+    (stopped-many key max i j held text now piece full next from mid to a b c h within many took more f none))
 
 -- a buffer that was filled up to the byte after a full chunk
 pub full-is : (held n : ℕ) (bytes filled : Bytes) (a b : Known) → 65536 < n → n ≤ 65537 → held ≤ 65536
@@ -267,7 +271,7 @@ pub fed-next : (key : Bytes) (i j k : ℕ) (held text now piece full next front 
 fed-next key i j k held text now piece full next front a b c h f is same put =
     subst (λ n. Fed key i n held (text ++ piece) front a c) (sym is)
     (subst (λ t. Fed key i (j + 1) held (text ++ piece) t a c) (sym same)
-        (fed-full key i j held text now piece full next a b c h f put))
+    (fed-full key i j held text now piece full next a b c h f put))
 
 -- a sealer between two calls, by its parts
 abbrev pub parts : Bytes → ℕ → ℕ → ℕ → Bytes → Option StreamFault → SealerState
@@ -307,7 +311,7 @@ pub takes-err : (now : SealerState) (from to a b : Known) (key : Bytes) (max i j
     → IfNone now.fault (TakesAll {A = Unit {0}} now (parts key max j len items (Some fault)) from to a b (Err fault))
 takes-err now from to a b key max i j len old slice items kept fault view same stopped =
     subst (λ s. IfNone s.fault (TakesAll {A = Unit {0}} s (parts key max j len items (Some fault)) from to a b
-        (Err fault))) view (unkept kept (
+    (Err fault))) view (unkept kept (
       refl,
       refl,
       (refl, subst (λ t. Stopped key max i j (take len t) from to a b fault) same stopped),
@@ -330,7 +334,7 @@ count-all : (key : Bytes) (i j : ℕ) (held text now : Bytes) (a b : Known) (f :
 count-all key i j held text now a b f =
     let l : length (cut_into 65536 held text) ≡ length f.gone + length (sealed_after key j now []) =
     sym (length-each key i (cut_into 65536 held text)) ∙ ap length (chunks-all key i j held text now a b f)
-        ∙ length-append f.gone (sealed_after key j now []) in
+    ∙ length-append f.gone (sealed_after key j now []) in
     let one : length (sealed_after key j now []) ≡ 1 = refl in
     omega (arith, l, one, f.count)
 
@@ -342,9 +346,9 @@ seals-ok s t u from to a b c done none takes finishes =
     let e = subst (λ (x : Option StreamFault). IfNone x (FinishesBy t b c (Ok done))) h.2.0 finishes in
     let fed = h.2.3 in
     let last : Appends b c (concat (sealed_after s.key t.index t.held [])) =
-        subst (λ k. Appends b c (concat (sealed_after k t.index t.held []))) h.0 e.0 in
+    subst (λ k. Appends b c (concat (sealed_after k t.index t.held []))) h.0 e.0 in
     let count : s.index + length (cut_into 65536 s.held fed.text) ≡ t.index + 1 =
-        count-all s.key s.index t.index s.held fed.text t.held a b fed.fed in
+    count-all s.key s.index t.index s.held fed.text t.held a b fed.fed in
     let fits : t.index < s.max_chunks = subst (λ m. t.index < m) h.1 h.2.2 in (
       fed.text,
       fed.may,
@@ -363,9 +367,9 @@ seals-last s t u from to a b c fault none takes finishes =
     let e = subst (λ (x : Option StreamFault). IfNone x (FinishesBy t b c (Err fault))) h.2.0 finishes in
     let fed = h.2.3 in
     let part : WritesPart b c (concat (sealed_after s.key t.index t.held [])) =
-        subst (λ k. WritesPart b c (concat (sealed_after k t.index t.held []))) h.0 e.1 in
+    subst (λ k. WritesPart b c (concat (sealed_after k t.index t.held []))) h.0 e.1 in
     let done = done-fed s.key s.index t.index s.held fed.text t.held fed.text (sealed_after s.key t.index t.held []) a b
-        fed.fed (chunks-all s.key s.index t.index s.held fed.text t.held a b fed.fed) in (
+    fed.fed (chunks-all s.key s.index t.index s.held fed.text t.held a b fed.fed) in (
       t.index,
       subst (Stopped s.key s.max_chunks s.index t.index s.held from to a c) (sym e.0) (record {
         text = fed.text;
@@ -388,7 +392,7 @@ pub seals-err : (s t : SealerState) (from to a b : Known) (fault : StreamFault) 
     → IfNone s.fault (TakesAll {A = Unit {0}} s t from to a b (Err fault)) → SealsAll s from to a b (Err fault)
 seals-err s t from to a b fault none takes =
     let h = subst (λ (x : Option StreamFault). IfNone x (TakesAll {A = Unit {0}} s t from to a b (Err fault))) none
-        takes in
+    takes in
     (t.index, h.2.1)
 
 -- a clause on what is so where no fault is kept
@@ -443,14 +447,17 @@ filled-seals key max t more from mid to a c r (x, took, is, fits, full, ended) s
         stops Write h = subst (λ cs. WritesPart a c (concat (sealed_from key 0 cs))) (sym same) h
         stops TooManyChunks h =
             subst (λ (cs : List Bytes). (max < 0 + length cs)
-                × Appends a c (concat (take (max - 1 - 0) (sealed_from key 0 cs)))) (sym same) h
+            × Appends a c (concat (take (max - 1 - 0) (sealed_from key 0 cs)))) (sym same) h
         stops _ h = absurd h
 
         gave : (fault ≡ Read) ⊎ GaveAtMost (65536 * (j + 1 - 0) + 1 - length x) mid to
             → (fault ≡ Read) ⊎ GaveAtMost (65536 * (j + 1 - 0) + 1 - 0) from to
         gave (inl e) = inl e
-        gave (inr g) = inr (x ++ g.0, Consumes-trans from mid to x g.0 took g.1,
-            omega (arith, length-append x g.0, g.2, le))
+        gave (inr g) = inr (
+          x ++ g.0,
+          Consumes-trans from mid to x g.0 took g.1,
+          omega (arith, length-append x g.0, g.2, le),
+        )
 
 -- a sealer that was filled with all that came seals it as the last chunk
 pub filled-finishes : (key : Bytes) (max : ℕ) (t : SealerState) (from to a c : Known)

@@ -64,7 +64,7 @@ openings-at key j zero (c ∷ cs) lt = ap (λ n. opened_at key n (is_end cs) c) 
     zero_more = omega arith
 openings-at key j (suc i) (c ∷ cs) lt =
     openings-at key (j + 1) i cs (omega arith)
-        ∙ ap (λ n. opened_at key n (is_end (drop (suc i) cs)) (get_or cs i [])) one_more
+    ∙ ap (λ n. opened_at key n (is_end (drop (suc i) cs)) (get_or cs i [])) one_more
   where
     one_more : j + 1 + i ≡ j + suc i
     one_more = omega arith
@@ -91,8 +91,8 @@ pub plain-count : (n : ℕ) (rest : Bytes) → (n ≡ 0) ⊎ (65552 * n < length
     → plain_len rest + 16 * (n + 1) ≡ length rest
 plain-count zero rest some le tag =
     let one : plain_len rest ≡ (length rest - 16) + 0 =
-        ap (sum_by (λ piece. length piece - 16)) (cut-last 65552 rest (omega arith))
-        ∙ sum_by-cons (λ piece. length piece - 16) rest [] in
+    ap (sum_by (λ piece. length piece - 16)) (cut-last 65552 rest (omega arith))
+    ∙ sum_by-cons (λ piece. length piece - 16) rest [] in
     omega arith
 plain-count (suc n) rest (inl e) le tag = absurd (omega arith)
 plain-count (suc n) rest (inr lt) le tag =
@@ -100,10 +100,10 @@ plain-count (suc n) rest (inr lt) le tag =
     let d : length (drop 65552 rest) ≡ length rest - 65552 = length-drop 65552 rest in
     let t : length (take 65552 rest) ≡ 65552 = length-take-le 65552 rest (omega arith) in
     let behind : plain_len (drop 65552 rest) + 16 * (n + 1) ≡ length (drop 65552 rest) =
-        plain-count n (drop 65552 rest) (inr (omega arith)) (omega arith) (omega arith) in
+    plain-count n (drop 65552 rest) (inr (omega arith)) (omega arith) (omega arith) in
     let step : plain_len rest ≡ (length (take 65552 rest) - 16) + plain_len (drop 65552 rest) =
     ap (sum_by (λ piece. length piece - 16)) (cut-step 65552 rest (omega arith) more)
-        ∙ sum_by-cons (λ piece. length piece - 16) (take 65552 rest) (pieces (drop 65552 rest)) in
+    ∙ sum_by-cons (λ piece. length piece - 16) (take 65552 rest) (pieces (drop 65552 rest)) in
     omega arith
 
 -- a slice goes on within one chunk
@@ -127,7 +127,9 @@ slice-on key rest xs text at i skip n pos opens within size so_far k lt =
           let inside : j < n = omega arith in
           let value : slice_index (xs ++ ys) k ≡ slice_index text (skip + j) =
           ap (slice_index (xs ++ ys)) sum ∙ get_or-append-add xs ys j 0 ∙ get_or-take n (drop skip text) j 0 inside
-              ∙ get_or-drop skip text j 0 in
-          (text, ap (opening key rest) here ∙ opens,
-              ap (slice_get text) there ∙ slice_get-get_or text (skip + j) 0 (omega arith) ∙ ap Some (sym value))
+          ∙ get_or-drop skip text j 0 in (
+            text,
+            ap (opening key rest) here ∙ opens,
+            ap (slice_get text) there ∙ slice_get-get_or text (skip + j) 0 (omega arith) ∙ ap Some (sym value),
+          )
     ]

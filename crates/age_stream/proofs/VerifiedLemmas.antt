@@ -54,7 +54,7 @@ verified-on old_read new_read layout text old new at done i skip n stays pos le 
     let d : length (drop skip text) ≡ length text - skip = length-drop skip text in
     let l : length ys ≡ n = length-take-le n (drop skip text) (omega arith) in
     let whole : slice_index new k ≡ slice_index (xs ++ ys) k = sym (get_or-take (done + n) new k 0 lt)
-        ∙ ap (λ z. slice_index z k) is in
+    ∙ ap (λ z. slice_index z k) is in
     elim (cases_lt k done) [
       | inl before ↦
           let value : slice_index new k ≡ slice_index old k =
@@ -69,9 +69,11 @@ verified-on old_read new_read layout text old new at done i skip n stays pos le 
           let inside : j < n = omega arith in
           let value : slice_index new k ≡ slice_index text (skip + j) =
           whole ∙ ap (slice_index (xs ++ ys)) sum ∙ get_or-append-add xs ys j 0
-              ∙ get_or-take n (drop skip text) j 0 inside ∙ get_or-drop skip text j 0 in
-          (text, subst (λ c. IsVerified new_read layout c text) here verified,
-              ap (slice_get text) there ∙ slice_get-get_or text (skip + j) 0 (omega arith) ∙ ap Some (sym value))
+          ∙ get_or-take n (drop skip text) j 0 inside ∙ get_or-drop skip text j 0 in (
+            text,
+            subst (λ c. IsVerified new_read layout c text) here verified,
+            ap (slice_get text) there ∙ slice_get-get_or text (skip + j) 0 (omega arith) ∙ ap Some (sym value),
+          )
     ]
 
 -- each byte is as it was, or was verified
@@ -85,5 +87,5 @@ changed-verified old_read new_read layout old new at done stays rest so_far k = 
       let j : ℕ = k - done in
       let sum : k ≡ done + j = omega arith in
       inl (ap (slice_index new) sum ∙ sym (get_or-drop done new j 0) ∙ ap (λ z. slice_index z j) rest
-          ∙ get_or-drop done old j 0 ∙ ap (slice_index old) (sym sum))
+      ∙ get_or-drop done old j 0 ∙ ap (slice_index old) (sym sum))
 ]

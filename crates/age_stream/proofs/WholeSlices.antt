@@ -43,7 +43,7 @@ openings-each : (key : Bytes) (i : ℕ) (ts : List Bytes) → openings key i (se
 openings-each key i [] = refl
 openings-each key i (t ∷ ts) =
     ap (λ b. opened_at key i b (sealed key (chunk_nonce i (is_end ts)) [] t)
-        ∷ openings key (i + 1) (sealed_from key (i + 1) ts)) (is_end-each key (i + 1) ts)
+    ∷ openings key (i + 1) (sealed_from key (i + 1) ts)) (is_end-each key (i + 1) ts)
     ∙ ap (λ o. o ∷ openings key (i + 1) (sealed_from key (i + 1) ts))
     (opened-sealed key (chunk_nonce i (is_end ts)) [] t)
     ∙ ap (λ x. Some t ∷ x) (openings-each key (i + 1) ts)
@@ -53,10 +53,10 @@ plain-each : (key : Bytes) (i : ℕ) (ts : List Bytes)
 plain-each key i [] = refl
 plain-each key i (t ∷ ts) =
     let l : length (sealed key (chunk_nonce i (is_end ts)) [] t) ≡ length t + 16 =
-        length-sealed key (chunk_nonce i (is_end ts)) [] t in
+    length-sealed key (chunk_nonce i (is_end ts)) [] t in
     let a : length (t ++ concat ts) ≡ length t + length (concat ts) = length-append t (concat ts) in
     let rest : sum_by (λ piece. length piece - 16) (sealed_from key (i + 1) ts) ≡ length (concat ts) =
-        plain-each key (i + 1) ts in
+    plain-each key (i + 1) ts in
     sum_by-cons (λ piece. length piece - 16) (sealed key (chunk_nonce i (is_end ts)) [] t) (sealed_from key (i + 1) ts)
     ∙ ap (λ n. (length (sealed key (chunk_nonce i (is_end ts)) [] t) - 16) + n) rest
     ∙ ap (λ n. (n - 16) + length (concat ts)) l ∙ omega arith
@@ -66,7 +66,7 @@ pub whole-len : (k : FileKey) (b p : Bytes) (max : ℕ) → payload_reading k ma
 whole-len k b p max h =
     let w = whole-is k b p max h in
     ap (sum_by (λ piece. length piece - 16)) w.sealed_so ∙ plain-each (payload_key k (take 16 b)) 0 (chunks p)
-        ∙ ap length (is_cut 65536 p (omega arith)).joined
+    ∙ ap length (is_cut 65536 p (omega arith)).joined
 
 outcomes-at : (key : Bytes) (max j i : ℕ) (cs : List Bytes) (d : Result Bytes StreamFault) → i < length cs
     → get_or (outcomes key max j cs) i d ≡ outcome key max (j + i) (is_end (drop (suc i) cs)) (get_or cs i [])
@@ -77,7 +77,7 @@ outcomes-at key max j zero (c ∷ cs) d lt = ap (λ n. outcome key max n (is_end
     zero_more = omega arith
 outcomes-at key max j (suc i) (c ∷ cs) d lt =
     outcomes-at key max (j + 1) i cs d (omega arith)
-        ∙ ap (λ n. outcome key max n (is_end (drop (suc i) cs)) (get_or cs i [])) one_more
+    ∙ ap (λ n. outcome key max n (is_end (drop (suc i) cs)) (get_or cs i [])) one_more
   where
     one_more : j + 1 + i ≡ j + suc i
     one_more = omega arith
@@ -96,11 +96,11 @@ whole-opens k b p max h =
     let none : 0 + last ≡ last = omega arith in
     let sixteen : length i.nonce ≡ 16 = i.nonce_len in
     let size : length b ≡ length i.nonce + length (concat (sealed_from (payload_key k i.nonce) 0 (chunks p))) =
-        ap length i.spelled ∙ length-append i.nonce _ in
+    ap length i.spelled ∙ length-append i.nonce _ in
     let all : outcomes key max 0 (pieces rest) ≡ map Ok (chunks p) = ap (outcomes key max 0) w.sealed_so
-        ∙ each-opens key max 0 (chunks p) (at_most-chunks p) (omega arith) in
+    ∙ each-opens key max 0 (chunks p) (at_most-chunks p) (omega arith) in
     let end : is_end (drop (suc last) (pieces rest)) ≡ true =
-        ap is_end (drop_all (suc last) (pieces rest) (omega arith)) in (
+    ap is_end (drop_all (suc last) (pieces rest) (omega arith)) in (
       get_or (chunks p) last [],
       cond-false (nat_lt (length b) 16) _ _ (le-ltb (length b) 16 (omega arith))
           ∙ ap (λ e. outcome key max last e (last_piece rest)) (sym end)
@@ -124,10 +124,10 @@ byte-of key rest p text max x v w opens at =
     let r : ℕ = x % 65536 in
     let same : text ≡ take 65536 (drop (65536 * i) p) =
     got (chunks p) i text (sym (ap (λ os. get_or os i None)
-        (ap (openings key 0) w.sealed_so ∙ openings-each key 0 (chunks p))) ∙ opens) ∙ cut-at 65536 i p (omega arith) in
+    (ap (openings key 0) w.sealed_so ∙ openings-each key 0 (chunks p))) ∙ opens) ∙ cut-at 65536 i p (omega arith) in
     let d : length (drop (65536 * i) p) ≡ length p - 65536 * i = length-drop (65536 * i) p in
     let l : length text ≡ min 65536 (length (drop (65536 * i) p)) = ap length same
-        ∙ length-take 65536 (drop (65536 * i) p) in
+    ∙ length-take 65536 (drop (65536 * i) p) in
     let within : r < length text = slice_get_within text r v at in
     let sum : 65536 * i + r ≡ x = omega arith in (
       omega (arith, within, l, d, sum),
@@ -145,7 +145,7 @@ whole-slice k b p xs max at h s =
     let rest : Bytes = drop 16 b in
     let d : length (drop at p) ≡ length p - at = length-drop at p in
     let t : length (take (length xs) (drop at p)) ≡ min (length xs) (length (drop at p)) =
-        length-take (length xs) (drop at p) in
+    length-take (length xs) (drop at p) in
     let reach : length xs ≤ length p - at = elim (cases_lt 0 (length xs)) [
       | inl some ↦
           let k : ℕ = length xs - 1 in
@@ -157,4 +157,4 @@ whole-slice k b p xs max at h s =
     ext_get_or 0 xs (take (length xs) (drop at p)) (omega arith) (λ k lt.
     let z = s k lt in
     (byte-of key rest p z.0 max (at + k) (slice_index xs k) w z.1 z.2).1 ∙ sym (get_or-drop at p k 0)
-        ∙ sym (get_or-take (length xs) (drop at p) k 0 lt))
+    ∙ sym (get_or-take (length xs) (drop at p) k 0 lt))

@@ -32,7 +32,7 @@ first-last : (key : Bytes) (max i : ℕ) (c text : Bytes) (left : Known) → len
 first-last key max i c text left le is rest =
     let yes : nat_le (length c) 65552 ≡ true = le-leb (length c) 65552 le in
     let all : outcome key max i true c ≡ Ok text = ap (outcome key max i true) (sym (take_all 65552 c le))
-        ∙ ap (λ b. outcome key max i b (take 65552 c)) (sym yes) ∙ is in
+    ∙ ap (λ b. outcome key max i b (take 65552 c)) (sym yes) ∙ is in
     let none : left ≡ None = rest ∙ ap (λ b. cond b None (Some (drop 65552 c))) yes in
     subst (IsFirst key max i c text) (sym none) (record {
       reads = reading-last key max i c le ∙ ap (λ r. then_read r (record { front = []; fault = None })) all;
@@ -44,7 +44,7 @@ first-more : (key : Bytes) (max i : ℕ) (c text : Bytes) (left : Known) → 655
 first-more key max i c text left lt is rest =
     let no : nat_le (length c) 65552 ≡ false = lt-leb (length c) 65552 lt in
     let one : outcome key max i false (take 65552 c) ≡ Ok text = ap (λ b. outcome key max i b (take 65552 c)) (sym no)
-        ∙ is in
+    ∙ is in
     let some : left ≡ Some (drop 65552 c) = rest ∙ ap (λ b. cond b None (Some (drop 65552 c))) no in
     subst (IsFirst key max i c text) (sym some) (record {
       reads = reading-more key max i c lt ∙ ap (λ r. then_read r (reading_from key max (i + 1) (drop 65552 c))) one;
@@ -63,7 +63,7 @@ pub first-err : (key : Bytes) (max i : ℕ) (c : Bytes) (fault : StreamFault) �
 first-err key max i c fault is = elim (cases_lt 65552 (length c)) [
   | inr le ↦ reading-last key max i c le ∙ ap (λ r. then_read r (record { front = []; fault = None }))
       (ap (outcome key max i true) (sym (take_all 65552 c le))
-          ∙ ap (λ b. outcome key max i b (take 65552 c)) (sym (le-leb (length c) 65552 le)) ∙ is)
+      ∙ ap (λ b. outcome key max i b (take 65552 c)) (sym (le-leb (length c) 65552 le)) ∙ is)
   | inl lt ↦ reading-more key max i c lt ∙ ap (λ r. then_read r (reading_from key max (i + 1) (drop 65552 c)))
       (ap (λ b. outcome key max i b (take 65552 c)) (sym (lt-leb (length c) 65552 lt)) ∙ is)
 ]
@@ -131,7 +131,7 @@ held-some t u now next adv = go t.held refl
         let o = adv.opens d.0 d.1 in
         let none : OpensNext t.key t.max_chunks t.index None (left_of u.held d.0) u.text (Ok true) =
         subst (λ (x : Known). OpensNext t.key t.max_chunks t.index (left_of x o.0) (left_of u.held d.0) u.text
-            (Ok true)) e o.2 in
+        (Ok true)) e o.2 in
         absurd (true-not-false none.0)
 
 at-some : (P : Bytes → Type 0) (held : Known) (h : Bytes) → held ≡ Some h → IfSome held P → P h
@@ -145,7 +145,7 @@ step-reads : (key : Bytes) (max i : ℕ) (held left : Known) (h c text front : B
     → all ≡ before (front ++ text) (reading_left key max (i + 1) left)
 step-reads key max i held left h c text front all is opens so =
     let o : OpensNext key max i (Some (h ++ c)) left text (Ok true) =
-        subst (λ (x : Known). OpensNext key max i (left_of x c) left text (Ok true)) is opens in
+    subst (λ (x : Known). OpensNext key max i (left_of x c) left text (Ok true)) is opens in
     let first = first-ok key max i (h ++ c) text left o.1 o.2 in
     so ∙ ap (λ (x : Known). before front (reading_left key max i (left_of x c))) is ∙ ap (before front) first.reads
     ∙ ap (λ t. record { front = t; fault = (reading_left key max (i + 1) left).fault })
@@ -156,7 +156,7 @@ step-count : (key : Bytes) (max i : ℕ) (held left : Known) (h c text : Bytes) 
     → length (pieces_left (left_of held c)) ≡ length (pieces_left left) + 1
 step-count key max i held left h c text is opens =
     let o : OpensNext key max i (Some (h ++ c)) left text (Ok true) =
-        subst (λ (x : Known). OpensNext key max i (left_of x c) left text (Ok true)) is opens in
+    subst (λ (x : Known). OpensNext key max i (left_of x c) left text (Ok true)) is opens in
     ap (λ (x : Known). length (pieces_left (left_of x c))) is ∙ (first-ok key max i (h ++ c) text left o.1 o.2).count
 
 under : (t : OpenerState) (key : Bytes) (max : ℕ) (left rest : Known) (text : Bytes) (r : Result Bool StreamFault)
@@ -177,7 +177,7 @@ next-reads s t u n from now next old new o adv d may =
     let h = held-some t u now next adv in
     let one = adv.opens d may in
     let opens = under t s.key s.max_chunks (left_of t.held one.0) (left_of u.held d) u.text (Ok true) o.key o.max_chunks
-        one.2 in
+    one.2 in
     let past = o.reads one.0 one.1 in
     let more = step-count s.key s.max_chunks t.index t.held (left_of u.held d) h.0 one.0 u.text h.1 opens in (
       past.0,
@@ -193,7 +193,7 @@ gave-next s t u n from now next old new o adv =
     let past : GaveAtMost (65552 * (t.index - s.index) + length h.0) from now = at-some _ t.held h.0 h.1 o.gave in
     let short : length h.0 ≤ 1 = subst (λ (x : Known). ahead_len x ≤ 1) h.1 adv.ahead in
     let one : GaveAtMost (65553 - length h.0) now next =
-        subst (λ (x : Known). GaveAtMost (65553 - ahead_len x) now next) h.1 adv.gave in
+    subst (λ (x : Known). GaveAtMost (65553 - ahead_len x) now next) h.1 adv.gave in
     let all = gave-more from now next _ _ past one in
     (all.0, all.1, omega (arith, all.2))
 
@@ -250,7 +250,7 @@ writes-done s t u n from now next a b done o adv bytes chunks =
     let past = o.reads one.0 one.1 in
     let all = past.2 ∙ ap (λ (x : Known). before o.front (reading_left s.key s.max_chunks t.index x)) none in
     let front : (reading_left s.key s.max_chunks s.index (left_of s.held past.0)).front ≡ o.front =
-        ap (λ (r : Reading StreamFault). r.front) all ∙ append-nil o.front in
+    ap (λ (r : Reading StreamFault). r.front) all ∙ append-nil o.front in
     let count : length (pieces_left (left_of t.held one.0)) ≡ 0 = ap (λ (x : Known). length (pieces_left x)) none in (
       past.0,
       past.1,
@@ -272,16 +272,19 @@ part-of : (all rest : Reading StreamFault) (front part : Bytes) (a b c : Known) 
     → Appends a b front → (more : Bytes) → rest.front ≡ part ++ more → WritesPart b c part → WritesPart a c all.front
 part-of all rest front part a b c is put more cut wrote =
     done_part a b c all.front rest.front part more
-        (record { front = front; took = put; is = ap (λ (r : Reading StreamFault). r.front) is }) cut wrote
+    (record { front = front; took = put; is = ap (λ (r : Reading StreamFault). r.front) is }) cut wrote
 
 -- a read failed
 pub writes-read : (s t : OpenerState) (n : ℕ) (from now a b : Known) → Opened s t n from now a b
     → WritesAll s from a b (Err Read)
 writes-read s t n from now a b o =
     let d = may-some now in
-    let past = o.reads d.0 d.1 in
-    (past.0, past.1, part-of _ (reading_left s.key s.max_chunks t.index (left_of t.held d.0)) o.front [] a b b past.2
-        o.written _ refl (0, Appends-nil b))
+    let past = o.reads d.0 d.1 in (
+      past.0,
+      past.1,
+      part-of _ (reading_left s.key s.max_chunks t.index (left_of t.held d.0)) o.front [] a b b past.2
+          o.written _ refl (0, Appends-nil b),
+    )
 
 -- a write failed
 pub writes-write : (s t u : OpenerState) (n : ℕ) (from now next a b c : Known) → Opened s t n from now a b
@@ -327,15 +330,18 @@ writes-stop s t u n from now next a b fault o adv =
     let d = may-some next in
     let one = adv.opens d.0 d.1 in
     let stop = left-stops (left_of t.held one.0) (left_of u.held d.0) u.text
-        (under t s.key s.max_chunks (left_of t.held one.0) (left_of u.held d.0) u.text (Err fault) o.key o.max_chunks
-        one.2) in
+    (under t s.key s.max_chunks (left_of t.held one.0) (left_of u.held d.0) u.text (Err fault) o.key o.max_chunks
+    one.2) in
     let past = o.reads one.0 one.1 in
     let all = past.2 ∙ ap (before o.front) stop in
     let front : (reading_left s.key s.max_chunks s.index (left_of s.held past.0)).front ≡ o.front =
-        ap (λ (r : Reading StreamFault). r.front) all ∙ append-nil o.front in
-    (past.0, past.1, stops-writes (reading_left s.key s.max_chunks s.index (left_of s.held past.0))
-        (length (pieces_left (left_of s.held past.0))) t.max_chunks t.index a b fault adv.keeps.2
-        (ap (λ (r : Reading StreamFault). r.fault) all) (subst (Appends a b) (sym front) o.written))
+    ap (λ (r : Reading StreamFault). r.front) all ∙ append-nil o.front in (
+      past.0,
+      past.1,
+      stops-writes (reading_left s.key s.max_chunks s.index (left_of s.held past.0))
+          (length (pieces_left (left_of s.held past.0))) t.max_chunks t.index a b fault adv.keeps.2
+          (ap (λ (r : Reading StreamFault). r.fault) all) (subst (Appends a b) (sym front) o.written),
+    )
   where
     left-stops : (left rest : Known) (text : Bytes) → OpensNext s.key s.max_chunks t.index left rest text (Err fault)
         → reading_left s.key s.max_chunks t.index left ≡ stops fault
@@ -358,7 +364,7 @@ ends-stop s t u n from now next a b fault o adv = record {
         let past : GaveAtMost (65552 * (t.index - s.index) + length h) from now = at-some _ t.held h e o.gave in
         let short : length h ≤ 1 = subst (λ (x : Known). ahead_len x ≤ 1) e adv.ahead in
         let one : GaveAtMost (65553 - length h) now next =
-            subst (λ (x : Known). GaveAtMost (65553 - ahead_len x) now next) e adv.gave in
+        subst (λ (x : Known). GaveAtMost (65553 - ahead_len x) now next) e adv.gave in
         let all = gave-more from now next _ _ past one in
         (all.0, all.1, omega (arith, all.2))
     gave None e =
@@ -366,7 +372,7 @@ ends-stop s t u n from now next a b fault o adv = record {
         let one = adv.opens d.0 d.1 in
         let none : OpensNext t.key t.max_chunks t.index None (left_of u.held d.0) u.text (Err fault) =
         subst (λ (x : Known). OpensNext t.key t.max_chunks t.index (left_of x one.0) (left_of u.held d.0) u.text
-            (Err fault)) e one.2 in
+        (Err fault)) e one.2 in
         absurd (err-not-ok fault false none.0)
 
 -- of the clause of a call what it says where no fault was kept, and no read failed

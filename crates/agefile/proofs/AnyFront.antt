@@ -34,8 +34,11 @@ under len rest k s is =
     elim (cases_lt (length rest) 16) [
       | inl lt ↦ let none : ◌≡◌ {A = Result Start Fault} (Ok s) (Err NonceTruncated) = is
           ∙ cond-true (nat_lt (length rest) 16) other found (lt-ltb (length rest) 16 lt) in absurd (cc)
-      | inr ge ↦ record { long = ge; is =
-          ok-ok s _ (is ∙ cond-false (nat_lt (length rest) 16) other found (le-ltb (length rest) 16 ge)) }
+      | inr ge ↦ record {
+        long = ge;
+        is =
+            ok-ok s _ (is ∙ cond-false (nat_lt (length rest) 16) other found (le-ltb (length rest) 16 ge));
+      }
     ]
 
 start_there : (len : ℕ) (rest : Bytes) (k : FileKey) → 16 ≤ length rest
@@ -49,7 +52,7 @@ under_as : (len : ℕ) (rest more : Bytes) (key : Result FileKey Fault) (s : Sta
 under_as len rest more (Err fault) s is long same = absurd (cc)
 under_as len rest more (Ok k) s is long same =
     ap Ok ((under len rest k s is).is ∙ ap (λ n. record { first = len + 16; key = payload_key k n }) (sym same))
-        ∙ sym (start_there len more k long)
+    ∙ sym (start_there len more k long)
 
 -- ---- a beginning and its file
 
@@ -59,14 +62,14 @@ longer answers n b s (Err e, verdict, is) = absurd (cc)
 longer answers n b s (Ok found, verdict, is) =
     let w = headers.begins_found (take n b) limits.max_header found verdict in
     let whole : b ≡ found.text ++ (w.rest ++ drop n b) = sym (take-append-drop n b) ∙ ap (λ t. t ++ drop n b) w.front
-        ∙ append_assoc found.text w.rest (drop n b) in
+    ∙ append_assoc found.text w.rest (drop n b) in
     let before : drop (length found.text) (take n b) ≡ w.rest = ap (drop (length found.text)) w.front
-        ∙ drop_at found.text w.rest (length found.text) refl in
+    ∙ drop_at found.text w.rest (length found.text) refl in
     let behind : drop (length found.text) b ≡ w.rest ++ drop n b = ap (drop (length found.text)) whole
-        ∙ drop_at found.text (w.rest ++ drop n b) (length found.text) refl in
+    ∙ drop_at found.text (w.rest ++ drop n b) (length found.text) refl in
     let key = unlocked answers (parts_of found) in
     let mine : Ok s ≡ start_under (length found.text) w.rest key = is
-        ∙ ap (λ r. start_under (length found.text) r key) before in
+    ∙ ap (λ r. start_under (length found.text) r key) before in
     let long : 16 ≤ length w.rest = long_of (length found.text) w.rest key s mine in
     let same : take 16 (w.rest ++ drop n b) ≡ take 16 w.rest = take-append-le 16 w.rest (drop n b) long in (
       Ok found,
@@ -113,7 +116,7 @@ shorter answers n b s within (Ok found, verdict, is) =
     front_of n text rest b is le =
         let split : n ≡ length text + (n - length text) = omega (arith, le) in
         ap (λ k. take k b) split ∙ ap (take (length text + (n - length text))) is
-            ∙ take-append-add text rest (n - length text)
+        ∙ take-append-add text rest (n - length text)
 
 -- bytes have one start
 one_start : (answers : Answering) (b : Bytes) (r s : Result Start Fault) → IsStart answers b r → IsStart answers b s
@@ -163,7 +166,7 @@ opened_file answers n b p q report r code (Ok s) is first within (start, inl mem
 opened_file answers n b p q report r code (Ok s) is first within (start, inr there, second) other =
     let low : s.first ≤ n = subst (λ (x : Report). x.len ≤ n) first.1 within in
     gave s p q report r code start first
-        (one_start answers (take n b) start (Ok s) there (shorter answers n b s low is)) second
+    (one_start answers (take n b) start (Ok s) there (shorter answers n b s low is)) second
 
 pub file_opens : (answers : Answering) (n : ℕ) (b : Bytes) (p q : Payload) (report r : Report) (code : ℕ)
     → Opens answers b p report 0 → report.len ≤ n

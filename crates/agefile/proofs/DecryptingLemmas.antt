@@ -37,7 +37,7 @@ pub first_is : (key : Bytes) (i size : ℕ) (left piece : Bytes) → size ≡ mi
 first_is key i size left piece sized is =
     let len : length (take size left) ≡ size = length-take-le size left (omega (arith, sized)) in
     let whole : take size piece ≡ take size left = ap (take size) is
-        ∙ take_all size (take size left) (omega (arith, len)) in
+    ∙ take_all size (take size left) (omega (arith, len)) in
     let same : take size left ≡ take 65552 left = elim (cases_lt 65552 (length left)) [
       | inl lt ↦ let full : size ≡ 65552 = omega (arith, sized, lt) in ap (λ n. take n left) full
       | inr le ↦ take_all size left (omega (arith, sized, le)) ∙ sym (take_all 65552 left le)
@@ -50,7 +50,7 @@ pub first_given : (o p : Result Bytes StreamFault) (n : ℕ) (after text old new
 first_given o p n after text old new same h is put =
     let len : length text ≡ n = ap length is ∙ length-take-le n after h.1 in
     subst (λ x. GivesFirst x old new (Ok n)) (ap Ok is ∙ sym h.0 ∙ same)
-        (ap Ok (sym len), put ∙ ap (λ k. text ++ drop k old) (sym len))
+    (ap Ok (sym len), put ∙ ap (λ k. text ++ drop k old) (sym len))
 
 pub first_fault : (o p : Result Bytes StreamFault) (fault : StreamFault) (after old : Bytes) → p ≡ o
     → GivesText p after (Err fault) → GivesFirst o old old (Err fault)
@@ -146,9 +146,9 @@ read_stops key sealed old out at len number fault mid new r gives joined =
     r.reads ∙ ap (before (take len out)) (first-err key limits.max_chunks number (drop at sealed) fault f.0) in
     subst (λ x. GivesReading (reading_from key limits.max_chunks 0 sealed) old x len (Some fault)) (sym same)
     (given (reading_from key limits.max_chunks 0 sealed) old out len (Some fault)
-        (omega (arith, text_fits key sealed old out at len number r))
+    (omega (arith, text_fits key sealed old out at len number r))
     (ap (λ (x : Reading StreamFault). x.front) all ∙ append-nil (take len out))
-        (ap (λ (x : Reading StreamFault). x.fault) all) r.rest)
+    (ap (λ (x : Reading StreamFault). x.fault) all) r.rest)
 
 -- a chunk opened: the buffer after it
 record IsPut (old out new text : Bytes) (len n : ℕ) : Type 0 where
@@ -163,8 +163,8 @@ put : (old out mid new text : Bytes) (len n : ℕ) → len + n ≤ length out �
 put old out mid new text len n fits count is joined rest =
     let later : drop n (drop len out) ≡ drop (len + n) out = drop-drop n len out in
     let all : new ≡ take len out ++ text ++ drop (len + n) out = joined
-        ∙ ap (λ m. take len out ++ m) (is ∙ ap (λ d. text ++ d) later)
-        ∙ sym (append_assoc (take len out) text (drop (len + n) out)) in
+    ∙ ap (λ m. take len out ++ m) (is ∙ ap (λ d. text ++ d) later)
+    ∙ sym (append_assoc (take len out) text (drop (len + n) out)) in
     record {
       front = put-front out text new len n (omega (arith, fits)) (sym count) all;
       rest = rest-on out new old len n rest (put-rest out text new len n (omega (arith, fits)) (sym count) all);
@@ -191,13 +191,13 @@ read_ends key sealed old out at len number n mid new r gives joined last fits =
     let o = opened (first_outcome key limits.max_chunks number (drop at sealed)) n (drop len out) mid gives in
     let p = put old out mid new o.0 len n fits o.2 o.3 joined r.rest in
     let none : None ≡ after_first (drop at sealed) =
-        sym (cond-true (nat_le (length (drop at sealed)) 65552) None (Some (drop 65552 (drop at sealed)))
-        (le-leb _ 65552 last)) in
+    sym (cond-true (nat_le (length (drop at sealed)) 65552) None (Some (drop 65552 (drop at sealed)))
+    (le-leb _ 65552 last)) in
     let f = first-ok key limits.max_chunks number (drop at sealed) o.0 None o.1 none in
     let all = r.reads ∙ ap (before (take len out)) f.reads in
     given (reading_from key limits.max_chunks 0 sealed) old new (len + n) None (omega (arith, p.fits, p.size))
     (ap (λ (x : Reading StreamFault). x.front) all ∙ ap (λ t. take len out ++ t) (append-nil o.0) ∙ sym p.front)
-        (ap (λ (x : Reading StreamFault). x.fault) all) p.rest
+    (ap (λ (x : Reading StreamFault). x.fault) all) p.rest
 
 -- another chunk opened
 pub read_more : (key sealed old out : Bytes) (at len number n : ℕ) (mid new : Bytes)
@@ -211,7 +211,7 @@ read_more key sealed old out at len number n mid new r gives joined more count =
     let p = put old out mid new o.0 len n fits o.2 o.3 joined r.rest in
     let left : Bytes = drop 65552 (drop at sealed) in
     let some : Some left ≡ after_first (drop at sealed) =
-        sym (cond-false (nat_le (length (drop at sealed)) 65552) None (Some left) (lt-leb _ 65552 more)) in
+    sym (cond-false (nat_le (length (drop at sealed)) 65552) None (Some left) (lt-leb _ 65552 more)) in
     let f = first-ok key limits.max_chunks number (drop at sealed) o.0 (Some left) o.1 some in
     let tail : Reading StreamFault = reading_from key limits.max_chunks (number + 1) left in
     record {
@@ -240,12 +240,12 @@ start_of_key b n start (Ok k) is =
     elim (cases_lt (length (drop n b)) 16) [
       | inl lt ↦
           let none : ◌≡◌ {A = Result Start Fault} (Ok start) (Err NonceTruncated) = is
-              ∙ cond-true (nat_lt (length (drop n b)) 16) other found (lt-ltb (length (drop n b)) 16 lt) in
+          ∙ cond-true (nat_lt (length (drop n b)) 16) other found (lt-ltb (length (drop n b)) 16 lt) in
           absurd (cc)
       | inr ge ↦
           let same : start ≡ record { first = n + 16; key = payload_key k (take 16 (drop n b)) } =
           ok-ok start _ (is ∙ cond-false (nat_lt (length (drop n b)) 16) other found
-              (le-ltb (length (drop n b)) 16 ge)) in
+          (le-ltb (length (drop n b)) 16 ge)) in
           omega (arith, ge, ap (λ (s : Start). s.first) same, length-drop n b)
     ]
 
@@ -262,8 +262,12 @@ pub decrypts_none : (answers : Answering) (b old new : Bytes) (report : Report) 
     → Decrypts answers b old new report code
 decrypts_none answers b old new report code fault (inl memory) refuses =
     let same : fault ≡ OutOfMemory = err-err {A = Start} fault OutOfMemory memory in
-    inl (record { returned = refuses.returned ∙ ap fault_code same; reported = refuses.reported
-        ∙ ap (λ f. report_of 0 (Some f)) same; buffer = refuses.buffer })
+    inl (record {
+      returned = refuses.returned ∙ ap fault_code same;
+      reported = refuses.reported
+          ∙ ap (λ f. report_of 0 (Some f)) same;
+      buffer = refuses.buffer;
+    })
 decrypts_none answers b old new report code fault (inr is) refuses = inr (Err fault, is, refuses)
 
 -- there is no room
@@ -285,8 +289,13 @@ reading_fits : (reading : Reading StreamFault) (v : Reading Fault) (old new : By
 reading_fits reading v old new report code len fault is gives size reported returned =
     subst (λ (r : Reading Fault). Fits r.front r.fault old new report code) (sym is)
     (record {
-      fits = omega (arith, size, ap length gives.buffer, length-append reading.front (drop (length reading.front) old),
-          length-drop (length reading.front) old);
+      fits = omega (
+        arith,
+        size,
+        ap length gives.buffer,
+        length-append reading.front (drop (length reading.front) old),
+        length-drop (length reading.front) old,
+      );
       returned = returned ∙ ap (λ f. code_of (option_map stream_fault f)) gives.fault_so;
       reported = reported ∙ ap (λ n. report_of n (option_map stream_fault fault)) gives.length_so
           ∙ ap (λ f. report_of (length reading.front) (option_map stream_fault f)) gives.fault_so;
@@ -307,11 +316,14 @@ decrypts_opened answers b rest old new report code len start fault (inr (header,
     let judged_so : IsVerdict limits answers b v = record { header = header; header_verdict = verdict; is = refl } in
     let from : IsVerdictFrom b v (Ok start) = verdict-from answers b (Ok start) v (header, verdict, is) judged_so in
     let mine : GivesReading (reading_from start.key limits.max_chunks 0 (drop start.first b)) old new len fault =
-        subst (λ r. GivesReading (reading_from start.key limits.max_chunks 0 r) old new len fault) back gives in
+    subst (λ r. GivesReading (reading_from start.key limits.max_chunks 0 r) old new len fault) back gives in
     let there : opened_len (length b - start.first) ≤ length old =
-        subst (λ n. opened_len n ≤ length old) (ap length back ∙ length-drop start.first b) room in
-    inr (Ok start, (header, verdict, is),
-        inr (there, (v, judged_so, reading_fits _ v old new report code len fault from mine size reported returned)))
+    subst (λ n. opened_len n ≤ length old) (ap length back ∙ length-drop start.first b) room in
+    inr (
+      Ok start,
+      (header, verdict, is),
+      inr (there, (v, judged_so, reading_fits _ v old new report code len fault from mine size reported returned)),
+    )
 
 pub no_room : (answers : Answering) (b rest old : Bytes) (report : Report) (room : ℕ) (start : Start)
     → FindsStart answers b (Ok start) → rest ≡ drop start.first b
@@ -319,5 +331,5 @@ pub no_room : (answers : Answering) (b rest old : Bytes) (report : Report) (room
     → Decrypts answers b old old report 21
 no_room answers b rest old report room start found back is reported more =
     decrypts_exceeds answers b old old report 21 room start found
-        (is ∙ ap opened_len (ap length back ∙ length-drop start.first b))
+    (is ∙ ap opened_len (ap length back ∙ length-drop start.first b))
     (record { exceeds = more; returned = refl; reported = reported; buffer = refl })

@@ -34,9 +34,11 @@ whole_verdict b (Err header.NotAge) h = λ begins. h (subst BeginsAsAge (sym (cu
 whole_verdict b (Err (header.BadLine n)) h =
     (subst BeginsAsAge (cut_front b) h.0, (h.1.0, h.1.1, subst (Decides h.1.0) (cut_front b) h.1.2, h.1.3))
 whole_verdict b (Err header.Truncated) h =
-    let short : length (take 65552 b) < 65536 = h.2 in
-    (subst BeginsAsAge (cut_front b) h.0, subst IsUndecided (cut_front b) h.1,
-        omega (arith, short, length-take 65552 b))
+    let short : length (take 65552 b) < 65536 = h.2 in (
+      subst BeginsAsAge (cut_front b) h.0,
+      subst IsUndecided (cut_front b) h.1,
+      omega (arith, short, length-take 65552 b),
+    )
 whole_verdict b (Err header.TooLarge) h =
     let long : 65536 ≤ length (take 65552 b) = h.2 in
     (subst BeginsAsAge (cut_front b) h.0, subst IsUndecided (cut_front b) h.1, omega (arith, long, length-take 65552 b))
@@ -48,7 +50,7 @@ nonce-front : (b : Bytes) (n : ℕ) → n ≤ 65536 → take 16 (drop n (take 65
 nonce-front b n le =
     let whole : n + (65552 - n) ≡ 65552 = omega arith in
     ap (λ k. take 16 (drop n (take k b))) (sym whole) ∙ ap (take 16) (drop-take n (65552 - n) b)
-        ∙ take-take 16 (65552 - n) (drop n b) (omega arith)
+    ∙ take-take 16 (65552 - n) (drop n b) (omega arith)
 
 nonce-there : (b : Bytes) (n : ℕ) → n ≤ 65536
     → nat_lt (length (drop n (take 65552 b))) 16 ≡ nat_lt (length (drop n b)) 16
@@ -65,7 +67,7 @@ start-under-front : (b : Bytes) (n : ℕ) (key : Result FileKey Fault) → n ≤
 start-under-front b n (Err fault) le = refl
 start-under-front b n (Ok k) le =
     ap (λ t. cond t (Err NonceTruncated)
-        (Ok (record { first = n + 16; key = payload_key k (take 16 (drop n (take 65552 b))) }))) (nonce-there b n le)
+    (Ok (record { first = n + 16; key = payload_key k (take 16 (drop n (take 65552 b))) }))) (nonce-there b n le)
     ∙ ap (λ x. cond (nat_lt (length (drop n b)) 16) (Err NonceTruncated)
     (Ok (record { first = n + 16; key = payload_key k x }))) (nonce-front b n le)
 

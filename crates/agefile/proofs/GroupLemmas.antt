@@ -21,9 +21,10 @@ part_step : (p new : Part) (text room after : Bytes) (report : Report) → lengt
 part_step p new text room after report len (inl (_, out)) = let bad : ◌≡◌ {A = ℕ} 0 23 = out.returned in
     absurd (omega arith)
 part_step p new text room after report len (inr (_, inr (many, bad, reported, kept), is)) = absurd (omega (arith, bad))
-part_step p new text room after report len (inr (_, inl (few, zero_is, reported, gives), is)) =
-    (gives ∙ ap (sealed p.key (chunk_nonce p.number false) []) (text_of text room len),
-        (ap (λ (q : Part). q.key) is, ap (λ (q : Part). q.number) is))
+part_step p new text room after report len (inr (_, inl (few, zero_is, reported, gives), is)) = (
+  gives ∙ ap (sealed p.key (chunk_nonce p.number false) []) (text_of text room len),
+  (ap (λ (q : Part). q.key) is, ap (λ (q : Part). q.number) is),
+)
 
 pub payload_step : (p new : Payload) (text room after : Bytes) (last : Bool) (report : Report) → length room ≡ 16
     → SealsNext p new (text ++ room) after last report 0
@@ -32,9 +33,10 @@ payload_step p new text room after last report len (inl (_, out)) = let bad : �
     absurd (omega arith)
 payload_step p new text room after last report len (inr (_, inr (many, bad, reported, kept), is)) =
     absurd (omega (arith, bad))
-payload_step p new text room after last report len (inr (_, inl (few, zero_is, reported, gives), is)) =
-    (gives ∙ ap (sealed p.key (chunk_nonce p.number last) []) (text_of text room len),
-        (ap (λ (q : Payload). q.key) is, ap (λ (q : Payload). q.number) is))
+payload_step p new text room after last report len (inr (_, inl (few, zero_is, reported, gives), is)) = (
+  gives ∙ ap (sealed p.key (chunk_nonce p.number last) []) (text_of text room len),
+  (ap (λ (q : Payload). q.key) is, ap (λ (q : Payload). q.number) is),
+)
 
 part_seals : (p : Part) (texts : List Bytes) (out : Bytes) → PartSeals p texts out
     → out ≡ concat (sealed_open p.key p.number texts)
@@ -43,7 +45,7 @@ part_seals p (text ∷ more) out (new, room, len, after, report, step, (rest, jo
     let s = part_step p new text room after report len step in
     let tail : rest ≡ concat (sealed_open p.key (p.number + 1) more) =
     part_seals new more rest run ∙ ap (λ k. concat (sealed_open k new.number more)) s.1.0
-        ∙ ap (λ n. concat (sealed_open p.key n more)) s.1.1 in
+    ∙ ap (λ n. concat (sealed_open p.key n more)) s.1.1 in
     joined ∙ ap (λ a. a ++ rest) s.0 ∙ ap (λ r. sealed p.key (chunk_nonce p.number false) [] text ++ r) tail
 
 -- what some chunks come to
@@ -56,7 +58,7 @@ some_seals : (old new : Payload) (texts : List Bytes) (out : Bytes) → SealsSom
 some_seals old new texts out (inl (text, room, one, len, (report, step))) =
     let s = payload_step old new text room out false report len step in
     subst (λ ts. Sealed old new ts out) (sym one)
-        (s.0 ∙ sym (append-nil (sealed old.key (chunk_nonce old.number false) [] text)), s.1)
+    (s.0 ∙ sym (append-nil (sealed old.key (chunk_nonce old.number false) [] text)), s.1)
 some_seals old new texts out (inr (given, report, inl (_, bad, reported, kept), run)) = absurd (omega (arith, bad))
 some_seals old new texts out (inr (given, report, inr (_, inl (many, bad, reported, kept)), run)) =
     absurd (omega (arith, bad))
@@ -75,7 +77,7 @@ open_append key i [] ys = ap (λ n. sealed_open key n ys) (omega arith)
 open_append key i (x ∷ xs) ys =
     let next : i + 1 + length xs ≡ i + length (x ∷ xs) = omega arith in
     ap (λ t. sealed key (chunk_nonce i false) [] x ∷ t)
-        (open_append key (i + 1) xs ys ∙ ap (λ n. sealed_open key (i + 1) xs ++ sealed_open key n ys) next)
+    (open_append key (i + 1) xs ys ∙ ap (λ n. sealed_open key (i + 1) xs ++ sealed_open key n ys) next)
 
 pub groups_seal : (old new : Payload) (groups : List (List Bytes)) (out : Bytes) → SealsGroups old new groups out
     → Sealed old new (all_of groups) out
@@ -86,7 +88,7 @@ groups_seal old new (texts ∷ more) out (mid, mine, rest, joined, some, on) =
     let g = groups_seal mid new more rest on in
     let tail : rest ≡ concat (sealed_open old.key (old.number + length texts) (all_of more)) =
     g.0 ∙ ap (λ k. concat (sealed_open k mid.number (all_of more))) s.1.0
-        ∙ ap (λ n. concat (sealed_open old.key n (all_of more))) s.1.1 in
+    ∙ ap (λ n. concat (sealed_open old.key n (all_of more))) s.1.1 in
     let all : out ≡ concat (sealed_open old.key old.number (texts ++ all_of more)) =
     joined ∙ ap (λ m. m ++ rest) s.0 ∙ ap (λ r. concat (sealed_open old.key old.number texts) ++ r) tail
     ∙ sym (concat_append (sealed_open old.key old.number texts)
@@ -109,7 +111,7 @@ with_last key i (c ∷ cs) text =
     ap (λ b. sealed key (chunk_nonce i b) [] c ∷ sealed_from key (i + 1) (cs ++ text ∷ [])) (is_end_more cs text)
     ∙ ap (λ t. sealed key (chunk_nonce i false) [] c ∷ t)
     (with_last key (i + 1) cs text ∙ ap
-        (λ n. sealed_open key (i + 1) cs ++ (sealed key (chunk_nonce n true) [] text ∷ [])) next)
+    (λ n. sealed_open key (i + 1) cs ++ (sealed key (chunk_nonce n true) [] text ∷ [])) next)
 
 pub groups_end : (old mid new : Payload) (groups : List (List Bytes)) (out text room after : Bytes) (report : Report)
     → SealsGroups old mid groups out → length room ≡ 16
@@ -120,8 +122,8 @@ groups_end old mid new groups out text room after report run len step =
     let s = payload_step mid new text room after true report len step in
     let end : Bytes = sealed old.key (chunk_nonce (old.number + length (all_of groups)) true) [] text in
     let last : after ≡ end = s.0 ∙ ap (λ k. sealed k (chunk_nonce mid.number true) [] text) g.1.0
-        ∙ ap (λ n. sealed old.key (chunk_nonce n true) [] text) g.1.1 in
+    ∙ ap (λ n. sealed old.key (chunk_nonce n true) [] text) g.1.1 in
     ap (λ o. o ++ after) g.0 ∙ ap (λ a. concat (sealed_open old.key old.number (all_of groups)) ++ a)
-        (last ∙ sym (append-nil end))
+    (last ∙ sym (append-nil end))
     ∙ sym (concat_append (sealed_open old.key old.number (all_of groups)) (end ∷ []))
     ∙ ap concat (sym (with_last old.key old.number (all_of groups) text))

@@ -40,13 +40,15 @@ pub header_found : (l : Bounds) (b : Bytes) (come after : Known) (r : Result Hea
     → CountsRead 0 0 r → Inspects l come after r → HeaderOf b r
 header_found l b come after r at source count h =
     let inspects = subst (λ (s : Known). Inspects limits s after r) source
-        (subst (λ bounds. Inspects bounds come after r) at h) in
+    (subst (λ bounds. Inspects bounds come after r) at h) in
     of_answer b after r inspects.0 inspects.1 count inspects.2
 
 -- the first 65,552 bytes of a file have its header
 whole_of : (b : Bytes) (r : Result HeaderParts Fault) → HeaderOf (take 65552 b) r → HeaderOf b r
-whole_of b (Ok h) (text, found) = (text,
-    whole_verdict b (Ok (record { stanzas = h.stanzas; mac = h.mac; text = text })) found)
+whole_of b (Ok h) (text, found) = (
+  text,
+  whole_verdict b (Ok (record { stanzas = h.stanzas; mac = h.mac; text = text })) found,
+)
 whole_of b (Err fault) (inl memory) = inl memory
 whole_of b (Err fault) (inr (reason, found, is)) = inr (reason, whole_verdict b (Err reason) found, is)
 

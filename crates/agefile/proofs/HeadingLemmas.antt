@@ -44,10 +44,10 @@ mac_early text rest front h k fault f some is count =
     let size : length (probe text) ≡ length f.text + length rest = ap length f.front ∙ length-append f.text rest in
     let len : length (probe text) - length rest ≡ length f.text = omega (arith, size) in
     let same : front ≡ f.text = is ∙ ap (λ n. take n (probe text)) len ∙ ap (take (length f.text)) f.front
-        ∙ take_at f.text rest (length f.text) refl in
+    ∙ take_at f.text rest (length f.text) refl in
     let less : length f.text < length (probe text) = omega (arith, size, some) in
     let early : stanzas_in text (Ok (found_of (probe text) rest h f)) ≡ Err (BadLine (lines_in f.text - 1)) =
-        cond-true (nat_lt (length f.text) (length (probe text))) _ _ (lt-ltb _ _ less) in
+    cond-true (nat_lt (length f.text) (length (probe text))) _ _ (lt-ltb _ _ less) in
     inr (
       Ok (found_of (probe text) rest h f),
       f.verdict,
@@ -116,12 +116,12 @@ read_whole : (text : Bytes) (found : Found) (ss : List StanzaParts)
 read_whole text found ss h ge eq =
     let b = begins_found (probe text) limits.max_header found h in
     let size : length (probe text) ≡ length found.text + length b.rest = ap length b.front
-        ∙ length-append found.text b.rest in
+    ∙ length-append found.text b.rest in
     let whole : found.text ≡ probe text =
     sym (append-nil found.text) ∙ ap (λ r. found.text ++ r) (sym (nil_from_length b.rest (omega (arith, size, ge))))
-        ∙ sym b.front in
+    ∙ sym b.front in
     let late : stanzas_in text (Ok found) ≡ Ok found.stanzas =
-        cond-false (nat_lt (length found.text) (length (probe text))) _ _ (le-ltb _ _ ge) in
+    cond-false (nat_lt (length found.text) (length (probe text))) _ _ (le-ltb _ _ ge) in
     let u = unmixed (is_mixed found.stanzas) found.stanzas ss (sym (eq ∙ ap unless_mixed late)) in
     record {
       alone = subst (λ xs. is_mixed xs ≡ false) u.1 u.0;
@@ -137,9 +137,9 @@ reads text (Err reason) ss h eq = absurd (cc)
 reads text (Ok found) ss h eq = elim (cases_lt (length found.text) (length (probe text))) [
   | inl lt ↦
       let early : stanzas_in text (Ok found) ≡ Err (BadLine (lines_in found.text - 1)) =
-          cond-true (nat_lt (length found.text) (length (probe text))) _ _ (lt-ltb _ _ lt) in
+      cond-true (nat_lt (length found.text) (length (probe text))) _ _ (lt-ltb _ _ lt) in
       let clash : ◌≡◌ {A = Result (List StanzaParts) Fault} (Ok ss) (Err (BadLine (lines_in found.text - 1))) = eq
-          ∙ ap unless_mixed early in
+      ∙ ap unless_mixed early in
       absurd (cc)
   | inr ge ↦ read_whole text found ss h ge eq
 ]
@@ -171,10 +171,10 @@ same_body text mac ss h =
     let mine : length (line (codes "--- " ++ replicate 43 65)) ≡ 48 = refl in
     let sized : length h.characters ≡ 43 = omega (arith, b64_size mac h.characters h.mac_text, h.mac_len) in
     let theirs : length (line (codes "--- " ++ h.characters)) ≡ 48 =
-        omega (arith, sized, line_size (codes "--- " ++ h.characters), length-append (codes "--- ") h.characters) in
+    omega (arith, sized, line_size (codes "--- " ++ h.characters), length-append (codes "--- ") h.characters) in
     let front : version_line ++ text ≡ version_line ++ h.body = same_front _ _ _ _ h.spelled (mine ∙ sym theirs) in
     sym (drop_at version_line text 22 length-version_line) ∙ ap (drop 22) front
-        ∙ drop_at version_line h.body 22 length-version_line
+    ∙ drop_at version_line h.body 22 length-version_line
 
 -- the same text with the right MAC is the header
 heading_of : (text mac characters : Bytes) (k : FileKey) (ss : List StanzaParts) → Reads text ss
@@ -232,5 +232,5 @@ pub framed_text : (first text characters all : Bytes) → first ≡ codes "age-e
 unfolding version_line
 framed_text first text characters all same is =
     is ∙ ap (λ x. (((x ++ text) ++ codes "--- ") ++ characters) ++ 10 ∷ []) same
-        ∙ ap (λ x. x ++ 10 ∷ []) (append_assoc (version_line ++ text) (codes "--- ") characters)
+    ∙ ap (λ x. x ++ 10 ∷ []) (append_assoc (version_line ++ text) (codes "--- ") characters)
     ∙ append_assoc (version_line ++ text) (codes "--- " ++ characters) (10 ∷ [])

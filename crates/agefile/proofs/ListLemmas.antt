@@ -15,8 +15,13 @@ pub list_fault : (b : Bytes) (before : List StanzaSummary) (old : Bytes) (report
     → HeaderOf b (Err fault) → report ≡ report_of 0 (Some fault)
     → code ≡ fault_code fault → InspectsStanzas b before before old old report code
 list_fault b before old report code fault (inl memory) place returned =
-    inl (record { returned = returned ∙ ap fault_code memory; reported = place
-        ∙ ap (λ f. report_of 0 (Some f)) memory; array = refl; buffer = refl })
+    inl (record {
+      returned = returned ∙ ap fault_code memory;
+      reported = place
+          ∙ ap (λ f. report_of 0 (Some f)) memory;
+      array = refl;
+      buffer = refl;
+    })
 list_fault b before old report code fault (inr (reason, found, same)) place returned =
     inr (Err reason, found, ((returned ∙ ap fault_code same, place ∙ ap (λ f. report_of 0 (Some f)) same), refl, refl))
 

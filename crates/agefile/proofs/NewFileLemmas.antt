@@ -67,11 +67,11 @@ same_stanzas text m n ss ts h k =
     let one : Found = record { stanzas = ss; mac = m; text = text } in
     let two : Found = record { stanzas = ts; mac = n; text = text } in
     let first : HeaderVerdict text (length text) (Ok one) =
-        headers.found_begins text (length text) one
-        (record { rest = []; head = h; front = sym (append-nil text); fits = omega arith }) in
+    headers.found_begins text (length text) one
+    (record { rest = []; head = h; front = sym (append-nil text); fits = omega arith }) in
     let second : HeaderVerdict text (length text) (Ok two) =
-        headers.found_begins text (length text) two
-        (record { rest = []; head = k; front = sym (append-nil text); fits = omega arith }) in
+    headers.found_begins text (length text) two
+    (record { rest = []; head = k; front = sym (append-nil text); fits = omega arith }) in
     ap stanzas_of (headers.one_verdict text (length text) (Ok one) (Ok two) first second)
 
 -- a text of one stanza is read as this stanza
@@ -102,14 +102,14 @@ pub key_chosen : (key salt : Bytes) (k : FileKey) → IsSalt salt → IsFileKey 
     → choice (alone (key_unwraps key) (keyed_stanza key salt k ∷ [])) ≡ Ok k
 key_chosen key salt k salted keyed =
     ap (λ answer. choice (answer ∷ []))
-        (key_pair_law (record { key = key; salt = salt }) key k (keyed_stanza key salt k ∷ []) refl salted keyed refl)
+    (key_pair_law (record { key = key; salt = salt }) key k (keyed_stanza key salt k ∷ []) refl salted keyed refl)
 
 pub pass_chosen : (pass salt : Bytes) (work max : ℕ) (k : FileKey) → IsSalt salt → IsFileKey k → PairFits work max
     → choice (alone (pass_unwraps (record { pass = pass; max = max })) (pass_stanza pass work salt k ∷ [])) ≡ Ok k
 pass_chosen pass salt work max k salted keyed fits =
     ap (λ answer. choice (answer ∷ []))
     (pair_law (record { pass = pass; salt = salt; work = work }) (record { pass = pass; max = max }) k
-        (pass_stanza pass work salt k ∷ []) refl salted fits keyed refl)
+    (pass_stanza pass work salt k ∷ []) refl salted fits keyed refl)
 
 -- ---- sizes
 
@@ -137,7 +137,7 @@ pub pass_file : (pass salt stanza file_key nonce plain file : Bytes) (work : ℕ
     → IsNewFile stanza file_key nonce plain file → length file < sealed_len (length plain)
 pass_file pass salt stanza file_key nonce plain file work salted keyed len high is new =
     let f = one_file (pass_stanza pass work salt (record { 0 = file_key })) stanza file_key nonce plain file len is
-        new in
+    new in
     let head : length f.header ≤ 150 = pass_header pass salt work (record { 0 = file_key }) _ f.header salted keyed high
-        f.head in
+    f.head in
     omega (arith, head, file_size _ _ plain file f)

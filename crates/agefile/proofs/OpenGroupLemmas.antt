@@ -35,8 +35,12 @@ record IsOpened (o : Result Bytes StreamFault) (after : Bytes) (report : Report)
 opened_ok : (chunk after : Bytes) (report : Report) (o : Result Bytes StreamFault) → Opened chunk after report 0 o
     → IsOpened o after report
 opened_ok chunk after report (Ok text) (zero_is, reported, buffer) =
-    record { text = text; is = refl; front = ap (λ (x : Report). take x.len after) reported
-        ∙ ap (take (length text)) buffer ∙ take-append_seam text _ }
+    record {
+      text = text;
+      is = refl;
+      front = ap (λ (x : Report). take x.len after) reported
+          ∙ ap (take (length text)) buffer ∙ take-append_seam text _;
+    }
 opened_ok chunk after report (Err fault) (is, reported, buffer) = absurd (some-code (stream_fault fault) (sym is))
 
 part_step : (p new : Part) (piece after : Bytes) (report : Report) → part.OpensNext p new piece after report 0
@@ -69,7 +73,7 @@ part_opens p (c ∷ more) text (new, after, report, step, (rest, joined, run)) =
     let s = part_step p new c after report step in
     let tail : OpenTo p.key (p.number + 1) more rest =
     subst (λ k. OpenTo k (p.number + 1) more rest) s.1.0
-        (subst (λ n. OpenTo new.key n more rest) s.1.1 (part_opens new more rest run)) in
+    (subst (λ n. OpenTo new.key n more rest) s.1.1 (part_opens new more rest run)) in
     (s.0.text, rest, s.0.is, joined ∙ ap (λ t. t ++ rest) s.0.front, tail)
 
 -- what some calls come to
@@ -81,7 +85,7 @@ some_open : (old new : Payload) (cs : List Bytes) (text : Bytes) → OpensSome o
 some_open old new cs text (inl (piece, after, report, one, step, is)) =
     let s = payload_step old new piece after false report step in
     subst (λ xs. OpensTo old new xs text) (sym one)
-        ((s.0.text, [], s.0.is, is ∙ s.0.front ∙ sym (append-nil s.0.text), refl), s.1)
+    ((s.0.text, [], s.0.is, is ∙ s.0.front ∙ sym (append-nil s.0.text), refl), s.1)
 some_open old new cs text (inr (given, report, inl (_, bad, reported, kept), run)) = absurd (omega (arith, bad))
 some_open old new cs text (inr (given, report, inr (_, inl (many, bad, reported, kept)), run)) =
     absurd (omega (arith, bad))
@@ -94,9 +98,13 @@ open_append : (key : Bytes) (i j : ℕ) (xs ys : List Bytes) (a b : Bytes) → j
     → OpenTo key j ys b → OpenTo key i (xs ++ ys) (a ++ b)
 open_append key i j [] ys a b at none more =
     subst (λ t. OpenTo key i ys (t ++ b)) (sym none) (subst (λ n. OpenTo key n ys b) (omega (arith, at)) more)
-open_append key i j (x ∷ xs) ys a b at (t, rest, is, joined, on) more =
-    (t, rest ++ b, is, ap (λ u. u ++ b) joined ∙ append_assoc t rest b,
-        open_append key (i + 1) j xs ys rest b (omega (arith, at)) on more)
+open_append key i j (x ∷ xs) ys a b at (t, rest, is, joined, on) more = (
+  t,
+  rest ++ b,
+  is,
+  ap (λ u. u ++ b) joined ∙ append_assoc t rest b,
+  open_append key (i + 1) j xs ys rest b (omega (arith, at)) on more,
+)
 
 groups_open : (old new : Payload) (groups : List (List Bytes)) (text : Bytes) → OpensGroups old new groups text
     → OpensTo old new (all_of groups) text
@@ -106,7 +114,7 @@ groups_open old new (cs ∷ more) text (mid, mine, rest, joined, some, on) =
     let s = some_open old mid cs mine some in
     let g = groups_open mid new more rest on in
     let tail : OpenTo old.key mid.number (all_of more) rest =
-        subst (λ k. OpenTo k mid.number (all_of more) rest) s.1.0 g.0 in (
+    subst (λ k. OpenTo k mid.number (all_of more) rest) s.1.0 g.0 in (
       subst (OpenTo old.key old.number (cs ++ all_of more)) (sym joined)
           (open_append old.key old.number mid.number cs (all_of more) mine rest s.1.1 s.0 tail),
       (g.1.0 ∙ s.1.0, omega (arith, g.1.1, s.1.1, length-append cs (all_of more))),
@@ -122,7 +130,7 @@ is_end_on (c ∷ cs) ds d = refl
 abbrev GoesOn : Bytes → ℕ → List Bytes → Bytes → List Bytes → Type 0
 GoesOn key i cs text ds =
     (front (outcomes key limits.max_chunks i (cs ++ ds))
-        ≡ text ++ front (outcomes key limits.max_chunks (i + length cs) ds))
+    ≡ text ++ front (outcomes key limits.max_chunks (i + length cs) ds))
     × (first_fault (outcomes key limits.max_chunks i (cs ++ ds))
     ≡ first_fault (outcomes key limits.max_chunks (i + length cs) ds))
 
@@ -137,7 +145,7 @@ goes_on key i [] text d ds none =
 goes_on key i (c ∷ cs) text d ds (t, rest, is, joined, on) =
     let next = goes_on key (i + 1) cs rest d ds on in
     let here : outcome key limits.max_chunks i (is_end (cs ++ d ∷ ds)) c ≡ Ok t =
-        ap (λ e. outcome key limits.max_chunks i e c) (is_end_on cs ds d) ∙ is in
+    ap (λ e. outcome key limits.max_chunks i e c) (is_end_on cs ds d) ∙ is in
     let os : List (Result Bytes StreamFault) = outcomes key limits.max_chunks (i + 1) (cs ++ d ∷ ds) in
     let count : i + 1 + length cs ≡ i + length (c ∷ cs) = omega arith in (
       ap (λ o. front (o ∷ os)) here ∙ ap (λ x. t ++ x) next.0 ∙ sym (append_assoc t rest _)
@@ -185,9 +193,9 @@ opened_so_far answers b p new report groups text next more v opens run cut h =
     let g = groups_open p new groups text run in
     let on = goes_on p.key p.number (all_of groups) text next more g.0 in
     let front_is : v.front ≡ text ++ front
-        (outcomes p.key limits.max_chunks (p.number + length (all_of groups)) (next ∷ more)) =
+    (outcomes p.key limits.max_chunks (p.number + length (all_of groups)) (next ∷ more)) =
     ap (λ (x : Reading Fault). x.front) (by_payload answers b p report v opens h)
-        ∙ ap (λ cs. front (outcomes p.key limits.max_chunks p.number cs)) cut ∙ on.0 in
+    ∙ ap (λ cs. front (outcomes p.key limits.max_chunks p.number cs)) cut ∙ on.0 in
     ap (take (length text)) front_is ∙ take-append_seam text _
 
 pub opened_whole : (answers : Answering) (b : Bytes) (p mid new : Payload) (report last_report : Report)
@@ -202,15 +210,21 @@ opened_whole answers b p mid new report last_report groups text last after v ope
     let n : ℕ = p.number + length (all_of groups) in
     let o : outcome p.key limits.max_chunks n true last ≡ Ok s.0.text =
     ap (λ k. outcome k limits.max_chunks n true last) (sym g.1.0)
-        ∙ ap (λ i. outcome mid.key limits.max_chunks i true last) (sym g.1.1) ∙ s.0.is in
+    ∙ ap (λ i. outcome mid.key limits.max_chunks i true last) (sym g.1.1) ∙ s.0.is in
     let on = goes_on p.key p.number (all_of groups) text last [] g.0 in
     let front_is : front (outcomes p.key limits.max_chunks n (last ∷ [])) ≡ take last_report.len after =
-        ap (λ x. front (x ∷ [])) o ∙ append-nil s.0.text ∙ sym s.0.front in
+    ap (λ x. front (x ∷ [])) o ∙ append-nil s.0.text ∙ sym s.0.front in
     let fault_is : first_fault (outcomes p.key limits.max_chunks n (last ∷ [])) ≡ None =
-        ap (λ x. first_fault (x ∷ [])) o in
+    ap (λ x. first_fault (x ∷ [])) o in
     by_payload answers b p report v opens h
-    ∙ ap (λ cs. record { front = front (outcomes p.key limits.max_chunks p.number cs); fault =
-    option_map stream_fault (first_fault (outcomes p.key limits.max_chunks p.number cs)) }) cut
-    ∙ ap (λ f. record { front = front (outcomes p.key limits.max_chunks p.number (all_of groups ++ last ∷ [])); fault =
-    option_map stream_fault f }) (on.1 ∙ fault_is)
+    ∙ ap (λ cs. record {
+      front = front (outcomes p.key limits.max_chunks p.number cs);
+      fault =
+          option_map stream_fault (first_fault (outcomes p.key limits.max_chunks p.number cs));
+    }) cut
+    ∙ ap (λ f. record {
+      front = front (outcomes p.key limits.max_chunks p.number (all_of groups ++ last ∷ []));
+      fault =
+          option_map stream_fault f;
+    }) (on.1 ∙ fault_is)
     ∙ ap (λ t. record { front = t; fault = None }) (on.0 ∙ ap (λ t. text ++ t) front_is)

@@ -58,7 +58,7 @@ opens_header answers b new found v (Ok head) verdict is same h =
     let again = key_again answers (parts_of head) found.key mine in
     let judged_so : v ≡ judged limits answers b (Ok head) =
     one_verdict limits answers b v (judged limits answers b (Ok head)) h
-        (record { header = Ok head; header_verdict = verdict; is = refl }) in
+    (record { header = Ok head; header_verdict = verdict; is = refl }) in
     subst (λ x. IsVerdict limits (by_file_key x) b v) (sym same)
     (record {
       header = Ok head;

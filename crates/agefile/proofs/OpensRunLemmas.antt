@@ -62,11 +62,11 @@ open-by : (p new : Payload) (chunk after text : Bytes) (more : List Bytes) (last
     → RunsBy p last more text code place o
 open-by p new chunk after text more last report step_code code place (Ok t) (is, reported, buffer) state
     (inl (zero, (rest, joined, run))) = (
-  rest,
-  joined ∙ ap (λ n. take n after ++ rest) (ap (λ (x : Report). x.len) reported)
-      ∙ ap (λ b. take (length t) b ++ rest) buffer ∙ ap (λ x. x ++ rest) (take-append_seam t _),
-  subst (λ n. OpensRun n more rest code place) (state ∙ ap (after_chunk p last) is) run,
-)
+      rest,
+      joined ∙ ap (λ n. take n after ++ rest) (ap (λ (x : Report). x.len) reported)
+          ∙ ap (λ b. take (length t) b ++ rest) buffer ∙ ap (λ x. x ++ rest) (take-append_seam t _),
+      subst (λ n. OpensRun n more rest code place) (state ∙ ap (after_chunk p last) is) run,
+    )
 open-by p new chunk after text more last report step_code code place (Ok t) (is, reported, buffer) state
     (inr (nonzero, h)) = absurd (nonzero is)
 open-by p new chunk after text more last report step_code code place (Err f) (is, reported, buffer) state
@@ -123,10 +123,10 @@ pub run_reads : (key : Bytes) (i : ℕ) (cs : List Bytes) (text : Bytes) (code p
 run_reads key i [] text code place sizes run = absurd sizes
 run_reads key i (c ∷ []) text code place sizes run =
     read-last key i c text code place (outcome key limits.max_chunks i true c)
-        (run-first key i c text [] code place (last-fits key i c sizes) run)
+    (run-first key i c text [] code place (last-fits key i c sizes) run)
 run_reads key i (c ∷ d ∷ more) text code place sizes run =
     read-more key i text code place (d ∷ more) (outcome key limits.max_chunks i false c)
-        (outcomes key limits.max_chunks (i + 1) (d ∷ more))
+    (outcomes key limits.max_chunks (i + 1) (d ∷ more))
     (λ rest on. run_reads key (i + 1) (d ∷ more) rest code place sizes.1 on)
     (run-first key i c text (d ∷ more) code place (full-fits key i c sizes.0) run)
 

@@ -40,14 +40,14 @@ front_comes key max i (c ∷ more) all = elim (result_cases (outcome key max i (
       let rest = front_comes key max (i + 1) more all.1 in
       let size : length c ≤ 65552 = all.0 in
       let len : length c ≡ length some.0 + 16 =
-          ap length (outcome-opens key max i (is_end more) c some.0 some.1).sealed_so
-          ∙ length-sealed key (chunk_nonce i (is_end more)) [] some.0 in
+      ap length (outcome-opens key max i (is_end more) c some.0 some.1).sealed_so
+      ∙ length-sealed key (chunk_nonce i (is_end more)) [] some.0 in
       let low : length (front (outcomes key max (i + 1) more)) ≤ 65536 * rest.0 = rest.1 in
       let high : length (front (outcomes key max (i + 1) more)) + 16 * rest.0 ≤ length (concat more) = rest.2 in
       let both = length-append some.0 (front (outcomes key max (i + 1) more)) in
       let sum = length-append c (concat more) in
       subst (λ (r : Result Bytes StreamFault). Comes (length (front (r ∷ outcomes key max (i + 1) more)))
-          (length (c ++ concat more))) (sym some.1)
+      (length (c ++ concat more))) (sym some.1)
       (rest.0 + 1, omega arith, omega arith)
   | inr none ↦ subst (λ (r : Result Bytes StreamFault). Comes (length (front (r ∷ outcomes key max (i + 1) more)))
       (length (c ++ concat more))) (sym none.1)
@@ -68,12 +68,12 @@ payload_at_most k max most text le =
     let join : length (concat (pieces rest)) ≡ length rest = ap length (concat-cut_into 65552 [] rest) in
     let size : length rest ≡ length text - 16 = length-drop 16 text in
     let comes = front_comes (payload_key k (take 16 text)) max 0 (pieces rest)
-        (small (pieces rest) (cut-at_most 65552 rest (omega arith))) in
+    (small (pieces rest) (cut-at_most 65552 rest (omega arith))) in
     let opens : length (reading_from (payload_key k (take 16 text)) max 0 rest).front ≤ opened_len most =
-        comes_at_most _ (length (concat (pieces rest))) most comes (omega arith) in
+    comes_at_most _ (length (concat (pieces rest))) most comes (omega arith) in
     elim (nat_lt (length text) 16) as (λ t. length
-        (cond t (stops NonceTruncated) (reading_from (payload_key k (take 16 text)) max 0 rest)).front
-        ≤ opened_len most) [
+    (cond t (stops NonceTruncated) (reading_from (payload_key k (take 16 text)) max 0 rest)).front
+    ≤ opened_len most) [
       | true ↦ omega arith
       | false ↦ opens
     ]
@@ -95,4 +95,4 @@ pub verdict_at_most : (answers : Answering) (b : Bytes) (verdict : Reading Fault
     → length verdict.front ≤ plain_len_at_most (length b)
 verdict_at_most answers b verdict is =
     subst (λ (v : Reading Fault). length v.front ≤ plain_len_at_most (length b)) (sym is.is)
-        (judged_at_most answers b is.header is.header_verdict)
+    (judged_at_most answers b is.header is.header_verdict)

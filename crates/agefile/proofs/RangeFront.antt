@@ -46,12 +46,12 @@ under-starts b n start v (Ok k) is e =
     elim (cases_lt (length (drop n b)) 16) [
       | inl lt ↦
           let none : ◌≡◌ {A = Result Start Fault} (Ok start) (Err NonceTruncated) = is
-              ∙ cond-true (nat_lt (length (drop n b)) 16) other found (lt-ltb (length (drop n b)) 16 lt) in
+          ∙ cond-true (nat_lt (length (drop n b)) 16) other found (lt-ltb (length (drop n b)) 16 lt) in
           absurd (cc)
       | inr ge ↦
           let same : start ≡ record { first = n + 16; key = payload_key k (take 16 (drop n b)) } =
           ok-ok start _ (is ∙ cond-false (nat_lt (length (drop n b)) 16) other found
-              (le-ltb (length (drop n b)) 16 ge)) in
+          (le-ltb (length (drop n b)) 16 ge)) in
           record {
             key = k;
             at = n;
@@ -68,7 +68,7 @@ starts answers b start v (Err e, verdict, is) h = absurd (cc)
 starts answers b start v (Ok found, verdict, is) h =
     under-starts b (length found.text) start v (unlocked answers (parts_of found)) is
     (one_verdict limits answers b v (judged limits answers b (Ok found)) h
-        (record { header = Ok found; header_verdict = verdict; is = refl }))
+    (record { header = Ok found; header_verdict = verdict; is = refl }))
 
 -- what was opened is the file's own payload
 opened-by : (answers : Answering) (b : Bytes) (r : Ranges) (report : Report) (start : Result Start Fault)
@@ -89,7 +89,7 @@ pub opened-range : (answers : Answering) (b : Bytes) (r : Ranges) (report : Repo
     → IsStart answers b (Ok (record { first = r.first; key = r.key })) × (length b ≡ r.first + r.sealed_len)
 opened-range answers b r report (start, inl memory, opens) =
     let refused : OpensAt (length b) (Err OutOfMemory) r report 0 =
-        subst (λ s. OpensAt (length b) s r report 0) memory opens in
+    subst (λ s. OpensAt (length b) s r report 0) memory opens in
     absurd (some-code OutOfMemory (sym refused.0))
 opened-range answers b r report (start, inr is, opens) = opened-by answers b r report start is opens
 
@@ -99,9 +99,11 @@ refused-by : (answers : Answering) (b : Bytes) (r : Ranges) (report : Report) (c
     → OpensAt (length b) start r report code → IsVerdict limits answers b v → code ≢ 0
     → (v.front ≡ []) × (code_of v.fault ≡ code) × (report ≡ report_of 0 v.fault)
 refused-by answers b r report code v (Err fault) is opens h some =
-    let from : IsVerdictFrom b v (Err fault) = verdict-from answers b (Err fault) v is h in
-    (ap (λ (x : Reading Fault). x.front) from, ap (λ (x : Reading Fault). code_of x.fault) from ∙ sym opens.0,
-        opens.1 ∙ sym (ap (λ (x : Reading Fault). report_of 0 x.fault) from))
+    let from : IsVerdictFrom b v (Err fault) = verdict-from answers b (Err fault) v is h in (
+      ap (λ (x : Reading Fault). x.front) from,
+      ap (λ (x : Reading Fault). code_of x.fault) from ∙ sym opens.0,
+      opens.1 ∙ sym (ap (λ (x : Reading Fault). report_of 0 x.fault) from),
+    )
 refused-by answers b r report code v (Ok start) is (inl (lt, closed)) h some =
     let p = starts answers b start v is h in
     let d : length (drop p.at b) ≡ length b - p.at = length-drop p.at b in
@@ -114,7 +116,7 @@ pub refused-range : (answers : Answering) (b : Bytes) (r : Ranges) (report : Rep
     → (v.front ≡ []) × (code_of v.fault ≡ code) × (report ≡ report_of 0 v.fault)
 refused-range answers b r report code v (start, inl memory, opens) h some other =
     let refused : OpensAt (length b) (Err OutOfMemory) r report code =
-        subst (λ s. OpensAt (length b) s r report code) memory opens in
+    subst (λ s. OpensAt (length b) s r report code) memory opens in
     absurd (other refused.0)
 refused-range answers b r report code v (start, inr is, opens) h some other =
     refused-by answers b r report code v start (whole-start answers b start is) opens h some
@@ -136,7 +138,7 @@ range-of-verdict answers b r report v at text opens h none within g =
     let reading : Reading StreamFault = payload_reading p.key limits.max_chunks (drop p.at b) in
     let front : reading.front ≡ v.front = sym (ap (λ (x : Reading Fault). x.front) p.reading) in
     let fault : reading.fault ≡ None = no_stream_fault reading.fault
-        (sym (ap (λ (x : Reading Fault). x.fault) p.reading) ∙ none) in
+    (sym (ap (λ (x : Reading Fault). x.fault) p.reading) ∙ none) in
     let rest : drop r.first b ≡ drop 16 (drop p.at b) = ap (λ n. drop n b) p.first ∙ sym (drop-drop 16 p.at b) in
     let slice = (slice-there r b text at o.1 within g).1 in
     let there : IsSlice (payload_key p.key (take 16 (drop p.at b))) (drop 16 (drop p.at b)) at xs =

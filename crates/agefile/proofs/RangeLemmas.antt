@@ -24,9 +24,9 @@ piece-there r b i size =
     let rest : Bytes = drop r.first b in
     let d : length (drop (65552 * i) rest) ≡ length rest - 65552 * i = length-drop (65552 * i) rest in
     let e : r.sealed_len - 65552 * i ≡ length (drop (65552 * i) rest) =
-        sym (d ∙ ap (λ n. n - 65552 * i) (left r b size)) in
+    sym (d ∙ ap (λ n. n - 65552 * i) (left r b size)) in
     ap (take (piece_len r.sealed_len i)) (sym (drop-drop (65552 * i) r.first b))
-        ∙ ap (λ n. take (min 65552 n) (drop (65552 * i) rest)) e
+    ∙ ap (λ n. take (min 65552 n) (drop (65552 * i) rest)) e
     ∙ take_min 65552 (drop (65552 * i) rest)
 
 pub last-there : (r : Ranges) (b : Bytes) → length b ≡ r.first + r.sealed_len
@@ -38,7 +38,7 @@ last-there r b size =
     let n : length rest ≡ r.sealed_len = left r b size in
     let d : length (drop (65552 * last) rest) ≡ length rest - 65552 * last = length-drop (65552 * last) rest in
     ap (outcome r.key limits.max_chunks last true)
-        (piece-there r b last size ∙ take_all 65552 (drop (65552 * last) rest) (omega arith))
+    (piece-there r b last size ∙ take_all 65552 (drop (65552 * last) rest) (omega arith))
     ∙ sym (last-is r.key limits.max_chunks rest last (ap last_index (sym n)))
 
 pub len-there : (r : Ranges) (b text : Bytes) → length b ≡ r.first + r.sealed_len
@@ -51,11 +51,11 @@ len-there r b text size h =
     let is : last ≡ (length rest - 1) / 65552 = ap last_index (sym n) in
     let d : length (drop (65552 * last) rest) ≡ length rest - 65552 * last = length-drop (65552 * last) rest in
     let o = outcome-opens r.key limits.max_chunks last true (drop (65552 * last) rest) text
-        (sym (last-is r.key limits.max_chunks rest last is) ∙ h) in
+    (sym (last-is r.key limits.max_chunks rest last is) ∙ h) in
     let len : length (drop (65552 * last) rest) ≡ length text + 16 = ap length o.sealed_so
-        ∙ length-sealed r.key (chunk_nonce last true) [] text in
+    ∙ length-sealed r.key (chunk_nonce last true) [] text in
     let count : plain_len rest + 16 * (last + 1) ≡ length rest =
-        plain-count last rest (some-or-none last (length rest) is) (omega arith) (omega arith) in
+    plain-count last rest (some-or-none last (length rest) is) (omega arith) (omega arith) in
     omega arith
 
 pub slice-there : (r : Ranges) (b text : Bytes) (at : ℕ) → length b ≡ r.first + r.sealed_len
@@ -75,14 +75,14 @@ slice-there r b text at size within h =
     let l : length piece ≡ min 65552 (length (drop (65552 * i) rest)) = length-take 65552 (drop (65552 * i) rest) in
     let flag : Bool = nat_le r.sealed_len (65552 * (i + 1)) in
     let o = outcome-opens r.key limits.max_chunks i flag piece text
-        (ap (outcome r.key limits.max_chunks i flag) (sym there) ∙ h) in
+    (ap (outcome r.key limits.max_chunks i flag) (sym there) ∙ h) in
     let len : length piece ≡ length text + 16 = ap length o.sealed_so
-        ∙ length-sealed r.key (chunk_nonce i flag) [] text in
+    ∙ length-sealed r.key (chunk_nonce i flag) [] text in
     let opens : opening r.key rest i ≡ Some text =
     opening-at r.key rest i (omega arith) ∙ ap (λ m. opened_at r.key i (nat_le m (65552 * (i + 1))) piece) n
     ∙ ap (opened_at r.key i flag) o.sealed_so ∙ opened-sealed r.key (chunk_nonce i flag) [] text in
     let t : length (drop skip text) ≡ length text - skip = length-drop skip text in
     let part : IsSlice r.key rest at ([] ++ take (length text - skip) (drop skip text)) =
     slice-on r.key rest [] text at i skip (length text - skip) (omega arith) opens (omega arith) (omega arith)
-        (λ k lt. absurd (omega arith)) in
+    (λ k lt. absurd (omega arith)) in
     (omega arith, subst (IsSlice r.key rest at) (take_all (length text - skip) (drop skip text) (omega arith)) part)

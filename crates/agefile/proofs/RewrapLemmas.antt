@@ -28,7 +28,7 @@ begins_made key rest ss header v heading is =
     let k : FileKey = record { 0 = key } in
     let found : Found = record { stanzas = ss; mac = header_mac key ss; text = header.items } in
     let behind : drop (length header.items) (header.items ++ rest) ≡ rest =
-        drop_at header.items rest (length header.items) refl in
+    drop_at header.items rest (length header.items) refl in
     record {
       header = Ok found;
       header_verdict = found_begins (header.items ++ rest) limits.max_header found
@@ -36,7 +36,7 @@ begins_made key rest ss header v heading is =
       is = is ∙ ap (λ x. read_under limits x (Ok k)) (sym behind)
           ∙ ap (read_under limits (drop (length header.items) (header.items ++ rest)))
           (sym (key-unlocked (by_file_key key) (parts_of found) k
-              (record { unmixed = heading.unmixed; chosen = refl; mac = refl })));
+          (record { unmixed = heading.unmixed; chosen = refl; mac = refl })));
     }
 
 pub keeps_verdict : (answers : Answering) (b old key stanzas : Bytes) (report : Report) (header : Vec ℕ Global)

@@ -38,7 +38,7 @@ pub first_sealed : (key : Bytes) (number size : ℕ) (left text front back chunk
 first_sealed key number size left text front back chunk rest room sized is copied tag sealed_so behind =
     let same : take (length (front ++ back) - 16) (front ++ back) ≡ take 65536 left =
     take_at front back (length (front ++ back) - 16) (omega (arith, tag, length-append front back)) ∙ copied ∙ is
-        ∙ first_text size left sized in
+    ∙ first_text size left sized in
     ap (λ c. c ++ rest) (sealed_so ∙ ap (sealed key (chunk_nonce number (nat_le (length left) 65536)) []) same)
     ∙ ap (λ r. sealed key (chunk_nonce number (nat_le (length left) 65536)) [] (take 65536 left) ++ r)
     (behind ∙ ap (λ n. drop (n + 16) room) sized)
@@ -54,7 +54,7 @@ pub sealed_there : (key plain out left room mid : Bytes) (at done number : ℕ) 
     ++ drop (min (length (drop at plain)) 65536 + 16) (drop done out)
 sealed_there key plain out left room mid at done number left_is room_is is =
     is ∙ ap (λ l. sealed key (chunk_nonce number (nat_le (length l) 65536)) [] (take 65536 l)
-        ++ drop (min (length l) 65536 + 16) room) left_is
+    ++ drop (min (length l) 65536 + 16) room) left_is
     ∙ ap (λ r. sealed key (chunk_nonce number (nat_le (length (drop at plain)) 65536)) [] (take 65536 (drop at plain))
     ++ drop (min (length (drop at plain)) 65536 + 16) r) room_is
 
@@ -107,14 +107,19 @@ seals_end key plain out mid new at done number r last is joined =
     let left : Bytes = drop at plain in
     let fills = last_fills key plain out at done number r last in
     let none : drop (min (length left) 65536 + 16) (drop done out) ≡ [] =
-    nil_from_length _ (omega (arith, fills, last, length-drop done out,
-        length-drop (min (length left) 65536 + 16) (drop done out))) in
+    nil_from_length _ (omega (
+      arith,
+      fills,
+      last,
+      length-drop done out,
+      length-drop (min (length left) 65536 + 16) (drop done out),
+    )) in
     let one : mid ≡ sealed key (chunk_nonce number true) [] left ++ [] =
     is ∙ ap (λ d. sealed key (chunk_nonce number (nat_le (length left) 65536)) [] (take 65536 left) ++ d) none
     ∙ ap (λ b. sealed key (chunk_nonce number b) [] (take 65536 left) ++ []) (le-leb (length left) 65536 last)
     ∙ ap (λ t. sealed key (chunk_nonce number true) [] t ++ []) (take_all 65536 left last) in
     let rest : concat (sealed_from key number (chunks left)) ≡ sealed key (chunk_nonce number true) [] left ++ [] =
-        ap (λ cs. concat (sealed_from key number cs)) (cut-last 65536 left last) in
+    ap (λ cs. concat (sealed_from key number cs)) (cut-last 65536 left last) in
     joined ∙ ap (λ m. take done out ++ m) (one ∙ sym rest) ∙ sym r.seals
 
 pub seals_more : (key plain out mid new : Bytes) (at done number : ℕ) → IsSealedTo key plain out at done number
@@ -132,14 +137,14 @@ seals_more key plain out mid new at done number r more is joined =
     let begun : length (take done out) ≡ done = length-take-le done out (omega (arith, fits)) in
     let after : Bytes = drop (min (length left) 65536 + 16) (drop done out) in
     let put : mid ≡ one ++ after = is ∙ ap (λ b. sealed key (chunk_nonce number b) [] text ++ after)
-        (lt-leb (length left) 65536 more) in
+    (lt-leb (length left) 65536 more) in
     let all : new ≡ (take done out ++ one) ++ after = joined ∙ ap (λ m. take done out ++ m) put
-        ∙ sym (append_assoc (take done out) one after) in
+    ∙ sym (append_assoc (take done out) one after) in
     let front : take (done + 65552) new ≡ take done out ++ one = ap (take (done + 65552)) all
-        ∙ take_at (take done out ++ one) after (done + 65552)
-        (omega (arith, begun, long, length-append (take done out) one)) in
+    ∙ take_at (take done out ++ one) after (done + 65552)
+    (omega (arith, begun, long, length-append (take done out) one)) in
     let rest : concat (sealed_from key number (chunks left))
-        ≡ one ++ concat (sealed_from key (number + 1) (chunks (drop 65536 left))) =
+    ≡ one ++ concat (sealed_from key (number + 1) (chunks (drop 65536 left))) =
     ap (λ cs. concat (sealed_from key number cs)) (cut-step 65536 left (omega arith) more)
     ∙ ap (λ b. sealed key (chunk_nonce number b) [] text
     ++ concat (sealed_from key (number + 1) (chunks (drop 65536 left)))) (is_end-cut 65536 [] (drop 65536 left)) in
@@ -147,9 +152,19 @@ seals_more key plain out mid new at done number r more is joined =
       place = omega (arith, r.place);
       sealed_so = omega (arith, r.sealed_so);
       some = inr (omega (arith, more, length-drop at plain));
-      size = omega (arith, ap length all, length-append (take done out ++ one) after, length-append (take done out) one,
-          begun, long, fits, more, r.size, length-drop done out,
-          length-drop (min (length left) 65536 + 16) (drop done out));
+      size = omega (
+        arith,
+        ap length all,
+        length-append (take done out ++ one) after,
+        length-append (take done out) one,
+        begun,
+        long,
+        fits,
+        more,
+        r.size,
+        length-drop done out,
+        length-drop (min (length left) 65536 + 16) (drop done out),
+      );
       seals = r.seals ∙ ap (λ t. take done out ++ t) rest
           ∙ sym (append_assoc (take done out) one (concat (sealed_from key (number + 1) (chunks (drop 65536 left)))))
           ∙ ap (λ t. t ++ concat (sealed_from key (number + 1) (chunks (drop 65536 left)))) (sym front)
@@ -178,9 +193,16 @@ encrypts_exceeds stanzas file_key nonce plain old header report size made low is
     inr (
       Ok header,
       made,
-      (few_chunks plain low, inr (record
-          { exceeds = omega (arith, is, more); returned = refl; reported = reported
-          ∙ ap (λ n. report_of n None) is; buffer = refl })),
+      (
+        few_chunks plain low,
+        inr (record {
+          exceeds = omega (arith, is, more);
+          returned = refl;
+          reported = reported
+              ∙ ap (λ n. report_of n None) is;
+          buffer = refl;
+        }),
+      ),
     )
 
 pub encrypts_whole : (stanzas file_key nonce plain old file rest : Bytes) (header : Vec ℕ Global) (report : Report)

@@ -67,7 +67,7 @@ full-fits key i c is = ap (λ n. may_seal (writing_at key i) (n + 16) false) is
 abbrev WritesBy : Bytes → ℕ → Bool → Bytes → List Bytes → Bytes → ℕ → Type 0
 WritesBy key i last c more out code =
     ((i < limits.max_chunks) × ((rest : Bytes) × (out ≡ sealed key (chunk_nonce i last) [] c ++ rest)
-        × SealsRun (after_chunk (writing_at key i) last 0) more rest code))
+    × SealsRun (after_chunk (writing_at key i) last 0) more rest code))
     ⊎ ((limits.max_chunks ≤ i) × (code ≡ 14))
 
 text-of : (c room : Bytes) → length room ≡ 16 → take (length (c ++ room) - 16) (c ++ room) ≡ c
@@ -115,7 +115,7 @@ write-first key i c more out code fits (new, room, size, after, report, step_cod
 abbrev pub AreSealed : Bytes → ℕ → List Bytes → Bytes → ℕ → Type 0
 AreSealed key i cs out code =
     ((code ≡ 0) × ((out ≡ concat (sealed_from key i cs)) × (i + length cs ≤ limits.max_chunks)))
-        ⊎ ((code ≡ 14) × (limits.max_chunks < i + length cs))
+    ⊎ ((code ≡ 14) × (limits.max_chunks < i + length cs))
 
 write-last : (key : Bytes) (i : ℕ) (c out : Bytes) (code : ℕ) → WritesBy key i true c [] out code
     → AreSealed key i (c ∷ []) out code
@@ -148,7 +148,7 @@ run_writes key i (c ∷ d ∷ more) out code sizes run =
 abbrev pub WritesFile : Bytes → Bytes → Bytes → Bytes → Bytes → ℕ → Type 0
 WritesFile stanzas file_key nonce plain file code =
     ((code ≡ 0) × IsNewFile stanzas file_key nonce plain file)
-        ⊎ ((code ≡ 14) × (limits.max_chunks < length (chunks plain)))
+    ⊎ ((code ≡ 14) × (limits.max_chunks < length (chunks plain)))
 
 pub steps_write : (stanzas file_key nonce plain old new : Bytes) (p : Payload) (report : Report) (out : Bytes)
     (code : ℕ)
@@ -165,9 +165,9 @@ steps_write stanzas file_key nonce plain old new p report out code (inr (Ok head
     let key : Bytes = payload_key k nonce in
     let front : take report.len new ≡ header.items ++ nonce =
     ap (λ (x : Report). take x.len new) fits.reported ∙ ap (take (length (header.items ++ nonce))) fits.buffer
-        ∙ take-append_seam (header.items ++ nonce) _ in
+    ∙ take-append_seam (header.items ++ nonce) _ in
     elim (run_writes key 0 (chunks plain) out code (plain-chunks plain)
-        (subst (λ w. SealsRun w (chunks plain) out code) state run)) [
+    (subst (λ w. SealsRun w (chunks plain) out code) state run)) [
       | inr (is, many) ↦ inr (is, omega (arith, many))
       | inl (zero, (is, few)) ↦
           let spelled : take report.len new ++ out ≡ header.items ++ payload k nonce plain =

@@ -46,11 +46,14 @@ stanza_size : (s : StanzaParts) (text : Bytes) → length s.body ≡ 32 → IsSt
     → length text ≡ length (argument_line s.args) + 44
 stanza_size s text size is =
     let characters : length (concat is.full ++ is.last) ≡ 43 =
-        omega (arith, b64_size s.body (concat is.full ++ is.last) is.body) in
+    omega (arith, b64_size s.body (concat is.full ++ is.last) is.body) in
     let lines = body_lines_size is.full is.last is.cut.0 characters in
-    ap length is.spelled ∙ omega (arith, length-append (argument_line s.args ++ flat_map line is.full) (line is.last),
-        length-append (argument_line s.args) (flat_map line is.full),
-        length-append (flat_map line is.full) (line is.last))
+    ap length is.spelled ∙ omega (
+      arith,
+      length-append (argument_line s.args ++ flat_map line is.full) (line is.last),
+      length-append (argument_line s.args) (flat_map line is.full),
+      length-append (flat_map line is.full) (line is.last),
+    )
 
 -- every header has its first line and its last
 pub least_header : (ss : List StanzaParts) (mac text : Bytes) → Head ss mac text → 70 ≤ length text
@@ -58,16 +61,21 @@ least_header ss mac text h =
     let characters : length h.characters ≡ 43 = omega (arith, b64_size mac h.characters h.mac_text, h.mac_len) in
     let end = line_size (codes "--- " ++ h.characters) in
     let all : length text ≡ length (version_line ++ h.body ++ line (codes "--- " ++ h.characters)) =
-        ap length h.spelled in
-    omega (arith, length-version_line, length-append (codes "--- ") h.characters,
-        length-append (version_line ++ h.body) (line (codes "--- " ++ h.characters)), length-append version_line h.body)
+    ap length h.spelled in
+    omega (
+      arith,
+      length-version_line,
+      length-append (codes "--- ") h.characters,
+      length-append (version_line ++ h.body) (line (codes "--- " ++ h.characters)),
+      length-append version_line h.body,
+    )
 
 -- a header of one stanza with a body of 32 bytes
 pub header_size : (s : StanzaParts) (mac text : Bytes) → length s.body ≡ 32 → Head (s ∷ []) mac text
     → length text ≡ length (argument_line s.args) + 114
 header_size s mac text size h =
     let stanza : length h.stanza_text.0 ≡ length (argument_line s.args) + 44 =
-        stanza_size s h.stanza_text.0 size h.stanza_text.2 in
+    stanza_size s h.stanza_text.0 size h.stanza_text.2 in
     let none : length h.stanza_text.1 ≡ 0 = ap length h.stanza_text.3 in
     let body : length h.body ≡ length (h.stanza_text.0 ++ h.stanza_text.1) = ap length h.stanza_text.4 in
     let characters : length h.characters ≡ 43 = omega (arith, b64_size mac h.characters h.mac_text, h.mac_len) in
@@ -82,12 +90,21 @@ header_size s mac text size h =
     )
 
 two_args : (a b : Bytes) → length (argument_line (a ∷ b ∷ [])) ≡ 5 + (length a + length b)
-two_args a b = omega (arith, length-append (a ++ 32 ∷ (b ++ [])) (10 ∷ []), length-append a (32 ∷ (b ++ [])),
-    length-append b [])
+two_args a b = omega (
+  arith,
+  length-append (a ++ 32 ∷ (b ++ [])) (10 ∷ []),
+  length-append a (32 ∷ (b ++ [])),
+  length-append b [],
+)
 
 three_args : (a b c : Bytes) → length (argument_line (a ∷ b ∷ c ∷ [])) ≡ 6 + (length a + length b + length c)
-three_args a b c = omega (arith, length-append (a ++ 32 ∷ (b ++ 32 ∷ (c ++ []))) (10 ∷ []),
-    length-append a (32 ∷ (b ++ 32 ∷ (c ++ []))), length-append b (32 ∷ (c ++ [])), length-append c [])
+three_args a b c = omega (
+  arith,
+  length-append (a ++ 32 ∷ (b ++ 32 ∷ (c ++ []))) (10 ∷ []),
+  length-append a (32 ∷ (b ++ 32 ∷ (c ++ []))),
+  length-append b (32 ∷ (c ++ [])),
+  length-append c [],
+)
 
 pub pass_header : (pass salt : Bytes) (work : ℕ) (k : FileKey) (mac text : Bytes) → length salt ≡ 16 → length k.0 ≡ 16
     → work ≤ 30
@@ -95,13 +112,13 @@ pub pass_header : (pass salt : Bytes) (work : ℕ) (k : FileKey) (mac text : Byt
 unfolding pass_stanza
 pass_header pass salt work k mac text salted keyed high h =
     let body : length (pass_stanza pass work salt k).body ≡ 32 =
-        length-sealed (pass_wrap_key pass salt work) zero_nonce [] k.0 ∙ omega arith in
+    length-sealed (pass_wrap_key pass salt work) zero_nonce [] k.0 ∙ omega arith in
     let all = header_size (pass_stanza pass work salt k) mac text body h in
     let digits : length (decimal work) ≤ 2 = length-decimal-le 2 work (omega arith) (omega arith) (omega arith) in
     let characters : length (base64_of salt) ≡ 22 = omega (arith, signs_size salt) in
     let args : length (argument_line (pass_stanza pass work salt k).args)
-        ≡ 6 + (6 + length (base64_of salt) + length (decimal work)) =
-        three_args (codes "scrypt") (base64_of salt) (decimal work) in
+    ≡ 6 + (6 + length (base64_of salt) + length (decimal work)) =
+    three_args (codes "scrypt") (base64_of salt) (decimal work) in
     omega arith
 
 pub key_header : (key salt : Bytes) (k : FileKey) (mac text : Bytes) → length salt ≡ 16 → length k.0 ≡ 16
@@ -109,11 +126,11 @@ pub key_header : (key salt : Bytes) (k : FileKey) (mac text : Bytes) → length 
 unfolding keyed_stanza
 key_header key salt k mac text salted keyed h =
     let body : length (keyed_stanza key salt k).body ≡ 32 = length-sealed (keyed_wrap_key key salt) zero_nonce [] k.0
-        ∙ omega arith in
+    ∙ omega arith in
     let all = header_size (keyed_stanza key salt k) mac text body h in
     let characters : length (base64_of salt) ≡ 22 = omega (arith, signs_size salt) in
     let args : length (argument_line (keyed_stanza key salt k).args) ≡ 5 + (15 + length (base64_of salt)) =
-        two_args (codes "example.org/key") (base64_of salt) in
+    two_args (codes "example.org/key") (base64_of salt) in
     omega arith
 
 -- ---- payloads
@@ -150,8 +167,11 @@ sealed_size key i [] = refl
 sealed_size key i (c ∷ more) =
     let one = length-sealed key (chunk_nonce i (is_end more)) [] c in
     let rest = sealed_size key (i + 1) more in
-    omega (arith, length-append (sealed key (chunk_nonce i (is_end more)) [] c) (concat (sealed_from key (i + 1) more)),
-        length-append c (concat more))
+    omega (
+      arith,
+      length-append (sealed key (chunk_nonce i (is_end more)) [] c) (concat (sealed_from key (i + 1) more)),
+      length-append c (concat more),
+    )
 
 pub payload_size : (k : FileKey) (nonce plain : Bytes)
     → length (payload k nonce plain) ≡ length nonce + (length plain + 16 * chunk_count (length plain))

@@ -36,7 +36,7 @@ pub start_none : (answers : Answering) (b : Bytes) (mid : Known) (fault : Fault)
 start_none answers b mid fault (Ok parts, is, h) count = absurd (cc)
 start_none answers b mid fault (Err header.Read, is, h) count =
     let read_count : CountsRead {A = HeaderParts} 0 0 (Err Read) =
-        subst (λ f. CountsRead {A = HeaderParts} 0 0 (Err f)) (err-err {A = HeaderParts} fault Read is) count in
+    subst (λ f. CountsRead {A = HeaderParts} 0 0 (Err f)) (err-err {A = HeaderParts} fault Read is) count in
     absurd (omega (arith, read_count))
 start_none answers b mid fault (Err header.Memory, is, h) count =
     inl (ap Err (err-err {A = HeaderParts} fault OutOfMemory is))
@@ -93,7 +93,7 @@ start_cut answers b rest h k i (inr is) short =
     let f = fronts b rest h i in
     found-start answers b rest h f (Err NonceTruncated)
     (sym (cond-true (nat_lt (length rest) 16) _ _ (lt-ltb (length rest) 16 short))
-        ∙ ap (start_under (length f.text) rest) is)
+    ∙ ap (start_under (length f.text) rest) is)
 
 pub start_found : (answers : Answering) (b rest nonce key : Bytes) (h : HeaderParts) (k : FileKey)
     → Inspects limits (Some b) (Some rest) (Ok h)

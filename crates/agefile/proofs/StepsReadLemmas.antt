@@ -54,7 +54,7 @@ pub verdict-from : (answers : Answering) (b : Bytes) (start : Result Start Fault
     → IsStart answers b start → IsVerdict limits answers b v → IsVerdictFrom b v start
 verdict-from answers b start v (Err e, verdict, is) h =
     subst (IsVerdictFrom b v) (sym is) (one_verdict limits answers b v (stops (header_fault e)) h
-        (record { header = Err e; header_verdict = verdict; is = refl }))
+    (record { header = Err e; header_verdict = verdict; is = refl }))
 verdict-from answers b start v (Ok found, verdict, is) h =
     let w = judged limits answers b (Ok found) in
     subst (IsVerdictFrom b v) (sym is) (under-from b (length found.text) v (unlocked answers (parts_of found))
@@ -66,9 +66,11 @@ refused-by : (b : Bytes) (p : Payload) (report : Report) (code : ℕ) (v : Readi
     → StartsAt start p report code → IsVerdictFrom b v start → code ≢ 0
     → (v.front ≡ []) × (code_of v.fault ≡ code) × (report ≡ report_of 0 v.fault)
 refused-by b p report code v (Ok start) opens from some = absurd (some opens.0)
-refused-by b p report code v (Err fault) opens from some =
-    (ap (λ (r : Reading Fault). r.front) from, ap (λ (r : Reading Fault). code_of r.fault) from ∙ sym opens.0,
-        opens.1 ∙ sym (ap (λ (r : Reading Fault). report_of 0 r.fault) from))
+refused-by b p report code v (Err fault) opens from some = (
+  ap (λ (r : Reading Fault). r.front) from,
+  ap (λ (r : Reading Fault). code_of r.fault) from ∙ sym opens.0,
+  opens.1 ∙ sym (ap (λ (r : Reading Fault). report_of 0 r.fault) from),
+)
 
 pub opening_refused : (answers : Answering) (b : Bytes) (p : Payload) (report : Report) (code : ℕ) (v : Reading Fault)
     → Opens answers (take 65552 b) p report code
@@ -91,8 +93,10 @@ reads-by b p report text code place v (Ok start) opens from run =
     (subst (λ (x : Report). OpensRun p (pieces (drop x.len b)) text code place) opens.1 run) in
     let h = payload_reads start.key (drop start.first b) text code place there in (
       ap (λ (r : Reading Fault). r.front) from ∙ sym h.0,
-      (ap (λ (r : Reading Fault). code_of r.fault) from ∙ sym h.1.0,
-          ap (λ (r : Reading Fault). (report_of 0 r.fault).place) from ∙ sym h.1.1),
+      (
+        ap (λ (r : Reading Fault). code_of r.fault) from ∙ sym h.1.0,
+        ap (λ (r : Reading Fault). (report_of 0 r.fault).place) from ∙ sym h.1.1,
+      ),
     )
 
 pub steps_read : (answers : Answering) (b : Bytes) (p : Payload) (report : Report) (text : Bytes) (code place : ℕ)
@@ -104,7 +108,7 @@ steps_read answers b p report text code place v (start, inl memory, opens) run h
     absurd (some-code OutOfMemory (sym refused.0))
 steps_read answers b p report text code place v (start, inr is, opens) run h =
     reads-by b p report text code place v start opens
-        (verdict-from answers b start v (whole-start answers b start is) h) run
+    (verdict-from answers b start v (whole-start answers b start is) h) run
 
 -- the same after unlocking
 pub unlocked_refused : (answers : Answering) (b old key : Bytes) (p : Payload) (at report : Report) (code : ℕ)
@@ -113,7 +117,7 @@ pub unlocked_refused : (answers : Answering) (b old key : Bytes) (p : Payload) (
     → (v.front ≡ []) × (code_of v.fault ≡ code) × (report ≡ report_of 0 v.fault)
 unlocked_refused answers b old key p at report code v unlocks opens h some other =
     opening_refused (by_file_key key) b p report code v opens (opens_unlocked answers b old key at v unlocks h) some
-        other
+    other
 
 pub unlocked_read : (answers : Answering) (b old key : Bytes) (p : Payload) (at report : Report) (text : Bytes)
     (code place : ℕ) (v : Reading Fault) → Unlocks answers b old key at 0
@@ -122,4 +126,4 @@ pub unlocked_read : (answers : Answering) (b old key : Bytes) (p : Payload) (at 
     → (v.front ≡ text) × ((code_of v.fault ≡ code) × ((report_of 0 v.fault).place ≡ place))
 unlocked_read answers b old key p at report text code place v unlocks opens run h =
     steps_read (by_file_key key) b p report text code place v opens run
-        (opens_unlocked answers b old key at v unlocks h)
+    (opens_unlocked answers b old key at v unlocks h)

@@ -39,7 +39,7 @@ pub key_none : (answers : Answering) (b : Bytes) (mid : Known) (fault : Fault)
 key_none answers b mid fault (Ok parts, is, h) count = absurd (cc)
 key_none answers b mid fault (Err header.Read, is, h) count =
     let read_count : CountsRead {A = HeaderParts} 0 0 (Err Read) =
-        subst (λ f. CountsRead {A = HeaderParts} 0 0 (Err f)) (err-err {A = HeaderParts} fault Read is) count in
+    subst (λ f. CountsRead {A = HeaderParts} 0 0 (Err f)) (err-err {A = HeaderParts} fault Read is) count in
     absurd (omega (arith, read_count))
 key_none answers b mid fault (Err header.Memory, is, h) count =
     inl (ap Err (err-err {A = HeaderParts} fault OutOfMemory is))
@@ -111,8 +111,8 @@ verdict-under : (answers : Answering) (b : Bytes) (key : Result Unlocked Fault) 
     → IsKey answers b key → IsVerdict limits answers b v → IsVerdictUnder b v key
 verdict-under answers b key v (Err e, verdict, is) h =
     subst (IsVerdictUnder b v) (sym is)
-        (one_verdict limits answers b v (stops (header_fault e)) h
-        (record { header = Err e; header_verdict = verdict; is = refl }))
+    (one_verdict limits answers b v (stops (header_fault e)) h
+    (record { header = Err e; header_verdict = verdict; is = refl }))
 verdict-under answers b key v (Ok found, verdict, is) h =
     let w = judged limits answers b (Ok found) in
     subst (IsVerdictUnder b v) (sym is) (under-key b (length found.text) v (unlocked answers (parts_of found))
@@ -122,9 +122,11 @@ refused-by : (b old new : Bytes) (report : Report) (code : ℕ) (v : Reading Fau
     → GivesKey key old new report code → IsVerdictUnder b v key → code ≢ 0
     → (v.front ≡ []) × (code_of v.fault ≡ code) × (report ≡ report_of 0 v.fault)
 refused-by b old new report code v (Ok found) gives under some = absurd (some gives.0)
-refused-by b old new report code v (Err fault) gives under some =
-    (ap (λ (r : Reading Fault). r.front) under, ap (λ (r : Reading Fault). code_of r.fault) under ∙ sym gives.0,
-        gives.1 ∙ sym (ap (λ (r : Reading Fault). report_of 0 r.fault) under))
+refused-by b old new report code v (Err fault) gives under some = (
+  ap (λ (r : Reading Fault). r.front) under,
+  ap (λ (r : Reading Fault). code_of r.fault) under ∙ sym gives.0,
+  gives.1 ∙ sym (ap (λ (r : Reading Fault). report_of 0 r.fault) under),
+)
 
 pub unlocking_refused : (answers : Answering) (b old new : Bytes) (report : Report) (code : ℕ) (v : Reading Fault)
     → Unlocks answers b old new report code
@@ -132,7 +134,7 @@ pub unlocking_refused : (answers : Answering) (b old new : Bytes) (report : Repo
     → (v.front ≡ []) × (code_of v.fault ≡ code) × (report ≡ report_of 0 v.fault)
 unlocking_refused answers b old new report code v (key, inl memory, gives) h some other =
     let refused : GivesKey (Err OutOfMemory) old new report code =
-        subst (λ k. GivesKey k old new report code) memory gives in
+    subst (λ k. GivesKey k old new report code) memory gives in
     absurd (other refused.0)
 unlocking_refused answers b old new report code v (key, inr is, gives) h some other =
     refused-by b old new report code v key gives (verdict-under answers b key v is h) some

@@ -35,12 +35,12 @@ between : (ss : List StanzaParts) → drop 22 (take (length (signed ss) - 3) (si
 between ss =
     let body : Bytes = flat_map stanza_text ss in
     let split : signed ss ≡ (version_line ++ body) ++ codes "---" = spelled ss
-        ∙ sym (append_assoc version_line body (codes "---")) in
+    ∙ sym (append_assoc version_line body (codes "---")) in
     let front : length (version_line ++ body) ≡ length (signed ss) - 3 =
-        omega (arith, ap length split, length-append (version_line ++ body) (codes "---")) in
+    omega (arith, ap length split, length-append (version_line ++ body) (codes "---")) in
     ap (drop 22) (ap (take (length (signed ss) - 3)) split
-        ∙ take_at (version_line ++ body) (codes "---") (length (signed ss) - 3) front)
-        ∙ drop_at version_line body 22 length-version_line
+    ∙ take_at (version_line ++ body) (codes "---") (length (signed ss) - 3) front)
+    ∙ drop_at version_line body 22 length-version_line
 
 pub text_given : (s : StanzaParts) (ss : List StanzaParts) (mac text part old new : Bytes) (report : Report) (code : ℕ)
     → ss ≡ s ∷ [] → IsHeaderValue ss mac → text ≡ signed ss
@@ -49,7 +49,7 @@ pub text_given : (s : StanzaParts) (ss : List StanzaParts) (mac text part old ne
 text_given s ss mac text part old new report code one whole is cut gives =
     let mine : IsWhole s = (subst (λ xs. AllByRecursion IsWhole xs) one whole.each).0 in
     let same : part ≡ stanza_text s = cut ∙ ap (λ t. drop 22 (take (length t - 3) t)) is ∙ between ss
-        ∙ ap (flat_map stanza_text) one ∙ append-nil (stanza_text s) in
+    ∙ ap (flat_map stanza_text) one ∙ append-nil (stanza_text s) in
     inr (stanza_text s, stanza_text_is s mine, subst (λ t. Gives t None old new report code) same gives)
 
 -- ---- a caller's own arguments
@@ -61,7 +61,7 @@ own_given s args body old new report code utf8 same_args same_body (inl up) = in
 own_given s args body old new report code utf8 same_args same_body (inr (text, is, gives)) =
     let mine : IsStanza (record { args = words args; body = body }) text =
     subst (λ a. IsStanza (record { args = a; body = body }) text) same_args
-        (subst (λ b. IsStanza (record { args = s.args; body = b }) text) same_body is) in
+    (subst (λ b. IsStanza (record { args = s.args; body = b }) text) same_body is) in
     inr (inr ((utf8, subst AreArguments same_args is.arguments), inr (text, mine, gives)))
 
 at_index : (xs : List Bytes) (i : ℕ) (d : Bytes) → AllByRecursion IsArgument xs → i < length xs

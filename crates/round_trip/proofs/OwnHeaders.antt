@@ -48,18 +48,21 @@ stanza_size : (s : StanzaParts) (text : Bytes) → length s.body ≡ 32 → IsSt
     → length text ≡ length (argument_line s.args) + 44
 stanza_size s text size is =
     let characters : length (concat is.full ++ is.last) ≡ 43 =
-        omega (arith, b64_size s.body (concat is.full ++ is.last) is.body) in
+    omega (arith, b64_size s.body (concat is.full ++ is.last) is.body) in
     let lines = body_lines_size is.full is.last is.cut.0 characters in
-    ap length is.spelled ∙ omega (arith, length-append (argument_line s.args ++ flat_map line is.full) (line is.last),
-        length-append (argument_line s.args) (flat_map line is.full),
-        length-append (flat_map line is.full) (line is.last))
+    ap length is.spelled ∙ omega (
+      arith,
+      length-append (argument_line s.args ++ flat_map line is.full) (line is.last),
+      length-append (argument_line s.args) (flat_map line is.full),
+      length-append (flat_map line is.full) (line is.last),
+    )
 
 -- a header of one stanza with a body of 32 bytes
 header_size : (s : StanzaParts) (mac text : Bytes) → length s.body ≡ 32 → Head (s ∷ []) mac text
     → length text ≡ length (argument_line s.args) + 114
 header_size s mac text size h =
     let stanza : length h.stanza_text.0 ≡ length (argument_line s.args) + 44 =
-        stanza_size s h.stanza_text.0 size h.stanza_text.2 in
+    stanza_size s h.stanza_text.0 size h.stanza_text.2 in
     let none : length h.stanza_text.1 ≡ 0 = ap length h.stanza_text.3 in
     let body : length h.body ≡ length (h.stanza_text.0 ++ h.stanza_text.1) = ap length h.stanza_text.4 in
     let characters : length h.characters ≡ 43 = omega (arith, b64_size mac h.characters h.mac_text, h.mac_len) in
@@ -74,12 +77,21 @@ header_size s mac text size h =
     )
 
 two_args : (a b : Bytes) → length (argument_line (a ∷ b ∷ [])) ≡ 5 + (length a + length b)
-two_args a b = omega (arith, length-append (a ++ 32 ∷ (b ++ [])) (10 ∷ []), length-append a (32 ∷ (b ++ [])),
-    length-append b [])
+two_args a b = omega (
+  arith,
+  length-append (a ++ 32 ∷ (b ++ [])) (10 ∷ []),
+  length-append a (32 ∷ (b ++ [])),
+  length-append b [],
+)
 
 three_args : (a b c : Bytes) → length (argument_line (a ∷ b ∷ c ∷ [])) ≡ 6 + (length a + length b + length c)
-three_args a b c = omega (arith, length-append (a ++ 32 ∷ (b ++ 32 ∷ (c ++ []))) (10 ∷ []),
-    length-append a (32 ∷ (b ++ 32 ∷ (c ++ []))), length-append b (32 ∷ (c ++ [])), length-append c [])
+three_args a b c = omega (
+  arith,
+  length-append (a ++ 32 ∷ (b ++ 32 ∷ (c ++ []))) (10 ∷ []),
+  length-append a (32 ∷ (b ++ 32 ∷ (c ++ []))),
+  length-append b (32 ∷ (c ++ [])),
+  length-append c [],
+)
 
 pass_header : (pass salt : Bytes) (work : ℕ) (k : FileKey) (mac text : Bytes) → length salt ≡ 16 → length k.0 ≡ 16
     → work ≤ 30
@@ -87,13 +99,13 @@ pass_header : (pass salt : Bytes) (work : ℕ) (k : FileKey) (mac text : Bytes) 
 unfolding pass_stanza
 pass_header pass salt work k mac text salted keyed high h =
     let body : length (pass_stanza pass work salt k).body ≡ 32 =
-        length-sealed (pass_wrap_key pass salt work) zero_nonce [] k.0 ∙ omega arith in
+    length-sealed (pass_wrap_key pass salt work) zero_nonce [] k.0 ∙ omega arith in
     let all = header_size (pass_stanza pass work salt k) mac text body h in
     let digits : length (decimal work) ≤ 2 = length-decimal-le 2 work (omega arith) (omega arith) (omega arith) in
     let characters : length (base64_of salt) ≡ 22 = omega (arith, signs_size salt) in
     let args : length (argument_line (pass_stanza pass work salt k).args)
-        ≡ 6 + (6 + length (base64_of salt) + length (decimal work)) =
-        three_args (codes "scrypt") (base64_of salt) (decimal work) in
+    ≡ 6 + (6 + length (base64_of salt) + length (decimal work)) =
+    three_args (codes "scrypt") (base64_of salt) (decimal work) in
     omega arith
 
 key_header : (key salt : Bytes) (k : FileKey) (mac text : Bytes) → length salt ≡ 16 → length k.0 ≡ 16
@@ -101,11 +113,11 @@ key_header : (key salt : Bytes) (k : FileKey) (mac text : Bytes) → length salt
 unfolding keyed_stanza
 key_header key salt k mac text salted keyed h =
     let body : length (keyed_stanza key salt k).body ≡ 32 = length-sealed (keyed_wrap_key key salt) zero_nonce [] k.0
-        ∙ omega arith in
+    ∙ omega arith in
     let all = header_size (keyed_stanza key salt k) mac text body h in
     let characters : length (base64_of salt) ≡ 22 = omega (arith, signs_size salt) in
     let args : length (argument_line (keyed_stanza key salt k).args) ≡ 5 + (15 + length (base64_of salt)) =
-        two_args (codes "example.org/key") (base64_of salt) in
+    two_args (codes "example.org/key") (base64_of salt) in
     omega arith
 
 -- what one recipient gives, where it gives its stanza
@@ -136,7 +148,7 @@ unrefused limits k stanza meant bounds short MixedPassphrase h =
 unrefused limits k stanza meant bounds short HeaderTooLarge h =
     let e : h.stanzas ≡ stanza ∷ [] = cc (given_is stanza meant _ h.gives) in
     let most = short (header_mac k.0 h.stanzas) h.text
-        (subst (λ ss. Head ss (header_mac k.0 h.stanzas) h.text) e h.head) in
+    (subst (λ ss. Head ss (header_mac k.0 h.stanzas) h.text) e h.head) in
     let least = bounds.header_low in
     let over = h.exceeds in
     absurd (omega arith)
@@ -161,11 +173,11 @@ pub pass_unrefused : (limits : Bounds) (k : FileKey) (pass salt : Bytes) (work :
     → IsRefusal limits k (Gathered (Ok (pass_stanza pass work salt k ∷ []) ∷ []) (meant ∷ [])) fault → ⊥
 pass_unrefused limits k pass salt work meant bounds salted keyed high =
     unrefused limits k (pass_stanza pass work salt k) meant bounds
-        (λ mac text h. let most = pass_header pass salt work k mac text salted keyed.len high h in omega arith)
+    (λ mac text h. let most = pass_header pass salt work k mac text salted keyed.len high h in omega arith)
 
 pub key_unrefused : (limits : Bounds) (k : FileKey) (key salt : Bytes) (meant : Labels) → IsBounds limits
     → length salt ≡ 16 → IsFileKey k → (fault : Fault)
     → IsRefusal limits k (Gathered (Ok (keyed_stanza key salt k ∷ []) ∷ []) (meant ∷ [])) fault → ⊥
 key_unrefused limits k key salt meant bounds salted keyed =
     unrefused limits k (keyed_stanza key salt k) meant bounds
-        (λ mac text h. let size = key_header key salt k mac text salted keyed.len h in omega arith)
+    (λ mac text h. let size = key_header key salt k mac text salted keyed.len h in omega arith)

@@ -36,7 +36,7 @@ opened_each : (key : Bytes) (i : ℕ) (ts : List Bytes) → openings key i (seal
 opened_each key i [] = refl
 opened_each key i (t ∷ ts) =
     ap (λ b. opened_at key i b (sealed key (chunk_nonce i (is_end ts)) [] t)
-        ∷ openings key (i + 1) (sealed_from key (i + 1) ts)) (is_end-each key (i + 1) ts)
+    ∷ openings key (i + 1) (sealed_from key (i + 1) ts)) (is_end-each key (i + 1) ts)
     ∙ ap (λ o. o ∷ openings key (i + 1) (sealed_from key (i + 1) ts))
     (opened-sealed key (chunk_nonce i (is_end ts)) [] t)
     ∙ ap (λ x. Some t ∷ x) (opened_each key (i + 1) ts)
@@ -85,20 +85,20 @@ sliced_of laws limits answers b p s given given2 v r =
     let reads : payload_reading r.key limits.max_chunks (drop n b) ≡ whole p =
     with_file_fault-whole p (payload_reading r.key limits.max_chunks (drop n b))
     (v.is ∙ ap (judged limits answers b)
-        (headers.one_verdict b limits.max_header v.header (Ok r.found) v.header_verdict r.header)
-        ∙ ap (read_under limits (drop n b)) r.chosen) in
+    (headers.one_verdict b limits.max_header v.header (Ok r.found) v.header_verdict r.header)
+    ∙ ap (read_under limits (drop n b)) r.chosen) in
     let w = whole-is r.key (drop n b) p limits.max_chunks reads in
     let key : Bytes = payload_key r.key (take 16 (drop n b)) in
     let rest : drop s.layout.first b ≡ drop 16 (drop n b) = ap (λ m. drop m b) r.opened.first
-        ∙ sym (drop-drop 16 n b) in
+    ∙ sym (drop-drop 16 n b) in
     let each : openings key 0 (pieces (drop 16 (drop n b))) ≡ map Some (chunks p) = ap (openings key 0) w.sealed_so
-        ∙ opened_each key 0 (chunks p) in
+    ∙ opened_each key 0 (chunks p) in
     record {
       len = laws.len limits answers b p s given given2 v r;
       slice = λ at xs has. laws.slice limits answers b p xs s given given2 at v r has;
       opens = λ i lt none. none_within (chunks p) i (chunk_within p i lt)
           (ap (λ os. get_or os i None) (sym each) ∙ ap (λ k. opening k (drop 16 (drop n b)) i) (sym r.opened.key)
-              ∙ ap (λ t. opening s.layout.key t i) (sym rest) ∙ none);
+          ∙ ap (λ t. opening s.layout.key t i) (sym rest) ∙ none);
     }
 
 part_is : (plain : Bytes) (range : Range) (xs : Bytes) → xs ≡ take (length xs) (drop range.at plain)
@@ -115,7 +115,7 @@ parts_more : (plain : Bytes) (rs : List Range) (i : ℕ) (r : Range) → i < len
     → parts plain (take (i + 1) rs) ≡ parts plain (take i rs) ++ part plain r
 parts_more plain rs i r lt is =
     ap (parts plain) (take_more rs i r lt) ∙ flat_map-append (part plain) (take i rs) (get_or rs i r ∷ [])
-        ∙ ap (λ t. parts plain (take i rs) ++ t) (append-nil (part plain (get_or rs i r)))
+    ∙ ap (λ t. parts plain (take i rs) ++ t) (append-nil (part plain (get_or rs i r)))
     ∙ ap (λ x. parts plain (take i rs) ++ part plain x) (sym is)
 
 pub lost_part : (told t2 : Known) (s s2 : RangeState) (plain : Bytes) (range : Range) (old new : Bytes) (fault : Fault)
@@ -146,9 +146,9 @@ more_parts told t2 s s2 plain rs i range old new stay same keeps sound sliced lt
     let size : s2.layout.plain ≡ length plain = ap (λ (l : Layout). l.plain) same ∙ sliced.len in
     let len : length a.0 ≡ min range.len (s2.layout.plain - range.at) = a.2 in
     let xs : a.0 ≡ part plain range = part_is plain range a.0
-        (sliced.slice range.at a.0 (subst (λ l. HasPlain told l range.at a.0) same a.1)) (omega arith) in
+    (sliced.slice range.at a.0 (subst (λ l. HasPlain told l range.at a.0) same a.1)) (omega arith) in
     a.3 ∙ ap (λ t. t ++ a.0) before ∙ ap (λ t. parts plain (take i rs) ++ t) xs
-        ∙ sym (parts_more plain rs i range lt is)
+    ∙ sym (parts_more plain rs i range lt is)
 
 pub all_parts : (plain : Bytes) (rs : List Range) (i : ℕ) (text : Bytes) → length rs ≤ i
     → text ≡ parts plain (take i rs) → text ≡ parts plain rs
@@ -167,8 +167,8 @@ pub unopened : {X : Type 0} (laws : SlicedLaws) (limits : Bounds) (meaning : X �
     → IsVerdict limits (λ s. meaning x s ∷ []) b (whole plain) → fault ≡ OutOfMemory
 unopened laws limits meaning xs x b plain bytes fault list is count misses v =
     elim (laws.opens limits (λ s. meaning x s ∷ []) b plain fault v
-        (subst (λ z. MissesRanges limits (λ s. map (λ i. meaning i s) z) (Some b) fault) list
-        (subst (λ k. MissesRanges limits (λ s. map (λ i. meaning i s) xs) k fault) is misses))) [
+    (subst (λ z. MissesRanges limits (λ s. map (λ i. meaning i s) z) (Some b) fault) list
+    (subst (λ k. MissesRanges limits (λ s. map (λ i. meaning i s) xs) k fault) is misses))) [
       | inl read ↦ let none : CountsRead {A = ℕ} 0 0 (Err Read) =
           subst (λ f. CountsRead {A = ℕ} 0 0 (Err f)) read count in absurd (omega arith)
       | inr memory ↦ memory
@@ -183,12 +183,13 @@ pub opened_sliced : {X : Type 0} (laws : SlicedLaws) (limits : Bounds) (meaning 
     → IsSliced told s.layout plain)
 opened_sliced laws limits meaning xs x b bytes told s given given2 list is stay ranges =
     let some : IsRangesOf limits (λ st. map (λ i. meaning i st) xs) b s given given2 =
-        subst (λ k. IfSome k (λ c. IsRangesOf limits (λ st. map (λ i. meaning i st) xs) c s given given2)) is ranges in
+    subst (λ k. IfSome k (λ c. IsRangesOf limits (λ st. map (λ i. meaning i st) xs) c s given given2)) is ranges in
     let one = subst (λ z. IsRangesOf limits (λ st. map (λ i. meaning i st) z) b s given given2) list some in
-    let same : told ≡ Some b = stay ∙ is in
-    (subst (λ k. IsSound k s) (sym same) one.opened.sound,
-        λ plain v. subst (λ k. IsSliced k s.layout plain) (sym same)
-        (sliced_of laws limits (λ st. meaning x st ∷ []) b plain s given given2 v one))
+    let same : told ≡ Some b = stay ∙ is in (
+      subst (λ k. IsSound k s) (sym same) one.opened.sound,
+      λ plain v. subst (λ k. IsSliced k s.layout plain) (sym same)
+          (sliced_of laws limits (λ st. meaning x st ∷ []) b plain s given given2 v one),
+    )
 
 -- what holds of a result for each plaintext
 pub ok_inside : {A E : Type 0} (r : Result A E) (V : Bytes → Type 0) (Q : A → Bytes → Type 0)

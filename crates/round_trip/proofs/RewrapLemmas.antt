@@ -39,7 +39,7 @@ header_is : (limits : Bounds) (answers : Answering) (k : FileKey) (stanzas : Lis
 header_is limits answers k stanzas plain b file r chosen h =
     let found = found_of limits k stanzas plain b file in
     let begins : BeginsWith b limits.max_header found =
-        record { rest = payload k file.nonce plain; head = file.head; front = file.spelled; fits = file.header_fits } in
+    record { rest = payload k file.nonce plain; head = file.head; front = file.spelled; fits = file.header_fits } in
     headers.one_verdict b limits.max_header r (Ok found) h (headers.found_begins b limits.max_header found begins)
 
 unlocked_is : (limits : Bounds) (answers : Answering) (k : FileKey) (stanzas : List StanzaParts) (plain b : Bytes)
@@ -47,7 +47,7 @@ unlocked_is : (limits : Bounds) (answers : Answering) (k : FileKey) (stanzas : L
     → choice (answers stanzas) ≡ Ok k → unlocked answers (parts_of (found_of limits k stanzas plain b file)) ≡ Ok k
 unlocked_is limits answers k stanzas plain b file chosen =
     key-unlocked answers (parts_of (found_of limits k stanzas plain b file)) k
-        (record { unmixed = file.unmixed; chosen = chosen; mac = refl })
+    (record { unmixed = file.unmixed; chosen = chosen; mac = refl })
 
 ok-key : (a b : FileKey) → ◌≡◌ {A = Result FileKey Fault} (Ok a) (Ok b) → a ≡ b
 ok-key a b e = cc
@@ -58,9 +58,9 @@ pub key_is : (limits : Bounds) (answers : Answering) (k : FileKey) (stanzas : Li
     → choice (answers stanzas) ≡ Ok k → (is : Rewrapped limits answers b c) → is.key ≡ k
 key_is limits answers k stanzas plain b c file chosen is =
     let same : is.found ≡ found_of limits k stanzas plain b file =
-        cc (header_is limits answers k stanzas plain b file (Ok is.found) chosen is.header) in
+    cc (header_is limits answers k stanzas plain b file (Ok is.found) chosen is.header) in
     ok-key is.key k (sym is.chosen ∙ ap (λ f. unlocked answers (parts_of f)) same
-        ∙ unlocked_is limits answers k stanzas plain b file chosen)
+    ∙ unlocked_is limits answers k stanzas plain b file chosen)
 
 -- such a file is refused for its new header alone
 refused_by : (limits : Bounds) (answers : Answering) (gathered : FileKey → Gathering) (k : FileKey)
@@ -71,7 +71,7 @@ refused_by limits answers gathered k stanzas plain b fault file chosen h =
     let found = found_of limits k stanzas plain b file in
     let unlocks = unlocked_is limits answers k stanzas plain b file chosen in
     elim (subst (λ r. IsRefusedBy limits answers gathered r fault)
-        (header_is limits answers k stanzas plain b file h.0 chosen h.1) h.2) [
+    (header_is limits answers k stanzas plain b file h.0 chosen h.1) h.2) [
       | inl stopped ↦ absurd (ok-err (sym unlocks ∙ stopped))
       | inr refused ↦ subst (λ key. IsRefusal limits key (gathered key) fault)
           (ok-key refused.0 k (sym refused.1 ∙ unlocks)) refused.2
@@ -127,7 +127,7 @@ unrewrapped limits answers gathered k stanzas plain b TooManyChunks old new shor
 pub unrewrapped_one : {X Y : Type 0} (limits : Bounds) (meaning : X → List StanzaParts → Unwrapped) (xs : List X)
     (x : X) (wraps : Y → FileKey → Result (List StanzaParts) ℕ) (labels : Y → Labels) (ys : List Y) (y : Y)
     (a b : Bytes) (fault : Fault) (old new : Known) → length b < 2 ^ 64 → xs ≡ x ∷ [] → ys ≡ y ∷ [] → a ≡ b
-        → CountsRead {A = Unit {0}} 0 0 (Err fault)
+    → CountsRead {A = Unit {0}} 0 0 (Err fault)
     → RewrapsText limits (λ s. map (λ i. meaning i s) xs) (λ key. Gathered (map (λ r. wraps r key) ys) (map labels ys))
     a old new (Err fault)
     → (stanzas : List StanzaParts) (k : FileKey) (plain : Bytes) → AgeFile limits k stanzas plain b
@@ -136,13 +136,13 @@ pub unrewrapped_one : {X Y : Type 0} (limits : Bounds) (meaning : X → List Sta
 unrewrapped_one limits meaning xs x wraps labels ys y a b fault old new short list to come count h =
     λ stanzas k plain file means.
     unrewrapped limits (λ s. meaning x s ∷ []) (λ key. Gathered (wraps y key ∷ []) (labels y ∷ [])) k stanzas plain b
-        fault old new short file (ap (λ u. choice (u ∷ [])) means) count
+    fault old new short file (ap (λ u. choice (u ∷ [])) means) count
     (subst (λ z. RewrapsText limits (λ s. meaning x s ∷ []) (λ key. Gathered (wraps y key ∷ []) (labels y ∷ [])) z old
-        new (Err fault)) come
+    new (Err fault)) come
     (subst (λ z. RewrapsText limits (λ s. meaning x s ∷ []) (λ key. Gathered (map (λ r. wraps r key) z) (map labels z))
-        a old new (Err fault)) to
+    a old new (Err fault)) to
     (subst (λ z. RewrapsText limits (λ s. map (λ i. meaning i s) z)
-        (λ key. Gathered (map (λ r. wraps r key) ys) (map labels ys)) a old new (Err fault)) list h)))
+    (λ key. Gathered (map (λ r. wraps r key) ys) (map labels ys)) a old new (Err fault)) list h)))
 
 -- what was written of one recipient
 pub rewrapped_one : {X Y : Type 0} (limits : Bounds) (meaning : X → List StanzaParts → Unwrapped) (xs : List X) (x : X)
@@ -153,11 +153,11 @@ pub rewrapped_one : {X Y : Type 0} (limits : Bounds) (meaning : X → List Stanz
     → (is : Rewrapped limits (λ s. meaning x s ∷ []) b c) × (wraps y is.key ≡ Ok is.stanzas)
 rewrapped_one limits meaning xs x wraps labels ys y a b c list to come h =
     let t = subst (λ z. RewrapsText limits (λ s. meaning x s ∷ []) (λ key. Gathered (wraps y key ∷ []) (labels y ∷ []))
-        z (Some []) (Some c) (Ok tt)) come
+    z (Some []) (Some c) (Ok tt)) come
     (subst (λ z. RewrapsText limits (λ s. meaning x s ∷ []) (λ key. Gathered (map (λ r. wraps r key) z) (map labels z))
-        a (Some []) (Some c) (Ok tt)) to
+    a (Some []) (Some c) (Ok tt)) to
     (subst (λ z. RewrapsText limits (λ s. map (λ i. meaning i s) z)
-        (λ key. Gathered (map (λ r. wraps r key) ys) (map labels ys)) a (Some []) (Some c) (Ok tt)) list h)) in
+    (λ key. Gathered (map (λ r. wraps r key) ys) (map labels ys)) a (Some []) (Some c) (Ok tt)) list h)) in
     let is : c ≡ t.0 = t.2 in
     subst (λ z. (is : Rewrapped limits (λ s. meaning x s ∷ []) b z) × (wraps y is.key ≡ Ok is.stanzas)) (sym is)
     (t.1.0, gathered_one (wraps y t.1.0.key) (labels y ∷ []) t.1.0.stanzas t.1.1)
@@ -175,7 +175,7 @@ whole_of_rewrapped limits old new k stanzas plain b c wraps opens file means is 
     let chosen = ap (λ u. choice (u ∷ [])) means in
     let same = key_is limits (λ s. old s ∷ []) k stanzas plain b c file chosen is in
     keeps (whole plain) (ap (λ u. choice (u ∷ [])) (opens is.key same is.stanzas made))
-        (file-whole limits (λ s. old s ∷ []) b plain stanzas k file chosen)
+    (file-whole limits (λ s. old s ∷ []) b plain stanzas k file chosen)
 
 -- what a result's value, or its error, also has
 pub if_ok : {A E : Type 0} (r : Result A E) (P Q : A → Type 0) → ((x : A) → P x → Q x) → IfOk r P → IfOk r Q

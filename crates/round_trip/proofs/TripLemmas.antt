@@ -96,7 +96,7 @@ lost_of_whole limits answers b plain (IncompatibleRecipients i) old new once is 
 pub lost_of_one : {X : Type 0} (limits : Bounds) (meaning : X → List StanzaParts → Unwrapped) (xs : List X) (x : X)
     (a b plain : Bytes) (fault : Fault)
     (old new : Known) → xs ≡ x ∷ [] → a ≡ b → IsOnce limits (λ s. meaning x s ∷ []) b
-        → IsVerdict limits (λ s. meaning x s ∷ []) b (whole plain)
+    → IsVerdict limits (λ s. meaning x s ∷ []) b (whole plain)
     → CountsRead {A = Done} 0 0 (Err fault)
     → Decrypts limits (λ s. map (λ i. meaning i s) xs) (Some a) old new (Err fault) → IsMemoryFault fault
 lost_of_one limits meaning xs x a b plain fault old new list come once is count h =

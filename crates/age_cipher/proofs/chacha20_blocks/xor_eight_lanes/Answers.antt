@@ -35,7 +35,7 @@ returns c =
     (c.high_halves-8.ensures ∙ ap₂ high t3.fourth t4.fourth) ∙ lane_written words 7 full in
     let at = c.args.at in
     let b0 : IsXoredAt at (bytes (lane 0 words)) c.args.buf.now c.xor_halves.new.buf =
-        rw (sym row0) c.xor_halves.ensures in
+    rw (sym row0) c.xor_halves.ensures in
     let b1 : IsXoredAt (at + 64) (bytes (lane 1 words)) c.xor_halves.new.buf c.xor_halves-2.new.buf =
     rw (sym row1) c.xor_halves-2.ensures in
     let b2 : IsXoredAt (at + 128) (bytes (lane 2 words)) c.xor_halves-2.new.buf c.xor_halves-3.new.buf =

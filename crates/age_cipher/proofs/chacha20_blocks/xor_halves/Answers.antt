@@ -8,4 +8,4 @@ pub returns : goal.returns
 returns c =
     rw (flat_map-append (λ word. le_bytes 4 word) c.args.first c.args.second)
     (xored_on _ _ _ _ _ _ _ (omega (arith, length-bytes c.args.first, c.fits-first.0)) c.xor_eight_words.ensures
-        c.xor_eight_words-2.ensures)
+    c.xor_eight_words-2.ensures)

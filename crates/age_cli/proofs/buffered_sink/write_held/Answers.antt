@@ -16,9 +16,9 @@ returns-clause-bytes g c =
     let tail : length (drop n all) ≡ left = omega (arith, length-drop n all) in
     let from_none : left ≡ 0 + left = omega arith in
     let moved = with_items_is c.args.held.now c.copy_within.new.self (search (rules, places))
-        ∙ c.copy_within.ensures.after in
+    ∙ c.copy_within.ensures.after in
     let front = take-paste all 0 (drop n all) left (omega arith) (omega arith)
-        ∙ take_all left (drop n all) (omega arith) in
+    ∙ take_all left (drop n all) (omega arith) in
     let rest : c.truncate.new.self.items ≡ drop n held =
     c.truncate.ensures.items ∙ ap (take left) moved ∙ ap (λ k. take k (paste all 0 (drop n all) left)) from_none ∙ front
     ∙ ap (drop n) c.as_mut_slice.ensures.value in

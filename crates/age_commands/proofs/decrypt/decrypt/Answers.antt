@@ -8,5 +8,5 @@ use Rattle.age_commands.proofs.decrypt.decrypt.OwnLists.{own-1, entry-1-1, at-1-
 pub returns-in-Ok-new-clause-decrypts : goal.returns-in-Ok-new-clause-decrypts
 returns-in-Ok-new-clause-decrypts g c =
     let same = read_made own-1 entry-1-1 at-1-1 same-1-1 _ (λ j y. j.1.meaning y) _ _ _ c.into_dyn_box.ensures.1
-        ∙ ap unwraps_of (c.in-Ok-new.ensures.ok ∙ c.in-Ok.ensures) in
+    ∙ ap unwraps_of (c.in-Ok-new.ensures.ok ∙ c.in-Ok.ensures) in
     decrypting_meant _ _ _ _ _ _ _ same c.decrypt_by.ensures.decrypts

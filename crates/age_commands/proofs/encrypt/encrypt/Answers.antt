@@ -9,7 +9,7 @@ pub returns-in-Ok-new-clause-encrypts : goal.returns-in-Ok-new-clause-encrypts
 returns-in-Ok-new-clause-encrypts g c =
     let made = c.in-Ok-new.ensures.ok ∙ c.in-Ok.ensures in
     let wraps = read_made own-1 entry-1-1 at-1-1 same-1-1 _ (λ j y. j.1.wraps y) _ _ _ c.into_dyn_box.ensures.1
-        ∙ ap wraps_of made in
+    ∙ ap wraps_of made in
     let labels = read_made own-1 entry-1-1 at-1-1 same-1-1 _ (λ j y. j.1.the_labels y) _ _ _ c.into_dyn_box.ensures.1
-        ∙ ap labels_of made in
+    ∙ ap labels_of made in
     encrypting_meant _ _ _ _ _ _ _ _ _ _ wraps labels c.encrypt_for.ensures.encrypts

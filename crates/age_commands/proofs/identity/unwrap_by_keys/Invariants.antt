@@ -8,4 +8,4 @@ use Rattle.age_commands.proofs.identity.unwrap_by_keys.Given as goal
 abbrev pub invariant-loop-key : goal.invariant-loop-key
 invariant-loop-key l =
     decided_from l.so_far (drop l.key-index (map (λ key. key_unwraps key l.stanzas) l.keys))
-        ≡ keys_unwrap l.keys l.stanzas
+    ≡ keys_unwrap l.keys l.stanzas

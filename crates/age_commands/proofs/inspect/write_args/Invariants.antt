@@ -7,4 +7,4 @@ use Rattle.age_commands.proofs.inspect.write_args.Given as goal
 abbrev pub invariant-loop-arg : goal.invariant-loop-arg
 invariant-loop-arg g l =
     Appends (g.W.Write.contents l.fn.out) (g.W.Write.contents l.out)
-        (spaced (map string_bytes (take l.arg-index l.args)))
+    (spaced (map string_bytes (take l.arg-index l.args)))

@@ -4,8 +4,8 @@ use Rattle.age_commands.proofs.inspect.write_table.Goals as goal
 pub returns : goal.returns
 returns g c =
     tabled c.args.header.now c.args.check _ _ _ _ _ _ c.mac_signs.result c.text_len-len.ensures.0 c.text_len-len.result
-        c.write-2.result
+    c.write-2.result
     c.text_len-len.ensures.2 c.mac_signs.ensures c.text_len-len.ensures.1
     (rw c.stanzas.ensures.value at c.in_ok-write.ensures.bytes)
-        (rw c.stanzas-2.ensures.value at c.in_ok-write_rows.ensures) c.in_ok-write_all.ensures.bytes
-        c.in_ok-write_all-2.ensures.bytes c.write-2.ensures.bytes
+    (rw c.stanzas-2.ensures.value at c.in_ok-write_rows.ensures) c.in_ok-write_all.ensures.bytes
+    c.in_ok-write_all-2.ensures.bytes c.write-2.ensures.bytes

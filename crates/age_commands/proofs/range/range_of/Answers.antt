@@ -8,5 +8,5 @@ use Rattle.age_commands.proofs.range.range_of.OwnLists.{own-1, entry-1-1, at-1-1
 pub returns-in-Ok-new : goal.returns-in-Ok-new
 returns-in-Ok-new g c =
     let same = read_made own-1 entry-1-1 at-1-1 same-1-1 _ (λ j y. j.1.meaning y) _ _ _ c.into_dyn_box.ensures.1
-        ∙ ap unwraps_of (c.in-Ok-new.ensures.ok ∙ c.in-Ok.ensures) in
+    ∙ ap unwraps_of (c.in-Ok-new.ensures.ok ∙ c.in-Ok.ensures) in
     ranging_meant _ _ _ _ _ _ _ _ _ same c.range_by.ensures

@@ -10,7 +10,7 @@ loop-key-preserved c =
     let wraps = rw c.new.ensures at c.in_ok-one.ensures in
     let one : c.in_ok-one.one.items ≡ keyed_stanza key c.args.salt c.args.file_key.now ∷ [] = cc wraps in
     wrapped_more (λ k. keyed_stanza k c.args.salt c.args.file_key.now) c.args.keys.now c.loop-key.key-index _ _ _
-        c.loop-key-test.true added one c.loop-key.invariant
+    c.loop-key-test.true added one c.loop-key.invariant
 
 pub returns : goal.returns
 returns c =

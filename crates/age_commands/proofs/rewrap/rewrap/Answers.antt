@@ -8,10 +8,10 @@ use Rattle.age_commands.proofs.rewrap.rewrap.OwnLists.{own-1, entry-1-1, at-1-1,
 pub returns-in-Ok-new-3-clause-rewraps : goal.returns-in-Ok-new-3-clause-rewraps
 returns-in-Ok-new-3-clause-rewraps g c =
     let answers = read_made own-1 entry-1-1 at-1-1 same-1-1 _ (λ j y. j.1.meaning y) _ _ _ c.into_dyn_box.ensures.1
-        ∙ ap unwraps_of (c.in-Ok-new-2.ensures.ok ∙ c.in-Ok.ensures) in
+    ∙ ap unwraps_of (c.in-Ok-new-2.ensures.ok ∙ c.in-Ok.ensures) in
     let made = c.in-Ok-new-3.ensures.ok ∙ c.in-Ok-new.ensures in
     let wraps = read_made own-2 entry-2-1 at-2-1 same-2-1 _ (λ j y. j.1.wraps y) _ _ _
-        c.into_dyn_box-in-Ok-new-3.ensures.1 ∙ ap wraps_of made in
+    c.into_dyn_box-in-Ok-new-3.ensures.1 ∙ ap wraps_of made in
     let labels = read_made own-2 entry-2-1 at-2-1 same-2-1 _ (λ j y. j.1.the_labels y) _ _ _
-        c.into_dyn_box-in-Ok-new-3.ensures.1 ∙ ap labels_of made in
+    c.into_dyn_box-in-Ok-new-3.ensures.1 ∙ ap labels_of made in
     rewrapping_meant _ _ _ _ _ _ _ _ _ _ _ answers wraps labels c.rewrap_for.ensures.rewraps

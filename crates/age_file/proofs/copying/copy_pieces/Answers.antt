@@ -15,16 +15,16 @@ loop-copied-preserved g c = record {
 pub returns-in-Ok-false-clause-copies : goal.returns-in-Ok-false-clause-copies
 returns-in-Ok-false-clause-copies g c =
     copied_all _ _ (g.S.Source.to_come c.loop-copied.input) (g.S.Source.to_come c.copy_piece.new.input) _
-        (g.W.Sink.taken c.loop-copied.out) _ c.loop-copied.copied c.in-Ok-false.field-0 c.in-Ok-false.field-0-test
-        c.loop-copied.invariant.copied c.in-Ok-false.ensures.copies
+    (g.W.Sink.taken c.loop-copied.out) _ c.loop-copied.copied c.in-Ok-false.field-0 c.in-Ok-false.field-0-test
+    c.loop-copied.invariant.copied c.in-Ok-false.ensures.copies
 
 pub returns-in-Err-clause-copies : goal.returns-in-Err-clause-copies
 returns-in-Err-clause-copies g c =
     copied_failed (length c.loop-copied.buf) _ (g.S.Source.to_come c.loop-copied.input)
-        (g.S.Source.to_come c.copy_piece.new.input) _ (g.W.Sink.taken c.loop-copied.out) _ c.loop-copied.copied
-        c.in-Err.fault c.loop-copied.invariant.copied c.in-Err.ensures.copies
+    (g.S.Source.to_come c.copy_piece.new.input) _ (g.W.Sink.taken c.loop-copied.out) _ c.loop-copied.copied
+    c.in-Err.fault c.loop-copied.invariant.copied c.in-Err.ensures.copies
 
 pub returns-clause-copies : goal.returns-clause-copies
 returns-clause-copies g c =
     copied_beyond _ (g.S.Source.to_come c.loop-copied.input) _ _ c.loop-copied.copied c.loop-copied-test.false
-        c.loop-copied.invariant.copied
+    c.loop-copied.invariant.copied

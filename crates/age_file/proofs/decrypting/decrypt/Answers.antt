@@ -10,37 +10,37 @@ returns-in-Err-clause-decrypts g c = inspect-decrypts _ _ _ (g.S.Source.to_come 
 pub returns-in-Err-unlock_header-clause-decrypts : goal.returns-in-Err-unlock_header-clause-decrypts
 returns-in-Err-unlock_header-clause-decrypts g c =
     locked-decrypts _ _ _ (g.S.Source.to_come c.inspect.new.input) _ _ c.in-Err-unlock_header.fault
-        c.in-Ok.ensures.verdict c.in-Err-unlock_header.ensures.key
+    c.in-Ok.ensures.verdict c.in-Err-unlock_header.ensures.key
 
 pub returns-in-Ok-copy_to-clause-decrypts : goal.returns-in-Ok-copy_to-clause-decrypts
 returns-in-Ok-copy_to-clause-decrypts g c =
     payload-decrypts _ _ _ (g.S.Source.to_come c.inspect.new.input) _ _ _ c.in-Ok-unlock_header.key _
-        (Ok c.in-Ok-copy_to.done) c.in-Ok.ensures.verdict c.in-Ok-unlock_header.ensures.key
+    (Ok c.in-Ok-copy_to.done) c.in-Ok.ensures.verdict c.in-Ok-unlock_header.ensures.key
     c.max_chunks.ensures.value (payload-writes _ _ c.in-Ok-started.reader.opener _ _ (g.W.Sink.taken c.args.out.now)
-        (g.W.Sink.taken c.copy_to.new.out) (Ok c.in-Ok-copy_to.done)
+    (g.W.Sink.taken c.copy_to.new.out) (Ok c.in-Ok-copy_to.done)
     c.in-Ok-started.ensures.starts c.in-Ok-copy_to.ensures.writes_all)
 
 pub returns-clause-decrypts : goal.returns-clause-decrypts
 returns-clause-decrypts g c =
     rw c.stream_fault-in-Err-copy_to.ensures
-        (payload-decrypts _ _ _ (g.S.Source.to_come c.inspect.new.input) _ _ _ c.in-Ok-unlock_header.key _
-        (Err c.in-Err-copy_to.fault) c.in-Ok.ensures.verdict
+    (payload-decrypts _ _ _ (g.S.Source.to_come c.inspect.new.input) _ _ _ c.in-Ok-unlock_header.key _
+    (Err c.in-Err-copy_to.fault) c.in-Ok.ensures.verdict
     c.in-Ok-unlock_header.ensures.key c.max_chunks.ensures.value
-        (payload-writes _ _ c.in-Ok-started.reader.opener _ _ (g.W.Sink.taken c.args.out.now)
-        (g.W.Sink.taken c.copy_to.new.out) (Err c.in-Err-copy_to.fault)
+    (payload-writes _ _ c.in-Ok-started.reader.opener _ _ (g.W.Sink.taken c.args.out.now)
+    (g.W.Sink.taken c.copy_to.new.out) (Err c.in-Err-copy_to.fault)
     c.in-Ok-started.ensures.starts c.in-Err-copy_to.ensures.writes_all))
 
 pub returns-clause-took : goal.returns-clause-took
 returns-clause-took g c =
     rw c.stream_fault-in-Err-copy_to.ensures
-        (payload-takes _ _ (g.S.Source.to_come c.inspect.new.input) _ _ _ _ c.in-Err-copy_to.fault
-        c.in-Ok.ensures.verdict
+    (payload-takes _ _ (g.S.Source.to_come c.inspect.new.input) _ _ _ _ c.in-Err-copy_to.fault
+    c.in-Ok.ensures.verdict
     (payload-ends _ _ c.in-Ok-started.reader.opener _ _ _ _ _ c.in-Err-copy_to.fault
-        (rw c.max_chunks.ensures.value at c.in-Ok-started.ensures.starts) c.in-Ok-started.ensures.gave (search rules)))
+    (rw c.max_chunks.ensures.value at c.in-Ok-started.ensures.starts) c.in-Ok-started.ensures.gave (search rules)))
 
 pub returns-in-Err-started-clause-decrypts : goal.returns-in-Err-started-clause-decrypts
 returns-in-Err-started-clause-decrypts g c =
     rw c.stream_fault.ensures (rw c.fault.ensures.fault
-        (missed-decrypts _ _ _ _ (g.S.Source.to_come c.inspect.new.input) _ _ _ _ _ c.in-Ok-unlock_header.key _ _
-        c.in-Ok.ensures.verdict
+    (missed-decrypts _ _ _ _ (g.S.Source.to_come c.inspect.new.input) _ _ _ _ _ c.in-Ok-unlock_header.key _ _
+    c.in-Ok.ensures.verdict
     c.in-Ok-unlock_header.ensures.key c.max_chunks.ensures.value c.in-Err-started.ensures.misses))

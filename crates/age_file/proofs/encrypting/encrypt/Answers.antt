@@ -18,17 +18,17 @@ pub returns-in-Ok-seal_rest-clause-encrypts : goal.returns-in-Ok-seal_rest-claus
 returns-in-Ok-seal_rest-clause-encrypts g c =
     let fills = filled _ _ _ _ _ _ _ _ c.new-sealer.ensures c.max_chunks.ensures.value c.in-Ok-fill.ensures.fills in
     let seals = sealed_filled _ _ _ _ _ _ _ _ _ _ c.max_chunks.ensures.range.chunks_low fills
-        c.in-Ok-seal_rest.ensures.seals in
+    c.in-Ok-seal_rest.ensures.seals in
     encrypts_sealed _ c.args.fresh.now _ _ _ _ (g.S.Source.to_come c.seal_rest.new.plain) _ _ _
-        (Ok c.in-Ok-seal_rest.done) c.in_ok-header.ensures.ok c.in-Ok-write_front.ensures.text (search rules) seals
+    (Ok c.in-Ok-seal_rest.done) c.in_ok-header.ensures.ok c.in-Ok-write_front.ensures.text (search rules) seals
 
 pub returns-clause-encrypts : goal.returns-clause-encrypts
 returns-clause-encrypts g c =
     let fills = filled _ _ _ _ _ _ _ _ c.new-sealer.ensures c.max_chunks.ensures.value c.in-Ok-fill.ensures.fills in
     let seals = sealed_filled _ _ _ _ _ _ _ _ _ _ c.max_chunks.ensures.range.chunks_low fills
-        c.in-Err-seal_rest.ensures.seals in
+    c.in-Err-seal_rest.ensures.seals in
     rw c.stream_fault.ensures (encrypts_sealed _ c.args.fresh.now _ _ _ _ _ _ _ _ (Err c.in-Err-seal_rest.fault)
-        c.in_ok-header.ensures.ok c.in-Ok-write_front.ensures.text (search rules) seals)
+    c.in_ok-header.ensures.ok c.in-Ok-write_front.ensures.text (search rules) seals)
 
 pub returns-clause-spared : goal.returns-clause-spared
 returns-clause-spared g c = λ read.
@@ -39,6 +39,6 @@ pub returns-clause-took : goal.returns-clause-took
 returns-clause-took g c =
     let fills = filled _ _ _ _ _ _ _ _ c.new-sealer.ensures c.max_chunks.ensures.value c.in-Ok-fill.ensures.fills in
     let seals = sealed_filled _ _ _ _ _ _ _ _ _ _ c.max_chunks.ensures.range.chunks_low fills
-        c.in-Err-seal_rest.ensures.seals in
+    c.in-Err-seal_rest.ensures.seals in
     rw c.stream_fault.ensures (takes_sealed _ c.args.fresh.now _ _ _ _ _ _ _ _ c.in-Err-seal_rest.fault
-        c.in_ok-header.ensures.ok c.in-Ok-write_front.ensures.text (search rules) seals)
+    c.in_ok-header.ensures.ok c.in-Ok-write_front.ensures.text (search rules) seals)

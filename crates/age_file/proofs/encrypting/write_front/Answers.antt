@@ -6,9 +6,12 @@ use Rattle.age_file.proofs.encrypting.write_front.Goals as goal
 pub returns-in_err-write_header-clause-text : goal.returns-in_err-write_header-clause-text
 returns-in_err-write_header-clause-text g c =
     let h = c.in_err-write_header.ensures.text in
-    let text : Bytes = h.0 ++ c.args.nonce.now in
-    (h.0, h.1, part_at_exit _ _ _ _ _ c.from_residual.ensures.1
-        (done_part _ _ _ text text h.0 c.args.nonce.now (done_start _ text) refl h.2))
+    let text : Bytes = h.0 ++ c.args.nonce.now in (
+      h.0,
+      h.1,
+      part_at_exit _ _ _ _ _ c.from_residual.ensures.1
+          (done_part _ _ _ text text h.0 c.args.nonce.now (done_start _ text) refl h.2),
+    )
 
 pub returns-clause-text : goal.returns-clause-text
 returns-clause-text g c =

@@ -5,4 +5,4 @@ use Rattle.age_file.proofs.laws.pair_opens.Goals as goal
 pub returns : goal.returns
 returns g c = λ limits k stanzas plain b key wraps file.
     opens-whole limits (g.M.I.Identity.meaning (g.M.Matched.the_identity c.args.pair.now)) k stanzas plain b
-        (search rules) file
+    (search rules) file

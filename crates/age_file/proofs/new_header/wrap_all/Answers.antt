@@ -20,5 +20,5 @@ pub loop-i-preserved : goal.loop-i-preserved
 loop-i-preserved g c =
     let joined : c.append.new.self.items ≡ c.loop-i.all.items ++ c.in-Ok.stanzas.items = search rules in
     gathered_more _ _ _ _ _ c.loop-i.all.items c.in-Ok.stanzas.items c.append.new.self.items _ c.loop-i-test.true
-        c.index-recipients-i.is
+    c.index-recipients-i.is
     c.in-Ok.ensures joined c.loop-i.invariant

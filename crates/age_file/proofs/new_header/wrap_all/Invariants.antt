@@ -6,5 +6,5 @@ use Rattle.age_file.proofs.new_header.wrap_all.Given as goal
 abbrev pub invariant-loop-i : goal.invariant-loop-i
 invariant-loop-i g l =
     preceded_by l.all.items (gathered_from l.i
-        (drop l.i (map (λ r. (goal.Recipient-dyn g (r.vtable, r.value)).wraps r.value l.key) l.recipients)))
+    (drop l.i (map (λ r. (goal.Recipient-dyn g (r.vtable, r.value)).wraps r.value l.key) l.recipients)))
     ≡ gathered_from 0 (map (λ r. (goal.Recipient-dyn g (r.vtable, r.value)).wraps r.value l.key) l.recipients)

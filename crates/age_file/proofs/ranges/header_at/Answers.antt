@@ -14,7 +14,7 @@ pub returns-in-Err-clause-misses : goal.returns-in-Err-clause-misses
 returns-in-Err-clause-misses g c =
     subst (MissesHeader c.args.limits.now g.K.Origin.bytes) (sym c.of.ensures.fault)
     (header-missed c.args.limits.now g.K.Origin.bytes _ c.in-Err.fault
-        (rw (c.new-source.ensures, sym c.requires.bytes) at c.in-Err.ensures.verdict))
+    (rw (c.new-source.ensures, sym c.requires.bytes) at c.in-Err.ensures.verdict))
 
 pub returns-in-Err-clause-named : goal.returns-in-Err-clause-named
 returns-in-Err-clause-named g c = subst IsOpenFault (sym c.of.ensures.fault)

@@ -8,51 +8,51 @@ use Rattle.age_file.proofs.ranges.opened_ranges.Goals as goal
 pub returns-in-Err-clause-refuses : goal.returns-in-Err-clause-refuses
 returns-in-Err-clause-refuses g c =
     header-refuses c.args.limits.now (λ (s : List StanzaParts). map
-        (λ i. (goal.Identity-dyn g (i.vtable, i.value)).meaning i.value s) c.args.identities.now)
+    (λ i. (goal.Identity-dyn g (i.vtable, i.value)).meaning i.value s) c.args.identities.now)
     (g.D.ReadAt.bytes c.args.dev.now) _ (g.D.ReadAt.failed c.args.dev.now) _ _ c.in-Err.ensures.misses
-        c.in-Err.ensures.named c.in-Err.ensures.left c.in-Err.ensures.counted
+    c.in-Err.ensures.named c.in-Err.ensures.left c.in-Err.ensures.counted
 
 pub returns-in-Err-unlock_header-clause-refuses : goal.returns-in-Err-unlock_header-clause-refuses
 returns-in-Err-unlock_header-clause-refuses g c =
     let answers = (λ (s : List StanzaParts). map (λ i. (goal.Identity-dyn g (i.vtable, i.value)).meaning i.value s)
-        c.args.identities.now) in
+    c.args.identities.now) in
     let told = g.D.ReadAt.bytes c.args.dev.now in
     let failed = g.D.ReadAt.failed c.args.dev.now in
     let dev = c.of.result.device.now in
     subst (λ f. RefusesRanges c.args.limits.now answers told (g.D.ReadAt.bytes dev) failed (g.D.ReadAt.failed dev) f)
-        (sym c.of.ensures.fault)
+    (sym c.of.ensures.fault)
     (locked-refuses c.args.limits.now answers told (g.D.ReadAt.bytes c.in-Ok.found.dev.now) (g.D.ReadAt.bytes dev)
-        failed (g.D.ReadAt.failed dev) c.in-Ok.found.at c.in-Ok.found.header
+    failed (g.D.ReadAt.failed dev) c.in-Ok.found.at c.in-Ok.found.header
     c.in-Err-unlock_header.fault c.in-Ok.ensures.stay c.in-Ok.ensures.header c.in-Err-unlock_header.ensures.key
-        c.in-Err-unlock_header.ensures.no_device
+    c.in-Err-unlock_header.ensures.no_device
     (ap g.D.ReadAt.bytes c.of.ensures.unchanged)
-        (ap g.D.ReadAt.failed c.of.ensures.unchanged ∙ c.in-Ok.ensures.uncounted))
+    (ap g.D.ReadAt.failed c.of.ensures.unchanged ∙ c.in-Ok.ensures.uncounted))
 
 pub returns-in-Ok-started-clause-begins : goal.returns-in-Ok-started-clause-begins
 returns-in-Ok-started-clause-begins g c =
     file-begins c.args.limits.now (λ (s : List StanzaParts). map
-        (λ i. (goal.Identity-dyn g (i.vtable, i.value)).meaning i.value s) c.args.identities.now)
+    (λ i. (goal.Identity-dyn g (i.vtable, i.value)).meaning i.value s) c.args.identities.now)
     _ _ _ c.in-Ok.found.at c.in-Ok.found.header c.in-Ok-unlock_header.key c.in-Ok.ensures.some
-        c.in-Ok-unlock_header.ensures.key c.in-Ok-started.ensures.begins
+    c.in-Ok-unlock_header.ensures.key c.in-Ok-started.ensures.begins
 
 pub returns-clause-refuses : goal.returns-clause-refuses
 returns-clause-refuses g c =
     let answers = (λ (s : List StanzaParts). map (λ i. (goal.Identity-dyn g (i.vtable, i.value)).meaning i.value s)
-        c.args.identities.now) in
+    c.args.identities.now) in
     let told = g.D.ReadAt.bytes c.args.dev.now in
     let failed = g.D.ReadAt.failed c.args.dev.now in
     let met = c.in-Err-started.refused in
     let refuses = c.in-Err-started.ensures.refuses in
     let unchanged = c.of-in-Err-started.ensures.unchanged ∙ c.into_parts-dev.ensures.unchanged in
     let fault = c.of-in-Err-started.ensures.fault ∙ c.stream_fault.ensures
-        ∙ ap stream_fault c.into_parts-dev.ensures.fault in
+    ∙ ap stream_fault c.into_parts-dev.ensures.fault in
     subst (λ d. RefusesRanges c.args.limits.now answers told (g.D.ReadAt.bytes d) failed (g.D.ReadAt.failed d)
-        c.of-in-Err-started.result.fault) (sym unchanged)
+    c.of-in-Err-started.result.fault) (sym unchanged)
     (subst (λ f. RefusesRanges c.args.limits.now answers told (g.D.ReadAt.bytes met.device.now) failed
-        (g.D.ReadAt.failed met.device.now) f) (sym fault)
+    (g.D.ReadAt.failed met.device.now) f) (sym fault)
     (payload-refuses c.args.limits.now answers told (g.D.ReadAt.bytes c.in-Ok.found.dev.now)
-        (g.D.ReadAt.bytes met.device.now) failed (g.D.ReadAt.failed c.in-Ok.found.dev.now)
+    (g.D.ReadAt.bytes met.device.now) failed (g.D.ReadAt.failed c.in-Ok.found.dev.now)
     (g.D.ReadAt.failed met.device.now) c.in-Ok.found.at c.max_chunks.result c.in-Ok.found.header
-        c.in-Ok-unlock_header.key met.fault c.in-Ok.ensures.stay c.in-Ok.ensures.uncounted
+    c.in-Ok-unlock_header.key met.fault c.in-Ok.ensures.stay c.in-Ok.ensures.uncounted
     c.max_chunks.ensures.value c.in-Ok.ensures.header c.in-Ok-unlock_header.ensures.key refuses.0
-        c.in-Err-started.ensures.named refuses.1.stay refuses.2))
+    c.in-Err-started.ensures.named refuses.1.stay refuses.2))

@@ -10,61 +10,61 @@ use Rattle.age_file.proofs.rewrapping.rewrap.Goals as goal
 pub returns-in-Err-clause-rewraps : goal.returns-in-Err-clause-rewraps
 returns-in-Err-clause-rewraps g c =
     let gathered = λ (key : FileKey). Gathered
-        (map (λ r. (goal.Recipient-dyn g (r.vtable, r.value)).wraps r.value key) c.args.recipients.now)
+    (map (λ r. (goal.Recipient-dyn g (r.vtable, r.value)).wraps r.value key) c.args.recipients.now)
     (map (λ r. (goal.Recipient-dyn g (r.vtable, r.value)).the_labels r.value) c.args.recipients.now) in
     let answers = λ (stanzas : List StanzaParts). map
-        (λ i. (goal.Identity-dyn g (i.vtable, i.value)).meaning i.value stanzas) c.args.identities.now in
+    (λ i. (goal.Identity-dyn g (i.vtable, i.value)).meaning i.value stanzas) c.args.identities.now in
     inspect_rewraps c.args.limits.now answers gathered _ _ (g.W.Sink.taken c.args.out.now) c.in-Err.fault
-        c.in-Err.ensures.verdict
+    c.in-Err.ensures.verdict
 
 pub returns-in-Err-unlock_header-clause-rewraps : goal.returns-in-Err-unlock_header-clause-rewraps
 returns-in-Err-unlock_header-clause-rewraps g c =
     let gathered = λ (key : FileKey). Gathered
-        (map (λ r. (goal.Recipient-dyn g (r.vtable, r.value)).wraps r.value key) c.args.recipients.now)
+    (map (λ r. (goal.Recipient-dyn g (r.vtable, r.value)).wraps r.value key) c.args.recipients.now)
     (map (λ r. (goal.Recipient-dyn g (r.vtable, r.value)).the_labels r.value) c.args.recipients.now) in
     let answers = λ (stanzas : List StanzaParts). map
-        (λ i. (goal.Identity-dyn g (i.vtable, i.value)).meaning i.value stanzas) c.args.identities.now in
+    (λ i. (goal.Identity-dyn g (i.vtable, i.value)).meaning i.value stanzas) c.args.identities.now in
     locked_rewraps c.args.limits.now answers gathered _ _ (g.W.Sink.taken c.args.out.now) _ c.in-Err-unlock_header.fault
-        (headed _ _ _ _ c.in-Ok.ensures.verdict) c.in-Err-unlock_header.ensures.key
+    (headed _ _ _ _ c.in-Ok.ensures.verdict) c.in-Err-unlock_header.ensures.key
 
 pub returns-in-Err-header_for-clause-rewraps : goal.returns-in-Err-header_for-clause-rewraps
 returns-in-Err-header_for-clause-rewraps g c =
     let gathered = λ (key : FileKey). Gathered
-        (map (λ r. (goal.Recipient-dyn g (r.vtable, r.value)).wraps r.value key) c.args.recipients.now)
+    (map (λ r. (goal.Recipient-dyn g (r.vtable, r.value)).wraps r.value key) c.args.recipients.now)
     (map (λ r. (goal.Recipient-dyn g (r.vtable, r.value)).the_labels r.value) c.args.recipients.now) in
     let answers = λ (stanzas : List StanzaParts). map
-        (λ i. (goal.Identity-dyn g (i.vtable, i.value)).meaning i.value stanzas) c.args.identities.now in
+    (λ i. (goal.Identity-dyn g (i.vtable, i.value)).meaning i.value stanzas) c.args.identities.now in
     heading_rewraps c.args.limits.now answers gathered _ _ (g.W.Sink.taken c.args.out.now) c.in-Ok.header
-        c.in-Ok-unlock_header.key c.in-Err-header_for.fault (headed _ _ _ _ c.in-Ok.ensures.verdict)
+    c.in-Ok-unlock_header.key c.in-Err-header_for.fault (headed _ _ _ _ c.in-Ok.ensures.verdict)
     (key_found answers c.in-Ok.header _ c.in-Ok-unlock_header.ensures.key) c.in-Err-header_for.ensures.err
 
 pub returns-in-Err-write_header-clause-rewraps : goal.returns-in-Err-write_header-clause-rewraps
 returns-in-Err-write_header-clause-rewraps g c =
     let gathered = λ (key : FileKey). Gathered
-        (map (λ r. (goal.Recipient-dyn g (r.vtable, r.value)).wraps r.value key) c.args.recipients.now)
+    (map (λ r. (goal.Recipient-dyn g (r.vtable, r.value)).wraps r.value key) c.args.recipients.now)
     (map (λ r. (goal.Recipient-dyn g (r.vtable, r.value)).the_labels r.value) c.args.recipients.now) in
     let answers = λ (stanzas : List StanzaParts). map
-        (λ i. (goal.Identity-dyn g (i.vtable, i.value)).meaning i.value stanzas) c.args.identities.now in
+    (λ i. (goal.Identity-dyn g (i.vtable, i.value)).meaning i.value stanzas) c.args.identities.now in
     let wrote = c.in-Err-write_header.ensures.text in
     begun_rewraps c.args.limits.now answers gathered _ _ _ _ c.in-Ok.header c.in-Ok-unlock_header.key wrote.0
-        (headed _ _ _ _ c.in-Ok.ensures.verdict)
+    (headed _ _ _ _ c.in-Ok.ensures.verdict)
     (key_found answers c.in-Ok.header _ c.in-Ok-unlock_header.ensures.key)
-        (made _ _ (gathered c.in-Ok-unlock_header.key) _ _ wrote.0 c.in-Ok-header_for.ensures.ok wrote.1) wrote.2
+    (made _ _ (gathered c.in-Ok-unlock_header.key) _ _ wrote.0 c.in-Ok-header_for.ensures.ok wrote.1) wrote.2
 
 pub returns-clause-rewraps : goal.returns-clause-rewraps
 returns-clause-rewraps g c =
     let gathered = λ (key : FileKey). Gathered
-        (map (λ r. (goal.Recipient-dyn g (r.vtable, r.value)).wraps r.value key) c.args.recipients.now)
+    (map (λ r. (goal.Recipient-dyn g (r.vtable, r.value)).wraps r.value key) c.args.recipients.now)
     (map (λ r. (goal.Recipient-dyn g (r.vtable, r.value)).the_labels r.value) c.args.recipients.now) in
     let answers = λ (stanzas : List StanzaParts). map
-        (λ i. (goal.Identity-dyn g (i.vtable, i.value)).meaning i.value stanzas) c.args.identities.now in
+    (λ i. (goal.Identity-dyn g (i.vtable, i.value)).meaning i.value stanzas) c.args.identities.now in
     let wrote = c.in-Ok-write_header.ensures.text in
     copied_rewraps c.args.limits.now answers gathered _ (g.S.Source.to_come c.inspect.new.input) _
-        (g.W.Sink.taken c.write_header.new.out) _ c.in-Ok.header c.in-Ok-unlock_header.key wrote.0
+    (g.W.Sink.taken c.write_header.new.out) _ c.in-Ok.header c.in-Ok-unlock_header.key wrote.0
     c.copy_all.result (headed _ _ _ _ c.in-Ok.ensures.verdict)
-        (key_found answers c.in-Ok.header _ c.in-Ok-unlock_header.ensures.key)
+    (key_found answers c.in-Ok.header _ c.in-Ok-unlock_header.ensures.key)
     (made _ _ (gathered c.in-Ok-unlock_header.key) _ _ wrote.0 c.in-Ok-header_for.ensures.ok wrote.1) wrote.2
-        c.copy_all.ensures.copies
+    c.copy_all.ensures.copies
 
 pub returns-clause-quiet : goal.returns-clause-quiet
 returns-clause-quiet g c = copies_late _ _ _ _ c.copy_all.result c.copy_all.ensures.copies

@@ -10,7 +10,7 @@ returns-in-Ok-clause-some c =
     let is = c.in-Ok.ensures.exact c.requires.strict in
     let plain = encode_of-unpadded c.args.engine.now c.in-Ok.bytes.items c.requires.unpadded c.requires.characters in
     subst (λ (s : Bytes). IsBase64 c.in-Ok.bytes.items s) (sym (is ∙ plain))
-        (IsBase64-encode c.in-Ok.bytes.items c.in-Ok.ensures.bytes)
+    (IsBase64-encode c.in-Ok.bytes.items c.in-Ok.ensures.bytes)
 
 pub returns-in-Err-DecodeError-clause-none : goal.returns-in-Err-DecodeError-clause-none
 returns-in-Err-DecodeError-clause-none c b h =

@@ -9,10 +9,10 @@ loop-at-preserved g c =
     let p = c.args.piece.now in
     let at : ℕ = c.loop-at.at in
     let whole : take (length p - at) (drop at p) ≡ drop at p =
-        take_all (length p - at) (drop at p) (omega (arith, length-drop at p)) in
+    take_all (length p - at) (drop at p) (omega (arith, length-drop at p)) in
     let bytes = rw whole at c.in_ok-at.ensures.bytes.0 in
     let both = Appends-trans _ _ _ (take at p) (take c.in_ok-at.field-0 (drop at p)) c.loop-at.invariant.written
-        bytes in
+    bytes in
     record {
       within = omega (arith, length-drop at p, c.in_ok-at.ensures.bound);
       written = rw (take-add at c.in_ok-at.field-0 p) both;

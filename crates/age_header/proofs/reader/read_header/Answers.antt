@@ -14,7 +14,7 @@ returns-in-Input-clause-verdict g c =
     let bytes = rw c.in-Input.is at c.in_ok-text.ensures.bytes in
     let end = rw c.in-Input.is at c.in_ok-text.ensures.end in
     path_truncated _ _ _ c.args.max c.lines.room c.lines.lines c.lines.progress text c.lines.invariant.path bytes
-        c.in_ok-text.ensures.text end
+    c.in_ok-text.ensures.text end
 
 pub returns-in-Room-clause-verdict : goal.returns-in-Room-clause-verdict
 returns-in-Room-clause-verdict g c =
@@ -22,7 +22,7 @@ returns-in-Room-clause-verdict g c =
     let bytes = rw c.in-Room.is at c.in_ok-text.ensures.bytes in
     let end = rw c.in-Room.is at c.in_ok-text.ensures.end in
     path_too_large _ _ _ c.args.max c.lines.room c.lines.lines c.lines.progress text c.lines.invariant.path bytes
-        c.in_ok-text.ensures.text end
+    c.in_ok-text.ensures.text end
 
 pub overflow_add-lines : goal.overflow_add-lines
 overflow_add-lines g c =
@@ -38,10 +38,10 @@ returns-in-Ok-Some-clause-verdict g c =
     let whole = c.is_whole.ensures.0 c.if-is_whole.true in
     let same : c.finish.result.stanzas ≡ whole.0 = cc (c.finish.ensures.stanzas, whole.2) in
     path_header _ _ _ c.args.max c.lines.room c.lines.lines c.lines.progress text c.finish.result.stanzas
-        c.finish.result.mac end.0
+    c.finish.result.mac end.0
     c.lines.invariant.path bytes c.in_ok-text.ensures.text low c.finish.ensures.stanzas (λ e. whole.1 (sym same ∙ e))
     (sym c.as_slice.ensures.value ∙ end.2) (subst (λ (x : Bytes). IsBase64 x end.0) (sym c.finish.ensures.mac) end.3)
-        (ap length c.finish.ensures.mac ∙ end.1)
+    (ap length c.finish.ensures.mac ∙ end.1)
 
 pub returns-in-Ok-None-step-clause-verdict : goal.returns-in-Ok-None-step-clause-verdict
 returns-in-Ok-None-step-clause-verdict g c =
@@ -66,7 +66,7 @@ lines-preserved g c =
     let low = rw c.in-Lf.is at c.in_ok-text.ensures.end in
     let some = rw c.in-Ok-Some-step.field-0-is at c.in-Ok-Some-step.ensures.some in
     let step = subst (λ (x : Bytes). Step c.lines.progress x c.in-Ok-Some-step.next) c.as_slice-in-lines.ensures.value
-        some in
+    some in
     let size : length text ≡ c.len.result = grind (arith, common_steps) in
     let more = path_more _ _ _ c.args.max c.lines.room c.lines.lines c.lines.progress c.in-Ok-Some-step.next text
     c.lines.invariant.path bytes c.in_ok-text.ensures.text low step in

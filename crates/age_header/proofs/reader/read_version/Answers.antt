@@ -40,7 +40,7 @@ returns-then-not-is_empty-clause-err g c =
     let end = rw (c.in-Lf.is, c.min.ensures) at c.in_ok-first.ensures.end in
     let is = rw c.as_slice.ensures.value at c.in-Some.ensures in
     short_line _ _ first c.in-Some.rest.now c.args.max bytes c.in_ok-first.ensures.text end is
-        (λ e. let n : length c.in-Some.rest.now ≡ 0 = ap length e in grind (arith, common_steps))
+    (λ e. let n : length c.in-Some.rest.now ≡ 0 = ap length e in grind (arith, common_steps))
 
 pub returns-clause-ok : goal.returns-clause-ok
 unfolding version_text
@@ -50,4 +50,4 @@ returns-clause-ok g c =
     let end = rw (c.in-Lf.is, c.min.ensures) at c.in_ok-first.ensures.end in
     let is = rw c.as_slice.ensures.value at c.in-Some.ensures in
     version_taken _ _ first c.in-Some.rest.now c.args.max bytes end is
-        (nil_from_length c.in-Some.rest.now (grind (arith, common_steps)))
+    (nil_from_length c.in-Some.rest.now (grind (arith, common_steps)))

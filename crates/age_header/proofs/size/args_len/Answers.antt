@@ -15,9 +15,9 @@ loop-arg-preserved c =
     let a = flat_of_map string_bytes (take (i + 1) args) in
     let b = flat_of_map string_bytes (take i args) in
     let size = flat_size (λ (x : String Global). 32 ∷ string_bytes x) args i c.arg-item.result c.loop-arg-test.true
-        c.arg-item.is in
+    c.arg-item.is in
     let now : length (spaced (map string_bytes (take (i + 1) args)))
-        ≡ length (spaced (map string_bytes (take i args))) + (1 + length text) =
+    ≡ length (spaced (map string_bytes (take i args))) + (1 + length text) =
     omega (arith, ap length a, ap length b, size) in
     let was = c.loop-arg.invariant in
     omega (arith, now, was)

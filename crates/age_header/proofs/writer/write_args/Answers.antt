@@ -13,29 +13,29 @@ returns-in_err-write_all-clause-text g c =
     let text : Bytes = argument_line (map string_bytes c.args.args.now) in
     part_at_exit _ _ _ _ _ c.from_residual.ensures.1
     (done_part _ _ _ text text (codes "->") (spaced (map string_bytes c.args.args.now) ++ 10 ∷ []) (done_start _ text)
-        refl c.in_err-write_all.ensures.text)
+    refl c.in_err-write_all.ensures.text)
 
 pub returns-in_err-write_all-2-clause-text : goal.returns-in_err-write_all-2-clause-text
 returns-in_err-write_all-2-clause-text g c =
     let step = args_step string_bytes c.args.args.now c.loop-arg.arg-index c.arg-item.result (omega arith)
-        c.arg-item.is in
+    c.arg-item.is in
     part_at_exit _ _ _ _ _ c.from_residual-in_err-write_all-2.ensures.1
     (done_part _ _ _ _ _ (32 ∷ []) _ c.loop-arg.invariant.written step c.in_err-write_all-2.ensures.text)
 
 pub returns-in_err-write_all-3-clause-text : goal.returns-in_err-write_all-3-clause-text
 returns-in_err-write_all-3-clause-text g c =
     let step = args_step string_bytes c.args.args.now c.loop-arg.arg-index c.arg-item.result (omega arith)
-        c.arg-item.is in
+    c.arg-item.is in
     let one = done_more _ _ _ _ _ _ _ c.loop-arg.invariant.written step c.in_ok-write_all-2.ensures.text in
     let failed = rw c.as_bytes.ensures.value at c.in_err-write_all-3.ensures.text in
     part_at_exit _ _ _ _ _ c.from_residual-in_err-write_all-3.ensures.1
     (done_part _ _ _ _ _ (string_bytes c.arg-item.result)
-        (spaced (map string_bytes (drop (c.loop-arg.arg-index + 1) c.args.args.now)) ++ 10 ∷ []) one refl failed)
+    (spaced (map string_bytes (drop (c.loop-arg.arg-index + 1) c.args.args.now)) ++ 10 ∷ []) one refl failed)
 
 pub loop-arg-preserved : goal.loop-arg-preserved
 loop-arg-preserved g c =
     let step = args_step string_bytes c.args.args.now c.loop-arg.arg-index c.arg-item.result (omega arith)
-        c.arg-item.is in
+    c.arg-item.is in
     let one = done_more _ _ _ _ _ _ _ c.loop-arg.invariant.written step c.in_ok-write_all-2.ensures.text in
     let wrote = rw c.as_bytes.ensures.value at c.in_ok-write_all-3.ensures.text in
     record {

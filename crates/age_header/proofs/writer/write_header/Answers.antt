@@ -12,9 +12,12 @@ returns-in_err-write_signed-clause-text g c =
     let mac : Bytes = c.args.header.now.mac in
     let text : Bytes = signed ss ++ mac_end mac in
     let head : Head ss mac text = header_text_is ss mac c.stanzas.ensures.whole in
-    let failed = rw c.stanzas.ensures.value at c.in_err-write_signed.ensures.text in
-    (text, head, part_at_exit _ _ _ _ _ c.from_residual.ensures.1
-        (done_part _ _ _ text text (signed ss) (mac_end mac) (done_start _ text) refl failed))
+    let failed = rw c.stanzas.ensures.value at c.in_err-write_signed.ensures.text in (
+      text,
+      head,
+      part_at_exit _ _ _ _ _ c.from_residual.ensures.1
+          (done_part _ _ _ text text (signed ss) (mac_end mac) (done_start _ text) refl failed),
+    )
 
 pub returns-clause-text : goal.returns-clause-text
 returns-clause-text g c =

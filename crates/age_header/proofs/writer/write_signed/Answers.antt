@@ -14,7 +14,7 @@ returns-in_err-write_all-clause-text g c =
     let rest : Bytes = flat_map stanza_text ss ++ codes "---" in
     part_at_exit _ _ _ _ _ c.from_residual.ensures.1
     (done_part _ _ _ (signed ss) (signed ss) version_line rest (done_start _ (signed ss))
-        (append_assoc version_line (flat_map stanza_text ss) (codes "---")) c.in_err-write_all.ensures.text)
+    (append_assoc version_line (flat_map stanza_text ss) (codes "---")) c.in_err-write_all.ensures.text)
 
 pub loop-stanza-init : goal.loop-stanza-init
 unfolding signed version_line

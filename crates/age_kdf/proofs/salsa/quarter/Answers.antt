@@ -4,5 +4,9 @@ use Rattle.age_kdf.proofs.salsa.quarter.Goals as goal
 
 pub returns : goal.returns
 unfolding quartered
-returns c = λ j inside. rw (c.step-a1.ensures j inside, c.step-d1.ensures j inside, c.step-c1.ensures j inside,
-    c.step-b1.ensures j inside) refl
+returns c = λ j inside. rw (
+  c.step-a1.ensures j inside,
+  c.step-d1.ensures j inside,
+  c.step-c1.ensures j inside,
+  c.step-b1.ensures j inside,
+) refl

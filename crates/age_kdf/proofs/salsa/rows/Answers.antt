@@ -13,4 +13,4 @@ returns c =
     rw (c.turned_1-2.ensures, c.turned_2-2.ensures, c.turned_3-2.ensures)
     (rows_spread a (slice_index_or s 1 []) (slice_index_or s 2 []) (slice_index_or s 3 []) _ _ _ _
     (λ j inside. c.quarter.ensures j inside
-        ∙ (λ i. quartered (slice_index a j) (slice_index (d i) j) (slice_index (e i) j) (slice_index (b i) j))))
+    ∙ (λ i. quartered (slice_index a j) (slice_index (d i) j) (slice_index (e i) j) (slice_index (b i) j))))

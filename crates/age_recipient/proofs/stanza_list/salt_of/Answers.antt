@@ -7,4 +7,4 @@ pub returns : goal.returns
 returns c =
     let found = rw c.in-Some.is at c.in_ok-bytes.ensures.value in
     no_salt (decoded c.args.text.now) c.in-Some.bytes.items found
-        (λ n. c.in-Err.ensures.1 (ap length c.as_slice.ensures.value ∙ n))
+    (λ n. c.in-Err.ensures.1 (ap length c.as_slice.ensures.value ∙ n))

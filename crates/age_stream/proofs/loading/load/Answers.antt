@@ -12,10 +12,10 @@ returns-then-open_front-clause-opens g c there =
     let end = ap (λ k. k + 16) c.chunk_len-end.ensures in
     let len : c.chunk_len-end.result + 16 - 16 ≡ n = omega (arith, c.chunk_len-end.ensures) in
     open-there (g.D.ReadAt.bytes c.args.dev.now) c.args.layout c.chunk_nonce-nonce.result c.read_full.new.buf c.args.i
-        (c.chunk_len-end.result + 16)
+    (c.chunk_len-end.result + 16)
     (Some (take n c.open_front.new.bytes))
     there c.requires.within (OnTrue_at c.in-Ok-true.field-0-test c.in-Ok-true.ensures.full) end
-        (c.read_full.auto.buf ∙ c.requires.room) c.chunk_nonce-nonce.ensures
+    (c.read_full.auto.buf ∙ c.requires.room) c.chunk_nonce-nonce.ensures
     (OnTrue_at c.if-open_front.true c.open_front.ensures.opened ∙ ap (λ k. Some (take k c.open_front.new.bytes)) len)
 
 pub returns-else-open_front-clause-lost : goal.returns-else-open_front-clause-lost
@@ -24,9 +24,9 @@ returns-else-open_front-clause-lost g c =
       refl,
       λ there.
           open-there (g.D.ReadAt.bytes c.args.dev.now) c.args.layout c.chunk_nonce-nonce.result c.read_full.new.buf
-              c.args.i (c.chunk_len-end.result + 16) None
+          c.args.i (c.chunk_len-end.result + 16) None
           there c.requires.within (OnTrue_at c.in-Ok-true.field-0-test c.in-Ok-true.ensures.full)
-              (ap (λ k. k + 16) c.chunk_len-end.ensures) (c.read_full.auto.buf ∙ c.requires.room)
+          (ap (λ k. k + 16) c.chunk_len-end.ensures) (c.read_full.auto.buf ∙ c.requires.room)
           c.chunk_nonce-nonce.ensures (OnFalse_at c.if-open_front.false c.open_front.ensures.refused),
     )
 

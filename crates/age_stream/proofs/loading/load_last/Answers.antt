@@ -9,7 +9,7 @@ pub returns-then-last-max-clause-judges : goal.returns-then-last-max-clause-judg
 returns-then-last-max-clause-judges g c =
     let less : c.saturating_sub.result ≡ c.args.sealed - 1 = search rules in
     inr (last-many c.args.key c.args.max c.args.first c.args.sealed (c.saturating_sub.result / 65552)
-        (g.D.ReadAt.bytes c.args.dev.now)
+    (g.D.ReadAt.bytes c.args.dev.now)
     (ap (λ n. n / 65552) less) (omega arith))
 
 pub returns-in-Ok-false-clause-judges : goal.returns-in-Ok-false-clause-judges
@@ -17,7 +17,7 @@ returns-in-Ok-false-clause-judges g c =
     let less : c.saturating_sub.result ≡ c.args.sealed - 1 = search rules in
     let last = c.saturating_sub.result / 65552 in
     inr (last-gone c.args.key c.args.max c.args.first c.args.sealed last (c.args.sealed - 65552 * last)
-        (g.D.ReadAt.bytes c.args.dev.now) (BadChunk last)
+    (g.D.ReadAt.bytes c.args.dev.now) (BadChunk last)
     (ap (λ n. n / 65552) less) refl (OnFalse_at c.in-Ok-false.field-0-test c.in-Ok-false.ensures.short))
 
 pub returns-in-Err-open_chunk-clause-judges : goal.returns-in-Err-open_chunk-clause-judges
@@ -25,9 +25,9 @@ returns-in-Err-open_chunk-clause-judges g c =
     let less : c.saturating_sub.result ≡ c.args.sealed - 1 = search rules in
     let last = c.saturating_sub.result / 65552 in
     inr (last-read c.args.key c.args.max c.args.first c.args.sealed last (c.args.sealed - 65552 * last)
-        (g.D.ReadAt.bytes c.args.dev.now) c.read_full.new.buf (Err c.in-Err-open_chunk.fault)
+    (g.D.ReadAt.bytes c.args.dev.now) c.read_full.new.buf (Err c.in-Err-open_chunk.fault)
     (ap (λ n. n / 65552) less) refl (c.read_full.auto.buf ∙ c.requires.room)
-        (OnTrue_at c.in-Ok-true.field-0-test c.in-Ok-true.ensures.full) c.in-Err-open_chunk.ensures.text)
+    (OnTrue_at c.in-Ok-true.field-0-test c.in-Ok-true.ensures.full) c.in-Err-open_chunk.ensures.text)
 
 pub invariant_of-result : goal.invariant_of-result
 invariant_of-result g c =
@@ -37,7 +37,7 @@ invariant_of-result g c =
     let short : end ≤ 65552 = omega (arith, less) in
     let fits = c.requires.fits in
     let len = open-len c.args.key c.args.max last end c.in-Ok.len c.read_full.new.buf c.open_chunk.new.bytes
-        (c.read_full.auto.buf ∙ c.requires.room) short
+    (c.read_full.auto.buf ∙ c.requires.room) short
     c.in-Ok.ensures.text.0 c.in-Ok.ensures.text.1 in
     let is : c.in-Ok.len + 16 ≡ end = len.0 in
     record {
@@ -56,7 +56,7 @@ returns-in-Ok-clause-judges g c =
     let short : end ≤ 65552 = omega (arith, less) in
     let room = c.read_full.auto.buf ∙ c.requires.room in
     let len = open-len c.args.key c.args.max last end n c.read_full.new.buf c.open_chunk.new.bytes room short
-        c.in-Ok.ensures.text.0 c.in-Ok.ensures.text.1 in
+    c.in-Ok.ensures.text.0 c.in-Ok.ensures.text.1 in
     let is : n + 16 ≡ end = len.0 in
     let text : n ≡ chunk_len (65536 * last + n) (last + 1 - 1) = omega (arith, is, short) in (
       refl,
@@ -65,7 +65,7 @@ returns-in-Ok-clause-judges g c =
       last-read c.args.key c.args.max c.args.first c.args.sealed last end (g.D.ReadAt.bytes c.args.dev.now)
           c.read_full.new.buf (Ok (take (chunk_len (65536 * last + n) (last + 1 - 1)) c.open_chunk.new.bytes))
           (ap (λ k. k / 65552) less) refl room (OnTrue_at c.in-Ok-true.field-0-test c.in-Ok-true.ensures.full)
-              (c.in-Ok.ensures.text.0 ∙ ap (λ k. Ok (take k c.open_chunk.new.bytes)) text),
+          (c.in-Ok.ensures.text.0 ∙ ap (λ k. Ok (take k c.open_chunk.new.bytes)) text),
     )
 
 pub returns-in-Err-open_chunk-clause-named : goal.returns-in-Err-open_chunk-clause-named
@@ -81,9 +81,9 @@ returns-in-Ok-clause-verified g c =
     let short : end ≤ 65552 = omega (arith, less) in
     let room = c.read_full.auto.buf ∙ c.requires.room in
     let len = open-len c.args.key c.args.max last end n c.read_full.new.buf c.open_chunk.new.bytes room short
-        c.in-Ok.ensures.text.0 c.in-Ok.ensures.text.1 in
+    c.in-Ok.ensures.text.0 c.in-Ok.ensures.text.1 in
     let is : n + 16 ≡ end = len.0 in
     let text : n ≡ chunk_len (65536 * last + n) last = omega (arith, is, short) in
     last-verified (g.D.ReadAt.was_read c.read_full.new.dev) _ c.args.max last end n c.read_full.new.buf
-        c.open_chunk.new.bytes refl
+    c.open_chunk.new.bytes refl
     (OnTrue_at c.in-Ok-true.field-0-test c.in-Ok-true.ensures.read) c.in-Ok.ensures.text.0 text

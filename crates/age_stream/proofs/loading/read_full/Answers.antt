@@ -13,7 +13,7 @@ loop-got-preserved g c =
     let within : got + n ≤ c.args.end = c.in_ok-n.ensures.within in
     let room : got + n ≤ length c.read_after.new.buf = omega (arith, within, same, old.len, c.requires.room) in
     let more = subst (λ t. HasAt t (c.args.at + got) (take n (drop got c.read_after.new.buf))) old.stay
-        c.in_ok-n.ensures.gives in
+    c.in_ok-n.ensures.gives in
     record {
       stay = c.read_after.ensures.stay ∙ old.stay;
       len = same ∙ old.len;

@@ -45,7 +45,7 @@ returns-in-Ok-open_chunk-2-clause-opens g c = inr (λ d may.
     let is : filled ≡ ahead ++ f.piece = sym all ∙ f.is ∙ ap (λ t. t ++ f.piece) c.carry.ensures.front in
     let rest : drop 65552 c.open_chunk-else-n-le-SEALED_CHUNK_SIZE.new.bytes ≡ drop 65552 filled =
     sym (drop-drop 16 65536 c.open_chunk-else-n-le-SEALED_CHUNK_SIZE.new.bytes)
-        ∙ ap (drop 16) c.in-Ok-open_chunk-2.ensures.rest ∙ drop-drop 16 65536 filled in (
+    ∙ ap (drop 16) c.in-Ok-open_chunk-2.ensures.rest ∙ drop-drop 16 65536 filled in (
       f.piece ++ d,
       may-more _ _ f.piece d f.bytes may,
       (

@@ -19,7 +19,7 @@ pub returns-in-Err-clause-fed : goal.returns-in-Err-clause-fed
 returns-in-Err-clause-fed g c =
     let inv = c.loop-n.invariant.fed in
     stopped-read c.args.key.now c.args.max c.args.index.now c.loop-n.index (take c.args.len c.args.bytes.now) inv.0 _ _
-        _ _ _ _ inv.1 inv.2
+    _ _ _ _ inv.1 inv.2
 
 pub returns-then-n-le-CHUNK_SIZE-clause-fed : goal.returns-then-n-le-CHUNK_SIZE-clause-fed
 returns-then-n-le-CHUNK_SIZE-clause-fed g c =
@@ -27,7 +27,7 @@ returns-then-n-le-CHUNK_SIZE-clause-fed g c =
     let f = c.in-Ok.ensures.bytes.1 in
     let now : Bytes = take c.loop-n.held c.loop-n.bytes in
     let l : length now ≡ c.loop-n.held =
-        length-take-le c.loop-n.held c.loop-n.bytes (omega (arith, c.loop-n.invariant.held, c.loop-n.invariant.size)) in
+    length-take-le c.loop-n.held c.loop-n.bytes (omega (arith, c.loop-n.invariant.held, c.loop-n.invariant.size)) in
     let end = c.in-Ok.ensures.end (search rules) in (
       rw f.is (fed-end c.args.key.now c.args.index.now c.loop-n.index (take c.args.len c.args.bytes.now) inv.0 now
           f.piece _ _ _ _ _
@@ -40,9 +40,9 @@ returns-in-Err-put_full-clause-fed g c =
     let inv = c.loop-n.invariant.fed in
     let f = c.in-Ok.ensures.bytes.1 in
     let h = full-is c.loop-n.held c.in-Ok.n c.loop-n.bytes c.fill_up_to.new.bytes _ _ (omega arith)
-        c.in-Ok.ensures.bytes.0 c.loop-n.invariant.held c.loop-n.invariant.size c.in-Ok.ensures.size f in
+    c.in-Ok.ensures.bytes.0 c.loop-n.invariant.held c.loop-n.invariant.size c.in-Ok.ensures.size f in
     stopped-full c.args.key.now c.args.max c.args.index.now c.loop-n.index c.put_full.new.index
-        (take c.args.len c.args.bytes.now) inv.0 _ f.piece _ _ _ _ _ _ _ _ c.in-Err-put_full.fault
+    (take c.args.len c.args.bytes.now) inv.0 _ f.piece _ _ _ _ _ _ _ _ c.in-Err-put_full.fault
     h c.loop-n.invariant.within inv.1 f.bytes inv.2 c.in-Err-put_full.ensures.puts
 
 pub loop-n-preserved : goal.loop-n-preserved
@@ -51,7 +51,7 @@ loop-n-preserved g c =
     let f = c.in-Ok.ensures.bytes.1 in
     let filled : Bytes = c.fill_up_to.new.bytes in
     let h = full-is c.loop-n.held c.in-Ok.n c.loop-n.bytes filled _ _ (omega arith) c.in-Ok.ensures.bytes.0
-        c.loop-n.invariant.held c.loop-n.invariant.size c.in-Ok.ensures.size f in
+    c.loop-n.invariant.held c.loop-n.invariant.size c.in-Ok.ensures.size f in
     let puts = c.in_default.ensures.puts in
     record {
       size = c.put_full.ensures.size;
@@ -65,6 +65,6 @@ loop-n-preserved g c =
         fed-next c.args.key.now c.args.index.now c.loop-n.index c.put_full.new.index (take c.args.len c.args.bytes.now)
             inv.0 (take c.loop-n.held c.loop-n.bytes) f.piece
             (take 65536 filled) (take 1 (drop 65536 filled)) (take 1 c.put_full.new.bytes) _ _ _ h inv.2 puts.0 puts.2
-                puts.1,
+            puts.1,
       );
     }

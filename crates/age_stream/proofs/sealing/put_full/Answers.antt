@@ -3,9 +3,12 @@ use Rattle.age_stream.proofs.SealingLemmas.{first-of, first-set}
 use Rattle.age_stream.proofs.sealing.put_full.Goals as goal
 
 pub returns-in-Ok-clause-puts : goal.returns-in-Ok-clause-puts
-returns-in-Ok-clause-puts g c =
-    (refl, c.in-Ok.ensures.text, first-set c.put_sealed.new.bytes _ (omega (arith, c.put_sealed.ensures.size))
-        ∙ sym (first-of c.args.bytes.now 65536 (omega (arith, c.requires.size))))
+returns-in-Ok-clause-puts g c = (
+  refl,
+  c.in-Ok.ensures.text,
+  first-set c.put_sealed.new.bytes _ (omega (arith, c.put_sealed.ensures.size))
+      ∙ sym (first-of c.args.bytes.now 65536 (omega (arith, c.requires.size))),
+)
 
 pub returns-in-Err-clause-puts : goal.returns-in-Err-clause-puts
 returns-in-Err-clause-puts g c = (refl, inl (refl, c.in-Err.ensures.text))

@@ -5,22 +5,22 @@ use Rattle.agefile.proofs.decrypting.open_pieces.Goals as goal
 pub returns-in-Err : goal.returns-in-Err
 returns-in-Err c =
     read_stops _ _ _ c.pieces.out c.pieces.at c.pieces.len c.pieces.number c.in-Err.fault c.open_first.new.room _
-        c.pieces.invariant.read
+    c.pieces.invariant.read
     (first_there c.args.key.now c.args.sealed.now c.pieces.out c.split_at.result.1.now c.split_at_mut-room.result.1.now
-        c.open_first.new.room c.pieces.at c.pieces.len c.pieces.number _ c.split_at.ensures.back
-        c.split_at_mut-room.ensures.back c.in-Err.ensures.gives)
-        (ap (λ t. t ++ c.open_first.new.room) c.split_at_mut-room.ensures.front)
+    c.open_first.new.room c.pieces.at c.pieces.len c.pieces.number _ c.split_at.ensures.back
+    c.split_at_mut-room.ensures.back c.in-Err.ensures.gives)
+    (ap (λ t. t ++ c.open_first.new.room) c.split_at_mut-room.ensures.front)
 
 pub returns-then-left-le-SEALED_CHUNK_SIZE : goal.returns-then-left-le-SEALED_CHUNK_SIZE
 returns-then-left-le-SEALED_CHUNK_SIZE c =
     let fits = text_fits _ _ _ c.pieces.out c.pieces.at c.pieces.len c.pieces.number c.pieces.invariant.read in
     let count = c.in-Ok.ensures.size ∙ ap (λ l. min (length l) 65552 - 16) c.split_at.ensures.back in
     read_ends _ _ _ c.pieces.out c.pieces.at c.pieces.len c.pieces.number c.in-Ok.n c.open_first.new.room _
-        c.pieces.invariant.read
+    c.pieces.invariant.read
     (first_there c.args.key.now c.args.sealed.now c.pieces.out c.split_at.result.1.now c.split_at_mut-room.result.1.now
-        c.open_first.new.room c.pieces.at c.pieces.len c.pieces.number _ c.split_at.ensures.back
-        c.split_at_mut-room.ensures.back c.in-Ok.ensures.gives)
-        (ap (λ t. t ++ c.open_first.new.room) c.split_at_mut-room.ensures.front)
+    c.open_first.new.room c.pieces.at c.pieces.len c.pieces.number _ c.split_at.ensures.back
+    c.split_at_mut-room.ensures.back c.in-Ok.ensures.gives)
+    (ap (λ t. t ++ c.open_first.new.room) c.split_at_mut-room.ensures.front)
     (omega (arith, ap length c.split_at.ensures.back, c.if-left-le-SEALED_CHUNK_SIZE.true)) (omega (arith, fits, count))
 
 pub pieces-preserved : goal.pieces-preserved
@@ -29,9 +29,9 @@ pieces-preserved c = record {
   read = read_more _ _ _ c.pieces.out c.pieces.at c.pieces.len c.pieces.number c.in-Ok.n c.open_first.new.room _
       c.pieces.invariant.read
       (first_there c.args.key.now c.args.sealed.now c.pieces.out c.split_at.result.1.now
-          c.split_at_mut-room.result.1.now c.open_first.new.room c.pieces.at c.pieces.len c.pieces.number _
-          c.split_at.ensures.back c.split_at_mut-room.ensures.back c.in-Ok.ensures.gives)
-          (ap (λ t. t ++ c.open_first.new.room) c.split_at_mut-room.ensures.front)
+      c.split_at_mut-room.result.1.now c.open_first.new.room c.pieces.at c.pieces.len c.pieces.number _
+      c.split_at.ensures.back c.split_at_mut-room.ensures.back c.in-Ok.ensures.gives)
+      (ap (λ t. t ++ c.open_first.new.room) c.split_at_mut-room.ensures.front)
       (omega (arith, ap length c.split_at.ensures.back, c.if-left-le-SEALED_CHUNK_SIZE.false))
-          (c.in-Ok.ensures.size ∙ ap (λ l. min (length l) 65552 - 16) c.split_at.ensures.back);
+      (c.in-Ok.ensures.size ∙ ap (λ l. min (length l) 65552 - 16) c.split_at.ensures.back);
 }

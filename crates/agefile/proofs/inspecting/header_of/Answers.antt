@@ -9,4 +9,4 @@ returns-clause-front c = header_found _ _ _ (Some c.inspect.new.input.rest.now) 
 pub returns-clause-file : goal.returns-clause-file
 returns-clause-file c b same =
     found_whole b _ _ same (header_found _ _ _ (Some c.inspect.new.input.rest.now) _ c.limits.ensures c.new.ensures
-        c.inspect.ensures.reads c.inspect.ensures.verdict)
+    c.inspect.ensures.reads c.inspect.ensures.verdict)

@@ -10,4 +10,4 @@ returns-clause-key c key salt stanza file_key nonce plain file salted keyed fres
 pub returns-clause-pass : goal.returns-clause-pass
 returns-clause-pass c pass salt stanza file_key nonce plain file work salted keyed fresh fits len is new =
     subst (λ n. length file < sealed_len n) len
-        (pass_file pass salt stanza file_key nonce plain file work salted keyed fresh fits.1 is new)
+    (pass_file pass salt stanza file_key nonce plain file work salted keyed fresh fits.1 is new)

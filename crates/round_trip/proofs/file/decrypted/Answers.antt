@@ -9,7 +9,7 @@ returns-in-Ok-clause-text g c plain is =
     let empty : c.new-text.result.out.items ≡ [] = search rules in
     let out : c.decrypt.new.out.out.items ≡ c.into_vec.result.items = cc (c.into_vec.ensures) in
     text_of_whole c.args.limits.now _ c.args.file.now plain c.into_vec.result.items c.in-Ok.field-0
-        (c.ok_is_age_file.ensures.one c.args.limits.now _ c.args.file.now)
+    (c.ok_is_age_file.ensures.one c.args.limits.now _ c.args.file.now)
     is (rw (list, come, empty, out) at c.in-Ok.ensures.decrypts)
 
 pub returns-clause-lost : goal.returns-clause-lost
@@ -17,8 +17,8 @@ returns-clause-lost g c plain is =
     let list : c.as_slice.result.now ≡ c.args.identity ∷ [] = search rules in
     let come : c.new-source.result.rest.now ≡ c.args.file.now = cc (c.new-source.ensures) in
     lost_of_one c.args.limits.now (λ i. (goal.Identity-dyn g (i.vtable, i.value)).meaning i.value) c.as_slice.result.now
-        c.args.identity
+    c.args.identity
     c.new-source.result.rest.now c.args.file.now plain c.in-Err.fault
     (Some c.new-text.result.out.items) (Some c.decrypt.new.out.out.items) list come
-        (c.ok_is_age_file.ensures.one c.args.limits.now _ c.args.file.now)
+    (c.ok_is_age_file.ensures.one c.args.limits.now _ c.args.file.now)
     is c.in-Err.ensures.reads c.in-Err.ensures.decrypts

@@ -9,8 +9,8 @@ returns-in-Ok-clause-file g c =
     let empty : c.new-file.result.out.items ≡ [] = search rules in
     let out : c.encrypt.new.out.out.items ≡ c.into_vec.result.items = cc (c.into_vec.ensures) in
     file_of_one c.args.limits.now c.args.fresh.now _
-        ((goal.Recipient-dyn g (c.args.recipient.vtable, c.args.recipient.value)).the_labels c.args.recipient.value
-        ∷ []) c.args.plain.now c.into_vec.result.items c.in-Ok.field-0
+    ((goal.Recipient-dyn g (c.args.recipient.vtable, c.args.recipient.value)).the_labels c.args.recipient.value
+    ∷ []) c.args.plain.now c.into_vec.result.items c.in-Ok.field-0
     (rw (list, come, empty, out) at c.in-Ok.ensures.encrypts)
 
 pub returns-clause-lost : goal.returns-clause-lost
@@ -18,8 +18,8 @@ returns-clause-lost g c =
     let list : c.as_slice.result.now ≡ c.args.recipient ∷ [] = search rules in
     let come : c.new-source.result.rest.now ≡ c.args.plain.now = cc (c.new-source.ensures) in
     unwritten_of_one c.args.limits.now c.args.fresh.now
-        (λ r. (goal.Recipient-dyn g (r.vtable, r.value)).wraps r.value c.args.fresh.now.file_key)
+    (λ r. (goal.Recipient-dyn g (r.vtable, r.value)).wraps r.value c.args.fresh.now.file_key)
     (λ r. (goal.Recipient-dyn g (r.vtable, r.value)).the_labels r.value) c.as_slice.result.now c.args.recipient
-        c.new-source.result.rest.now c.args.plain.now c.in-Err.fault
+    c.new-source.result.rest.now c.args.plain.now c.in-Err.fault
     (Some c.new-file.result.out.items) (Some c.encrypt.new.out.out.items) list come c.in-Err.ensures.reads
-        c.in-Err.ensures.refused c.in-Err.ensures.encrypts
+    c.in-Err.ensures.refused c.in-Err.ensures.encrypts

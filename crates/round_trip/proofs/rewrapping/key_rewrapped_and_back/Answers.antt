@@ -8,23 +8,23 @@ pub returns-in-Err-clause-lost : goal.returns-in-Err-clause-lost
 returns-in-Err-clause-lost c =
     no_refusal _ c.args.limits.now c.args.plain.now c.in-Err.fault
     (key_unrefused c.args.limits.now c.args.fresh.now.file_key c.args.key c.args.salt _ c.are_bounds.ensures
-        (search rules) c.has_sixteen_bytes.ensures)
+    (search rules) c.has_sixteen_bytes.ensures)
     (rw c.new-from.ensures.recipient at c.in-Err.ensures.lost)
 
 pub returns-clause-back : goal.returns-clause-back
 returns-clause-back c =
     let file = c.in-Ok.ensures.file in
     if_ok c.rewrapped_and_back.result _ _
-        (λ text back. back file.0 c.args.fresh.now.file_key c.args.plain.now c.has_sixteen_bytes.ensures
-        (rw c.as_slice.ensures.value file.2) file.1) c.rewrapped_and_back.ensures.back
+    (λ text back. back file.0 c.args.fresh.now.file_key c.args.plain.now c.has_sixteen_bytes.ensures
+    (rw c.as_slice.ensures.value file.2) file.1) c.rewrapped_and_back.ensures.back
 
 pub returns-clause-lost : goal.returns-clause-lost
 returns-clause-lost c =
     let file = c.in-Ok.ensures.file in
     without_refusal _ c.args.limits.now c.args.plain.now c.rewrapped_and_back.result
     (key_unrefused c.args.limits.now c.args.fresh.now.file_key c.args.new_key c.args.salt _ c.are_bounds.ensures
-        (search rules) c.has_sixteen_bytes.ensures)
+    (search rules) c.has_sixteen_bytes.ensures)
     (if_err c.rewrapped_and_back.result _ _
-        (λ lost loss. loss file.0 c.args.fresh.now.file_key c.args.plain.now c.has_sixteen_bytes.ensures
-        (rw c.as_slice.ensures.value file.2) file.1)
+    (λ lost loss. loss file.0 c.args.fresh.now.file_key c.args.plain.now c.has_sixteen_bytes.ensures
+    (rw c.as_slice.ensures.value file.2) file.1)
     (rw c.new-to.ensures.recipient at c.rewrapped_and_back.ensures.lost))

@@ -10,11 +10,11 @@ returns-in-Ok-clause-file g c =
     let empty : c.new-new.result.out.items ≡ [] = search rules in
     let out : c.rewrap.new.out.out.items ≡ c.into_vec.result.items = cc (c.into_vec.ensures) in
     rewrapped_one c.args.limits.now (λ i. (goal.Identity-dyn g (i.vtable, i.value)).meaning i.value)
-        c.as_slice.result.now c.args.identity
+    c.as_slice.result.now c.args.identity
     (λ r. (goal.Recipient-dyn g (r.vtable, r.value)).wraps r.value)
-        (λ r. (goal.Recipient-dyn g (r.vtable, r.value)).the_labels r.value) c.as_slice-2.result.now c.args.recipient
+    (λ r. (goal.Recipient-dyn g (r.vtable, r.value)).the_labels r.value) c.as_slice-2.result.now c.args.recipient
     c.new-source.result.rest.now c.args.file.now c.into_vec.result.items list to come
-        (rw (empty, out) at c.in-Ok.ensures.rewraps)
+    (rw (empty, out) at c.in-Ok.ensures.rewraps)
 
 pub returns-clause-lost : goal.returns-clause-lost
 returns-clause-lost g c =
@@ -22,8 +22,8 @@ returns-clause-lost g c =
     let to : c.as_slice-2.result.now ≡ c.args.recipient ∷ [] = search rules in
     let come : c.new-source.result.rest.now ≡ c.args.file.now = cc (c.new-source.ensures) in
     unrewrapped_one c.args.limits.now (λ i. (goal.Identity-dyn g (i.vtable, i.value)).meaning i.value)
-        c.as_slice.result.now c.args.identity
+    c.as_slice.result.now c.args.identity
     (λ r. (goal.Recipient-dyn g (r.vtable, r.value)).wraps r.value)
-        (λ r. (goal.Recipient-dyn g (r.vtable, r.value)).the_labels r.value) c.as_slice-2.result.now c.args.recipient
+    (λ r. (goal.Recipient-dyn g (r.vtable, r.value)).the_labels r.value) c.as_slice-2.result.now c.args.recipient
     c.new-source.result.rest.now c.args.file.now c.in-Err.fault (Some c.new-new.result.out.items)
-        (Some c.rewrap.new.out.out.items) (search rules) list to come c.in-Err.ensures.reads c.in-Err.ensures.rewraps
+    (Some c.rewrap.new.out.out.items) (search rules) list to come c.in-Err.ensures.reads c.in-Err.ensures.rewraps

@@ -13,7 +13,7 @@ loop-range-preserved g c =
       failed = c.in-Ok.ensures.uncounted ∙ inv.failed;
       sound = λ sound. subst (λ (k : Known). IsSound k c.read_part.new.reader.chunks) inv.stay
           (c.in-Ok.ensures.sound (subst (λ (k : Known). IsSound k c.loop-range.reader.chunks) (sym inv.stay)
-              (inv.sound sound)));
+          (inv.sound sound)));
       text = λ sound plain sliced. more_parts _ _ _ _ plain c.args.ranges.now c.loop-range.range-index _ _ _ inv.stay
           inv.same inv.sound sound sliced c.loop-range-test.true (search rules)
           (inv.text sound plain sliced) c.in-Ok.ensures.part;
@@ -22,10 +22,10 @@ loop-range-preserved g c =
 pub returns-clause-parts : goal.returns-clause-parts
 returns-clause-parts g c = λ sound plain sliced.
     all_parts plain c.args.ranges.now c.loop-range.range-index _ (search rules)
-        (c.loop-range.invariant.text sound plain sliced)
+    (c.loop-range.invariant.text sound plain sliced)
 
 pub returns-in-Err-clause-lost : goal.returns-in-Err-clause-lost
 returns-in-Err-clause-lost g c = λ sound plain sliced.
     let inv = c.loop-range.invariant in
     lost_part _ _ _ _ plain (record { at = 0; len = 0 }) [] [] _ inv.stay inv.same inv.sound sound sliced
-        c.in-Err.ensures.part
+    c.in-Err.ensures.part

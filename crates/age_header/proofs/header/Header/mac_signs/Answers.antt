@@ -17,8 +17,8 @@ returns c =
     let long : length m ≡ 32 = search rules in
     let rest : drop (encoded_size_of e (length m)) _ ≡ [] = drop_all (encoded_size_of e (length m)) _ (omega arith) in
     let is = c.in-Ok.ensures.written ∙ ap (λ (z : Bytes). encode_of e m ++ z) rest ∙ append-nil (encode_of e m)
-        ∙ plain in
+    ∙ plain in
     let characters : Bytes = c.encode_slice.new.output in
     let here : IsBase64 m characters = subst (λ (z : Bytes). IsBase64 m z) (sym is)
-        (IsBase64-encode m (search rules)) in
+    (IsBase64-encode m (search rules)) in
     subst (λ (z : HeaderParts). IsBase64 z.mac characters) c.self.view_is here

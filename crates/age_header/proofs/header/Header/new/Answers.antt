@@ -11,7 +11,7 @@ pub loop-stanza-preserved : goal.loop-stanza-preserved
 loop-stanza-preserved c =
     let here : IsWhole c.stanza-item.result = (c.args-in-loop-stanza.ensures.arguments, c.body.ensures.bytes) in
     all_take IsWhole c.deref-stanza-items.result.now c.loop-stanza.stanza-index c.stanza-item.result
-        c.loop-stanza-test.true c.loop-stanza.invariant
+    c.loop-stanza-test.true c.loop-stanza.invariant
     (subst (λ (s : StanzaParts). IsWhole s) c.stanza-item.is here)
 
 pub invariant_of-result : goal.invariant_of-result

@@ -12,7 +12,7 @@ loop-stanza-preserved c =
     let i : ℕ = c.loop-stanza.stanza-index in
     let size = flat_size stanza_text items i c.stanza-item.result c.loop-stanza-test.true c.stanza-item.is in
     let sum = sum_stays (2 ^ 64 - 1) c.saturating_add-len.result c.loop-stanza.len c.stanza_len.result
-        (70 + length (flat_map stanza_text (take i items))) (length (stanza_text c.stanza-item.result))
+    (70 + length (flat_map stanza_text (take i items))) (length (stanza_text c.stanza-item.result))
     c.loop-stanza.invariant c.stanza_len.ensures c.saturating_add-len.ensures in
     omega (arith, sum, size)
 

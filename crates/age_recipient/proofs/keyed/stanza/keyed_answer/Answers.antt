@@ -9,11 +9,11 @@ pub returns-in-None : goal.returns-in-None
 unfolding keyed_answer
 returns-in-None c =
     ap (typed_answer (λ (args : List Bytes). arguments_answer c.args.key.now args c.args.stanza.now.body))
-        (rw c.in-None.is at c.after_type.ensures)
+    (rw c.in-None.is at c.after_type.ensures)
 
 pub returns-in-Some : goal.returns-in-Some
 unfolding keyed_answer
 returns-in-Some c =
     let own = ap (typed_answer (λ (args : List Bytes). arguments_answer c.args.key.now args c.args.stanza.now.body))
-        (rw c.in-Some.is at c.after_type.ensures) in
+    (rw c.in-Some.is at c.after_type.ensures) in
     IfOk-weaker c.arguments_answer.result _ _ (λ answer is. is ∙ rw c.body.ensures.value own) c.arguments_answer.ensures

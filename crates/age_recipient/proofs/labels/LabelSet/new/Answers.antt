@@ -13,7 +13,7 @@ loop-text-preserved c = (
   λ text.
       one_more c.args.texts.now c.loop-text.text-index _ _ text _ _ c.loop-text-test.true c.in_ok-name.ensures.ok
       (btree_set_updates_text (string_bytes c.in_ok-name.name) _ _ _ c.in_ok-insert.ensures.updates text)
-          (c.loop-text.invariant.1 text),
+      (c.loop-text.invariant.1 text),
 )
 
 pub returns : goal.returns

@@ -12,7 +12,7 @@ returns-in-Ok-load_last-clause-probes g c = record {
   last = given-last (g.D.ReadAt.bytes c.args.dev.now) c.in_ok-start.start.nonce c.args.payload_at
       c.in_ok-start.start.sealed_len (g.D.ReadAt.given c.load_last.new.dev)
       (g.D.ReadAt.given c.payload_start.new.dev) (g.D.ReadAt.given c.args.dev.now) c.in_ok-start.ensures.ok
-          c.load_last.ensures.given c.payload_start.ensures.given;
+      c.load_last.ensures.given c.payload_start.ensures.given;
 }
 
 pub returns-in-Err-clause-probes : goal.returns-in-Err-clause-probes
@@ -22,15 +22,15 @@ returns-in-Err-clause-probes g c = record {
   last = given-last (g.D.ReadAt.bytes c.args.dev.now) c.in_ok-start.start.nonce c.args.payload_at
       c.in_ok-start.start.sealed_len (g.D.ReadAt.given c.load_last.new.dev)
       (g.D.ReadAt.given c.payload_start.new.dev) (g.D.ReadAt.given c.args.dev.now) c.in_ok-start.ensures.ok
-          c.load_last.ensures.given c.payload_start.ensures.given;
+      c.load_last.ensures.given c.payload_start.ensures.given;
 }
 
 pub returns-in-Err-clause-opens : goal.returns-in-Err-clause-opens
 returns-in-Err-clause-opens g c =
     judged-err c.args.key.now c.args.max_chunks c.args.payload_at (g.D.ReadAt.bytes c.args.dev.now)
-        c.in_ok-start.start.nonce c.load_last.new.buf c.in_ok-start.start.sealed_len
+    c.in_ok-start.start.nonce c.load_last.new.buf c.in_ok-start.start.sealed_len
     c.in-Err.fault c.in_ok-start.ensures.ok
-        (rw (c.payload_key-key.ensures, c.payload_start.ensures.stay) at c.in-Err.ensures.judges)
+    (rw (c.payload_key-key.ensures, c.payload_start.ensures.stay) at c.in-Err.ensures.judges)
 
 pub returns-in-Ok-load_last-clause-opens : goal.returns-in-Ok-load_last-clause-opens
 returns-in-Ok-load_last-clause-opens g c =
@@ -42,9 +42,9 @@ returns-in-Ok-load_last-clause-opens g c =
     subst (λ b. OpensRanges c.args.key.now c.args.max_chunks c.args.payload_at (g.D.ReadAt.bytes c.args.dev.now)
     (Ok (record { layout = layout; index = Some (layout.count - 1); buf = b; opened = 1 }))) (sym all)
     (judged-ok c.args.key.now c.args.max_chunks c.args.payload_at (g.D.ReadAt.bytes c.args.dev.now)
-        c.in_ok-start.start.nonce new c.in_ok-start.start.sealed_len
+    c.in_ok-start.start.nonce new c.in_ok-start.start.sealed_len
     layout c.in_ok-start.ensures.ok (rw (c.payload_key-key.ensures, c.payload_start.ensures.stay) at
-        c.in-Ok-load_last.ensures.judges))
+    c.in-Ok-load_last.ensures.judges))
 
 pub returns-in-Ok-load_last-clause-verified : goal.returns-in-Ok-load_last-clause-verified
 returns-in-Ok-load_last-clause-verified g c =
@@ -52,7 +52,7 @@ returns-in-Ok-load_last-clause-verified g c =
     let same : length new ≡ length c.into_bytes-buf.result.items = search rules in
     let len : c.into_bytes-buf.result.len ≡ length c.into_bytes-buf.result.items = search rules in
     keeps-last (g.D.ReadAt.was_read c.load_last.new.dev) c.in-Ok-load_last.layout 1 _ new
-        (written-all new c.into_bytes-buf.result.items c.into_bytes-buf.result.len same len)
+    (written-all new c.into_bytes-buf.result.items c.into_bytes-buf.result.len same len)
     c.in-Ok-load_last.ensures.verified
 
 pub returns-in-Ok-load_last-clause-begins : goal.returns-in-Ok-load_last-clause-begins

@@ -65,7 +65,7 @@ returns-clause-verified g c keeps k lt =
 pub returns-in-Err-clause-verified : goal.returns-in-Err-clause-verified
 returns-in-Err-clause-verified g c keeps =
     changed-verified (g.D.ReadAt.was_read c.loop-done.dev) (g.D.ReadAt.was_read c.hold-held.new.dev)
-        c.args.self.now.layout c.args.buf.now c.loop-done.buf c.args.at c.loop-done.done
+    c.args.self.now.layout c.args.buf.now c.loop-done.buf c.args.at c.loop-done.done
     c.hold-held.ensures.stays_read c.loop-done.invariant.rest (c.loop-done.invariant.verified keeps)
 
 pub loop-done-preserved : goal.loop-done-preserved
@@ -87,7 +87,7 @@ loop-done-preserved g c =
     let more : done < end = c.loop-done-test.true in
     let first : c.layout-layout.result.plain ≡ plain = ap (λ (x : Layout). x.plain) c.layout-layout.ensures in
     let is : end ≡ min (length c.args.buf.now) (plain - at) = c.range_len-end.ensures
-        ∙ ap (λ p. min (length c.args.buf.now) (p - at)) first in
+    ∙ ap (λ p. min (length c.args.buf.now) (p - at)) first in
     let touched : 65536 * i < plain = omega (arith, pos, more, is) in
     let lies : h.layout ≡ s.layout = c.hold-held.ensures.same ∙ inv.layout in
     let same : h.layout.plain ≡ plain = ap (λ (x : Layout). x.plain) lies in
@@ -105,7 +105,7 @@ loop-done-preserved g c =
     let size : length t ≤ 65536 = omega (arith, len) in
     let sound : IsSound told s → IsSound told h = λ told_so.
     subst (λ x. IsSound x h) inv.stay (c.hold-held.ensures.sound
-        (subst (λ x. IsSound x l) (sym inv.stay) (inv.sound told_so))) in
+    (subst (λ x. IsSound x l) (sym inv.stay) (inv.sound told_so))) in
     let opens : IsSound told s → opens_to told s.layout i ≡ Some t = λ told_so.
     opens-moved told told h.layout s.layout i (Some t) refl lies
     ((sound told_so).keeps i c.in_default.ensures.kept_chunk ∙ ap Some (sym c.text.ensures.text)) in
@@ -115,8 +115,8 @@ loop-done-preserved g c =
       | inr z ↦ let e : at / 65536 < i = z.2 in omega (arith, e)
     ] in
     let more_given = subst (λ (x : Layout). g.D.ReadAt.given c.hold-held.new.dev
-        ≤ g.D.ReadAt.given c.loop-done.dev + (if is_kept l.index i then 0 else chunk_len x.plain i + 16)) inv.layout
-        c.hold-held.ensures.given in
+    ≤ g.D.ReadAt.given c.loop-done.dev + (if is_kept l.index i then 0 else chunk_len x.plain i + 16)) inv.layout
+    c.hold-held.ensures.given in
     record {
       stay = c.hold-held.ensures.stay ∙ inv.stay;
       layout = lies;
@@ -136,9 +136,9 @@ loop-done-preserved g c =
           s.layout t c.loop-done.buf c.put-n.new.buf at done i skip n
           c.hold-held.ensures.stays_read pos (omega (arith, room)) (omega (arith, room, new_len)) part size
           (verified-text (g.D.ReadAt.was_read c.hold-held.new.dev) h s.layout i t lies c.in_default.ensures.kept_chunk
-              c.text.ensures.text (c.hold-held.ensures.keeps_verified (inv.keeps keeps)))
+          c.text.ensures.text (c.hold-held.ensures.keeps_verified (inv.keeps keeps)))
           (inv.verified keeps) (put-front c.loop-done.buf (take n (drop skip t)) c.put-n.new.buf done n
-              (omega (arith, room)) sized put);
+          (omega (arith, room)) sized put);
       counts = elim inv.stage [
         | inl z ↦ counts-at_first l.index s.index h.opened l.opened s.opened at i z.3 z.1 c.hold-held.ensures.counts z.4
         | inr z ↦ counts-later (is_kept s.index (at / 65536)) l.index h.opened l.opened s.opened (at / 65536) i z.4 z.2
@@ -159,6 +159,11 @@ loop-done-preserved g c =
             more_given z.2 touched inv.given
       ];
       failed = c.in_default.ensures.count ∙ inv.failed;
-      stage = inr (omega (arith, some), refl, next-chunk, omega (arith, pos, some),
-          c.in_default.ensures.kept_chunk ∙ ap Some (omega arith));
+      stage = inr (
+        omega (arith, some),
+        refl,
+        next-chunk,
+        omega (arith, pos, some),
+        c.in_default.ensures.kept_chunk ∙ ap Some (omega arith),
+      );
     }

@@ -8,18 +8,18 @@ pub returns-in-Ok-clause-opens : goal.returns-in-Ok-clause-opens
 returns-in-Ok-clause-opens g c =
     let o = c.self.inside in
     advances-ok _ _ _ o.key o.max_chunks o.index o.ahead o.len o.more o.buf.items c.as_mut_slice.result.now
-        c.next_piece.new.bytes (with_items o.buf c.next_piece.new.bytes).items o.fault c.in-Ok.piece
+    c.next_piece.new.bytes (with_items o.buf c.next_piece.new.bytes).items o.fault c.in-Ok.piece
     c.self.view_is (search rules) (search rules) c.as_mut_slice.ensures.value c.self.invariant.0 c.self.invariant.1
-        c.in-Ok.ensures.len
+    c.in-Ok.ensures.len
     (written-all c.next_piece.new.bytes o.buf.items o.buf.len (c.in-Ok.ensures.len ∙ sym c.self.invariant.0)
-        (search rules))
+    (search rules))
     c.self.invariant.4 c.in-Ok.ensures.within c.in-Ok.ensures.size.1 c.in-Ok.ensures.opens c.in-Ok.ensures.gave
 
 pub returns-in-Err-clause-opens : goal.returns-in-Err-clause-opens
 returns-in-Err-clause-opens g c =
     let o = c.self.inside in
     advances-err _ _ _ o.key o.max_chunks o.index o.ahead o.len o.more o.buf.items c.as_mut_slice.result.now
-        c.next_piece.new.bytes (with_items o.buf c.next_piece.new.bytes).items o.fault c.in-Err.fault
+    c.next_piece.new.bytes (with_items o.buf c.next_piece.new.bytes).items o.fault c.in-Err.fault
     c.self.view_is (search rules) c.as_mut_slice.ensures.value c.self.invariant.0 c.self.invariant.1 c.self.invariant.4
     c.in-Err.ensures.opens c.in-Err.ensures.gave c.in-Err.ensures.at
 
@@ -27,4 +27,4 @@ pub returns-then-not-self-clause-opens : goal.returns-then-not-self-clause-opens
 returns-then-not-self-clause-opens g c =
     let o = c.self.inside in
     advances-none _ _ o.key o.max_chunks o.index o.ahead o.len o.more o.buf.items o.fault c.self.view_is (search rules)
-        (search rules) c.self.invariant.4
+    (search rules) c.self.invariant.4

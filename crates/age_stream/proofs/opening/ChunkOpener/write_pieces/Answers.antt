@@ -15,7 +15,7 @@ returns-in-Ok-false-clause-writes_all g c =
     let o = c.loop-done.invariant.opened in
     writes-done _ _ c.advance.new.self _ _ _ _ _ _ c.loop-done.done o
     (advanced-ok false c.loop-done.opener c.advance.new.self _ _ o.none
-        (rw c.in-Ok-false.field-0-test at c.in-Ok-false.ensures.opens)) refl c.loop-done.invariant.count
+    (rw c.in-Ok-false.field-0-test at c.in-Ok-false.ensures.opens)) refl c.loop-done.invariant.count
 
 pub returns-in-Err-clause-writes_all : goal.returns-in-Err-clause-writes_all
 returns-in-Err-clause-writes_all g c =
@@ -29,7 +29,7 @@ pub overflow_add-done : goal.overflow_add-done
 overflow_add-done g c =
     let o = c.loop-done.invariant.opened in
     let adv = advanced-ok true c.loop-done.opener c.advance.new.self _ _ o.none
-        (rw c.in-Ok-true.field-0-test at c.in-Ok-true.ensures.opens) in
+    (rw c.in-Ok-true.field-0-test at c.in-Ok-true.ensures.opens) in
     let within : c.loop-done.opener.index < c.loop-done.opener.max_chunks = adv.keeps.2 refl in
     omega (arith, c.loop-done.invariant.count, adv.small)
 
@@ -38,13 +38,13 @@ overflow_add-done-in-Ok g c =
     let o = c.loop-done.invariant.opened in
     opened-room _ _ c.advance.new.self _ _ _ _ _ _ (length c.text-in-Ok.result.now) o
     (advanced-ok true c.loop-done.opener c.advance.new.self _ _ o.none
-        (rw c.in-Ok-true.field-0-test at c.in-Ok-true.ensures.opens)) c.text-in-Ok.ensures.len
+    (rw c.in-Ok-true.field-0-test at c.in-Ok-true.ensures.opens)) c.text-in-Ok.ensures.len
 
 pub loop-done-smaller : goal.loop-done-smaller
 loop-done-smaller g c =
     let o = c.loop-done.invariant.opened in
     let adv = advanced-ok true c.loop-done.opener c.advance.new.self _ _ o.none
-        (rw c.in-Ok-true.field-0-test at c.in-Ok-true.ensures.opens) in
+    (rw c.in-Ok-true.field-0-test at c.in-Ok-true.ensures.opens) in
     let within : c.loop-done.opener.index < c.loop-done.opener.max_chunks = adv.keeps.2 refl in
     omega (arith, adv.max_chunks, adv.keeps.1)
 
@@ -52,7 +52,7 @@ pub loop-done-preserved : goal.loop-done-preserved
 loop-done-preserved g c =
     let o = c.loop-done.invariant.opened in
     let adv = advanced-ok true c.loop-done.opener c.advance.new.self _ _ o.none
-        (rw c.in-Ok-true.field-0-test at c.in-Ok-true.ensures.opens) in
+    (rw c.in-Ok-true.field-0-test at c.in-Ok-true.ensures.opens) in
     record {
       opened = rw c.text-in-Ok.ensures.text
           (opened-more _ _ c.advance.new.self _ _ _ _ _ _ _ o adv (rw c.text.ensures.text at c.text.ensures.len)
@@ -67,13 +67,13 @@ returns-in-Err-write_all-clause-writes_all g c =
     let o = c.loop-done.invariant.opened in
     (writes-write _ _ c.advance.new.self _ _ _ _ _ _ _ o
     (advanced-ok true c.loop-done.opener c.advance.new.self _ _ o.none
-        (rw c.in-Ok-true.field-0-test at c.in-Ok-true.ensures.opens))
-        (rw c.text.ensures.text at c.in-Err-write_all.ensures.text))
+    (rw c.in-Ok-true.field-0-test at c.in-Ok-true.ensures.opens))
+    (rw c.text.ensures.text at c.in-Err-write_all.ensures.text))
 
 pub returns-in-Err-write_all-clause-ends : goal.returns-in-Err-write_all-clause-ends
 returns-in-Err-write_all-clause-ends g c =
     let o = c.loop-done.invariant.opened in
     (inr (ends-write _ _ c.advance.new.self _ _ _ _ _ _ _ o
     (advanced-ok true c.loop-done.opener c.advance.new.self _ _ o.none
-        (rw c.in-Ok-true.field-0-test at c.in-Ok-true.ensures.opens))
-        (rw c.text.ensures.text at c.in-Err-write_all.ensures.text)))
+    (rw c.in-Ok-true.field-0-test at c.in-Ok-true.ensures.opens))
+    (rw c.text.ensures.text at c.in-Err-write_all.ensures.text)))
