@@ -85,7 +85,7 @@ longer answers n b s (Ok found, verdict, is) =
     long_of len rest (Err fault) s is = absurd (cc)
     long_of len rest (Ok k) s is = (under len rest k s is).long
 
-first_of : (len : ℕ) (rest : Bytes) (key : Result FileKey Fault) (s : Start) → Ok s ≡ start_under len rest key
+pub first_of : (len : ℕ) (rest : Bytes) (key : Result FileKey Fault) (s : Start) → Ok s ≡ start_under len rest key
     → (16 ≤ length rest) × (s.first ≡ len + 16)
 first_of len rest (Err fault) s is = absurd (cc)
 first_of len rest (Ok k) s is = let u = under len rest k s is in (u.long, ap (λ (x : Start). x.first) u.is)
@@ -119,7 +119,7 @@ shorter answers n b s within (Ok found, verdict, is) =
         ∙ take-append-add text rest (n - length text)
 
 -- bytes have one start
-one_start : (answers : Answering) (b : Bytes) (r s : Result Start Fault) → IsStart answers b r → IsStart answers b s
+pub one_start : (answers : Answering) (b : Bytes) (r s : Result Start Fault) → IsStart answers b r → IsStart answers b s
     → r ≡ s
 one_start answers b r s (h, first, is) (k, second, so) = is
     ∙ ap (start_of answers b) (headers.one_verdict b limits.max_header h k first second) ∙ sym so

@@ -1,4 +1,5 @@
 mod AnyFront
+mod ShortFront
 mod DecryptingLemmas
 mod FrontLemmas
 mod HeaderLemmas

@@ -9,11 +9,12 @@ ghost use Rattle.age_stream.specs.Reading.{Reading, outcome, whole};
 ghost use Rattle.age_stream.specs.Sizes.{chunk_size, nonce_size, tag_size};
 ghost use Rattle.age_stream.specs.Slice.{IsSlice, last_outcome, plain_len};
 ghost use Rattle.age_file.specs.declared.fault.Fault.{Fault};
+ghost use Rattle.age_file.specs.declared.fault.Fault.TheVariants.{HeaderTruncated, NonceTruncated};
 ghost use Rattle.age_file.specs.Verdict.{Answering, IsVerdict, read_under};
 ghost use Rattle.agefile.specs.declared.payload.Payload.{Payload};
 ghost use Rattle.agefile.specs.declared.ranges.Ranges.{Ranges};
 ghost use Rattle.agefile.specs.declared.report.Report.{Report};
-ghost use Rattle.agefile.specs.Codes.{code_of, ok, out_of_memory, too_many_chunks};
+ghost use Rattle.agefile.specs.Codes.{code_of, fault_code, ok, out_of_memory, too_many_chunks};
 ghost use Rattle.agefile.specs.Encrypting.{IsNewFile};
 ghost use Rattle.agefile.specs.Groups.{OpensGroups, SealsGroups, all_of, sealed_open};
 ghost use Rattle.agefile.specs.Heading.{BeginsFile, MakesHeader};
@@ -170,8 +171,8 @@ pub fn parts_open()
 {}
 
 /// Each beginning of a file that holds its header and its nonce opens as the file does: where
-/// either opens, so does the other, with the same payload and the same report, unless an allocation
-/// is refused.
+/// either opens, so does the other, with the same payload and the same report. A shorter beginning
+/// of a file that opens gives 3 or 10. All this holds unless an allocation is refused.
 pub fn any_front()
     ensures front { (answers : Answering) (n : ℕ) (b : Bytes) (p q : Payload) (report r : Report)
         (code : ℕ) → Opens answers (take n b) p report ok → Opens answers b q r code
@@ -180,6 +181,10 @@ pub fn any_front()
         (code : ℕ) → Opens answers b p report ok → report.len ≤ n
         → Opens answers (take n b) q r code → code ≢ out_of_memory
         → (code ≡ ok) × ((q ≡ p) × (r ≡ report)) }
+    ensures short { (answers : Answering) (n : ℕ) (b : Bytes) (p q : Payload) (report r : Report)
+        (code : ℕ) → Opens answers b p report ok → n < report.len
+        → Opens answers (take n b) q r code → code ≢ out_of_memory
+        → (code ≡ fault_code HeaderTruncated) ⊎ (code ≡ fault_code NonceTruncated) }
 {}
 
 /// A header of other stanzas that was made under a file's own file key keeps the verdict: before
