@@ -53,3 +53,13 @@ class StandardInput(ProgramCase):
                 ran = self.run_agep("inspect", "-f", name, "key.age", input=stdin)
                 self.assert_ended(ran, 0, "", None)
                 self.assertEqual(ran.out.splitlines()[-1], b"check good")
+
+    def test_device(self):
+        """A character device is standard input by its names alone, and refused as two files."""
+        refused = "standard input cannot be both IN and the"
+        for name in NAMES:
+            for words, role in (("decrypt -k", "key file"), ("encrypt -k key -s", "seed file")):
+                with self.subTest(f"{words} {name}"), open("/dev/zero", "rb") as stdin:
+                    self.says(f"{refused} {role}", *words.split(), name, input=stdin)
+        with self.subTest("another name of the device"), open("/dev/zero", "rb") as stdin:
+            self.says("key file must hold 32 bytes", "decrypt", "-k", "/dev/zero", input=stdin)
