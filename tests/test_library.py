@@ -23,6 +23,8 @@ TESTS = ROOT / "tests/library"
 HEADER = ROOT / "bindings/c/agefile.h"
 EXAMPLES = ROOT / "bindings/c/examples"
 SONAME = "libagefile.so.1"
+# The library that is tested is the one that the packages have.
+LEVEL = {"AGEP_CPU": "x86-64"}
 WARNINGS = ("-Wall", "-Wextra", "-Wpedantic", "-Werror")
 REFUSING = ("-Wl,--wrap=malloc,--wrap=realloc,--wrap=free",)
 SIZES = (0, 1, 65535, 65536, 65537, 131072, 131073, 200000)
@@ -75,7 +77,7 @@ def prefix():
     folder = work() / "prefix"
     (folder / "include").mkdir(parents=True)
     (folder / "include/other.h").touch(0o644)
-    done = run(ROOT / "install", "--library", folder, umask=0o077, status=0)
+    done = run(ROOT / "install", "--library", folder, umask=0o077, env=os.environ | LEVEL, status=0)
     building = b"install: building the library; its proofs are checked first\n"
     if done.stderr not in (b"", building):
         raise AssertionError(done.stderr)
@@ -189,7 +191,7 @@ class Folders(unittest.TestCase):
         self.staged = work() / "staged"
         self.libraries = self.staged / "usr/lib/x86_64-linux-gnu"
         self.second = self.libraries / "glibc-hwcaps/x86-64-v3" / SONAME
-        self.environment = os.environ | {"DESTDIR": str(self.staged)}
+        self.environment = os.environ | LEVEL | {"DESTDIR": str(self.staged)}
 
     def install(self, *words):
         return run(ROOT / "install", "--library", "--libdir=lib/x86_64-linux-gnu", *words, "/usr", env=self.environment, status=0)
