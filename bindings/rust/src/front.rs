@@ -4,7 +4,7 @@ use std::io::{self, Read};
 
 use crate::ffi::{self, FRONT, NONCE};
 use crate::header::{inspect, unlock};
-use crate::{Error, Identity};
+use crate::{Error, Header, Identity};
 
 /// One read, again where it was interrupted.
 pub fn read_some(source: &mut impl Read, buf: &mut [u8]) -> io::Result<usize> {
@@ -28,34 +28,49 @@ pub fn fill(source: &mut impl Read, buf: &mut [u8], have: &mut usize) -> io::Res
     Ok(())
 }
 
-/// What was read of a source up to its nonce, and its file key.
+/// What was read of a source up to its nonce, and its file key. A failed read loses nothing.
+#[derive(Default)]
 pub struct Front {
     pub bytes: Vec<u8>,
     pub file_key: [u8; 16],
+    header: Option<Header>,
+    /// How many bytes were there when the header was last looked for.
+    tried: usize,
+    /// The length of header and nonce, or 0 before the file key is found.
+    needed: usize,
 }
 
 impl Front {
     /// Reads no more than it needs to find the file key, so that a wrong key is found while the
     /// source still waits.
-    pub fn read(source: &mut impl Read, identities: &[&dyn Identity]) -> io::Result<Front> {
-        let mut front = Front { bytes: Vec::new(), file_key: [0; 16] };
-        let mut tried = 0;
-        let header = loop {
-            let has_more = front.read_more(source)?;
+    pub fn read(&mut self, source: &mut impl Read, identities: &[&dyn Identity]) -> io::Result<()> {
+        if self.needed == 0 {
+            let header = match self.header.take() {
+                Some(header) => header,
+                None => self.read_header(source)?,
+            };
+            let header = self.header.insert(header);
+            self.file_key = unlock(header, identities)?.0;
+            self.needed = header.text().len() + NONCE;
+        }
+        while self.bytes.len() < self.needed && self.read_more(source)? {}
+        Ok(())
+    }
+
+    fn read_header(&mut self, source: &mut impl Read) -> io::Result<Header> {
+        loop {
+            let has_more = self.read_more(source)?;
             // A header is tried once its last line may be there, or after twice as much as before.
-            let is_due = front.bytes[tried..].windows(4).any(|four| four == b"\n---");
-            if has_more && !is_due && front.bytes.len() < 2 * tried {
+            let is_due = self.bytes[self.tried..].windows(4).any(|four| four == b"\n---");
+            if has_more && !is_due && self.bytes.len() < 2 * self.tried {
                 continue;
             }
-            tried = front.bytes.len();
-            match inspect(&front.bytes) {
+            self.tried = self.bytes.len();
+            match inspect(&self.bytes) {
                 Err(Error::HeaderTruncated) if has_more => {}
-                result => break result?,
+                result => return Ok(result?),
             }
-        };
-        front.file_key = unlock(&header, identities)?.0;
-        while front.bytes.len() < header.text().len() + NONCE && front.read_more(source)? {}
-        Ok(front)
+        }
     }
 
     fn read_more(&mut self, source: &mut impl Read) -> io::Result<bool> {

@@ -43,7 +43,7 @@ mod writer;
 pub use error::{Error, Part};
 pub use header::{inspect, Header, Stanza};
 pub use range_reader::RangeReader;
-pub use reader::Reader;
+pub use reader::{Opening, Reader};
 pub use secret::{FileKey, Identity, Key, Passphrase, Recipient};
 pub use whole::{decrypt, encrypt, library_version, rewrap};
 pub use writer::{FinishError, Writer};

@@ -28,7 +28,8 @@ impl<R: Read + Seek> RangeReader<R> {
     pub fn new(mut source: R, identities: &[&dyn Identity]) -> io::Result<RangeReader<R>> {
         let file_len = source.seek(SeekFrom::End(0))?;
         source.rewind()?;
-        let front = Front::read(&mut source, identities)?;
+        let mut front = Front::default();
+        front.read(&mut source, identities)?;
         let (ranges, last) = ffi::ranges_open(&front.bytes, file_len, &front.file_key)?;
         let buf = vec![0; SEALED_CHUNK].into_boxed_slice();
         let mut reader = RangeReader { source, ranges, buf, number: None, text: 0..0, len: 0, position: 0 };

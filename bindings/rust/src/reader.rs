@@ -8,6 +8,60 @@ use crate::ffi::{self, Payload, SEALED_CHUNK};
 use crate::front::{fill, Front};
 use crate::{Error, Identity};
 
+/// A [`Reader`] whose header has not come yet, of a source that would block.
+///
+/// ```
+/// # use std::io::{ErrorKind, Read};
+/// # fn main() -> std::io::Result<()> {
+/// # let key = agefile::Key::new([7; 32]);
+/// # let file = agefile::encrypt(b"text", &[&key])?;
+/// # let source = &file[..];
+/// let mut opening = agefile::Opening::new(source);
+/// while let Err(error) = opening.read(&[&key]) {
+///     if error.kind() != ErrorKind::WouldBlock {
+///         return Err(error);
+///     }
+///     // Wait until the source has more.
+/// }
+/// let reader = opening.finish()?;
+/// # drop(reader);
+/// # Ok(())
+/// # }
+/// ```
+pub struct Opening<R> {
+    source: R,
+    front: Front,
+}
+
+impl<R: Read> Opening<R> {
+    /// Reads nothing yet.
+    pub fn new(source: R) -> Opening<R> {
+        Opening { source, front: Front::default() }
+    }
+
+    /// Reads the header and the nonce, and finds the file key. After an error, as that of a read that
+    /// would block, it can be called again: what was read is kept, and a key that was found too.
+    pub fn read(&mut self, identities: &[&dyn Identity]) -> io::Result<()> {
+        self.front.read(&mut self.source, identities)
+    }
+
+    /// The reader of the plaintext, or an error unless [`Opening::read`] has returned `Ok`.
+    pub fn finish(self) -> Result<Reader<R>, Error> {
+        let (payload, begin) = self.front.open()?;
+        let mut ahead = io::Cursor::new(self.front.bytes);
+        ahead.set_position(begin as u64);
+        let buf = vec![0; SEALED_CHUNK + 1].into_boxed_slice();
+        let (source, text, fault) = (self.source, 0..0, None);
+        Ok(Reader { source, payload, ahead, buf, sealed: 0, first: 0, text, has_ended: false, fault })
+    }
+}
+
+impl<R> fmt::Debug for Opening<R> {
+    fn fmt(&self, f: &mut fmt::Formatter<'_>) -> fmt::Result {
+        f.debug_struct("Opening").field("len", &self.front.bytes.len()).finish_non_exhaustive()
+    }
+}
+
 /// The plaintext of an age file, chunk by chunk, in constant memory. Each byte that it returns was
 /// verified. The plaintext is complete only after a read into a nonempty buffer returned `Ok(0)`.
 ///
@@ -32,15 +86,12 @@ pub struct Reader<R> {
 
 impl<R: Read> Reader<R> {
     /// Reads the header, and finds the file key by the first identity whose key fits. No more of the
-    /// source is read than is there, so a wrong key is told before the payload has come.
-    pub fn new(mut source: R, identities: &[&dyn Identity]) -> io::Result<Reader<R>> {
-        let front = Front::read(&mut source, identities)?;
-        let (payload, begin) = front.open()?;
-        let mut ahead = io::Cursor::new(front.bytes);
-        ahead.set_position(begin as u64);
-        let buf = vec![0; SEALED_CHUNK + 1].into_boxed_slice();
-        let (text, fault) = (0..0, None);
-        Ok(Reader { source, payload, ahead, buf, sealed: 0, first: 0, text, has_ended: false, fault })
+    /// source is read than is there, so a wrong key is told before the payload has come. A source
+    /// that would block before its header has come needs an [`Opening`].
+    pub fn new(source: R, identities: &[&dyn Identity]) -> io::Result<Reader<R>> {
+        let mut opening = Opening::new(source);
+        opening.read(identities)?;
+        Ok(opening.finish()?)
     }
 
     /// Takes the source back. What was read ahead of it is lost.

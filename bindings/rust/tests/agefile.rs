@@ -1,10 +1,11 @@
 //! Tests of the safe functions, and of how the library's errors arrive.
 
+use std::cell::Cell;
 use std::io::{self, Cursor, ErrorKind, Read, Seek, SeekFrom, Write};
 
 use agefile::{
-    decrypt, encrypt, inspect, rewrap, Error, FileKey, Header, Identity, Key, Part, Passphrase, RangeReader, Reader,
-    Recipient, Stanza, Writer,
+    decrypt, encrypt, inspect, rewrap, Error, FileKey, Header, Identity, Key, Opening, Part, Passphrase, RangeReader,
+    Reader, Recipient, Stanza, Writer,
 };
 
 /// Around the edges of chunks.
@@ -36,16 +37,17 @@ impl Read for Few<'_> {
     }
 }
 
-/// A source that would block before each read that succeeds, once the front was read.
+/// A source that would block before each read that succeeds, after the quick ones.
 struct Slow<'a> {
     bytes: &'a [u8],
     waits: bool,
     quick: usize,
+    at_a_time: usize,
 }
 
 impl Read for Slow<'_> {
     fn read(&mut self, out: &mut [u8]) -> io::Result<usize> {
-        let n = out.len().min(20000);
+        let n = out.len().min(self.at_a_time);
         if self.quick > 0 {
             self.quick -= 1;
             return self.bytes.read(&mut out[..n]);
@@ -238,25 +240,58 @@ fn failed_reader_returns_its_fault_again() {
     assert_eq!(reader.read(&mut []).unwrap(), 0);
 }
 
+/// The passphrase, as an identity that counts how often it is asked.
+struct Counting<'a>(&'a Cell<usize>);
+
+impl Identity for Counting<'_> {
+    fn unlock(&self, header: &Header) -> Result<Option<FileKey>, Error> {
+        self.0.set(self.0.get() + 1);
+        passphrase().unlock(header)
+    }
+}
+
+/// Opens a source that would block now and then, and returns its text and how often it would block.
+fn opened_slowly(source: Slow, identity: &dyn Identity) -> (Vec<u8>, usize) {
+    let (mut opening, mut back, mut buf, mut blocked) = (Opening::new(source), Vec::new(), [0; 7000], 0);
+    let mut wait = |error: io::Error| {
+        assert_eq!(error.kind(), ErrorKind::WouldBlock);
+        blocked += 1;
+    };
+    while let Err(error) = opening.read(&[identity]) {
+        wait(error);
+    }
+    let mut reader = opening.finish().unwrap();
+    loop {
+        match reader.read(&mut buf) {
+            Ok(0) => return (back, blocked),
+            Ok(n) => back.extend_from_slice(&buf[..n]),
+            Err(error) => wait(error),
+        }
+    }
+}
+
 #[test]
 fn source_that_would_block_can_go_on() {
-    let plain = text(300000);
-    let file = encrypt(&plain, &[&key()]).unwrap();
-    for quick in [1, 2, 5] {
-        let mut reader = Reader::new(Slow { bytes: &file, waits: false, quick }, &[&key()]).unwrap();
-        let (mut back, mut buf, mut blocked) = (Vec::new(), [0; 7000], 0);
-        loop {
-            match reader.read(&mut buf) {
-                Ok(0) => break,
-                Ok(n) => back.extend_from_slice(&buf[..n]),
-                Err(error) => {
-                    assert_eq!(error.kind(), ErrorKind::WouldBlock);
-                    blocked += 1;
-                }
-            }
-        }
-        assert!(back == plain && blocked > 5, "{quick}");
+    for (len, quick, at_a_time) in [(10, 0, 1), (1000, 0, 100), (300000, 0, 20000), (300000, 2, 20000), (300000, 5, 20000)] {
+        let plain = text(len);
+        let file = encrypt(&plain, &[&passphrase()]).unwrap();
+        let asked = Cell::new(0);
+        let (back, blocked) = opened_slowly(Slow { bytes: &file, waits: false, quick, at_a_time }, &Counting(&asked));
+        assert!(back == plain && blocked > 5, "{len} bytes after {quick} quick reads");
+        assert_eq!(asked.get(), 1);
     }
+}
+
+#[test]
+fn opening_goes_on_with_another_key() {
+    let file = encrypt(b"text", &[&key()]).unwrap();
+    let mut opening = Opening::new(&file[..]);
+    assert_eq!(fault(opening.read(&[&Key::new([8; 32])]).unwrap_err()), Error::WrongKey);
+    opening.read(&[&key()]).unwrap();
+    let mut back = Vec::new();
+    opening.finish().unwrap().read_to_end(&mut back).unwrap();
+    assert_eq!(back, b"text");
+    assert!(Opening::new(&file[..]).finish().is_err());
 }
 
 /// A source that ends the process where it is read behind the bytes that it has.
@@ -366,7 +401,10 @@ fn callers_own_recipients_and_identities() {
 #[test]
 fn no_secret_is_printed() {
     let file = encrypt(b"text", &[&key()]).unwrap();
+    let mut opening = Opening::new(&file[..]);
+    opening.read(&[&key()]).unwrap();
     let shown = [
+        format!("{opening:?}").replace(&file.len().to_string(), "all"),
         format!("{:?}", key()),
         format!("{:?}", passphrase()),
         format!("{:?}", FileKey([7; 16])),
@@ -383,5 +421,5 @@ fn no_secret_is_printed() {
 fn all_types_go_to_other_threads() {
     fn both<T: Send + Sync>() {}
     both::<(Error, Part, Header, Stanza, FileKey, Key, Passphrase)>();
-    both::<(Reader<io::Empty>, RangeReader<Cursor<Vec<u8>>>, Writer<Vec<u8>>)>();
+    both::<(Opening<io::Empty>, Reader<io::Empty>, RangeReader<Cursor<Vec<u8>>>, Writer<Vec<u8>>)>();
 }
