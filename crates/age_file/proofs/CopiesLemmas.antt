@@ -94,7 +94,9 @@ copied_failed size from a b old m n k (IncompatibleRecipients i) c h = absurd h
 
 pub copied_beyond : (from a old m : Known) (k : ℕ) → 2 ^ 89 ≤ k → Copied from a old m k
     → Copies from old m (Err TooManyChunks)
-copied_beyond from a old m k beyond c = let s = begun from a old m k c in (s.0, s.1, s.2, omega (arith, s.3, beyond))
+copied_beyond from a old m k beyond c =
+    let s = begun from a old m k c in
+    ((c.bytes, c.put, omega (arith, c.long, beyond)), (s.0, s.1, s.2, omega (arith, s.3, beyond)))
 
 -- a piece, and then the rest: a prefix of the rest was written after the piece
 after_piece : (from a old m n : Known) (piece rest : Bytes) → Consumes from a piece → Appends old m piece
@@ -116,9 +118,12 @@ copied_after size from a old m n true (Err Read) is (piece, took, put, full) (re
     let after = after_piece from a old m n piece rest took put may part in (piece ++ rest, after.0, after.1)
 copied_after size from a old m n true (Err Write) is (piece, took, put, full) (rest, may, part) =
     let after = after_piece from a old m n piece rest took put may part in (piece ++ rest, after.0, after.1)
-copied_after size from a old m n true (Err TooManyChunks) is (piece, took, put, full) (rest, may, part, long) =
-    let after = after_piece from a old m n piece rest took put may part in
-    (piece ++ rest, after.0, after.1, omega (arith, length-append piece rest, long))
+copied_after size from a old m n true (Err TooManyChunks) is (piece, took, put, full)
+    ((text, wrote, much), (rest, may, part, long)) =
+    let after = after_piece from a old m n piece rest took put may part in (
+      (piece ++ text, Appends-trans old m n piece text put wrote, omega (arith, length-append piece text, much)),
+      (piece ++ rest, after.0, after.1, omega (arith, length-append piece rest, long)),
+    )
 copied_after size from a old m n true (Err NotAge) is c h = absurd h
 copied_after size from a old m n true (Err (BadLine i)) is c h = absurd h
 copied_after size from a old m n true (Err HeaderTruncated) is c h = absurd h

@@ -34,6 +34,12 @@ use Rattle.age_file.specs.Verdict.{Answering, IsVerdict, found_in, header_fault,
 pub err-err : {A : Type 0} (f g : Fault) → ◌≡◌ {A = Result A Fault} (Err f) (Err g) → f ≡ g
 err-err f g e = cc
 
+-- a key that was returned is the one that was found
+pub found-key : (found : Result FileKey Fault) (k : FileKey)
+    → (◌≡◌ {A = Result FileKey Fault} (Ok k) (Err OutOfMemory)) ⊎ (Ok k ≡ found) → found ≡ Ok k
+found-key found k (inl is) = absurd (cc)
+found-key found k (inr is) = sym is
+
 -- ---- verdicts
 
 -- every text has one

@@ -1,6 +1,6 @@
 -- What opening a file for ranges does, from what its parts do.
 use Rattle.std.proofs.Common.{◌≡◌, ◌⊎◌, ℕ, ◌++◌, ◌+◌, ◌-◌, ◌≤◌, length, drop, sym, ◌∙◌, ap, refl, subst, arith, inl, inr, option_map, Option, Some, None, Result, Ok, Err}
-use Rattle.std.specs.Prelude.{Bool, true, false, IfErr, if◌then◌else◌}
+use Rattle.std.specs.Prelude.{Bool, true, false, IfErr, IfSome, if◌then◌else◌}
 use Rattle.std.specs.Result.{result_map_both}
 use Rattle.std.specs.Str.{bytes_eq}
 use Rattle.std.proofs.lemmas.List.{length-append, length-drop}
@@ -21,16 +21,16 @@ use Rattle.age_stream.specs.declared.fault.StreamFault.TheVariants as fault
 use Rattle.age_stream.specs.Counts.{CountsReadFault}
 use Rattle.age_stream.specs.Ranges as stream
 use Rattle.age_stream.specs.Ranges.{OpensRanges}
-use Rattle.age_stream.specs.Slice.{range_outcome}
+use Rattle.age_stream.specs.Slice.{last_piece, range_outcome}
 use Rattle.age_file.specs.declared.fault.Fault.{Fault}
 use Rattle.age_file.specs.declared.fault.Fault.TheVariants.{BadMac, MixedPassphrase, OutOfMemory}
 use Rattle.age_file.specs.AgeFile.{Bounds, is_mixed}
 use Rattle.age_file.specs.Inspect.{Inspects}
 use Rattle.age_file.specs.Device.{CountsRead, IsNoDeviceFault, IsNoDeviceStage, reads_after}
-use Rattle.age_file.specs.Ranges.{BeginsFile, HasHeader, IsOpenFault, IsSomeHeader, IsWithin, MissesHeader, MissesRanges, RefusesRanges, ranges_under}
+use Rattle.age_file.specs.Ranges.{BeginsFile, HasHeader, IsOpenFault, IsRangesOf, IsSomeHeader, IsWithin, MissesHeader, MissesRanges, RefusesRanges, ranges_under}
 use Rattle.age_file.specs.Stage.{Stage, stage_of, at_header, at_key, at_nonce, at_chunk, at_read, at_write, at_memory, at_recipient}
 use Rattle.age_file.specs.Verdict.{Answering, checked, found_in, header_fault, stream_fault, unlock_fault, unlocked}
-use Rattle.age_file.proofs.DecryptLemmas.{err-err, headed, reads-file}
+use Rattle.age_file.proofs.DecryptLemmas.{err-err, found-key, headed, reads-file}
 
 -- a header that was read from the first byte on
 pub header-found : (limits : Bounds) (told : Known) (at : ℕ) (h : HeaderParts) → IsWithin told at
@@ -215,6 +215,27 @@ pub file-begins : (limits : Bounds) (answers : Answering) (was_read : ℕ → �
     (chunks : stream.RangeState) (at : ℕ) (h : HeaderParts) (k : FileKey) → IsSomeHeader limits h
     → (◌≡◌ {A = Result FileKey Fault} (Ok k) (Err OutOfMemory)) ⊎ (Ok k ≡ unlocked answers h)
     → stream.BeginsAt k at was_read size chunks → BeginsFile limits answers was_read size chunks
-file-begins limits answers was_read size chunks at h k some (inl memory) b = absurd (cc)
-file-begins limits answers was_read size chunks at h k some (inr key) b =
-    record { header = h; some = some; key = k; chosen = sym key; at = at; begins = b }
+file-begins limits answers was_read size chunks at h k some key b =
+    record { header = h; some = some; key = k; chosen = found-key (unlocked answers h) k key; at = at; begins = b }
+
+pub file-ranges : (limits : Bounds) (answers : Answering) (told mid told2 : Known) (given given1 given2 at max : ℕ)
+    (h : HeaderParts) (k : FileKey) (chunks : stream.RangeState) → mid ≡ told → given1 ≤ given + at
+    → max ≡ limits.max_chunks → HasHeader limits told at h
+    → (◌≡◌ {A = Result FileKey Fault} (Ok k) (Err OutOfMemory)) ⊎ (Ok k ≡ unlocked answers h)
+    → OpensRanges k max at mid (Ok chunks) → stream.Probes mid told2 at given1 given2
+    → IfSome told (λ b. IsRangesOf limits answers b chunks given given2)
+file-ranges limits answers None mid told2 given given1 given2 at max h k chunks same le most found key opens probes = tt
+file-ranges limits answers (Some b) mid told2 given given1 given2 at max h k chunks same le most found key opens
+    probes =
+    let o = subst (λ t. OpensRanges k max at t (Ok chunks)) same opens in
+    let p = subst (λ t. stream.Probes t told2 at given1 given2) same probes in
+    record {
+      found = found_in found.0 h;
+      header = found.2;
+      key = k;
+      chosen = found-key (unlocked answers h) k key;
+      opened = subst (λ m. stream.IsOpened k m (Some b) (length found.0) chunks) most
+          (subst (λ n. stream.IsOpened k max (Some b) n chunks) (sym found.1) o.2);
+      gave = subst (λ n. given2 ≤ given + n + (16 + length (last_piece (drop (n + 16) b)))) (sym found.1)
+          (omega (arith, le, p.last));
+    }

@@ -252,9 +252,16 @@ copied_rewraps limits answers gathered come mid old put new h key text (Err faul
         (i.may bytes may) (inr (part bytes may wrote))
     go Write (bytes, may, wrote) = rewraps_of limits answers gathered come old new (i.text ++ bytes) (Err Write)
         (i.may bytes may) (part bytes may wrote)
-    go TooManyChunks (bytes, may, wrote, long) =
-        rewraps_of limits answers gathered come old new (i.text ++ bytes) (Err TooManyChunks) (i.may bytes may)
-        (part bytes may wrote, omega (arith, length-append i.text bytes, long))
+    go TooManyChunks ((copy, put-copy, much), (bytes, may, wrote, long)) =
+        rewraps_of limits answers gathered come old new (i.text ++ bytes) (Err TooManyChunks) (i.may bytes may) (
+          part bytes may wrote,
+          omega (arith, length-append i.text bytes, long),
+          (
+            text ++ copy,
+            Appends-trans old put new text copy front put-copy,
+            omega (arith, length-append text copy, much),
+          ),
+        )
     go OutOfMemory c = absurd c
     go NotAge c = absurd c
     go (BadLine n) c = absurd c

@@ -2,6 +2,7 @@
 use Rattle.std.specs.Prelude.{◌≡◌, ℕ, ◌^◌, ◌≤◌, Bool, true, false, length, Result, Ok, Err}
 use Rattle.std.specs.Io.KnownBytes.{Appends, Consumes, IsAtEnd}
 use Rattle.age_header.specs.Device.{Bytes, Known, MayGive, WritesPart}
+use Rattle.age_stream.specs.Sealing.{WroteAtLeast}
 use Rattle.age_file.specs.declared.fault.Fault.{Fault}
 use Rattle.age_file.specs.declared.fault.Fault.TheVariants.{TooManyChunks, Read, Write}
 
@@ -25,11 +26,12 @@ CopiesPiece size from to old new (Err Write) =
 CopiesPiece size from to old new (Err _) = ⊥
 
 -- all of it was copied; if a device failed, a prefix of it; TooManyChunks only if the source had
--- 2^105 bytes or more
+-- 2^105 bytes or more, and as many were written
 abbrev pub Copies : (from old new : Known) (result : Result (Unit {0}) Fault) → Type 0
 Copies from old new (Ok done) = (bytes : Bytes) × MayGive from bytes × Appends old new bytes
 Copies from old new (Err Read) = (bytes : Bytes) × MayGive from bytes × WritesPart old new bytes
 Copies from old new (Err Write) = (bytes : Bytes) × MayGive from bytes × WritesPart old new bytes
 Copies from old new (Err TooManyChunks) =
-    (bytes : Bytes) × MayGive from bytes × WritesPart old new bytes × (most_copied ≤ length bytes)
+    WroteAtLeast most_copied old new
+    × ((bytes : Bytes) × MayGive from bytes × WritesPart old new bytes × (most_copied ≤ length bytes))
 Copies from old new (Err _) = ⊥

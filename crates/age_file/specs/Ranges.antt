@@ -1,12 +1,12 @@
 -- Opening a file for ranges of its plaintext.
-use Rattle.std.specs.Prelude.{◌≡◌, ◌⊎◌, ℕ, ◌+◌, ◌≤◌, length, drop, IfSome, ⊤, Option, Some, Result, Ok, Err}
+use Rattle.std.specs.Prelude.{◌≡◌, ◌⊎◌, ℕ, ◌+◌, ◌-◌, ◌≤◌, length, drop, IfSome, ⊤, Option, Some, Result, Ok, Err}
 use Rattle.std.specs.Result.{result_map_both}
 use Rattle.age_header.specs.Device.{Bytes, Known}
 use Rattle.age_header.specs.declared.fault.HeaderFault.{HeaderFault}
 use Rattle.age_header.specs.Header.{HeaderParts}
 use Rattle.age_header.specs.Verdict.{Found, HeaderVerdict}
 use Rattle.age_recipient.specs.declared.key.FileKey.{FileKey}
-use Rattle.age_stream.specs.Ranges.{BeginsAt, IsOpened, RangeState}
+use Rattle.age_stream.specs.Ranges.{BeginsAt, IsOpened, KeepsVerified, RangeState}
 use Rattle.age_stream.specs.Slice.{last_piece, range_outcome}
 use Rattle.age_file.specs.declared.fault.Fault.{Fault}
 use Rattle.age_file.specs.declared.fault.Fault.TheVariants.{OutOfMemory, Read}
@@ -116,3 +116,18 @@ pub record RefusesRanges (limits : Bounds) (answers : Answering) (told told2 : K
   pub named : IsOpenFault fault
   pub stay : told2 ≡ told
   pub counted : CountsRead {A = ℕ} failed failed2 (Err fault)
+
+-- what was made of a source, and what became of it: a reader of the file's ranges, which keeps the
+-- last chunk, or the fault. Of the functions `StartsRanges` of age_stream says more.
+abbrev pub StartsFileRanges : {D : Type 0} (told : D → Known) (given failed : D → ℕ)
+    (was_read : D → (at byte : ℕ) → Type 0) (found : D → Option ℕ) (limits : Bounds)
+    (answers : Answering) (old new : D) (r : Result RangeState Fault) → Type 0
+StartsFileRanges told given failed was_read found limits answers old new (Ok chunks) =
+    (told new ≡ told old)
+    × IfSome (told old) (λ b. IsRangesOf limits answers b chunks (given old) (given new))
+    × BeginsFile limits answers (was_read new) (found new) chunks
+    × KeepsVerified (was_read new) chunks
+    × (chunks.index ≡ Some (chunks.layout.count - 1)) × (chunks.opened ≡ 1)
+    × (failed new ≡ failed old)
+StartsFileRanges told given failed was_read found limits answers old new (Err fault) =
+    RefusesRanges limits answers (told old) (told new) (failed old) (failed new) fault

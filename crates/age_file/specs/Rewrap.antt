@@ -7,6 +7,7 @@ use Rattle.age_header.specs.Header.{StanzaParts, Head}
 use Rattle.age_header.specs.Mac.{header_mac}
 use Rattle.age_header.specs.Verdict.{Found, HeaderVerdict}
 use Rattle.age_recipient.specs.declared.key.FileKey.{FileKey}
+use Rattle.age_stream.specs.Sealing.{WroteAtLeast}
 use Rattle.age_file.specs.declared.fault.Fault.{Fault}
 use Rattle.age_file.specs.declared.fault.Fault.TheVariants.{TooManyChunks, Read, Write, OutOfMemory}
 use Rattle.age_file.specs.AgeFile.{Bounds, is_mixed}
@@ -67,6 +68,7 @@ RewrapsText limits answers gathered b old new (Err Write) =
     BeginsRewrapped limits answers gathered b old new
 RewrapsText limits answers gathered b old new (Err TooManyChunks) =
     BeginsRewrapped limits answers gathered b old new × (most_copied ≤ length b)
+    × WroteAtLeast most_copied old new
 RewrapsText limits answers gathered b old new (Err OutOfMemory) = ⊤
 RewrapsText limits answers gathered b old new (Err fault) =
     RefusesRewrap limits answers gathered b fault

@@ -1,17 +1,19 @@
 -- A file that is written, or read, in steps: what is kept between the steps, and what each does to
 -- its device.
-use Rattle.std.specs.Prelude.{◌≡◌, ◌⊎◌, ℕ, true, ◌++◌, Result, Ok, Err}
+use Rattle.std.specs.Prelude.{◌≡◌, ◌⊎◌, ℕ, true, false, ◌++◌, Result, Ok, Err}
 use Rattle.std.specs.Io.KnownBytes.{Appends}
 use denote.Ref.{MutBor}
 use Rattle.age_header.specs.Device.{Bytes, Known, WritesPart}
 use Rattle.age_header.specs.Header.{Head, HeaderParts}
 use Rattle.age_recipient.specs.declared.key.FileKey.{FileKey}
 use Rattle.age_stream.specs.declared.fault.StreamFault.{StreamFault}
-use Rattle.age_stream.specs.Opening.{OpenerState, Starts}
-use Rattle.age_stream.specs.Reader.{MissesNonce}
+use Rattle.age_stream.specs.Opening.{OpenerState}
+use Rattle.age_stream.specs.Payload.{payload_key}
+use Rattle.age_stream.specs.Reader.{MissesNonce, StartsReader}
+use Rattle.age_stream.specs.Sealing.{SealerState, at_start}
 use Rattle.age_file.specs.declared.decryptor.Decryptor.{Decryptor}
 use Rattle.age_file.specs.declared.fault.Fault.{Fault}
-use Rattle.age_file.specs.declared.fault.Fault.TheVariants.{MixedPassphrase, Write}
+use Rattle.age_file.specs.declared.fault.Fault.TheVariants.{MixedPassphrase, OutOfMemory, Write}
 use Rattle.age_file.specs.declared.limits.Fresh.{Fresh}
 use Rattle.age_file.specs.AgeFile.{Bounds, is_mixed}
 use Rattle.age_file.specs.Device.{CountsRead, CountsWrite}
@@ -24,20 +26,22 @@ pub record EncryptorState : Type 0 where
   pub fresh : Fresh
   pub limits : Bounds
 
--- its header and then its nonce were written
-abbrev pub PutsFront : (s : EncryptorState) (old new : Known) → Type 0
-PutsFront s old new =
-    (text : Bytes) × Head s.header.stanzas s.header.mac text
-    × Appends old new (text ++ s.fresh.nonce)
-
--- a write of them failed: a prefix of both was written, and one failure more was counted
-abbrev pub LosesFront : (s : EncryptorState) (old new : Known) (before after : ℕ) (fault : Fault)
-    → Type 0
-LosesFront s old new before after fault =
-    (fault ≡ Write)
+-- what was made of a sink, and what became of it: the header and then the nonce were written, and
+-- chunk 0 is the sealer's next; or memory was refused, and nothing was written; or a write failed,
+-- and a prefix of both was written
+abbrev pub StartsFile : {W : Type 0} (taken : W → Known) (failed : W → ℕ) (s : EncryptorState)
+    (old new : W) (r : Result SealerState Fault) → Type 0
+StartsFile taken failed s old new (Ok sealer) =
+    ((text : Bytes) × Head s.header.stanzas s.header.mac text
+    × Appends (taken old) (taken new) (text ++ s.fresh.nonce))
+    × (failed new ≡ failed old)
+    × (sealer ≡ at_start (payload_key s.fresh.file_key s.fresh.nonce) s.limits.max_chunks)
+StartsFile taken failed s old new (Err fault) =
+    ((fault ≡ OutOfMemory) × (new ≡ old))
+    ⊎ ((fault ≡ Write)
     × ((text : Bytes) × Head s.header.stanzas s.header.mac text
-    × WritesPart old new (text ++ s.fresh.nonce))
-    × CountsWrite {A = ℕ} before after (Err fault)
+    × WritesPart (taken old) (taken new) (text ++ s.fresh.nonce))
+    × CountsWrite {A = ℕ} (failed old) (failed new) (Err fault))
 
 -- a file whose header was read: the source that gives the rest, the header, and the limits
 abbrev pub input_of : {S H : Type 0} → Decryptor S H → MutBor S
@@ -49,25 +53,29 @@ header_of d = d.header
 abbrev pub limits_of : {S H : Type 0} → Decryptor S H → Bounds
 limits_of d = d.limits
 
--- no header was read, or one with a `scrypt` stanza beside another; a failed read was counted
-abbrev pub RefusesHeader : (limits : Bounds) (from to : Known) (before after : ℕ) (fault : Fault)
-    → Type 0
-RefusesHeader limits from to before after fault =
-    CountsRead {A = HeaderParts} before after (Err fault)
-    × (Inspects limits from to (Err fault)
+-- what was made of a source, and what became of it: exactly a header was read that has no `scrypt`
+-- stanza beside another; or there is no such header, and a failed read was counted
+abbrev pub StartsDecryptor : {S : Type 0} (to_come : S → Known) (failed : S → ℕ) (limits : Bounds)
+    (old new : S) (r : Result HeaderParts Fault) → Type 0
+StartsDecryptor to_come failed limits old new (Ok header) =
+    Inspects limits (to_come old) (to_come new) (Ok header) × (is_mixed header.stanzas ≡ false)
+    × (failed new ≡ failed old)
+StartsDecryptor to_come failed limits old new (Err fault) =
+    CountsRead {A = HeaderParts} (failed old) (failed new) (Err fault)
+    × (Inspects limits (to_come old) (to_come new) (Err fault)
     ⊎ ((fault ≡ MixedPassphrase)
-    × ((header : HeaderParts) × Inspects limits from to (Ok header)
+    × ((header : HeaderParts) × Inspects limits (to_come old) (to_come new) (Ok header)
     × (is_mixed header.stanzas ≡ true))))
 
--- the nonce was read, and piece 0 is the opener's next, under the key that was found
-abbrev pub StartsUnder : (limits : Bounds) (found : Result FileKey Fault) (from to : Known)
-    (opener : OpenerState) → Type 0
-StartsUnder limits found from to opener =
-    (k : FileKey) × (found ≡ Ok k) × Starts k limits.max_chunks from to (Ok opener)
-
--- a key was found, and the nonce was not read
-abbrev pub MissesUnder : (limits : Bounds) (found : Result FileKey Fault) (from to : Known)
-    (before after : ℕ) (fault : Fault) → Type 0
-MissesUnder limits found from to before after fault =
-    (k : FileKey) × (met : StreamFault) × (found ≡ Ok k) × (fault ≡ stream_fault met)
-    × MissesNonce k limits.max_chunks from to before after met
+-- what was made of what follows a header, where `found` is its file key, and what became of the
+-- source: a reader of the payload; or there is no key, or memory was refused, and nothing was read;
+-- or the nonce was not read
+abbrev pub StartsUnder : {S : Type 0} (to_come : S → Known) (failed : S → ℕ) (limits : Bounds)
+    (found : Result FileKey Fault) (old new : S) (r : Result OpenerState Fault) → Type 0
+StartsUnder to_come failed limits found old new (Ok opener) =
+    (k : FileKey) × (found ≡ Ok k)
+    × StartsReader to_come failed k limits.max_chunks old new (Ok opener)
+StartsUnder to_come failed limits found old new (Err fault) =
+    (((fault ≡ OutOfMemory) ⊎ (found ≡ Err fault)) × (new ≡ old))
+    ⊎ ((k : FileKey) × (met : StreamFault) × (found ≡ Ok k) × (fault ≡ stream_fault met)
+    × MissesNonce k limits.max_chunks (to_come old) (to_come new) (failed old) (failed new) met)

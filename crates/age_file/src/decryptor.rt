@@ -1,13 +1,9 @@
 //! A file that is read in steps: its header, its key, then its payload chunk by chunk.
 
-ghost use Rattle.std.specs.Prelude.{◌≡◌, ◌⊎◌, map, false, Ok, Err, IfOk, IfErr};
-ghost use Rattle.age_header.specs.Device.{GaveAtMost};
+ghost use Rattle.std.specs.Prelude.{◌≡◌, map, Ok, Err, IfOk, IfErr};
 ghost use Rattle.age_stream.specs.Reader.{opener_of, source_of};
 ghost use Rattle.age_stream.specs.Writer.{device_of, fault_of};
-ghost use Rattle.age_file.specs.AgeFile.{is_mixed};
-ghost use Rattle.age_file.specs.Inspect.{Inspects};
 ghost use Rattle.age_file.specs.Verdict.{unlocked, Answering};
-ghost use Rattle.age_stream.specs.Sizes.{nonce_size};
 
 use crate::fault::Fault;
 use crate::fault_conversions::stream_fault;
@@ -29,7 +25,7 @@ pub struct Decryptor<'a, S, H = Header> {
 }
 
 impl<'a, S: Source> Decryptor<'a, S> {
-    ghost use Rattle.age_file.specs.States.{MissesUnder, RefusesHeader, StartsUnder};
+    ghost use Rattle.age_file.specs.States.{StartsDecryptor, StartsUnder};
     ghost use Rattle.age_file.specs.States.{header_of, input_of, limits_of};
 
     /// A file with this header; the source returns the bytes after it.
@@ -57,16 +53,13 @@ impl<'a, S: Source> Decryptor<'a, S> {
     ) -> Result<Decryptor<'a, S>, Refused<'a, S, Fault>>
         ensures same_reference { IfOk result
             (λ d. (input_of d).ghost_name ≡ input.entry.ghost_name) }
-        ensures header { IfOk result (λ d. Inspects limits.now (S.to_come input.old)
-            (S.to_come (input_of d).now) (Ok (header_of d))) }
-        ensures unmixed { IfOk result (λ d. is_mixed (header_of d).stanzas ≡ false) }
+        ensures starts { IfOk result (λ d. StartsDecryptor S.to_come S.failed limits.now input.old
+            (input_of d).now (Ok (header_of d))) }
         ensures limits { IfOk result (λ d. limits_of d ≡ limits.now) }
-        ensures uncounted { IfOk result (λ d. S.failed (input_of d).now ≡ S.failed input.old) }
         ensures handed_back { IfErr result
             (λ refused. (device_of refused).ghost_name ≡ input.entry.ghost_name) }
-        ensures refuses { IfErr result (λ refused. RefusesHeader limits.now (S.to_come input.old)
-            (S.to_come (device_of refused).now) (S.failed input.old)
-            (S.failed (device_of refused).now) (fault_of refused)) }
+        ensures refuses { IfErr result (λ refused. StartsDecryptor S.to_come S.failed limits.now
+            input.old (device_of refused).now (Err (fault_of refused))) }
     {
         let header = match inspect(alloc, input, limits) {
             Ok(header) => header,
@@ -86,14 +79,11 @@ impl<'a, S: Source> Decryptor<'a, S> {
     pub fn new(alloc: Global, input: &'a mut S, limits: &Limits) -> Result<Decryptor<'a, S>, Fault>
         ensures same_reference { IfOk result
             (λ d. (input_of d).ghost_name ≡ input.entry.ghost_name) }
-        ensures header { IfOk result (λ d. Inspects limits.now (S.to_come input.old)
-            (S.to_come (input_of d).now) (Ok (header_of d))) }
-        ensures unmixed { IfOk result (λ d. is_mixed (header_of d).stanzas ≡ false) }
+        ensures starts { IfOk result (λ d. StartsDecryptor S.to_come S.failed limits.now input.old
+            (input_of d).now (Ok (header_of d))) }
         ensures limits { IfOk result (λ d. limits_of d ≡ limits.now) }
-        ensures uncounted { IfOk result (λ d. S.failed (input_of d).now ≡ S.failed input.old) }
         ensures refuses { IfErr result (λ fault. (last : S)
-            × RefusesHeader limits.now (S.to_come input.old) (S.to_come last) (S.failed input.old)
-            (S.failed last) fault) }
+            × StartsDecryptor S.to_come S.failed limits.now input.old last (Err fault)) }
     {
         match Decryptor::started(alloc, input, limits) {
             Ok(decryptor) => Ok(decryptor),
@@ -123,24 +113,16 @@ impl<'a, S: Source> Decryptor<'a, S> {
             (λ reader. (source_of reader).ghost_name ≡ (input_of self.entry).ghost_name) }
         ensures starts { let answers : Answering =
             λ stanzas. map (λ i. meaning i stanzas) identities.now in
-            IfOk result (λ reader. StartsUnder (limits_of self.entry)
-            (unlocked answers (header_of self.entry)) (S.to_come (input_of self.entry).now)
-            (S.to_come (source_of reader).now) (opener_of reader)) }
-        ensures gave { IfOk result (λ reader. GaveAtMost nonce_size
-            (S.to_come (input_of self.entry).now) (S.to_come (source_of reader).now)) }
-        ensures uncounted { IfOk result
-            (λ reader. S.failed (source_of reader).now ≡ S.failed (input_of self.entry).now) }
+            IfOk result (λ reader. StartsUnder S.to_come S.failed (limits_of self.entry)
+            (unlocked answers (header_of self.entry)) (input_of self.entry).now
+            (source_of reader).now (Ok (opener_of reader))) }
         ensures handed_back { IfErr result
             (λ refused. (device_of refused).ghost_name ≡ (input_of self.entry).ghost_name) }
         ensures misses { let answers : Answering =
             λ stanzas. map (λ i. meaning i stanzas) identities.now in
-            let found = unlocked answers (header_of self.entry) in
-            IfErr result (λ refused. (((fault_of refused ≡ Fault.OutOfMemory)
-            ⊎ (found ≡ Err (fault_of refused)))
-            × ((device_of refused).now ≡ (input_of self.entry).now))
-            ⊎ MissesUnder (limits_of self.entry) found (S.to_come (input_of self.entry).now)
-            (S.to_come (device_of refused).now) (S.failed (input_of self.entry).now)
-            (S.failed (device_of refused).now) (fault_of refused)) }
+            IfErr result (λ refused. StartsUnder S.to_come S.failed (limits_of self.entry)
+            (unlocked answers (header_of self.entry)) (input_of self.entry).now
+            (device_of refused).now (Err (fault_of refused))) }
     {
         let Decryptor {
             input,
@@ -176,20 +158,14 @@ impl<'a, S: Source> Decryptor<'a, S> {
             (λ reader. (source_of reader).ghost_name ≡ (input_of self.entry).ghost_name) }
         ensures starts { let answers : Answering =
             λ stanzas. map (λ i. meaning i stanzas) identities.now in
-            IfOk result (λ reader. StartsUnder (limits_of self.entry)
-            (unlocked answers (header_of self.entry)) (S.to_come (input_of self.entry).now)
-            (S.to_come (source_of reader).now) (opener_of reader)) }
-        ensures gave { IfOk result (λ reader. GaveAtMost nonce_size
-            (S.to_come (input_of self.entry).now) (S.to_come (source_of reader).now)) }
-        ensures uncounted { IfOk result
-            (λ reader. S.failed (source_of reader).now ≡ S.failed (input_of self.entry).now) }
+            IfOk result (λ reader. StartsUnder S.to_come S.failed (limits_of self.entry)
+            (unlocked answers (header_of self.entry)) (input_of self.entry).now
+            (source_of reader).now (Ok (opener_of reader))) }
         ensures misses { let answers : Answering =
             λ stanzas. map (λ i. meaning i stanzas) identities.now in
-            let found = unlocked answers (header_of self.entry) in
-            IfErr result (λ fault. ((fault ≡ Fault.OutOfMemory) ⊎ (found ≡ Err fault))
-            ⊎ ((last : S) × MissesUnder (limits_of self.entry) found
-            (S.to_come (input_of self.entry).now) (S.to_come last)
-            (S.failed (input_of self.entry).now) (S.failed last) fault)) }
+            IfErr result (λ fault. (last : S) × StartsUnder S.to_come S.failed
+            (limits_of self.entry) (unlocked answers (header_of self.entry))
+            (input_of self.entry).now last (Err fault)) }
     {
         match self.unlocked(alloc, identities) {
             Ok(reader) => Ok(reader),

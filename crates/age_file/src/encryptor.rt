@@ -1,9 +1,7 @@
 //! A file that is written in steps: its header, then its payload piece by piece.
 
-ghost use Rattle.std.specs.Prelude.{◌≡◌, ◌⊎◌, map, IfOk, IfErr};
+ghost use Rattle.std.specs.Prelude.{◌≡◌, map, Ok, Err, IfOk, IfErr};
 ghost use Rattle.age_header.specs.Mac.{header_mac};
-ghost use Rattle.age_stream.specs.Payload.{payload_key};
-ghost use Rattle.age_stream.specs.Sealing.{at_start};
 ghost use Rattle.age_stream.specs.Writer.{device_of, fault_of, sealer_of, sink_of};
 ghost use Rattle.age_file.specs.NewFile.{FailsHeading, Gathered, IsHeading};
 
@@ -34,7 +32,7 @@ impl Model for Encryptor {
 }
 
 impl Encryptor {
-    ghost use Rattle.age_file.specs.States.{LosesFront, PutsFront};
+    ghost use Rattle.age_file.specs.States.{StartsFile};
     ghost use Rattle.age_header.specs.Device.{Bytes};
 
     /// Makes the header of a new file for these recipients.
@@ -82,18 +80,12 @@ impl Encryptor {
     ) -> Result<StreamWriter<'a, W>, Refused<'a, W, Fault>>
         ensures same_reference { IfOk result
             (λ writer. (sink_of writer).ghost_name ≡ out.entry.ghost_name) }
-        ensures written { IfOk result
-            (λ writer. PutsFront self (W.taken out.old) (W.taken (sink_of writer).now)) }
-        ensures uncounted { IfOk result
-            (λ writer. W.failed (sink_of writer).now ≡ W.failed out.old) }
-        ensures sealer { IfOk result (λ writer. sealer_of writer
-            ≡ at_start (payload_key self.fresh.file_key self.fresh.nonce) self.limits.max_chunks) }
+        ensures starts { IfOk result (λ writer. StartsFile W.taken W.failed self out.old
+            (sink_of writer).now (Ok (sealer_of writer))) }
         ensures handed_back { IfErr result
             (λ refused. (device_of refused).ghost_name ≡ out.entry.ghost_name) }
-        ensures front { IfErr result (λ refused. ((fault_of refused ≡ Fault.OutOfMemory)
-            × ((device_of refused).now ≡ out.old))
-            ⊎ LosesFront self (W.taken out.old) (W.taken (device_of refused).now) (W.failed out.old)
-            (W.failed (device_of refused).now) (fault_of refused)) }
+        ensures loses { IfErr result (λ refused. StartsFile W.taken W.failed self out.old
+            (device_of refused).now (Err (fault_of refused))) }
     {
         let Ok(buf) = ChunkBuf::new(alloc) else {
             return Err(Refused::of(out, Fault::OutOfMemory));
@@ -120,16 +112,10 @@ impl Encryptor {
     ) -> Result<StreamWriter<'a, W>, Fault>
         ensures same_reference { IfOk result
             (λ writer. (sink_of writer).ghost_name ≡ out.entry.ghost_name) }
-        ensures written { IfOk result
-            (λ writer. PutsFront self (W.taken out.old) (W.taken (sink_of writer).now)) }
-        ensures uncounted { IfOk result
-            (λ writer. W.failed (sink_of writer).now ≡ W.failed out.old) }
-        ensures sealer { IfOk result (λ writer. sealer_of writer
-            ≡ at_start (payload_key self.fresh.file_key self.fresh.nonce) self.limits.max_chunks) }
-        ensures front { IfErr result (λ fault. (last : W)
-            × (((fault ≡ Fault.OutOfMemory) × (last ≡ out.old))
-            ⊎ LosesFront self (W.taken out.old) (W.taken last) (W.failed out.old)
-            (W.failed last) fault)) }
+        ensures starts { IfOk result (λ writer. StartsFile W.taken W.failed self out.old
+            (sink_of writer).now (Ok (sealer_of writer))) }
+        ensures loses { IfErr result (λ fault. (last : W)
+            × StartsFile W.taken W.failed self out.old last (Err fault)) }
     {
         match self.started(alloc, out) {
             Ok(writer) => Ok(writer),

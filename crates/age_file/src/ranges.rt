@@ -1,10 +1,10 @@
 //! Ranges of a file's plaintext.
 
-ghost use Rattle.std.specs.Prelude.{◌≡◌, ◌+◌, ◌-◌, ◌≤◌, ℕ, map, Err, Some, IfOk, IfErr, IfSome};
-ghost use Rattle.age_stream.specs.Ranges.{KeepsVerified, chunks_of, source_at_of};
+ghost use Rattle.std.specs.Prelude.{◌≡◌, ◌+◌, ◌≤◌, ℕ, map, Ok, Err, IfOk, IfErr};
+ghost use Rattle.age_stream.specs.Ranges.{chunks_of, source_at_of};
 ghost use Rattle.age_file.specs.Device.{CountsRead};
 ghost use Rattle.age_stream.specs.Writer.{device_of, fault_of};
-ghost use Rattle.age_file.specs.Ranges.{BeginsFile, HasHeader, IsOpenFault, IsRangesOf, IsSomeHeader, MissesHeader, MissesRanges, RefusesRanges};
+ghost use Rattle.age_file.specs.Ranges.{HasHeader, IsOpenFault, IsSomeHeader, MissesHeader, StartsFileRanges};
 ghost use Rattle.age_file.specs.Verdict.{Answering};
 
 use crate::at_source::{AtSource, Origin};
@@ -101,30 +101,16 @@ pub fn opened_ranges<'a, D: ReadAt>(
 ) -> Result<RangeReader<'a, D>, Refused<'a, D, Fault>>
     ensures same_reference { IfOk result
         (λ reader. (source_at_of reader).ghost_name ≡ dev.entry.ghost_name) }
-    ensures stay { IfOk result (λ reader. D.bytes (source_at_of reader).now ≡ D.bytes dev.old) }
     ensures ranges { let answers : Answering =
         λ stanzas. map (λ i. meaning i stanzas) identities.now in
-        IfOk result (λ reader. IfSome (D.bytes dev.old) (λ b. IsRangesOf limits.now answers b
-        (chunks_of reader) (D.given dev.old) (D.given (source_at_of reader).now))) }
-    ensures begins { let answers : Answering =
-        λ stanzas. map (λ i. meaning i stanzas) identities.now in
-        IfOk result (λ reader. BeginsFile limits.now answers
-        (D.was_read (source_at_of reader).now) (D.found (source_at_of reader).now)
-        (chunks_of reader)) }
-    ensures verified { IfOk result (λ reader.
-        KeepsVerified (D.was_read (source_at_of reader).now) (chunks_of reader)) }
-    ensures kept_chunk { IfOk result (λ reader. ((chunks_of reader).index
-        ≡ Some ((chunks_of reader).layout.count - 1))
-        × ((chunks_of reader).opened ≡ 1)) }
-    ensures uncounted { IfOk result
-        (λ reader. D.failed (source_at_of reader).now ≡ D.failed dev.old) }
+        IfOk result (λ reader. StartsFileRanges D.bytes D.given D.failed D.was_read D.found
+        limits.now answers dev.old (source_at_of reader).now (Ok (chunks_of reader))) }
     ensures handed_back { IfErr result
         (λ refused. (device_of refused).ghost_name ≡ dev.entry.ghost_name) }
     ensures refuses { let answers : Answering =
         λ stanzas. map (λ i. meaning i stanzas) identities.now in
-        IfErr result (λ refused. RefusesRanges limits.now answers (D.bytes dev.old)
-        (D.bytes (device_of refused).now) (D.failed dev.old) (D.failed (device_of refused).now)
-        (fault_of refused)) }
+        IfErr result (λ refused. StartsFileRanges D.bytes D.given D.failed D.was_read D.found
+        limits.now answers dev.old (device_of refused).now (Err (fault_of refused))) }
 {
     let HeaderAt { header, dev, at } = match read_header_at(alloc, dev, limits) {
         Ok(found) => found,
@@ -162,29 +148,14 @@ pub fn open_ranges<'a, D: ReadAt>(
 ) -> Result<RangeReader<'a, D>, Fault>
     ensures same_reference { IfOk result
         (λ reader. (source_at_of reader).ghost_name ≡ dev.entry.ghost_name) }
-    ensures stay { IfOk result (λ reader. D.bytes (source_at_of reader).now ≡ D.bytes dev.old) }
     ensures ranges { let answers : Answering =
         λ stanzas. map (λ i. meaning i stanzas) identities.now in
-        IfOk result (λ reader. IfSome (D.bytes dev.old) (λ b. IsRangesOf limits.now answers b
-        (chunks_of reader) (D.given dev.old) (D.given (source_at_of reader).now))) }
-    ensures begins { let answers : Answering =
+        IfOk result (λ reader. StartsFileRanges D.bytes D.given D.failed D.was_read D.found
+        limits.now answers dev.old (source_at_of reader).now (Ok (chunks_of reader))) }
+    ensures refuses { let answers : Answering =
         λ stanzas. map (λ i. meaning i stanzas) identities.now in
-        IfOk result (λ reader. BeginsFile limits.now answers
-        (D.was_read (source_at_of reader).now) (D.found (source_at_of reader).now)
-        (chunks_of reader)) }
-    ensures verified { IfOk result (λ reader.
-        KeepsVerified (D.was_read (source_at_of reader).now) (chunks_of reader)) }
-    ensures kept_chunk { IfOk result (λ reader. ((chunks_of reader).index
-        ≡ Some ((chunks_of reader).layout.count - 1))
-        × ((chunks_of reader).opened ≡ 1)) }
-    ensures uncounted { IfOk result
-        (λ reader. D.failed (source_at_of reader).now ≡ D.failed dev.old) }
-    ensures misses { let answers : Answering =
-        λ stanzas. map (λ i. meaning i stanzas) identities.now in
-        IfErr result (MissesRanges limits.now answers (D.bytes dev.old)) }
-    ensures named { IfErr result IsOpenFault }
-    ensures counted { IfErr result (λ fault. (last : D) × (D.bytes last ≡ D.bytes dev.old)
-        × CountsRead {A = ℕ} (D.failed dev.old) (D.failed last) (Err fault)) }
+        IfErr result (λ fault. (last : D) × StartsFileRanges D.bytes D.given D.failed D.was_read
+        D.found limits.now answers dev.old last (Err fault)) }
 {
     match opened_ranges(alloc, dev, identities, limits) {
         Ok(reader) => Ok(reader),

@@ -1,10 +1,23 @@
 -- What an opener that was given says of reads.
-use Rattle.std.proofs.Common.{◌⊎◌, inl, inr, Ok}
+use Rattle.std.proofs.Common.{◌≡◌, ◌⊎◌, inl, inr, ℕ, Ok}
 use Rattle.std.specs.Prelude.{IsErrOf}
+use Rattle.age_header.specs.Device.{Known, GaveAtMost}
+use Rattle.age_recipient.specs.declared.key.FileKey.{FileKey}
 use Rattle.age_stream.specs.declared.fault.StreamFault.TheVariants.{Read}
-use Rattle.age_stream.specs.Opening.{OpenerState}
+use Rattle.age_stream.specs.Opening.{OpenerState, Starts}
+use Rattle.age_stream.specs.Reader.{StartsReader}
+use Rattle.age_stream.specs.Sizes.{nonce_size}
 
 -- no read failed where an opener was given
 pub not-read : {X : Type 0} (s : OpenerState) → IsErrOf {T = OpenerState} (Ok s) Read ⊎ X → X
 not-read s (inl e) = absurd (cc)
 not-read s (inr x) = x
+
+-- a reader of the source from which an opener read the nonce
+pub starts-reader : {S : Type 0} (to_come : S → Known) (failed : S → ℕ) (k : FileKey) (max : ℕ) (old mid new : S)
+    (s t : OpenerState) → new ≡ mid → t ≡ s → Starts k max (to_come old) (to_come mid) (Ok s)
+    → IsErrOf {T = OpenerState} (Ok s) Read ⊎ GaveAtMost nonce_size (to_come old) (to_come mid)
+    → failed mid ≡ failed old
+    → StartsReader to_come failed k max old new (Ok t)
+starts-reader to_come failed k max old mid new s t same opener starts gave uncounted =
+    rw same (rw opener (starts, not-read s gave, uncounted))

@@ -9,6 +9,7 @@ use Rattle.age_stream.specs.declared.fault.StreamFault.{StreamFault}
 use Rattle.age_stream.specs.declared.fault.StreamFault.TheVariants.{BadChunk, Read, Write, Memory}
 use Rattle.age_stream.specs.declared.layout.Layout.{Layout}
 use Rattle.age_stream.specs.declared.ranges.RangeReader.{RangeReader}
+use Rattle.age_stream.specs.Counts.{CountsReadFault}
 use Rattle.age_stream.specs.Payload.{payload_key}
 use Rattle.age_stream.specs.Places.{WereRead}
 use Rattle.age_stream.specs.Reading.{opened_at}
@@ -190,6 +191,20 @@ pub record Probes (told told2 : Known) (at given given2 : ℕ) : Type 0 where
   pub most : given2 ≤ given + (nonce_size + sealed_chunk_size)
   pub last : IfSome told
       (λ bytes. given2 ≤ given + (nonce_size + length (last_piece (drop (at + nonce_size) bytes))))
+
+-- what was made of a source, and what became of it, whether or not its contents are known: a reader
+-- that gives no byte that was not verified, or the fault. `told` gives its contents, `given` and
+-- `failed` its counts, `was_read` the bytes that were read of it, and `found` the size that was
+-- found.
+abbrev pub StartsRanges : {D : Type 0} (told : D → Known) (given failed : D → ℕ)
+    (was_read : D → (at byte : ℕ) → Type 0) (found : D → Option ℕ) (file_key : FileKey)
+    (max at : ℕ) (old new : D) (r : Result RangeState StreamFault) → Type 0
+StartsRanges told given failed was_read found file_key max at old new r =
+    OpensRanges file_key max at (told old) r × Probes (told old) (told new) at (given old) (given new)
+    × MatchResult r
+    (λ s. BeginsAt file_key at (was_read new) (found new) s × KeepsVerified (was_read new) s
+    × (failed new ≡ failed old))
+    (λ fault. IsOpenFault fault × CountsReadFault (failed old) (failed new) fault)
 
 -- the source of a reader, and its chunks
 abbrev pub source_at_of : {D B : Type 0} → RangeReader D B → MutBor D

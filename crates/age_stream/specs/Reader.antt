@@ -9,6 +9,7 @@ use Rattle.age_stream.specs.declared.reader.StreamReader.{StreamReader}
 use Rattle.age_stream.specs.Counts.{CountsRead, CountsReadFault}
 use Rattle.age_stream.specs.Opening.{Advances, OpenerState, Starts}
 use Rattle.age_stream.specs.Sizes.{nonce_size}
+use Rattle.age_stream.specs.Writer.{IsRefusedMemory}
 
 -- the nonce was not read: the source gave fewer than 16 bytes, or failed, and then one failure more
 -- was counted
@@ -17,6 +18,17 @@ abbrev pub MissesNonce : (file_key : FileKey) (max : ℕ) (from to : Known) (bef
 MissesNonce file_key max from to before after fault =
     Starts file_key max from to (Err fault) × CountsReadFault before after fault
     × ((fault ≡ Read) ⊎ GaveAtMost nonce_size from to)
+
+-- what was made of a source, and what became of it: the nonce was read, and piece 0 is the opener's
+-- next; or memory was refused, and nothing was read; or the nonce was not read
+abbrev pub StartsReader : {S : Type 0} (to_come : S → Known) (failed : S → ℕ) (file_key : FileKey)
+    (max : ℕ) (old new : S) (r : Result OpenerState StreamFault) → Type 0
+StartsReader to_come failed file_key max old new (Ok opener) =
+    Starts file_key max (to_come old) (to_come new) (Ok opener)
+    × GaveAtMost nonce_size (to_come old) (to_come new) × (failed new ≡ failed old)
+StartsReader to_come failed file_key max old new (Err fault) =
+    IsRefusedMemory old new fault
+    ⊎ MissesNonce file_key max (to_come old) (to_come new) (failed old) (failed new) fault
 
 -- the result as a Bool: true if a chunk was lent, false after the last
 abbrev pub is_lent : {A : Type 0} → Result (Option A) StreamFault → Result Bool StreamFault

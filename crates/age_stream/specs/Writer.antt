@@ -1,14 +1,17 @@
 -- A writer of a payload: what its constructors and its calls do to its sink.
-use Rattle.std.specs.Prelude.{ℕ, ◌≡◌, ◌≤◌, ◌<◌, ◌≢◌, length, MatchResult, None, Some, Result}
+use Rattle.std.specs.Prelude.{ℕ, ◌≡◌, ◌≤◌, ◌<◌, ◌≢◌, length, MatchResult, None, Some, Result, Ok, Err}
+use Rattle.std.specs.Io.KnownBytes.{Appends}
 use Rattle.age_kdf.specs.Bytes.{Bytes}
 use denote.Ref.{MutBor}
 use Rattle.age_header.specs.Device.{Known, WritesPart}
+use Rattle.age_recipient.specs.declared.key.FileKey.{FileKey}
 use Rattle.age_stream.specs.declared.fault.StreamFault.{StreamFault}
-use Rattle.age_stream.specs.declared.fault.StreamFault.TheVariants.{Read, Write}
+use Rattle.age_stream.specs.declared.fault.StreamFault.TheVariants.{Memory, Read, Write}
 use Rattle.age_stream.specs.Counts.{CountsWriteFault}
 use Rattle.age_stream.specs.declared.writer.StreamWriter.{StreamWriter}
 use Rattle.age_stream.specs.declared.refused.Refused.{Refused}
-use Rattle.age_stream.specs.Sealing.{Fed, SealerState, StopsIn}
+use Rattle.age_stream.specs.Payload.{payload_key}
+use Rattle.age_stream.specs.Sealing.{Fed, SealerState, StopsIn, at_start}
 use Rattle.age_stream.specs.Sizes.{chunk_size}
 
 -- A piece was taken by a sealer that keeps no fault: whatever still comes, what is written is as
@@ -23,11 +26,20 @@ TakesPiece s t piece old new r =
     (λ fault. (t.fault ≡ Some fault) × (fault ≢ Read)
     × StopsIn s.key s.max_chunks s.index s.held piece old new fault)
 
--- a write of the nonce failed, and one failure more was counted
-abbrev pub LosesNonce : (nonce : Bytes) (old new : Known) (before after : ℕ) (fault : StreamFault)
-    → Type 0
-LosesNonce nonce old new before after fault =
-    (fault ≡ Write) × WritesPart old new nonce × CountsWriteFault before after fault
+-- what was made of a sink, and what became of it: the nonce was written, and chunk 0 is the sealer's
+-- next; or a write of the nonce failed
+abbrev pub StartsWriter : {W : Type 0} (taken : W → Known) (failed : W → ℕ) (file_key : FileKey)
+    (nonce : Bytes) (max : ℕ) (old new : W) (r : Result SealerState StreamFault) → Type 0
+StartsWriter taken failed file_key nonce max old new (Ok sealer) =
+    Appends (taken old) (taken new) nonce × (failed new ≡ failed old)
+    × (sealer ≡ at_start (payload_key file_key nonce) max)
+StartsWriter taken failed file_key nonce max old new (Err fault) =
+    (fault ≡ Write) × WritesPart (taken old) (taken new) nonce
+    × CountsWriteFault (failed old) (failed new) fault
+
+-- memory was refused, and nothing was written
+abbrev pub IsRefusedMemory : {W : Type 0} (old new : W) (fault : StreamFault) → Type 0
+IsRefusedMemory old new fault = (fault ≡ Memory) × (new ≡ old)
 
 -- the sink of a writer, and its sealer
 abbrev pub sink_of : {W B : Type 0} → StreamWriter W B → MutBor W

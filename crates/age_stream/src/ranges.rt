@@ -1,7 +1,7 @@
 //! Reading any part of a plaintext from a caller's source.
 ghost use Rattle.std.specs.Prelude.{◌≡◌, ◌+◌, ◌-◌, ◌*◌, ◌/◌, ◌<◌, ◌≤◌, ℕ, length, Ok, Err, Some, None, IfOk, IfErr, OnErr};
-ghost use Rattle.age_stream.specs.Counts.{CountsRead, CountsReadFault};
-ghost use Rattle.age_stream.specs.Ranges.{BeginsAt, Fills, GivesVerified, IsOpenFault, IsSound, KeepsVerified, OpenedAtLeast, OpensRanges, Probes, Stops, first_to_open, range_len, sealed_span};
+ghost use Rattle.age_stream.specs.Counts.{CountsRead};
+ghost use Rattle.age_stream.specs.Ranges.{Fills, GivesVerified, IsSound, KeepsVerified, OpenedAtLeast, StartsRanges, Stops, first_to_open, range_len, sealed_span};
 ghost use Rattle.age_stream.specs.Sizes.{chunk_size};
 
 use crate::chunks::Chunks;
@@ -43,23 +43,12 @@ impl<'a, D: ReadAt> RangeReader<'a, D> {
     ) -> Result<RangeReader<'a, D>, Refused<'a, D, StreamFault>>
         ensures same_reference { IfOk result
             (λ reader. reader.dev.ghost_name ≡ dev.entry.ghost_name) }
-        ensures opens { IfOk result (λ reader.
-            OpensRanges key.now max_chunks payload_at (D.bytes dev.old) (Ok reader.chunks)) }
-        ensures begins { IfOk result (λ reader. BeginsAt key.now payload_at
-            (D.was_read reader.dev.now) (D.found reader.dev.now) reader.chunks) }
-        ensures verified { IfOk result
-            (λ reader. KeepsVerified (D.was_read reader.dev.now) reader.chunks) }
-        ensures probes { IfOk result (λ reader. Probes (D.bytes dev.old) (D.bytes reader.dev.now)
-            payload_at (D.given dev.old) (D.given reader.dev.now)) }
-        ensures uncounted { IfOk result (λ reader. D.failed reader.dev.now ≡ D.failed dev.old) }
+        ensures opens { IfOk result (λ reader. StartsRanges D.bytes D.given D.failed D.was_read
+            D.found key.now max_chunks payload_at dev.old reader.dev.now (Ok reader.chunks)) }
         ensures handed_back { IfErr result
             (λ refused. refused.device.ghost_name ≡ dev.entry.ghost_name) }
-        ensures refuses { IfErr result (λ refused. OpensRanges key.now max_chunks payload_at
-            (D.bytes dev.old) (Err refused.fault)
-            × Probes (D.bytes dev.old) (D.bytes refused.device.now) payload_at (D.given dev.old)
-            (D.given refused.device.now)
-            × CountsReadFault (D.failed dev.old) (D.failed refused.device.now) refused.fault) }
-        ensures named { IfErr result (λ refused. IsOpenFault refused.fault) }
+        ensures refuses { IfErr result (λ refused. StartsRanges D.bytes D.given D.failed D.was_read
+            D.found key.now max_chunks payload_at dev.old refused.device.now (Err refused.fault)) }
     {
         match Chunks::open(alloc, key, dev, payload_at, max_chunks) {
             Ok(chunks) => Ok(RangeReader::over(dev, chunks)),
@@ -87,22 +76,11 @@ impl<'a, D: ReadAt> RangeReader<'a, D> {
     ) -> Result<RangeReader<'a, D>, StreamFault>
         ensures same_reference { IfOk result
             (λ reader. reader.dev.ghost_name ≡ dev.entry.ghost_name) }
-        ensures opens { IfOk result (λ reader.
-            OpensRanges key.now max_chunks payload_at (D.bytes dev.old) (Ok reader.chunks)) }
-        ensures begins { IfOk result (λ reader. BeginsAt key.now payload_at
-            (D.was_read reader.dev.now) (D.found reader.dev.now) reader.chunks) }
-        ensures verified { IfOk result
-            (λ reader. KeepsVerified (D.was_read reader.dev.now) reader.chunks) }
-        ensures probes { IfOk result (λ reader. Probes (D.bytes dev.old) (D.bytes reader.dev.now)
-            payload_at (D.given dev.old) (D.given reader.dev.now)) }
-        ensures uncounted { IfOk result (λ reader. D.failed reader.dev.now ≡ D.failed dev.old) }
-        ensures refuses { IfErr result (λ fault. OpensRanges key.now max_chunks payload_at
-            (D.bytes dev.old) (Err fault)
-            × ((last : D)
-            × Probes (D.bytes dev.old) (D.bytes last) payload_at (D.given dev.old)
-            (D.given last)
-            × CountsReadFault (D.failed dev.old) (D.failed last) fault)) }
-        ensures named { IfErr result IsOpenFault }
+        ensures opens { IfOk result (λ reader. StartsRanges D.bytes D.given D.failed D.was_read
+            D.found key.now max_chunks payload_at dev.old reader.dev.now (Ok reader.chunks)) }
+        ensures refuses { IfErr result (λ fault. (last : D)
+            × StartsRanges D.bytes D.given D.failed D.was_read D.found key.now max_chunks payload_at
+            dev.old last (Err fault)) }
     {
         match RangeReader::started(alloc, key, dev, payload_at, max_chunks) {
             Ok(reader) => Ok(reader),

@@ -1,13 +1,12 @@
 //! Reading a payload chunk by chunk from a caller's source.
-ghost use Rattle.std.specs.Prelude.{◌≡◌, ◌⊎◌, ◌≤◌, ◌^◌, [], Ok, Err, Some, None, IfOk, IfErr, IfSome, IfNone, IsErrOf, ⊤};
+ghost use Rattle.std.specs.Prelude.{◌≡◌, ◌⊎◌, ◌≤◌, [], Ok, Err, Some, None, IfOk, IfErr, IfSome, IfNone, IsErrOf, ⊤};
 ghost use Rattle.std.specs.Borrow.{sem, follows_so};
-ghost use Rattle.age_header.specs.Device.{GaveAtMost};
 ghost use Rattle.age_stream.specs.Counts.{CountsRead, CountsWrite};
-ghost use Rattle.age_stream.specs.Opening.{Advances, EndsAt, Starts, WritesAll};
-ghost use Rattle.age_stream.specs.Reader.{Lends, MissesNonce, is_lent};
+ghost use Rattle.age_stream.specs.Opening.{Advances, EndsAt, WritesAll};
+ghost use Rattle.age_stream.specs.Reader.{Lends, StartsReader, is_lent};
 ghost use mathlib.Core.Option.{none};
 ghost use mir.Syntax.{named};
-ghost use Rattle.age_stream.specs.Sizes.{most_chunks, nonce_size};
+ghost use Rattle.age_stream.specs.Sizes.{most_chunks};
 
 use crate::buffer::ChunkBuf;
 use crate::done::Done;
@@ -54,17 +53,12 @@ impl<'a, S: Source> StreamReader<'a, S> {
         requires { max_chunks ≤ most_chunks }
         ensures same_reference { IfOk result
             (λ reader. reader.input.ghost_name ≡ input.entry.ghost_name) }
-        ensures starts { IfOk result (λ reader. Starts key.now max_chunks (S.to_come input.old)
-            (S.to_come reader.input.now) (Ok reader.opener)) }
-        ensures gave { IfOk result
-            (λ reader. GaveAtMost nonce_size (S.to_come input.old) (S.to_come reader.input.now)) }
-        ensures uncounted { IfOk result (λ reader. S.failed reader.input.now ≡ S.failed input.old) }
+        ensures starts { IfOk result (λ reader. StartsReader S.to_come S.failed key.now max_chunks
+            input.old reader.input.now (Ok reader.opener)) }
         ensures handed_back { IfErr result
             (λ refused. refused.device.ghost_name ≡ input.entry.ghost_name) }
-        ensures misses { IfErr result (λ refused. ((refused.fault ≡ StreamFault.Memory)
-            × (refused.device.now ≡ input.old))
-            ⊎ MissesNonce key.now max_chunks (S.to_come input.old) (S.to_come refused.device.now)
-            (S.failed input.old) (S.failed refused.device.now) refused.fault) }
+        ensures misses { IfErr result (λ refused. StartsReader S.to_come S.failed key.now max_chunks
+            input.old refused.device.now (Err refused.fault)) }
     {
         let Ok(buf) = ChunkBuf::new(alloc) else {
             return Err(Refused::of(input, StreamFault::Memory));
@@ -90,15 +84,10 @@ impl<'a, S: Source> StreamReader<'a, S> {
         requires { max_chunks ≤ most_chunks }
         ensures same_reference { IfOk result
             (λ reader. reader.input.ghost_name ≡ input.entry.ghost_name) }
-        ensures starts { IfOk result (λ reader. Starts key.now max_chunks (S.to_come input.old)
-            (S.to_come reader.input.now) (Ok reader.opener)) }
-        ensures gave { IfOk result
-            (λ reader. GaveAtMost nonce_size (S.to_come input.old) (S.to_come reader.input.now)) }
-        ensures uncounted { IfOk result (λ reader. S.failed reader.input.now ≡ S.failed input.old) }
-        ensures misses { IfErr result (λ fault. (last : S)
-            × (((fault ≡ StreamFault.Memory) × (last ≡ input.old))
-            ⊎ MissesNonce key.now max_chunks (S.to_come input.old) (S.to_come last)
-            (S.failed input.old) (S.failed last) fault)) }
+        ensures starts { IfOk result (λ reader. StartsReader S.to_come S.failed key.now max_chunks
+            input.old reader.input.now (Ok reader.opener)) }
+        ensures misses { IfErr result (λ fault. (last : S) × StartsReader S.to_come S.failed key.now
+            max_chunks input.old last (Err fault)) }
     {
         match StreamReader::started(alloc, key, input, max_chunks) {
             Ok(reader) => Ok(reader),

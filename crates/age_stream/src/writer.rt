@@ -1,11 +1,9 @@
 //! Writing a payload piece by piece to a caller's sink.
-ghost use Rattle.std.specs.Prelude.{◌≡◌, ◌⊎◌, ◌≤◌, ◌^◌, Ok, Err, IfOk, IfErr, IfSome, IfNone};
-ghost use Rattle.std.specs.Io.KnownBytes.{Appends};
+ghost use Rattle.std.specs.Prelude.{◌≡◌, ◌⊎◌, ◌≤◌, Ok, Err, IfOk, IfErr, IfSome, IfNone};
 ghost use Rattle.age_header.specs.Device.{Writes};
 ghost use Rattle.age_stream.specs.Counts.{CountsRead, CountsWrite};
-ghost use Rattle.age_stream.specs.Payload.{payload_key};
-ghost use Rattle.age_stream.specs.Sealing.{at_start, FinishesBy, SealsAll};
-ghost use Rattle.age_stream.specs.Writer.{LosesNonce, TakesPiece};
+ghost use Rattle.age_stream.specs.Sealing.{FinishesBy, SealsAll};
+ghost use Rattle.age_stream.specs.Writer.{IsRefusedMemory, StartsWriter, TakesPiece};
 ghost use Rattle.age_stream.specs.Sizes.{most_chunks};
 
 use crate::buffer::ChunkBuf;
@@ -50,16 +48,12 @@ impl<'a, W: Sink> StreamWriter<'a, W> {
         requires high { max_chunks ≤ most_chunks }
         ensures same_reference { IfOk result
             (λ writer. writer.out.ghost_name ≡ out.entry.ghost_name) }
-        ensures written { IfOk result
-            (λ writer. Appends (W.taken out.old) (W.taken writer.out.now) nonce.now) }
-        ensures uncounted { IfOk result (λ writer. W.failed writer.out.now ≡ W.failed out.old) }
-        ensures sealer { IfOk result
-            (λ writer. writer.sealer ≡ at_start (payload_key key.now nonce.now) max_chunks) }
+        ensures starts { IfOk result (λ writer. StartsWriter W.taken W.failed key.now nonce.now
+            max_chunks out.old writer.out.now (Ok writer.sealer)) }
         ensures handed_back { IfErr result
             (λ refused. refused.device.ghost_name ≡ out.entry.ghost_name) }
-        ensures front { IfErr result (λ refused. LosesNonce nonce.now (W.taken out.old)
-            (W.taken refused.device.now) (W.failed out.old) (W.failed refused.device.now)
-            refused.fault) }
+        ensures loses { IfErr result (λ refused. StartsWriter W.taken W.failed key.now nonce.now
+            max_chunks out.old refused.device.now (Err refused.fault)) }
     {
         if let Err(fault) = put_nonce(nonce, out) {
             return Err(Refused::of(out, fault));
@@ -83,17 +77,13 @@ impl<'a, W: Sink> StreamWriter<'a, W> {
         requires high { max_chunks ≤ most_chunks }
         ensures same_reference { IfOk result
             (λ writer. writer.out.ghost_name ≡ out.entry.ghost_name) }
-        ensures written { IfOk result
-            (λ writer. Appends (W.taken out.old) (W.taken writer.out.now) nonce.now) }
-        ensures uncounted { IfOk result (λ writer. W.failed writer.out.now ≡ W.failed out.old) }
-        ensures sealer { IfOk result
-            (λ writer. writer.sealer ≡ at_start (payload_key key.now nonce.now) max_chunks) }
+        ensures starts { IfOk result (λ writer. StartsWriter W.taken W.failed key.now nonce.now
+            max_chunks out.old writer.out.now (Ok writer.sealer)) }
         ensures handed_back { IfErr result
             (λ refused. refused.device.ghost_name ≡ out.entry.ghost_name) }
-        ensures front { IfErr result (λ refused. ((refused.fault ≡ StreamFault.Memory)
-            × (refused.device.now ≡ out.old))
-            ⊎ LosesNonce nonce.now (W.taken out.old) (W.taken refused.device.now) (W.failed out.old)
-            (W.failed refused.device.now) refused.fault) }
+        ensures loses { IfErr result (λ refused. IsRefusedMemory out.old refused.device.now
+            refused.fault ⊎ StartsWriter W.taken W.failed key.now nonce.now max_chunks out.old
+            refused.device.now (Err refused.fault)) }
     {
         let Ok(buf) = ChunkBuf::new(alloc) else {
             return Err(Refused::of(out, StreamFault::Memory));
@@ -117,14 +107,10 @@ impl<'a, W: Sink> StreamWriter<'a, W> {
         requires high { max_chunks ≤ most_chunks }
         ensures same_reference { IfOk result
             (λ writer. writer.out.ghost_name ≡ out.entry.ghost_name) }
-        ensures written { IfOk result
-            (λ writer. Appends (W.taken out.old) (W.taken writer.out.now) nonce.now) }
-        ensures uncounted { IfOk result (λ writer. W.failed writer.out.now ≡ W.failed out.old) }
-        ensures sealer { IfOk result
-            (λ writer. writer.sealer ≡ at_start (payload_key key.now nonce.now) max_chunks) }
-        ensures front { IfErr result (λ fault. (last : W)
-            × LosesNonce nonce.now (W.taken out.old) (W.taken last) (W.failed out.old)
-            (W.failed last) fault) }
+        ensures starts { IfOk result (λ writer. StartsWriter W.taken W.failed key.now nonce.now
+            max_chunks out.old writer.out.now (Ok writer.sealer)) }
+        ensures loses { IfErr result (λ fault. (last : W) × StartsWriter W.taken W.failed key.now
+            nonce.now max_chunks out.old last (Err fault)) }
     {
         match StreamWriter::started_with(key, nonce, out, max_chunks, buf) {
             Ok(writer) => Ok(writer),
@@ -149,15 +135,10 @@ impl<'a, W: Sink> StreamWriter<'a, W> {
         requires high { max_chunks ≤ most_chunks }
         ensures same_reference { IfOk result
             (λ writer. writer.out.ghost_name ≡ out.entry.ghost_name) }
-        ensures written { IfOk result
-            (λ writer. Appends (W.taken out.old) (W.taken writer.out.now) nonce.now) }
-        ensures uncounted { IfOk result (λ writer. W.failed writer.out.now ≡ W.failed out.old) }
-        ensures sealer { IfOk result
-            (λ writer. writer.sealer ≡ at_start (payload_key key.now nonce.now) max_chunks) }
-        ensures front { IfErr result (λ fault. (last : W)
-            × (((fault ≡ StreamFault.Memory) × (last ≡ out.old))
-            ⊎ LosesNonce nonce.now (W.taken out.old) (W.taken last) (W.failed out.old)
-            (W.failed last) fault)) }
+        ensures starts { IfOk result (λ writer. StartsWriter W.taken W.failed key.now nonce.now
+            max_chunks out.old writer.out.now (Ok writer.sealer)) }
+        ensures loses { IfErr result (λ fault. (last : W) × (IsRefusedMemory out.old last fault
+            ⊎ StartsWriter W.taken W.failed key.now nonce.now max_chunks out.old last (Err fault))) }
     {
         match StreamWriter::started(alloc, key, nonce, out, max_chunks) {
             Ok(writer) => Ok(writer),

@@ -18,7 +18,7 @@ returns-in-Ok-copy_to-clause-decrypts g c =
     (Ok c.in-Ok-copy_to.done) c.in-Ok.ensures.verdict c.in-Ok-unlock_header.ensures.key
     c.max_chunks.ensures.value (payload-writes _ _ c.in-Ok-started.reader.opener _ _ (g.W.Sink.taken c.args.out.now)
     (g.W.Sink.taken c.copy_to.new.out) (Ok c.in-Ok-copy_to.done)
-    c.in-Ok-started.ensures.starts c.in-Ok-copy_to.ensures.writes_all)
+    c.in-Ok-started.ensures.starts.0 c.in-Ok-copy_to.ensures.writes_all)
 
 pub returns-clause-decrypts : goal.returns-clause-decrypts
 returns-clause-decrypts g c =
@@ -28,7 +28,7 @@ returns-clause-decrypts g c =
     c.in-Ok-unlock_header.ensures.key c.max_chunks.ensures.value
     (payload-writes _ _ c.in-Ok-started.reader.opener _ _ (g.W.Sink.taken c.args.out.now)
     (g.W.Sink.taken c.copy_to.new.out) (Err c.in-Err-copy_to.fault)
-    c.in-Ok-started.ensures.starts c.in-Err-copy_to.ensures.writes_all))
+    c.in-Ok-started.ensures.starts.0 c.in-Err-copy_to.ensures.writes_all))
 
 pub returns-clause-took : goal.returns-clause-took
 returns-clause-took g c =
@@ -36,7 +36,7 @@ returns-clause-took g c =
     (payload-takes _ _ (g.S.Source.to_come c.inspect.new.input) _ _ _ _ c.in-Err-copy_to.fault
     c.in-Ok.ensures.verdict
     (payload-ends _ _ c.in-Ok-started.reader.opener _ _ _ _ _ c.in-Err-copy_to.fault
-    (rw c.max_chunks.ensures.value at c.in-Ok-started.ensures.starts) c.in-Ok-started.ensures.gave (search rules)))
+    (rw c.max_chunks.ensures.value at c.in-Ok-started.ensures.starts.0) c.in-Ok-started.ensures.starts.1 (search rules)))
 
 pub returns-in-Err-started-clause-decrypts : goal.returns-in-Err-started-clause-decrypts
 returns-in-Err-started-clause-decrypts g c =

@@ -2,7 +2,7 @@ use Rattle.std.proofs.Common.{◌∙◌, ap, List, map, subst, sym}
 use Rattle.age_header.specs.Header.{StanzaParts}
 use Rattle.age_file.specs.Ranges.{RefusesRanges}
 use Rattle.age_file.specs.Verdict.{stream_fault}
-use Rattle.age_file.proofs.RangeLemmas.{file-begins, header-refuses, locked-refuses, payload-refuses}
+use Rattle.age_file.proofs.RangeLemmas.{file-begins, file-ranges, header-refuses, locked-refuses, payload-refuses}
 use Rattle.age_file.proofs.ranges.opened_ranges.Goals as goal
 
 pub returns-in-Err-clause-refuses : goal.returns-in-Err-clause-refuses
@@ -28,12 +28,23 @@ returns-in-Err-unlock_header-clause-refuses g c =
     (ap g.D.ReadAt.bytes c.of.ensures.unchanged)
     (ap g.D.ReadAt.failed c.of.ensures.unchanged ∙ c.in-Ok.ensures.uncounted))
 
-pub returns-in-Ok-started-clause-begins : goal.returns-in-Ok-started-clause-begins
-returns-in-Ok-started-clause-begins g c =
-    file-begins c.args.limits.now (λ (s : List StanzaParts). map
-    (λ i. (goal.Identity-dyn g (i.vtable, i.value)).meaning i.value s) c.args.identities.now)
-    _ _ _ c.in-Ok.found.at c.in-Ok.found.header c.in-Ok-unlock_header.key c.in-Ok.ensures.some
-    c.in-Ok-unlock_header.ensures.key c.in-Ok-started.ensures.begins
+pub returns-in-Ok-started-clause-ranges : goal.returns-in-Ok-started-clause-ranges
+returns-in-Ok-started-clause-ranges g c =
+    let answers = (λ (s : List StanzaParts). map (λ i. (goal.Identity-dyn g (i.vtable, i.value)).meaning i.value s)
+    c.args.identities.now) in
+    let opens = c.in-Ok-started.ensures.opens in (
+      opens.1.stay ∙ c.in-Ok.ensures.stay,
+      file-ranges c.args.limits.now answers (g.D.ReadAt.bytes c.args.dev.now) _ _ _ _ _ c.in-Ok.found.at
+          c.max_chunks.result c.in-Ok.found.header c.in-Ok-unlock_header.key _ c.in-Ok.ensures.stay
+          c.in-Ok.ensures.given c.max_chunks.ensures.value c.in-Ok.ensures.header
+          c.in-Ok-unlock_header.ensures.key opens.0 opens.1,
+      file-begins c.args.limits.now answers _ _ _ c.in-Ok.found.at c.in-Ok.found.header
+          c.in-Ok-unlock_header.key c.in-Ok.ensures.some c.in-Ok-unlock_header.ensures.key opens.2.0,
+      opens.2.1,
+      opens.0.0,
+      opens.0.1,
+      opens.2.2 ∙ c.in-Ok.ensures.uncounted,
+    )
 
 pub returns-clause-refuses : goal.returns-clause-refuses
 returns-clause-refuses g c =
@@ -55,4 +66,4 @@ returns-clause-refuses g c =
     (g.D.ReadAt.failed met.device.now) c.in-Ok.found.at c.max_chunks.result c.in-Ok.found.header
     c.in-Ok-unlock_header.key met.fault c.in-Ok.ensures.stay c.in-Ok.ensures.uncounted
     c.max_chunks.ensures.value c.in-Ok.ensures.header c.in-Ok-unlock_header.ensures.key refuses.0
-    c.in-Err-started.ensures.named refuses.1.stay refuses.2))
+    refuses.2.0 refuses.1.stay refuses.2.1))

@@ -1,9 +1,13 @@
-use Rattle.std.proofs.Common.{sym, subst}
-use Rattle.age_header.specs.Device.{GaveAtMost}
-use Rattle.age_stream.proofs.ReaderLemmas.{not-read}
+use Rattle.std.proofs.Common.{sym}
+use Rattle.age_stream.proofs.ReaderLemmas.{starts-reader}
+use Rattle.age_file.proofs.DecryptLemmas.{found-key}
 use Rattle.age_file.proofs.decryptor.Decryptor+S.unlocked.Goals as goal
 
-pub returns-in-Ok-start-clause-gave : goal.returns-in-Ok-start-clause-gave
-returns-in-Ok-start-clause-gave g c =
-    subst (λ (x : g.row.S.Denot). GaveAtMost 16 (g.S.Source.to_come c.args.self.input.now) (g.S.Source.to_come x))
-    (sym c.over.ensures.unchanged) (not-read c.in-Ok-start.opener c.in-Ok-start.ensures.gave)
+pub returns-in-Ok-start-clause-starts : goal.returns-in-Ok-start-clause-starts
+returns-in-Ok-start-clause-starts g c = (
+  c.in-Ok.key,
+  found-key _ c.in-Ok.key c.in-Ok.ensures.key,
+  rw (sym c.max_chunks.ensures.value) (starts-reader g.S.Source.to_come g.S.Source.failed c.in-Ok.key c.max_chunks.result
+      c.args.self.input.now _ _ c.in-Ok-start.opener _ c.over.ensures.unchanged c.over.ensures.opener
+      c.in-Ok-start.ensures.starts c.in-Ok-start.ensures.gave c.in-Ok-start.ensures.count),
+)
