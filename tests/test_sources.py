@@ -81,7 +81,8 @@ class Documents(unittest.TestCase):
 
     def test_planted_bugs(self):
         """docs/PROMISES.md names just the planted bugs that are there."""
-        edits = {os.path.basename(name)[:-5] for name in glob.glob(ROOT + "/crates/**/must-fail/*.edit", recursive=True)}
+        folders = [ROOT + "/crates/*/must-fail", ROOT + "/tests/planted/edits/*"]
+        edits = {os.path.basename(name)[:-5] for folder in folders for name in glob.glob(folder + "/*.edit")}
         promises, named = text_of(ROOT + "/docs/PROMISES.md"), []
         for line in promises.split("\n"):
             cells = line.split(" | ")
