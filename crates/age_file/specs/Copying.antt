@@ -33,5 +33,6 @@ Copies from old new (Err Read) = (bytes : Bytes) × MayGive from bytes × Writes
 Copies from old new (Err Write) = (bytes : Bytes) × MayGive from bytes × WritesPart old new bytes
 Copies from old new (Err TooManyChunks) =
     WroteAtLeast most_copied old new
-    × ((bytes : Bytes) × MayGive from bytes × WritesPart old new bytes × (most_copied ≤ length bytes))
+    × ((bytes : Bytes) × MayGive from bytes × WritesPart old new bytes
+    × (most_copied ≤ length bytes))
 Copies from old new (Err _) = ⊥

@@ -200,7 +200,8 @@ abbrev pub StartsRanges : {D : Type 0} (told : D → Known) (given failed : D �
     (was_read : D → (at byte : ℕ) → Type 0) (found : D → Option ℕ) (file_key : FileKey)
     (max at : ℕ) (old new : D) (r : Result RangeState StreamFault) → Type 0
 StartsRanges told given failed was_read found file_key max at old new r =
-    OpensRanges file_key max at (told old) r × Probes (told old) (told new) at (given old) (given new)
+    OpensRanges file_key max at (told old) r
+    × Probes (told old) (told new) at (given old) (given new)
     × MatchResult r
     (λ s. BeginsAt file_key at (was_read new) (found new) s × KeepsVerified (was_read new) s
     × (failed new ≡ failed old))

@@ -26,8 +26,8 @@ TakesPiece s t piece old new r =
     (λ fault. (t.fault ≡ Some fault) × (fault ≢ Read)
     × StopsIn s.key s.max_chunks s.index s.held piece old new fault)
 
--- what was made of a sink, and what became of it: the nonce was written, and chunk 0 is the sealer's
--- next; or a write of the nonce failed
+-- what was made of a sink, and what became of it: the nonce was written, and chunk 0 is the
+-- sealer's next; or a write of the nonce failed
 abbrev pub StartsWriter : {W : Type 0} (taken : W → Known) (failed : W → ℕ) (file_key : FileKey)
     (nonce : Bytes) (max : ℕ) (old new : W) (r : Result SealerState StreamFault) → Type 0
 StartsWriter taken failed file_key nonce max old new (Ok sealer) =

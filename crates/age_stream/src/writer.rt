@@ -138,7 +138,8 @@ impl<'a, W: Sink> StreamWriter<'a, W> {
         ensures starts { IfOk result (λ writer. StartsWriter W.taken W.failed key.now nonce.now
             max_chunks out.old writer.out.now (Ok writer.sealer)) }
         ensures loses { IfErr result (λ fault. (last : W) × (IsRefusedMemory out.old last fault
-            ⊎ StartsWriter W.taken W.failed key.now nonce.now max_chunks out.old last (Err fault))) }
+            ⊎ StartsWriter W.taken W.failed key.now nonce.now max_chunks out.old last
+            (Err fault))) }
     {
         match StreamWriter::started(alloc, key, nonce, out, max_chunks) {
             Ok(writer) => Ok(writer),

@@ -36,7 +36,8 @@ returns-clause-took g c =
     (payload-takes _ _ (g.S.Source.to_come c.inspect.new.input) _ _ _ _ c.in-Err-copy_to.fault
     c.in-Ok.ensures.verdict
     (payload-ends _ _ c.in-Ok-started.reader.opener _ _ _ _ _ c.in-Err-copy_to.fault
-    (rw c.max_chunks.ensures.value at c.in-Ok-started.ensures.starts.0) c.in-Ok-started.ensures.starts.1 (search rules)))
+    (rw c.max_chunks.ensures.value at c.in-Ok-started.ensures.starts.0)
+    c.in-Ok-started.ensures.starts.1 (search rules)))
 
 pub returns-in-Err-started-clause-decrypts : goal.returns-in-Err-started-clause-decrypts
 returns-in-Err-started-clause-decrypts g c =
