@@ -79,10 +79,9 @@ class _Plaintext(io.RawIOBase):
         self.length: int = report.len
         self._number, self._len = before, self.length - before * lib.TEXT_CHUNK
 
-    def _read(self, number: int, length: int, room: memoryview | None = None) -> None:
+    def _read(self, number: int, length: int) -> None:
         offset = self._ranges.first + number * lib.SEALED_CHUNK
-        room = self._chunk.view if room is None else room
-        if self._source.read_at(offset, room[:length]) != length:
+        if self._source.read_at(offset, self._chunk.view[:length]) != length:
             raise AgeChangedError(Code.CHUNK_SHORT, number)
 
     def _load(self, number: int) -> None:
@@ -95,13 +94,6 @@ class _Plaintext(io.RawIOBase):
         self._read(number, length)
         report = lib.check("ranges_chunk", ctypes.byref(self._ranges), at, self._chunk.address(0), length)
         self._number, self._len = number, report.len
-
-    def _load_into(self, number: int, room: memoryview) -> None:
-        """Opens a full chunk straight into the caller's memory, which has room for its tag."""
-        self._read(number, lib.SEALED_CHUNK, room)
-        with lib.Bytes(room, True) as memory:
-            at = number * lib.TEXT_CHUNK
-            lib.check("ranges_chunk", ctypes.byref(self._ranges), at, memory.address, lib.SEALED_CHUNK)
 
     def readinto(self, room: Any) -> int:
         """Reads as many bytes as there are, or up to the first chunk that is bad. Then `error` has
@@ -120,12 +112,9 @@ class _Plaintext(io.RawIOBase):
             return done
 
     def _fill(self, room: memoryview) -> int:
-        """Fills the room from one chunk, and returns the number of bytes."""
+        """Fills the room from one chunk, and returns the number of bytes. The chunk is not opened in
+        the room itself: reading a file into memory that is new costs more than copying its text."""
         number, start = divmod(self._position, lib.TEXT_CHUNK)
-        is_inner = self._position + lib.TEXT_CHUNK < self.length
-        if start == 0 and is_inner and len(room) >= lib.SEALED_CHUNK and number != self._number:
-            self._load_into(number, room[: lib.SEALED_CHUNK])
-            return lib.TEXT_CHUNK
         self._load(number)
         count = min(len(room), self._len - start)
         room[:count] = self._chunk.view[start : start + count]
