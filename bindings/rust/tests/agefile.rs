@@ -272,7 +272,9 @@ fn opened_slowly(source: Slow, identity: &dyn Identity) -> (Vec<u8>, usize) {
 
 #[test]
 fn source_that_would_block_can_go_on() {
-    for (len, quick, at_a_time) in [(10, 0, 1), (1000, 0, 100), (300000, 0, 20000), (300000, 2, 20000), (300000, 5, 20000)] {
+    for (len, quick, at_a_time) in
+        [(10, 0, 1), (1000, 0, 100), (300000, 0, 20000), (300000, 2, 20000), (300000, 5, 20000)]
+    {
         let plain = text(len);
         let file = encrypt(&plain, &[&passphrase()]).unwrap();
         let asked = Cell::new(0);
