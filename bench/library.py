@@ -11,6 +11,7 @@ folder of the files, which takes four times the size; --only leaves out the rows
 
 import argparse
 import math
+import mmap
 import os
 import re
 import subprocess
@@ -24,11 +25,13 @@ AGEP = ROOT / "crates/agep/out/agep"
 
 OPENING = {
     "Python, copyfileobj from open": "with agefile.open(name, identities=KEY) as source: shutil.copyfileobj(source, SINK)",
+    "Python, copyfileobj from open to a file": "with agefile.open(name, identities=KEY) as source: shutil.copyfileobj(source, open('plain.other', 'wb', 0))",
     "Python, open().read()": "with agefile.open(name, identities=KEY) as source: source.read()",
     "Python, decrypt": "agefile.decrypt(data, identities=KEY)",
     "Python, decrypt, threads=4": "agefile.decrypt(data, identities=KEY, threads=4)",
     "Python, copy": "agefile.copy(open(name, 'rb', 0), SINK, identities=KEY)",
     "Python, copy, threads=4": "agefile.copy(open(name, 'rb', 0), SINK, identities=KEY, threads=4)",
+    "Python, copyfileobj of a file that is not encrypted": "shutil.copyfileobj(open(name, 'rb'), SINK)",
     "Python, read() of a file that is not encrypted": "open(name, 'rb').read()",
 }
 SEALING = {
@@ -46,6 +49,19 @@ clock, cpu = time.monotonic(), time.process_time()
 {code}
 print(time.monotonic() - clock, time.process_time() - cpu, file=sys.stderr)
 """
+
+
+def use_memory(mib):
+    """Uses memory in a process that ends. A virtual machine gives memory that has been free for a
+    while to its host, and its first use after that takes several times as long."""
+    child = os.fork()
+    if child == 0:
+        memory = mmap.mmap(-1, mib << 20)
+        memory.madvise(mmap.MADV_HUGEPAGE)
+        for at in range(0, len(memory), mmap.PAGESIZE):
+            memory[at] = 1
+        os._exit(0)
+    os.waitpid(child, 0)
 
 
 def measured(words, folder, environment):
@@ -84,8 +100,9 @@ def rows_of(prefix, folder):
         *((f"C, parallel.c, {n} threads", [parallel, "-e", "key", n, "plain", "made.other"]) for n in (1, 4)),
         *in_python(SEALING, "plain"),
     ]
+    to_file = ["sh", "-c", '"$@" >plain.other', "sh"]
     opening = [
-        ("agep", [AGEP, "decrypt", "-k", "key", "made"]), ("age", ["age", "-d", "-i", "identity", "made.age"]), ("C, stream.c", from_made + [stream, "key"]),
+        ("agep", [AGEP, "decrypt", "-k", "key", "made"]), ("agep to a file", to_file + [AGEP, "decrypt", "-k", "key", "made"]), ("age", ["age", "-d", "-i", "identity", "made.age"]), ("C, stream.c", from_made + [stream, "key"]),
         *((f"C, parallel.c, {n} threads", [parallel, "key", n, "made", "plain.other"]) for n in (1, 4)),
         *in_python(OPENING, "made"),
     ]
@@ -134,6 +151,7 @@ def main():
             found = {title: (math.inf,) * 3 for title, _ in rows}
             for _ in range(args.runs):
                 for title, words in rows:
+                    use_memory(2 * args.mib)
                     found[title] = tuple(map(min, found[title], measured(words, folder, environment)))
             for title, (clock, cpu, memory) in found.items():
                 print(f"| {work}: {title} | {clock:.2f} | {cpu:.2f} | {cpu / found['agep'][1]:.2f} | {memory:.0f} |")

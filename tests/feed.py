@@ -1,13 +1,13 @@
 #!/usr/bin/env python3
 """Runs a command with its input and output held in hand.
 
-usage: tests/feed.py lockstep FRONT PIECE EXPECTED_FRONT EXPECTED_PIECE INPUT EXPECTED COMMAND..
+usage: tests/feed.py lockstep START PIECE EXPECTED_START EXPECTED_PIECE INPUT EXPECTED COMMAND..
        tests/feed.py leave COUNT INPUT COMMAND..
        tests/feed.py peak COMMAND..
        tests/feed.py peak-piped INPUT COMMAND..
 
-lockstep feeds the first FRONT bytes of INPUT and a piece of PIECE bytes, and then one piece more at a time. Before the next piece is fed,
-all but the newest of the pieces must have come out: the first EXPECTED_FRONT bytes of EXPECTED, and EXPECTED_PIECE bytes for each.
+lockstep feeds the first START bytes of INPUT and a piece of PIECE bytes, and then one piece more at a time. Before the next piece is fed,
+all but the newest of the pieces must have come out: the first EXPECTED_START bytes of EXPECTED, and EXPECTED_PIECE bytes for each.
 leave reads COUNT bytes of the output, and closes it, while INPUT is fed on.
 peak and peak-piped write the most memory that the command had resident, in KiB, in place of its output.
 Each ends with the command's status, or with 125 and a line on standard error where what it looks for doesn't come.
@@ -79,14 +79,14 @@ class Running:
         return self.process.wait()
 
 
-def lockstep(front, piece, expected_front, expected_piece, input_name, expected_name, *words):
-    front, piece, expected_front, expected_piece = map(int, (front, piece, expected_front, expected_piece))
+def lockstep(start, piece, expected_start, expected_piece, input_name, expected_name, *words):
+    start, piece, expected_start, expected_piece = map(int, (start, piece, expected_start, expected_piece))
     data, expected = read_file(input_name), read_file(expected_name)
     running = Running(words)
-    running.feed(data[: front + piece])
-    for index, at in enumerate(range(front + piece, len(data), piece)):
+    running.feed(data[: start + piece])
+    for index, at in enumerate(range(start + piece, len(data), piece)):
         running.feed(data[at : at + piece])
-        count = expected_front + (index + 1) * expected_piece
+        count = expected_start + (index + 1) * expected_piece
         running.expect(count)
         if running.received[:count] != expected[:count]:
             raise Stalled(f"other bytes than are expected came out, among the first {count}")

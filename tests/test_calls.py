@@ -1,5 +1,5 @@
 """Each command with each of its reads, writes, truncations, syncs and seeks cut short or failing in
-turn. A short call changes nothing. A failing one ends in its line and the status 1, with a front of
+turn. A short call changes nothing. A failing one ends in its line and the status 1, with a prefix of
 the right output: never in the status 0 over a file that is not whole."""
 
 import os
@@ -90,12 +90,12 @@ class CallCase(ProgramCase):
         self.assert_bytes(self.made, job.expected, "the output")
 
     def has_failed(self, line):
-        """A judge: this line, with a front of what is expected, or with -o what was there before."""
+        """A judge: this line, with a prefix of what is expected, or with -o what was there before."""
         def judge(ran, job, form):
             self.assert_ended(ran, 1, fault(line), None)
             if form == "-o" and self.made == YESTERDAY:
                 return
-            self.assert_bytes(self.made, job.expected[: len(self.made)], "the front of the output")
+            self.assert_bytes(self.made, job.expected[: len(self.made)], "the start of the output")
         return judge
 
     def each_call(self, kind, what, job, form, judge):
@@ -285,22 +285,22 @@ class Devices(ProgramCase):
         env = {"BREAKS": "1", "LD_PRELOAD": preload("devices")}
         for words in ("encrypt -k key", "decrypt -k key", "inspect"):
             with self.subTest(words):
-                write("front", read("key.age")[:50])
-                with open("front", "rb") as stdin:
+                write("start", read("key.age")[:50])
+                with open("start", "rb") as stdin:
                     self.says("read failed", *words.split(), input=stdin, env=env)
                 command, *rest = words.split()
-                with open("front", "rb") as stdin:
+                with open("start", "rb") as stdin:
                     more = "reading standard input: Input/output error"
                     self.says("read failed", command, "-v", *rest, more=more, input=stdin, env=env)
         for size in (0, 65535):
             with self.subTest(f"an OUT that was there stays, after {size} bytes"):
-                write("front", PLAIN[:size])
+                write("start", PLAIN[:size])
                 write("made", YESTERDAY)
                 os.utime("made", (10**9, 10**9))
-                with open("front", "rb") as stdin:
+                with open("start", "rb") as stdin:
                     self.says("read failed", "encrypt", "-k", "key", "-o", "made", input=stdin, env=env)
                 self.assertEqual((read("made"), os.stat("made").st_mtime), (YESTERDAY, 10**9))
-        with self.subTest("after a chunk OUT holds the front of the new file"):
+        with self.subTest("after a chunk OUT holds the start of the new file"):
             write("made", YESTERDAY)
             with open("two_chunks", "rb") as stdin:
                 self.says("read failed", "encrypt", "-k", "key", "-s", "seed", "-o", "made", input=stdin, env=env)

@@ -53,14 +53,14 @@ def after_last_line(file, end, line):
     return bad_line(line) if b"\n" in file[end + 1 :] else CUT_HEADER
 
 
-def keyed_rows(file, end, place, line):
-    """Of a keyed file changed at each offset. The keyed stanza begins `place` bytes and `line` lines
+def keyed_rows(file, end, shift, line):
+    """Of a keyed file changed at each offset. The keyed stanza begins `shift` bytes and `line` lines
     later than usual."""
     return [
-        (22 + place, 24 + place, bad_line(2 + line)), (25 + place, 40 + place, NO_MATCH), (41 + place, 61 + place, WRONG_KEY),
-        (62 + place, 62 + place, malformed("salt")), (63 + place, 63 + place, bad_line(2 + line)), (64 + place, 106 + place, WRONG_KEY),
-        (107 + place, 107 + place, bad_line(3 + line)), (108 + place, 111 + place, bad_line(4 + line)),
-        (112 + place, 154 + place, BAD_MAC), (end, end, after_last_line(file, end, 4 + line)), (156 + place, 187 + place, BAD_CHUNK),
+        (22 + shift, 24 + shift, bad_line(2 + line)), (25 + shift, 40 + shift, NO_MATCH), (41 + shift, 61 + shift, WRONG_KEY),
+        (62 + shift, 62 + shift, malformed("salt")), (63 + shift, 63 + shift, bad_line(2 + line)), (64 + shift, 106 + shift, WRONG_KEY),
+        (107 + shift, 107 + shift, bad_line(3 + line)), (108 + shift, 111 + shift, bad_line(4 + line)),
+        (112 + shift, 154 + shift, BAD_MAC), (end, end, after_last_line(file, end, 4 + line)), (156 + shift, 187 + shift, BAD_CHUNK),
     ]
 
 

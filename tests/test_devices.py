@@ -73,11 +73,11 @@ class Interrupted(ProgramCase):
                 shutil.copy("yesterday", "made")
                 os.utime("made", (10**9, 10**9))
                 with subprocess.Popen([AGEP, *words.split()], stdin=subprocess.DEVNULL) as process:
-                    place = os.path.realpath("made")
+                    made = os.path.realpath("made")
                     folder = f"/proc/{process.pid}/fd"
                     for _ in range(10000):
                         opened = [os.path.realpath(f"{folder}/{name}") for name in os.listdir(folder)]
-                        if place in opened:
+                        if made in opened:
                             break
                         time.sleep(0.001)
                     process.terminate()

@@ -101,12 +101,12 @@ class Refused(ProgramCase):
 
     def test_cut_headers(self):
         """A header that ends early, and one that is longer than -H says."""
-        front = b"age-encryption.org/v1\n-> "
+        start = b"age-encryption.org/v1\n-> "
         exact, longer = header_of(f"-> {'a' * 949}\n\n"), header_of(f"-> {'a' * 950}\n\n")
         self.assertEqual((len(exact), len(longer)), (1024, 1025))
         self.writes(exact, "inspect", "-r", "-H", "1024", input=exact)
         rows = [
-            ("header is too large", longer), ("header is cut short", front + b"a" * 998), ("header is too large", front + b"a" * 999),
+            ("header is too large", longer), ("header is cut short", start + b"a" * 998), ("header is too large", start + b"a" * 999),
             ("header is cut short", b""), ("header is cut short", b"age-enc"), ("not an age file", b"age-encryption.org/v2\n"),
             ("bad header line 2", b"age-encryption.org/v1\n->\n"), ("bad header line 2", header_of("")),
         ]

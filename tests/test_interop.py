@@ -68,9 +68,9 @@ class Age(ProgramCase):
 
     def test_passphrases(self):
         """Passphrases that are no plain words, in both directions."""
-        front = b" ".join(b"%d" % i for i in range(1, 101))[:64]
+        prefix = b" ".join(b"%d" % i for i in range(1, 101))[:64]
         for name, secret in (
-            ("no ASCII", "p\xe4ssw\xf6rd \u2603 \U0001f986".encode()), ("64 bytes", front), ("65 bytes", front + b"x"),
+            ("no ASCII", "p\xe4ssw\xf6rd \u2603 \U0001f986".encode()), ("64 bytes", prefix), ("65 bytes", prefix + b"x"),
         ):
             write("secret", secret)
             with self.subTest(f"to age: {name}"):
@@ -81,7 +81,7 @@ class Age(ProgramCase):
                 plain = self.new_plain(1000)
                 self.age_writes("secret", "-p", "-o", "made", "plain")
                 self.writes(plain, "decrypt", "-p", "secret", "made")
-        write("other", front + b"y")
+        write("other", prefix + b"y")
         with self.subTest("another last byte of 65, from age"):
             self.says("wrong passphrase or key", "decrypt", "-p", "other", "made")
         with self.subTest("another last byte of 65, to age"):

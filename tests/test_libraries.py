@@ -31,4 +31,4 @@ class RefusedAllocations(unittest.TestCase):
 
     def test_steps_and_ranges(self):
         """age_file: steps and ranges are whole, or out of memory."""
-        self.each_refusal("age_file", "tests::failing::whole_or_out_of_memory", 20)
+        self.each_refusal("age_tests", "file::failing::whole_or_out_of_memory", 20)

@@ -433,7 +433,7 @@ class Calls(unittest.TestCase):
         right = "case 5: return agefile_wrap_key(P(0), P(1), P(2), B(3), report);"
         self.assertIn(right, text)
         source.write_text(text.replace(right, "case 5: P(2)[15] ^= 1; return agefile_wrap_key(P(0), P(1), P(2), B(3), report);"))
-        done = run(sys.executable, TESTS / "random_calls.py", built("wrong", *REFUSING, source=source), 400)
+        done = run(sys.executable, TESTS / "random_calls.py", built("wrong", *REFUSING, f"-I{TESTS}", source=source), 400)
         self.assertEqual(done.returncode, 1)
         self.assertIn(": wrap_key, flags ", done.stdout.decode())
 

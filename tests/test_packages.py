@@ -145,13 +145,13 @@ class Packages(unittest.TestCase):
         run("cc", "-std=c11", "-fsyntax-only", f"-I{include}", source)
 
     def test_the_wheel(self):
-        place = self.work / "venv"
-        run(sys.executable, "-m", "venv", place)
-        run(place / "bin/pip", "install", "--no-index", "--no-deps", self.one("*.whl"))
-        said = run(place / "bin/python", "-c", "import agefile; print(agefile.__version__, agefile.library_version())")
+        folder = self.work / "venv"
+        run(sys.executable, "-m", "venv", folder)
+        run(folder / "bin/pip", "install", "--no-index", "--no-deps", self.one("*.whl"))
+        said = run(folder / "bin/python", "-c", "import agefile; print(agefile.__version__, agefile.library_version())")
         self.assertEqual(said, f"{self.version} {self.version}\n")
-        run(place / "bin/pip", "uninstall", "-y", "agefile")
-        self.assertEqual(list(place.rglob("agefile*")), [])
+        run(folder / "bin/pip", "uninstall", "-y", "agefile")
+        self.assertEqual(list(folder.rglob("agefile*")), [])
 
     def test_the_package_for_python(self):
         root = self.unpacked("python3-agefile*.deb", "libagefile[0-9]*.deb")
@@ -199,20 +199,28 @@ def made():
     return folder / "dist"
 
 
+def made_one(what, pattern):
+    """The package of this name; where a tool of ./package is missing, the tests of it are skipped."""
+    found = list(made().glob(pattern))
+    if not found:
+        raise unittest.SkipTest(f"{what} is not made: ./package says which tool is missing")
+    return found[0]
+
+
 class ForPython(unittest.TestCase):
     @classmethod
     def setUpClass(cls):
-        (wheel,) = made().glob("*.whl") or [None]
-        cls.place = Path(tempfile.mkdtemp())
-        cls.addClassCleanup(shutil.rmtree, cls.place)
-        run("/usr/bin/python3", "-m", "venv", "--system-site-packages", cls.place)
-        run(cls.place / "bin/pip", "install", "--no-index", "--no-deps", wheel)
+        wheel = made_one("the wheel", "*.whl")
+        cls.environment_folder = Path(tempfile.mkdtemp())
+        cls.addClassCleanup(shutil.rmtree, cls.environment_folder)
+        run("/usr/bin/python3", "-m", "venv", "--system-site-packages", cls.environment_folder)
+        run(cls.environment_folder / "bin/pip", "install", "--no-index", "--no-deps", wheel)
         cls.environment = {k: v for k, v in os.environ.items() if k not in ("AGEFILE_LIBRARY", "PYTHONPATH")}
 
     def run_tests(self, name):
         tests = ROOT / "bindings/python/tests"
-        words = [self.place / "bin/python", "-m", "unittest", "discover", "-v", "-s", tests, "-p", name]
-        done = subprocess.run(words, capture_output=True, text=True, env=self.environment, cwd=self.place)
+        words = [self.environment_folder / "bin/python", "-m", "unittest", "discover", "-v", "-s", tests, "-p", name]
+        done = subprocess.run(words, capture_output=True, text=True, env=self.environment, cwd=self.environment_folder)
         self.assertEqual(done.returncode, 0, done.stdout + done.stderr)
         skipped = re.findall(r"skipped '(.*)'|SkipTest: (.*)", done.stderr)
         if skipped:
@@ -233,16 +241,17 @@ class ForPython(unittest.TestCase):
     @needs("mypy")
     def test_annotations(self):
         run("mypy", "--strict", "--config-file", ROOT / "bindings/python/pyproject.toml", ROOT / "bindings/python/agefile",
-            "--cache-dir", self.place / "cache")
+            "--cache-dir", self.environment_folder / "cache")
 
 
 @needs("cargo")
 class ForRust(unittest.TestCase):
     @classmethod
     def setUpClass(cls):
+        tarball = made_one("the tarball", "*.tar.xz")
         cls.tree = Path(tempfile.mkdtemp())
         cls.addClassCleanup(shutil.rmtree, cls.tree)
-        run("tar", "-xf", *made().glob("*.tar.xz"), "-C", cls.tree, "--strip-components=1")
+        run("tar", "-xf", tarball, "-C", cls.tree, "--strip-components=1")
         cls.environment = os.environ | {
             "AGEFILE_LIB_DIR": str(cls.tree / "lib"),
             "CARGO_TARGET_DIR": str(cls.tree / "target"),

@@ -150,11 +150,11 @@ class Passphrases(ProgramCase):
         """Each byte counts, the last one too: a block of the hash has 64 bytes."""
         text = b" ".join(b"%d" % i for i in range(1, 20001))
         for size in (1, 63, 64, 65, 127, 128, 129, 4096, 65535, 65536):
-            front = text[: size - 1]
-            write("front", front)
-            write("this", front + b"x")
-            write("that", front + b"y")
-            expected = fixture.for_passphrase(HELLO, front + b"x", 2)
+            prefix = text[: size - 1]
+            write("prefix", prefix)
+            write("this", prefix + b"x")
+            write("that", prefix + b"y")
+            expected = fixture.for_passphrase(HELLO, prefix + b"x", 2)
             with self.subTest(f"{size} bytes"):
                 self.writes(expected, "encrypt", "-p", "this", "-w", "2", "-s", "seed", "hello")
                 self.writes(HELLO, "decrypt", "-p", "this", input=expected)
@@ -165,7 +165,7 @@ class Passphrases(ProgramCase):
                 self.assertNotEqual(ran.out, expected)
             if size > 1:
                 with self.subTest(f"{size} bytes, and the last one is missing"):
-                    self.says("wrong passphrase or key", "decrypt", "-p", "front", input=expected)
+                    self.says("wrong passphrase or key", "decrypt", "-p", "prefix", input=expected)
 
     def test_equal(self):
         """By RFC 2104 more than 64 bytes count as their hash, and fewer as if NULs followed them."""

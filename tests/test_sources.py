@@ -79,6 +79,14 @@ class Documents(unittest.TestCase):
             with self.subTest(block.split("\n")[0]):
                 self.assertTrue("\n" + block in "\n" + sources, f"not in a source:\n{block}")
 
+    def test_faults(self):
+        """What docs/FORMAT.md calls each fault stands in its text too, where it says when the fault comes."""
+        document = text_of(ROOT + "/docs/FORMAT.md")
+        terms = re.findall(r"^\| \d+ \| `\w+` \| (.*?)(?: \(.*\))? \| `.*` \|$", document, re.MULTILINE)
+        text = " ".join(line for line in document.lower().split("\n") if not line.startswith("|"))
+        self.assertTrue(terms)
+        self.assertEqual([term for term in terms if term.lower() not in text], [])
+
     def test_planted_bugs(self):
         """docs/PROMISES.md names just the planted bugs that are there."""
         folders = [ROOT + "/crates/*/must-fail", ROOT + "/tests/planted/edits/*"]
@@ -95,6 +103,18 @@ class Documents(unittest.TestCase):
             self.assertEqual(found - edits, set())
         with self.subTest("each that is there is named"):
             self.assertEqual(edits - found, set())
+
+
+class Layout(unittest.TestCase):
+    def test_codes(self):
+        """Each code of agefile.h has a line in libagefile.layout, and each struct a line with its size."""
+        header = text_of(ROOT + "/bindings/c/agefile.h")
+        codes = set(re.findall(r"^    (AGEFILE_\w+) = (\d+),?$", header, re.MULTILINE))
+        structs = set(re.findall(r"^} (agefile_\w+);$", header, re.MULTILINE))
+        rows = {tuple(line.rsplit(" ", 1)) for line in text_of(ROOT + "/share/debian/libagefile.layout").split("\n")}
+        self.assertTrue(codes and structs)
+        self.assertEqual(codes - rows, set())
+        self.assertEqual({f"sizeof({name})" for name in structs} - {row[0] for row in rows}, set())
 
 
 LIBRARIES = ["age_cipher", "age_kdf", "age_header", "age_recipient", "age_stream", "age_file"]

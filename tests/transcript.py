@@ -38,8 +38,8 @@ GOES_ON = ("&&", "|", "\\")
 
 
 class Command:
-    def __init__(self, place, line):
-        self.place = place
+    def __init__(self, where, line):
+        self.where = where
         self.lines = [line]
         self.expected = []
 
@@ -115,7 +115,7 @@ class Session:
 
 def compare(command, printed):
     """Prints the line of a check, and where it fails a diff; returns whether it passes."""
-    title = f"{command.place}: {command.lines[0]}"
+    title = f"{command.where}: {command.lines[0]}"
     passes = command.expected == printed
     lines = [f"{'ok' if passes else 'FAILED'}: {title}"]
     if not passes:

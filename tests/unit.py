@@ -76,7 +76,7 @@ def name_of(test):
 def title_of(test):
     if hasattr(test, "test_case"):
         return f"{title_of(test.test_case)}: {test._message}"
-    return (getattr(test, "shortDescription", lambda: None)() or test.id().split(".")[-1]).rstrip(".")
+    return (getattr(test, "shortDescription", lambda: None)() or test.id().rstrip(")").split(".")[-1]).rstrip(".")
 
 
 def modules():

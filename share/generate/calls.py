@@ -200,10 +200,10 @@ def texts(root):
 
 def declared(root, header):
     """The header with the declaration of each call as the export has it."""
-    front, mark, rest = header.partition("generated: exports")
+    head, mark, rest = header.partition("generated: exports")
     for call in calls(root):
         pattern = rf"^(?:static inline )?uint\d+_t agefile_{call.name}\([^;]*;\n"
-        front, count = re.subn(pattern, lambda _: call.prototype, front, count=1, flags=re.M)
+        head, count = re.subn(pattern, lambda _: call.prototype, head, count=1, flags=re.M)
         if count != 1:
             sys.exit(f"bindings/c/agefile.h: agefile_{call.name} is not declared before its exports")
-    return front + mark + rest
+    return head + mark + rest

@@ -1,6 +1,7 @@
 """The faults, their texts and the codes of the library for C, in each language."""
 
 import re
+import sys
 from typing import NamedTuple
 
 
@@ -100,6 +101,9 @@ def faults(root):
     """All codes in order, those of files and those of the library."""
     texts = _texts(root / "crates/age_file/src/fault.rt", "Fault")
     numbers, constants = _arms(root / "crates/agefile/src/code.rt", "fault_code")
+    without_text = sorted(name for name, number in constants.items() if name not in OWN and number not in numbers.values())
+    if without_text:
+        sys.exit(f"share/generate/codes.py: OWN has no text of {', '.join(without_text)} in crates/agefile/src/code.rt")
     found = [Fault(numbers[name], name, text) for name, text in texts.items()]
     constants = constants | {"NULL_POINTER": NULL_POINTER}
     found += [Fault(constants[name], _camel(name), text) for name, text in OWN.items() if name in constants]
@@ -163,7 +167,7 @@ TERMS = {
     "NoMatch": "no match",
     "WrongKey": "wrong key",
     "Malformed": "malformed",
-    "BadMac": "the header's MAC does not match",
+    "BadMac": "the header's MAC is not the one of its stanzas",
     "NonceTruncated": "fewer than 16 bytes follow the header",
     "ChunkShort": "cut short (a piece)",
     "EmptyFinal": "empty",
@@ -192,8 +196,27 @@ def _table(all_codes):
     return "| Code in C | `Fault` | In this document | What `agep` prints |\n|---|---|---|---|\n" + "".join(rows)
 
 
+def _own_table(all_codes):
+    rows = [f"| {f.code} | {f.text} |\n" for f in all_codes if f.constant in OWN and f.code]
+    return "| Code in C | What it stands for |\n|---|---|\n" + "".join(rows)
+
+
+def _definitions(root):
+    """The code of each fault for the proofs, as the `match` of code.rt has it."""
+    code_rt = root / "crates/agefile/src/code.rt"
+    numbers, constants = _arms(code_rt, "fault_code")
+    names = {number: name for name, number in constants.items()}
+    equations = ""
+    for name, number in numbers.items():
+        fields = re.search(rf"Fault::{name}(?:\(([^)]*)\))? =>", code_rt.read_text()).group(1)
+        pattern = f"({name}{' _' * len(fields.split(','))})" if fields else name
+        equations += f"fault_code {pattern} = {names.get(number, number)}\n"
+    variants = f"use Rattle.age_file.specs.declared.fault.Fault.TheVariants.{{{', '.join(numbers)}}}\n"
+    return {"codes of faults": equations, "variants of faults": variants}
+
+
 def texts(root):
     """Each generated text by its name."""
     all_codes, details = faults(root), parts(root)
-    generated = _c(all_codes, details) | _python(all_codes, details) | _rust(all_codes)
-    return generated | {"faults": _table(all_codes)}
+    generated = _c(all_codes, details) | _python(all_codes, details) | _rust(all_codes) | _definitions(root)
+    return generated | {"faults": _table(all_codes), "codes of the library": _own_table(all_codes)}

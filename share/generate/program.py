@@ -15,7 +15,7 @@ class Option(NamedTuple):
 
     @property
     def brief(self):
-        """The text up to its first stop, with a small letter in front."""
+        """The text up to its first stop, beginning with a small letter."""
         brief = re.split(r"[.;:] |\.$| \[", self.text)[0]
         return brief[0].lower() + brief[1:]
 

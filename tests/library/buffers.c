@@ -211,10 +211,7 @@ static void long_headers(void)
     release(file);
 }
 
-static const struct {
-    const char *name;
-    void (*run)(void);
-} tests[] = {
+static const named_test tests[] = {
     {"whole files come back, under a key and a passphrase", whole_files},
     {"a buffer that is too small stays as it was", small_buffers},
     {"what lies behind the output stays as it was", great_buffers},
@@ -228,10 +225,5 @@ static const struct {
 
 int main(int argc, char **argv)
 {
-    for (size_t i = 0; i < sizeof tests / sizeof *tests; i++)
-        if (argc < 2)
-            puts(tests[i].name);
-        else if (strcmp(argv[1], tests[i].name) == 0)
-            tests[i].run();
-    return failed != 0;
+    return run_test(tests, sizeof tests / sizeof *tests, argc, argv);
 }

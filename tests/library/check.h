@@ -22,6 +22,23 @@ static int failed;
         }                                                             \
     } while (0)
 
+// A test, and the name by which an argument asks for it.
+typedef struct named_test {
+    const char *name;
+    void (*run)(void);
+} named_test;
+
+// Runs the test that the argument names; without one it prints the names.
+static inline int run_test(const named_test *tests, size_t count, int argc, char **argv)
+{
+    for (size_t i = 0; i < count; i++)
+        if (argc < 2)
+            puts(tests[i].name);
+        else if (strcmp(argv[1], tests[i].name) == 0)
+            tests[i].run();
+    return failed != 0;
+}
+
 // A report in which every byte is one that no call leaves there.
 static inline agefile_report unset_report(void)
 {

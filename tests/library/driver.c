@@ -7,6 +7,7 @@
 // of arguments, a byte each; then of each argument its kind and its shift, a byte each, a number of 8
 // bytes, and for a buffer as many bytes. The answer: the result, 8 bytes; 1 if the call kept what it
 // had to, else 0, a byte; the report; the bytes of all buffers.
+#include "allocations.h"
 #include <agefile.h>
 #include <pthread.h>
 #include <stdio.h>
@@ -18,41 +19,6 @@ enum { most_arguments = 16, thread_count = 8, canary = 0xC7, unset = 0xEE };
 enum kind { NUMBER, BUFFER, NULL_POINTER };
 enum flag { AT_START = 1, REFUSING = 2, THREADS = 4 };
 static const size_t page = 4096;
-
-void *__real_malloc(size_t size);
-void *__real_realloc(void *old, size_t size);
-void __real_free(void *old);
-
-// Of this thread: allocations since the call began, the one that is refused, and blocks not freed.
-static __thread long allocations, refused, live;
-static __thread bool is_counting;
-
-static bool is_refused(void)
-{
-    return is_counting && ++allocations == refused;
-}
-
-void *__wrap_malloc(size_t size)
-{
-    if (is_refused())
-        return NULL;
-    live += is_counting;
-    return __real_malloc(size);
-}
-
-void *__wrap_realloc(void *old, size_t size)
-{
-    if (is_refused())
-        return NULL;
-    live += is_counting && old == NULL;
-    return __real_realloc(old, size);
-}
-
-void __wrap_free(void *old)
-{
-    live -= is_counting && old != NULL;
-    __real_free(old);
-}
 
 // An argument: a number, or a buffer with the bytes that it had at first.
 struct argument {

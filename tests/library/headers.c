@@ -298,10 +298,7 @@ static int print_stanzas(void)
     return code != AGEFILE_OK || fflush(stdout) != 0;
 }
 
-static const struct {
-    const char *name;
-    void (*run)(void);
-} tests[] = {
+static const named_test tests[] = {
     {"stanzas and their bodies, in buffers of their size, and one too small", lists},
     {"each front that holds the header", fronts},
     {"stanzas that wrap writes, and their header", made_of_stanzas},
@@ -315,10 +312,5 @@ int main(int argc, char **argv)
 {
     if (argc == 2 && strcmp(argv[1], "stanzas") == 0)
         return print_stanzas();
-    for (size_t i = 0; i < sizeof tests / sizeof *tests; i++)
-        if (argc < 2)
-            puts(tests[i].name);
-        else if (strcmp(argv[1], tests[i].name) == 0)
-            tests[i].run();
-    return failed != 0;
+    return run_test(tests, sizeof tests / sizeof *tests, argc, argv);
 }

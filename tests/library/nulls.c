@@ -212,10 +212,7 @@ static void in_the_language(void)
 }
 #endif
 
-static const struct {
-    const char *name;
-    void (*run)(void);
-} tests[] = {
+static const named_test tests[] = {
     {"null pointers with a length are refused, and nothing is written", with_a_length},
     {"null pointers with the length 0 stand for no bytes", without_a_length},
     {"a call through a pointer", by_pointer},
@@ -235,10 +232,5 @@ int main(int argc, char **argv)
         return 2;
     front_len = summary.header_len + 16;
     stanza_len = summary.header_len - 22 - 48;
-    for (size_t i = 0; i < sizeof tests / sizeof *tests; i++)
-        if (argc < 2)
-            puts(tests[i].name);
-        else if (strcmp(argv[1], tests[i].name) == 0)
-            tests[i].run();
-    return failed != 0;
+    return run_test(tests, sizeof tests / sizeof *tests, argc, argv);
 }

@@ -1,40 +1,7 @@
 // Refuses the library each allocation in turn, in each call that allocates: it returns out of memory and leaves its output as it was. Linked
 // with --wrap=malloc, --wrap=realloc and --wrap=free. Without an argument it lists its tests, with one it runs the test of that name.
+#include "allocations.h"
 #include "check.h"
-
-void *__real_malloc(size_t size);
-void *__real_realloc(void *old, size_t size);
-void __real_free(void *old);
-
-static long allocations, refused, live;
-static bool is_counting;
-
-static bool is_refused(void)
-{
-    return is_counting && ++allocations == refused;
-}
-
-void *__wrap_malloc(size_t size)
-{
-    if (is_refused())
-        return NULL;
-    live += is_counting;
-    return __real_malloc(size);
-}
-
-void *__wrap_realloc(void *old, size_t size)
-{
-    if (is_refused())
-        return NULL;
-    live += is_counting && old == NULL;
-    return __real_realloc(old, size);
-}
-
-void __wrap_free(void *old)
-{
-    live -= is_counting && old != NULL;
-    __real_free(old);
-}
 
 // What all calls here read and write.
 static uint8_t plain[70000], keyed[80000], locked[1000], out[80000], chunk[AGEFILE_SEALED_CHUNK];

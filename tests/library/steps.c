@@ -468,10 +468,7 @@ static void ranges_out_of_order(void)
     release(chunk);
 }
 
-static const struct {
-    const char *name;
-    void (*run)(void);
-} tests[] = {
+static const named_test tests[] = {
     {"steps write the whole buffer's file, and read it back", the_same_files},
     {"damage: steps end with the whole buffer's code after its text", damage},
     {"files that were cut: steps end with the whole buffer's code after its text", truncation},
@@ -489,10 +486,5 @@ static const struct {
 
 int main(int argc, char **argv)
 {
-    for (size_t i = 0; i < sizeof tests / sizeof *tests; i++)
-        if (argc < 2)
-            puts(tests[i].name);
-        else if (strcmp(argv[1], tests[i].name) == 0)
-            tests[i].run();
-    return failed != 0;
+    return run_test(tests, sizeof tests / sizeof *tests, argc, argv);
 }

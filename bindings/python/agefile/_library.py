@@ -3,6 +3,7 @@
 from __future__ import annotations
 
 import ctypes
+import functools
 import mmap
 import os
 import pathlib
@@ -152,6 +153,21 @@ def check(name: str, *arguments: Any) -> Report:
     if code != Code.OK:
         raise AgeError.of(code, report.place, report.detail)
     return report
+
+
+def for_chunks(name: str, struct: ctypes.Structure) -> Callable[..., int]:
+    """A function that is called for chunk after chunk of one struct, by one thread at a time. It
+    returns the length that the report has, or raises the error of another code than 0."""
+    report = Report()
+    step, out = functools.partial(_functions[name], ctypes.byref(struct)), ctypes.byref(report)
+
+    def call_step(*arguments: int) -> int:
+        code = step(*arguments, out)
+        if code:
+            raise AgeError.of(code, report.place, report.detail)
+        return report.len
+
+    return call_step
 
 
 class _PyBuffer(ctypes.Structure):

@@ -55,11 +55,8 @@ class Chunk:
     def __init__(self, chunks: int = 1) -> None:
         self.room = bytearray(chunks * lib.SEALED_CHUNK)
         self.view = memoryview(self.room)
-        self._base = ctypes.addressof((ctypes.c_char * len(self.room)).from_buffer(self.room))
-
-    def address(self, at: int) -> int:
-        """The address of a byte. It is valid as long as this object lives."""
-        return self._base + at
+        # The address of the first byte. It is valid as long as this object lives.
+        self.base = ctypes.addressof((ctypes.c_char * len(self.room)).from_buffer(self.room))
 
 
 class _Step:
@@ -73,26 +70,21 @@ OPENING = _Step(lib.SEALED_CHUNK, lib.TEXT_CHUNK, "open_next", "part_open_next")
 SEALING = _Step(lib.TEXT_CHUNK, lib.SEALED_CHUNK, "seal_next", "part_seal_next")
 
 
-def _last_chunk(step: _Step, payload: lib.Payload, chunk: Chunk, length: int) -> memoryview:
-    """The last chunk, in place, of which so many bytes were read."""
-    sealed = length if step is OPENING else length + lib.TAG
-    report = lib.check(step.one, ctypes.byref(payload), chunk.address(0), sealed, True)
-    return chunk.view[: report.len]
-
-
 def one_by_one(step: _Step, payload: lib.Payload, source: BinaryIO, sink: Any) -> int:
     """Seals or opens a source to its end, chunk by chunk. Returns the bytes of the result."""
     chunk, ahead = Chunk(), Chunk()
+    convert = lib.for_chunks(step.one, payload)
     length, total = read_into(source, chunk.view[: step.take]), 0
     while length == step.take:
         more = read_into(source, ahead.view[: step.take])
         if more == 0:
             break
-        lib.check(step.one, ctypes.byref(payload), chunk.address(0), lib.SEALED_CHUNK, False)
+        convert(chunk.base, lib.SEALED_CHUNK, False)
         write_all(sink, chunk.view[: step.give])
         total += step.give
         chunk, ahead, length = ahead, chunk, more
-    text = _last_chunk(step, payload, chunk, length)
+    sealed = length if step is OPENING else length + lib.TAG
+    text = chunk.view[: convert(chunk.base, sealed, True)]
     write_all(sink, text)
     return total + len(text)
 
@@ -106,10 +98,10 @@ class _Batch:
 
     def run(self) -> tuple[int, AgeError | None]:
         """How many chunks are done, and the error of the one after them."""
+        convert = lib.for_chunks(self.step.of_part, self.part)
         for index in range(PART):
-            at = self.room.address(index * lib.SEALED_CHUNK)
             try:
-                lib.check(self.step.of_part, ctypes.byref(self.part), at, lib.SEALED_CHUNK)
+                convert(self.room.base + index * lib.SEALED_CHUNK, lib.SEALED_CHUNK)
             except AgeError as error:
                 return index, error
         return PART, None

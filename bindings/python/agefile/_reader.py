@@ -23,15 +23,19 @@ class _Source:
     def __init__(self, file: BinaryIO, opener: Any, owned: bool) -> None:
         self.file, self.opener, self._owned = file, opener, owned
         self.length = file.seek(0, os.SEEK_END)
-        self._at = self.length
+        self._is_plain = type(file) is io.FileIO
 
     def read_at(self, offset: int, room: memoryview) -> int:
-        if self._at != offset:
+        """Reads until the room is full or the file ends. The file's own position may be anywhere:
+        a forked process shares it, and so do other readers of one file object."""
+        if not self._is_plain:
             self.file.seek(offset)
-        self._at = -1
-        count = read_into(self.file, room)
-        self._at = offset + count
-        return count
+            return read_into(self.file, room)
+        count = done = os.preadv(self.file.fileno(), (room,), offset)
+        while 0 < count and done < len(room):
+            count = os.preadv(self.file.fileno(), (room[done:],), offset + done)
+            done += count
+        return done
 
     def close(self) -> None:
         if self._owned:
@@ -52,7 +56,10 @@ class _Plaintext(io.RawIOBase):
 
     def __init__(self, source: _Source, ranges: lib.Ranges) -> None:
         self._source, self._ranges = source, ranges
-        self._chunk, self._number, self._len, self._position = Chunk(), -1, 0, 0
+        self._chunk, self._number, self._len, self.position = Chunk(), -1, 0, 0
+        self._open = lib.for_chunks("ranges_chunk", ranges)
+        self._first: int = ranges.first
+        self._sealed_len: int = ranges.sealed_len
         self._lock = threading.Lock()
         self.error: BaseException | None = None
         self._open_last()
@@ -72,56 +79,60 @@ class _Plaintext(io.RawIOBase):
 
     def _open_last(self) -> None:
         """Opens the last chunk, whose tag proves where the plaintext ends."""
-        before = max(self._ranges.sealed_len - 1, 0) // lib.SEALED_CHUNK
-        length = self._ranges.sealed_len - before * lib.SEALED_CHUNK
-        self._read(before, length)
-        report = lib.check("ranges_last", ctypes.byref(self._ranges), self._chunk.address(0), length)
+        before = max(self._sealed_len - 1, 0) // lib.SEALED_CHUNK
+        length = self._read(before)
+        report = lib.check("ranges_last", ctypes.byref(self._ranges), self._chunk.base, length)
         self.length: int = report.len
         self._number, self._len = before, self.length - before * lib.TEXT_CHUNK
 
-    def _read(self, number: int, length: int) -> None:
-        offset = self._ranges.first + number * lib.SEALED_CHUNK
-        if self._source.read_at(offset, self._chunk.view[:length]) != length:
-            raise AgeChangedError(Code.CHUNK_SHORT, number)
-
-    def _load(self, number: int) -> None:
-        """Opens a chunk, unless it is the one that is kept."""
-        if number == self._number:
-            return
+    def _read(self, number: int) -> int:
+        """Reads a sealed chunk, and returns its length. The one that was kept is lost."""
         self._number = -1
-        at = number * lib.TEXT_CHUNK
-        length = min(lib.SEALED_CHUNK, self._ranges.sealed_len - number * lib.SEALED_CHUNK)
-        self._read(number, length)
-        report = lib.check("ranges_chunk", ctypes.byref(self._ranges), at, self._chunk.address(0), length)
-        self._number, self._len = number, report.len
+        at, room = number * lib.SEALED_CHUNK, self._chunk.view
+        if self._sealed_len - at < lib.SEALED_CHUNK:
+            room = room[: self._sealed_len - at]
+        length = self._source.read_at(self._first + at, room)
+        if length != len(room):
+            raise AgeChangedError(Code.CHUNK_SHORT, number)
+        return length
+
+    def piece(self) -> memoryview:
+        """The text from the position to the end of its chunk. The position is before the end."""
+        number, start = divmod(self.position, lib.TEXT_CHUNK)
+        if number != self._number:
+            length = self._read(number)
+            self._len = self._open(number * lib.TEXT_CHUNK, self._chunk.base, length)
+            self._number = number
+        return self._chunk.view[start : self._len]
+
+    def _next_piece(self) -> memoryview | None:
+        """The same, or None where `error` has why there is none."""
+        try:
+            return self.piece() if self.error is None else None
+        except (AgeError, OSError) as error:
+            self.error = error
+            return None
 
     def readinto(self, room: Any) -> int:
         """Reads as many bytes as there are, or up to the first chunk that is bad. Then `error` has
         its error, which the reader above raises once it has returned all bytes before it."""
-        self._check_open()
         with self._lock, memoryview(room).cast("B") as view:
-            done, left = 0, max(self.length - self._position, 0)
-            while self.error is None and done < min(len(view), left):
-                try:
-                    count = self._fill(view[done:])
-                except (AgeError, OSError) as error:
-                    self.error = error
-                    break
+            # A traceback must not keep a view of memory that is not Python's.
+            del room
+            self._check_open()
+            done, wanted = 0, min(len(view), self.length - self.position)
+            while done < wanted and (piece := self._next_piece()) is not None:
+                count = len(piece)
+                if count > wanted - done:
+                    count = wanted - done
+                    piece = piece[:count]
+                view[done : done + count] = piece
                 done += count
-                self._position += count
+                self.position += count
             return done
 
-    def _fill(self, room: memoryview) -> int:
-        """Fills the room from one chunk, and returns the number of bytes. The chunk is not opened in
-        the room itself: reading a file into memory that is new costs more than copying its text."""
-        number, start = divmod(self._position, lib.TEXT_CHUNK)
-        self._load(number)
-        count = min(len(room), self._len - start)
-        room[:count] = self._chunk.view[start : start + count]
-        return count
-
     def readall(self) -> bytes:
-        left = max(self.length - self._position, 0)
+        left = max(self.length - self.position, 0)
         out = lib.fresh_bytes(left)
         with lib.Bytes(out) as memory:
             count = self.readinto(lib.view_of(memory, out))
@@ -129,19 +140,19 @@ class _Plaintext(io.RawIOBase):
 
     def seek(self, offset: int, whence: int = os.SEEK_SET) -> int:
         self._check_open()
-        starts = {os.SEEK_SET: 0, os.SEEK_CUR: self._position, os.SEEK_END: self.length}
-        if whence not in starts:
-            raise ValueError(f"unknown whence: {whence}")
-        if starts[whence] + offset < 0:
-            raise ValueError(f"negative position: {starts[whence] + offset}")
         with self._lock:
+            starts = {os.SEEK_SET: 0, os.SEEK_CUR: self.position, os.SEEK_END: self.length}
+            if whence not in starts:
+                raise ValueError(f"unknown whence: {whence}")
+            if starts[whence] + offset < 0:
+                raise ValueError(f"negative position: {starts[whence] + offset}")
             self.error = None
-            self._position = starts[whence] + offset
-            return self._position
+            self.position = starts[whence] + offset
+            return self.position
 
     def tell(self) -> int:
         self._check_open()
-        return self._position
+        return self.position
 
     def readable(self) -> bool:
         self._check_open()
@@ -165,7 +176,7 @@ class _Plaintext(io.RawIOBase):
         with the places of its chunks."""
         if self._source.opener is None:
             raise TypeError("a file that was opened over a file object cannot be pickled")
-        return self._source.opener, bytes(self._ranges), self._position
+        return self._source.opener, bytes(self._ranges)
 
 
 class Reader(io.BufferedReader):
@@ -185,8 +196,7 @@ class Reader(io.BufferedReader):
         super().__init__(raw, lib.TEXT_CHUNK)
 
     def __reduce_ex__(self, protocol: Any) -> tuple[Any, ...]:
-        opener, ranges, _ = self.raw.again()
-        return reopen, (opener, ranges, self.tell())
+        return reopen, (*self.raw.again(), self.tell())
 
     @property
     def length(self) -> int:
@@ -201,12 +211,17 @@ class Reader(io.BufferedReader):
         return result
 
     def read(self, size: int | None = -1, /) -> bytes:
-        if size == 0:
-            return super().read(0)
-        return self._or_error(super().read(size))  # type: ignore[no-any-return]
+        if (size is None or size < 0) and self.tell() != self.raw.tell():
+            # Without a size, what is buffered and the rest would be joined: a second copy.
+            size = self.length - self.tell()
+        found = super().read(size)
+        if self.raw.error is None or size == 0:
+            return found
+        return self._or_error(found)  # type: ignore[no-any-return]
 
     def read1(self, size: int = -1, /) -> bytes:
-        return super().read1(size) if size == 0 else self._or_error(super().read1(size))  # type: ignore[no-any-return]
+        found = super().read1(size)
+        return found if size == 0 else self._or_error(found)  # type: ignore[no-any-return]
 
     def readinto(self, room: Any, /) -> int:
         count = super().readinto(room)
@@ -220,7 +235,10 @@ class Reader(io.BufferedReader):
         return self._or_error(super().peek(size))  # type: ignore[no-any-return]
 
     def readline(self, size: int | None = -1, /) -> bytes:
-        return super().readline(size) if size == 0 else self._or_error(super().readline(size))  # type: ignore[no-any-return]
+        found = super().readline(size)
+        if self.raw.error is None or size == 0:
+            return found
+        return self._or_error(found)  # type: ignore[no-any-return]
 
 
 def open_reader(file: Any, identities: Identities) -> Reader:

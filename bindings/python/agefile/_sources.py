@@ -2,6 +2,7 @@
 
 from __future__ import annotations
 
+import functools
 from typing import Any, BinaryIO
 
 from . import _library as lib
@@ -11,32 +12,37 @@ from ._secrets import Header, read_header
 
 def read_into(source: BinaryIO, room: memoryview) -> int:
     """Reads until the room is full or the source ends, and returns the number of bytes."""
-    done = 0
-    read = getattr(source, "readinto", None)
-    while done < len(room):
-        if read is not None:
-            count = read(room[done:])
-        else:
-            piece = source.read(len(room) - done)
-            count = None if piece is None else len(piece)
-            if piece:
-                room[done : done + len(piece)] = piece
+    read = getattr(source, "readinto", None) or functools.partial(_read_by_copy, source)
+    wanted, done = len(room), 0
+    while done < wanted:
+        count = read(room[done:] if done else room)
         if count is None:
             raise BlockingIOError("the source would block")
         if count == 0:
             break
         done += count
+    if done > wanted:
+        raise OSError("readinto returned an invalid length")
     return done
+
+
+def _read_by_copy(source: BinaryIO, room: memoryview) -> int | None:
+    """What readinto does, for a source that has only read."""
+    piece: bytes | None = source.read(len(room))
+    if piece is None:
+        return None
+    room[: len(piece)] = piece
+    return len(piece)
 
 
 def write_all(sink: Any, data: Any) -> None:
     """Writes all bytes; a sink without a buffer may take a part of them at a time."""
-    rest = memoryview(data)
-    while rest:
-        count = sink.write(rest)
+    count, rest = sink.write(data), data
+    while count != len(rest):
         if count is None:
             raise BlockingIOError("the sink would block")
-        rest = rest[count:]
+        rest = memoryview(rest)[count:]
+        count = sink.write(rest)
 
 
 class Front:

@@ -62,29 +62,29 @@ def _opened_len(length: int) -> int:
 
 def _seal_all(payload: lib.Payload, plain: lib.Bytes, out: int) -> None:
     """Seals each chunk where it belongs, from the address `out` on."""
-    at, is_last = 0, False
+    seal, begin, at, is_last = lib.for_chunks("seal_next", payload), plain.pair[0], 0, False
     while not is_last:
         length = min(plain.len - at, lib.TEXT_CHUNK)
         is_last = at + length == plain.len
-        ctypes.memmove(out, plain.pair[0] + at, length)
-        lib.check("seal_next", ctypes.byref(payload), out, length + lib.TAG, is_last)
-        at, out = at + length, out + length + lib.TAG
+        ctypes.memmove(out, begin + at, length)
+        at, out = at + length, out + seal(out, length + lib.TAG, is_last)
 
 
 def _open_all(payload: lib.Payload, file: lib.Bytes, at: int, out: lib.Bytes) -> None:
     """Opens each chunk where its text belongs. The next text overwrites its tag; a chunk behind
     which there is no room for the tag is opened elsewhere."""
-    spare, done, is_last = Chunk(), 0, False
+    open_next, spare, begin = lib.for_chunks("open_next", payload), Chunk(), out.pair[0]
+    done, is_last = 0, False
     while not is_last:
         length = min(file.len - at, lib.SEALED_CHUNK)
         is_last = at + length == file.len
         is_inside = done + length <= out.len
-        place = out.pair[0] + done if is_inside else spare.address(0)
+        place = begin + done if is_inside else spare.base
         ctypes.memmove(place, file.pair[0] + at, length)
-        report = lib.check("open_next", ctypes.byref(payload), place, length, is_last)
+        opened = open_next(place, length, is_last)
         if not is_inside:
-            ctypes.memmove(out.pair[0] + done, place, report.len)
-        at, done = at + length, done + report.len
+            ctypes.memmove(begin + done, place, opened)
+        at, done = at + length, done + opened
 
 
 def decrypt(data: Any, *, identities: Identities, threads: int = 1) -> bytes:

@@ -3,8 +3,8 @@
 from __future__ import annotations
 
 import contextlib
-import ctypes
 import io
+import os
 import threading
 from types import TracebackType
 from typing import Any
@@ -18,13 +18,15 @@ from ._sources import write_all
 class Writer(io.BufferedIOBase):
     """The plaintext of a new age file. Each full chunk is sealed and written; the last one when the
     file is closed. A file that was not closed, whose `with` body raised, or a write of which
-    failed, has no last chunk, so each reader refuses it."""
+    failed, has no last chunk, so each reader refuses it. A forked child writes nothing: it would
+    seal other bytes under the nonces of its parent."""
 
     def __init__(self, sink: Any, recipients: Recipients, owned: bool) -> None:
         self._sink, self._owned = sink, owned
-        self._lock = threading.RLock()
+        self._lock, self._process = threading.RLock(), os.getpid()
         self._chunk, self._filled, self._total, self._failed = Chunk(), 0, 0, True
-        front, self._payload = begin(recipients)
+        front, payload = begin(recipients)
+        self._seal_next = lib.for_chunks("seal_next", payload)
         self._put(front)
 
     def _put(self, data: Any) -> None:
@@ -34,10 +36,9 @@ class Writer(io.BufferedIOBase):
         self._failed = False
 
     def _seal(self, is_last: bool) -> None:
-        length = self._filled + lib.TAG
-        lib.check(
-            "seal_next", ctypes.byref(self._payload), self._chunk.address(0), length, is_last
-        )
+        """Seals the text and writes it. An interrupt on the way is a failure too."""
+        self._failed = True
+        length = self._seal_next(self._chunk.base, self._filled + lib.TAG, is_last)
         self._filled = 0
         self._put(self._chunk.view[:length])
 
@@ -61,6 +62,8 @@ class Writer(io.BufferedIOBase):
             raise ValueError("I/O operation on closed file")
         if self._failed:
             raise OSError("an earlier write failed, so this file stays without its end")
+        if self._process != os.getpid():
+            raise OSError("only the process that opened this file writes it")
 
     def tell(self) -> int:
         self._check_usable()
@@ -84,7 +87,7 @@ class Writer(io.BufferedIOBase):
             if self.closed:
                 return
             try:
-                if not self._failed:
+                if not self._failed and self._process == os.getpid():
                     self._seal(True)
             finally:
                 self._end()

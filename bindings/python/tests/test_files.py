@@ -1,17 +1,21 @@
 """Opened files: reading by ranges, writing chunk by chunk, and what becomes of them."""
 
+import contextlib
+import copy
 import csv
 import functools
 import gc
 import io
 import os
 import pickle
+import random
 import shutil
 import sys
 import tempfile
 import threading
 import traceback
 import unittest
+import warnings
 
 import agefile
 from agefile import AgeError, Code, Key, Passphrase
@@ -74,6 +78,38 @@ class Reading(InFolder):
             with open(name, "rb") as below, agefile.open(below, identities=KEY) as file:
                 room = bytearray(length + 5)
                 self.assertEqual((file.readinto(room), room[:length]), (length, plain))
+
+    def test_like_a_file_that_is_not_encrypted(self):
+        """Random calls, short ones and long ones in turn, give what they give over the plaintext."""
+        plain = b"".join(b"%d\n" % number for number in range(60000))
+        choose = random.Random(1)
+        with agefile.open(self.made(plain), identities=KEY) as file:
+            other = io.BytesIO(plain)
+            for number in range(2000):
+                size = choose.choice((0, 1, 7, 8192, 65535, 65536, 65537, 140000, -1, None))
+                kind = choose.choice(("read", "readline", "readinto", "seek", "seek", "peek", "read1", "readinto1", "next"))
+                with self.subTest(f"call {number}: {kind} {size}"):
+                    self.same_call(file, other, kind, size, choose.randrange(len(plain) + 9))
+                    self.assertEqual(file.tell(), other.tell())
+
+    def same_call(self, file, other, kind, size, at):
+        if kind == "next":
+            self.assertEqual(next(file, None), next(other, None))
+        elif kind == "seek":
+            self.assertEqual(file.seek(at), other.seek(at))
+        elif kind == "readinto":
+            rooms = bytearray(size or 0 if size != -1 else 70000), bytearray(size or 0 if size != -1 else 70000)
+            self.assertEqual((file.readinto(rooms[0]), rooms[0]), (other.readinto(rooms[1]), rooms[1]))
+        elif kind in ("read", "readline"):
+            self.assertEqual(getattr(file, kind)(size), getattr(other, kind)(size))
+        else:
+            # How much these return is theirs to choose.
+            room = bytearray(1000)
+            found = {"peek": file.peek, "read1": file.read1, "readinto1": lambda: room[: file.readinto1(room)]}[kind]()
+            rest = other.read(len(found) or 1)
+            self.assertEqual(found, rest)
+            if kind == "peek":
+                other.seek(-len(found), os.SEEK_CUR)
 
     def test_lines(self):
         rows = [[str(number), "ä" * (number % 70)] for number in range(5000)]
@@ -164,26 +200,77 @@ class Reading(InFolder):
         self.made(plain, "p.age")
         self.assertRaises(AgeError, pickle.loads, pickled)
 
+    def test_copies(self):
+        """A copy of an opened file is a file of its own, which asks for no secret."""
+        plain = text(300000)
+        with agefile.open(self.made(plain), identities=KEY) as file:
+            file.seek(70000)
+            for other in (copy.copy(file), copy.deepcopy(file)):
+                with other:
+                    self.assertEqual(other.read(100), plain[70000:70100])
+            self.assertEqual(file.read(100), plain[70000:70100])
+
+    def test_each_chunk_is_read_once(self):
+        """Short reads and lines take their bytes from a buffer of a chunk."""
+        plain, offsets = b"some text\n" * 30000, []
+        for read in (lambda file: file.read(1000), lambda file: file.readline(), lambda file: file.read1(100)):
+            with agefile.open(self.made(plain), identities=KEY) as file:
+                read_at = file.raw._source.read_at
+                file.raw._source.read_at = lambda offset, room: offsets.append(offset) or read_at(offset, room)
+                while read(file):
+                    pass
+            self.assertEqual(len(offsets), 5)
+            offsets.clear()
+
+    def test_no_descriptor_is_left(self):
+        """Files that nobody closed are closed, also those that were refused."""
+        name, before = self.made(b"text\n" * 1000), os.listdir("/proc/self/fd")
+        with warnings.catch_warnings():
+            warnings.simplefilter("ignore", ResourceWarning)
+            for _ in range(20):
+                with self.assertRaises(AgeError):
+                    agefile.open(name, identities=Key(bytes(32)))
+                for mode in ("rb", "r"):
+                    file = agefile.open(name, mode, identities=KEY)
+                    file.readline()
+                    file.itself = file
+                del file
+            gc.collect()
+        self.assertEqual(os.listdir("/proc/self/fd"), before)
+
     def test_views_of_a_traceback(self):
-        """The memory that the frames of a traceback still name is the interpreter's own."""
-        name = self.made(text(200000))
+        """The frames of a traceback keep no view of memory that is not an object's."""
+
+        class Broken(io.FileIO):
+            breaks = False
+
+            def readinto(self, room):
+                if self.breaks:
+                    raise RuntimeError
+                return super().readinto(room)
+
+        name = self.made(text(300000))
         with open(name, "r+b") as file:
-            file.seek(1000)
+            file.seek(200000)
             file.write(b"damage")
-        try:
-            with agefile.open(name, identities=KEY) as file:
-                file.read(10)
-                file.read(10)
-        except AgeError as error:
-            kept = error
-        gc.collect()
-        views = [value for frame, _ in traceback.walk_tb(kept.__traceback__) for value in frame.f_locals.values() if isinstance(value, memoryview)]
-        for view in views:
+        for size, breaks in ((10, False), (200000, False), (-1, False), (10, True), (200000, True), (-1, True)):
+            below = Broken(name)
+            file = agefile.open(below, identities=KEY)
+            below.breaks = breaks
             try:
-                bytes(view)
-            except ValueError:
-                pass
-        os.unlink(name)
+                while file.read(size):
+                    pass
+            except (AgeError, RuntimeError) as error:
+                kept = error
+            self.assertIs(type(kept), RuntimeError if breaks else AgeError)
+            with below:
+                del file
+            gc.collect()
+            frames = [frame for frame, _ in traceback.walk_tb(kept.__traceback__)]
+            self.assertGreater(len(frames), 3)
+            for view in (value for frame in frames for value in frame.f_locals.values() if isinstance(value, memoryview)):
+                with contextlib.suppress(ValueError):
+                    self.assertIsNotNone(view.obj)
 
     def test_threads_on_one_file(self):
         plain, wrong = text(1000000), []
@@ -203,14 +290,26 @@ class Reading(InFolder):
         self.assertEqual(wrong, [])
 
     def test_fork(self):
-        plain = text(300000)
+        """A child and its parent go on with one open file, and neither moves the other's position."""
+        plain = text(3000000)
         with agefile.open(self.made(plain), identities=KEY) as file:
-            file.read(10)
+            self.assertEqual(file.read(70000), plain[:70000])
             child = os.fork()
             if child == 0:
-                file.seek(0)
-                os._exit(0 if file.read() == plain else 1)
+                os._exit(0 if b"".join(iter(lambda: file.read(100000), b"")) == plain[70000:] else 1)
+            self.assertEqual(b"".join(iter(lambda: file.read(65536), b"")), plain[70000:])
             self.assertEqual(os.waitpid(child, 0)[1], 0)
+
+    def test_readers_of_one_file_object(self):
+        """Readers over one file object go on where each was."""
+        plain = text(500000)
+        for buffering in (0, -1):
+            with open(self.made(plain), "rb", buffering) as below:
+                with agefile.open(below, identities=KEY) as first, agefile.open(below, identities=KEY) as second:
+                    for at in range(0, len(plain), 70000):
+                        self.assertEqual(first.read(70000), plain[at : at + 70000])
+                        self.assertEqual(second.read(70000), plain[at : at + 70000])
+                self.assertFalse(below.closed)
 
 
 class Writing(InFolder):
@@ -251,6 +350,27 @@ class Writing(InFolder):
             del file
             gc.collect()
             self.refused("g.age")
+
+    def test_fork(self):
+        """A child writes nothing to the file of its parent, also when it closes it."""
+        for mode, data in (("wb", text(100000)), ("w", "text" * 30000)):
+            file = agefile.open("f.age", mode, recipients=KEY)
+            file.write(data)
+            file.flush()
+            child = os.fork()
+            if child == 0:
+                try:
+                    file.write(data)
+                    file.flush()
+                except OSError:
+                    file.close()
+                    os._exit(0)
+                os._exit(1)
+            self.assertEqual(os.waitpid(child, 0)[1], 0)
+            file.write(data)
+            file.close()
+            with agefile.open("f.age", mode.replace("w", "r"), identities=KEY) as whole:
+                self.assertEqual(whole.read(), data + data)
 
     def test_a_sink_that_fails(self):
         class Full(io.RawIOBase):

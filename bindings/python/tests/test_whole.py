@@ -311,6 +311,28 @@ class Processes(unittest.TestCase):
             thread.join()
         self.assertEqual(wrong, [])
 
+    def test_the_library_that_is_taken(self):
+        """The one in the package, else the one that AGEFILE_LIBRARY names."""
+        inside = os.path.join(os.path.dirname(agefile.__file__), "lib")
+        words = [sys.executable, "-c", "import agefile"]
+        done = subprocess.run(words, capture_output=True, text=True, env=os.environ | {"AGEFILE_LIBRARY": "/absent.so"})
+        if os.path.exists(inside):
+            self.assertEqual((done.returncode, done.stderr), (0, ""))
+        else:
+            self.assertIn("/absent.so", done.stderr)
+
+    def test_memory_that_is_refused(self):
+        """A passphrase's scrypt that gets no memory raises a MemoryError with the code 17."""
+        code = (
+            "import agefile, resource\n"
+            "head = '-> scrypt ' + 'A' * 22 + ' 20\\n' + 'A' * 43 + '\\n--- ' + 'A' * 43 + '\\n'\n"
+            "resource.setrlimit(resource.RLIMIT_AS, (1 << 29, 1 << 29))\n"
+            "try: agefile.decrypt(b'age-encryption.org/v1\\n' + head.encode(), identities=agefile.Passphrase('x'))\n"
+            "except MemoryError as error: print(repr(error.code), error)\n"
+        )
+        done = subprocess.run([sys.executable, "-c", code], capture_output=True, text=True)
+        self.assertEqual((done.stdout, done.stderr), ("<Code.OUT_OF_MEMORY: 17> out of memory\n", ""))
+
     def test_errors_of_workers(self):
         with multiprocessing.get_context("fork").Pool(2) as pool:
             waiting = pool.map_async(fails, range(4))
@@ -354,6 +376,7 @@ class Costs(unittest.TestCase):
             (self.made, "agefile.decrypt(data, identities=key)"), (self.made, "agefile.decrypt(data, identities=key, threads=2)"),
             (self.plain, "agefile.encrypt(data, recipients=key)"), (self.plain, "agefile.encrypt(data, recipients=key, threads=2)"),
             (self.made, "agefile.open(name, identities=key).read()"),
+            (self.made, "file = agefile.open(name, identities=key); file.readline(10); file.read()"),
         ):
             with self.subTest(code):
                 self.assertLess(self.peak_of(name, code), self.MIB + 16)
@@ -366,6 +389,7 @@ class Costs(unittest.TestCase):
             (self.plain, "agefile.copy(open(name, 'rb'), open('/dev/null', 'wb'), recipients=key)"),
             (self.made, "agefile.copy(open(name, 'rb'), open('/dev/null', 'wb'), identities=key)"),
             (self.made, "agefile.copy(open(name, 'rb'), open('/dev/null', 'wb'), identities=key, threads=2)"),
+            (self.plain, "agefile.copy(open(name, 'rb'), open('/dev/null', 'wb'), recipients=key, threads=2)"),
             (self.made, "import subprocess; agefile.copy(subprocess.Popen(['cat', name], stdout=subprocess.PIPE).stdout, "
                 "subprocess.Popen('cat >/dev/null', shell=True, stdin=subprocess.PIPE).stdin, identities=key)"),
         ):

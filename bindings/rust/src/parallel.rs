@@ -1,5 +1,14 @@
 //! Whole files in memory, on several threads. Each thread seals or opens a part of the payload, which
 //! no other one does.
+//!
+//! ```
+//! # fn main() -> std::io::Result<()> {
+//! let key = agefile::Key::new([7; 32]);
+//! let file = agefile::parallel::encrypt(&[5; 300_000], &[&key], 4)?;
+//! assert_eq!(agefile::parallel::decrypt(&file, &[&key], 4)?, [5; 300_000]);
+//! # Ok(())
+//! # }
+//! ```
 
 use std::io;
 use std::thread;

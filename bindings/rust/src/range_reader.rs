@@ -11,6 +11,21 @@ use crate::{Error, Identity};
 /// The plaintext of an age file, any part of it. Only the chunks that are read are opened, so damage
 /// in others is not noticed; the last chunk is opened at first, since it proves where the plaintext
 /// ends. Each byte that it returns was verified.
+///
+/// ```
+/// use std::io::{Cursor, Read, Seek, SeekFrom};
+///
+/// # fn main() -> std::io::Result<()> {
+/// # let key = agefile::Key::new([7; 32]);
+/// # let file = agefile::encrypt(b"one two three", &[&key])?;
+/// let mut reader = agefile::RangeReader::new(Cursor::new(file), &[&key])?;
+/// let mut word = [0; 3];
+/// reader.seek(SeekFrom::Start(4))?;
+/// reader.read_exact(&mut word)?;
+/// assert_eq!(&word, b"two");
+/// # Ok(())
+/// # }
+/// ```
 pub struct RangeReader<R> {
     source: R,
     ranges: Ranges,

@@ -14,6 +14,29 @@ const STANZA_ROOM: usize = 128;
 pub struct FileKey(pub [u8; 16]);
 
 /// Wraps the file key of a new file into stanzas.
+///
+/// ```
+/// use agefile::{Error, FileKey, Key, Recipient, Stanza};
+///
+/// /// A key, with a stanza that says who made the file.
+/// struct Named<'a>(&'a Key);
+///
+/// impl Recipient for Named<'_> {
+///     fn wrap(&self, file_key: &FileKey) -> Result<Vec<Stanza>, Error> {
+///         let mut stanzas = self.0.wrap(file_key)?;
+///         stanzas.push(Stanza { args: vec!["made-by".into(), "alice".into()], body: vec![] });
+///         Ok(stanzas)
+///     }
+/// }
+///
+/// # fn main() -> std::io::Result<()> {
+/// let key = Key::new([7; 32]);
+/// let file = agefile::encrypt(b"text", &[&Named(&key)])?;
+/// assert_eq!(agefile::inspect(&file)?.stanzas().len(), 2);
+/// assert_eq!(agefile::decrypt(&file, &[&key])?, b"text");
+/// # Ok(())
+/// # }
+/// ```
 pub trait Recipient {
     /// The stanzas that hold this file key, in order.
     fn wrap(&self, file_key: &FileKey) -> Result<Vec<Stanza>, Error>;

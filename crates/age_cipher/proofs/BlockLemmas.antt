@@ -63,9 +63,9 @@ xored_on at next s t old mid new e first then =
           ∙ ap (bit_xor (slice_index old (at + j))) (sym (get_or_append_left s t 0 j low))
       | inr high ↦
           let k = j - length s in
-          let place : at + j ≡ next + k = omega arith in
-          ap (slice_index new) place ∙ then.1 k (omega (arith, length-append s t))
-          ∙ ap₂ bit_xor (ap (slice_index mid) (sym place) ∙ first.2 (at + j) (omega arith))
+          let at_is : at + j ≡ next + k = omega arith in
+          ap (slice_index new) at_is ∙ then.1 k (omega (arith, length-append s t))
+          ∙ ap₂ bit_xor (ap (slice_index mid) (sym at_is) ∙ first.2 (at + j) (omega arith))
           (sym (get_or-append_right s t (length s) j 0 refl (omega arith)))
     ] in (
       λ j below. then.0 j (omega arith) ∙ first.0 j below,
@@ -108,20 +108,20 @@ block-stream key nonce counter words e = rw e (
 )
 
 -- a stream of m blocks, and the stream after it
-pub stream_on : (key nonce : Bytes) (counter next m n : ℕ) (front back : Bytes) → next ≡ counter + m
-    → IsStream key nonce counter (64 * m) front → IsStream key nonce next n back
-    → IsStream key nonce counter (64 * m + n) (front ++ back)
-stream_on key nonce counter next m n front back e one two =
+pub stream_on : (key nonce : Bytes) (counter next m n : ℕ) (prefix back : Bytes) → next ≡ counter + m
+    → IsStream key nonce counter (64 * m) prefix → IsStream key nonce next n back
+    → IsStream key nonce counter (64 * m + n) (prefix ++ back)
+stream_on key nonce counter next m n prefix back e one two =
     let cases : (j : ℕ) → j < 64 * m + n → (j < 64 * m) ⊎ (64 * m ≤ j)
-    → slice_index (front ++ back) j ≡ stream_byte key nonce counter j = λ j below here. elim here [
-      | inl low ↦ get_or_append_left front back 0 j (omega (arith, one.0)) ∙ one.1 j low
+    → slice_index (prefix ++ back) j ≡ stream_byte key nonce counter j = λ j below here. elim here [
+      | inl low ↦ get_or_append_left prefix back 0 j (omega (arith, one.0)) ∙ one.1 j low
       | inr high ↦
           let block_number : next + (j - 64 * m) / 64 ≡ counter + j / 64 = omega arith in
-          let place : (j - 64 * m) % 64 ≡ j % 64 = omega arith in
-          get_or-append_right front back (64 * m) j 0 one.0 high ∙ two.1 (j - 64 * m) (omega arith)
-          ∙ ap₂ (λ b i. slice_index (block key nonce b) i) block_number place
+          let at_is : (j - 64 * m) % 64 ≡ j % 64 = omega arith in
+          get_or-append_right prefix back (64 * m) j 0 one.0 high ∙ two.1 (j - 64 * m) (omega arith)
+          ∙ ap₂ (λ b i. slice_index (block key nonce b) i) block_number at_is
     ] in (
-      omega (arith, length-append front back, one.0, two.0),
+      omega (arith, length-append prefix back, one.0, two.0),
       λ j below. cases j below (cases_lt j (64 * m)),
     )
 
@@ -141,6 +141,6 @@ pub xored_with_stream : (key nonce : Bytes) (counter at n : ℕ) (stream old new
     → IsStream key nonce counter n stream → IsXoredAt at stream old new → (j : ℕ) → at ≤ j → j < at + n
     → slice_index new j ≡ bit_xor (slice_index old j) (stream_byte key nonce counter (j - at))
 xored_with_stream key nonce counter at n stream old new is xored j low high =
-    let place : at + (j - at) ≡ j = omega arith in
-    ap (slice_index new) (sym place) ∙ xored.1 (j - at) (omega (arith, is.0))
-    ∙ ap₂ bit_xor (ap (slice_index old) place) (is.1 (j - at) (omega arith))
+    let at_is : at + (j - at) ≡ j = omega arith in
+    ap (slice_index new) (sym at_is) ∙ xored.1 (j - at) (omega (arith, is.0))
+    ∙ ap₂ bit_xor (ap (slice_index old) at_is) (is.1 (j - at) (omega arith))

@@ -103,7 +103,7 @@ pub eight_long : (x : Words) → length x ≡ 8
     ∷ slice_index x 4 ∷ slice_index x 5 ∷ slice_index x 6 ∷ slice_index x 7 ∷ []
 eight_long x long = fill_by_all (λ k. slice_index x k) x 8 0 long (λ k h. refl)
 
--- words written at two places, in either order
+-- words written at two indices, in either order
 set_swap : (w : Words) (i m x y : ℕ) → i ≢ m → set (set w i x) m y ≡ set (set w m y) i x
 set_swap [] i m x y apart = refl
 set_swap (v ∷ w) zero zero x y apart = absurd (apart refl)
@@ -126,11 +126,11 @@ step_swap f g i k m n w im kn km =
     ∙ set_swap w i m x y im
     ∙ ap (set (set w m y) i) (sym (ap₂ f (get_or-set_other w m i y 0 im) (get_or-set_other w m k y 0 km)))
 
--- a line on three of four places
-abbrev line : (by i k l : ℕ) (places : List ℕ) (w : Words) → Words
-line by i k l places w = add_xor_rotate (slice_index places i) (slice_index places k) (slice_index places l) by w
+-- a line on three of four indices
+abbrev line : (by i k l : ℕ) (indices : List ℕ) (w : Words) → Words
+line by i k l indices w = add_xor_rotate (slice_index indices i) (slice_index indices k) (slice_index indices l) by w
 
--- lines on places that are apart, in either order
+-- lines on indices that are apart, in either order
 line_swap : (p q : List ℕ) → AreApart p q → (m n : ℕ) (i k l r s t : ℕ) (w : Words)
     → i < 4 → k < 4 → l < 4 → r < 4 → s < 4 → t < 4
     → line m i k l p (line n r s t q w) ≡ line n r s t q (line m i k l p w)
@@ -152,7 +152,7 @@ line_swap p q apart m n i k l r s t w hi hk hl hr hs ht =
     ∙ ap q_turn (sym (step_swap (turned m) add_words (at l) (at i) (on r) (on s) (p_add w) (apart l r hl hr)
     (apart l s hl hs) (apart i r hi hr)))
 
--- two quarter rounds on places that are apart, line by line: the lines on p come first, one by one
+-- two quarter rounds on indices that are apart, line by line: the lines on p come first, one by one
 pub two_by_lines : (p q : List ℕ) (w : Words) → AreApart p q
     → line 7 2 3 1 q (line 7 2 3 1 p (line 8 0 1 3 q
     (line 8 0 1 3 p (line 12 2 3 1 q (line 12 2 3 1 p (line 16 0 1 3 q (line 16 0 1 3 p w)))))))

@@ -4,6 +4,7 @@ use Rattle.std.specs.Prelude.{⊤, ◌↔◌}
 use Rattle.std.specs.Io.KnownBytes.{Appends, Keeps}
 use Rattle.age_header.specs.Device.{Bytes, Known}
 use Rattle.age_header.specs.Header.{StanzaParts}
+use Rattle.age_header.proofs.DeviceLemmas.{may-known}
 use Rattle.age_recipient.specs.declared.key.FileKey.{FileKey}
 use Rattle.age_recipient.specs.Choice.{choice}
 use Rattle.age_stream.specs.declared.done.Done.{Done}
@@ -54,7 +55,8 @@ decrypted : OkIsAgeFile → (limits : Bounds) (answers : Answering) (b xs : Byte
 decrypted law limits answers b xs taken new (Err fault) work is d (inl (ended, keeps)) = absurd (cc)
 decrypted law limits answers b xs taken new (Err fault) work is d (inr (failed, rest)) = absurd (cc)
 decrypted law limits answers b xs taken new (Ok counts) work is d (inl (ended, keeps)) =
-    decrypted_whole law limits answers b xs taken new counts d keeps
+    decrypted_whole law limits answers b xs taken new counts
+    (may-known (λ x. DecryptsText limits answers x (Some xs) taken (Ok counts)) b d) keeps
 decrypted law limits answers b xs taken new (Ok counts) work is d (inr (failed, rest)) = absurd (cc)
 
 decrypt_done : OkIsAgeFile → (job : Job) (b xs : Bytes) (new : Known) (task : Task) → IsTaskOf command.Decrypt task
@@ -88,7 +90,8 @@ encrypted : (limits : Bounds) (fresh : Fresh) (gathered : Gathering) (plain xs :
 encrypted limits fresh gathered plain xs taken new (Err fault) work is e (inl (ended, keeps)) = absurd (cc)
 encrypted limits fresh gathered plain xs taken new (Err fault) work is e (inr (failed, rest)) = absurd (cc)
 encrypted limits fresh gathered plain xs taken new (Ok counts) work is e (inl (ended, keeps)) =
-    encrypted_whole limits fresh gathered plain xs taken new counts e.0 keeps
+    encrypted_whole limits fresh gathered plain xs taken new counts
+    (may-known (λ x. EncryptsText limits fresh gathered x (Some xs) taken (Ok counts)) plain e.0) keeps
 encrypted limits fresh gathered plain xs taken new (Ok counts) work is e (inr (failed, rest)) = absurd (cc)
 
 encrypt_done : (job : Job) (plain xs : Bytes) (new : Known) (task : Task) → IsTaskOf command.Encrypt task

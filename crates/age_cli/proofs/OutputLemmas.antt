@@ -3,7 +3,7 @@ use Rattle.std.proofs.Common.{◌++◌, ◌∙◌, ap, sym, None, Some}
 use Rattle.std.specs.Io.KnownBytes.{Keeps, append_known}
 use Rattle.std.proofs.KnownBytes.{Appends-trans, Appends-kept}
 use Rattle.age_header.specs.Device.{Bytes, Known}
-use Rattle.age_cli.specs.Output.{Grows, HasFront}
+use Rattle.age_cli.specs.Output.{Grows, HasPrefix}
 
 pub grows_on : (a b c : Known) → Grows a b → Grows b c → Grows a c
 grows_on a b c (x, p) (y, q) = (x ++ y, Appends-trans a b c x y p q)
@@ -12,16 +12,16 @@ pub grows_kept : (a b c : Known) → Grows a b → Keeps b c → Grows a c
 grows_kept a b c (x, p) k = (x, Appends-kept a b c x p k)
 
 -- what is written in part
-pub front_left : (a b : Known) (xs ys : Bytes) → Keeps (append_known a xs) (append_known b ys)
-    → HasFront (append_known a xs) b
-front_left None b xs ys k = tt
-front_left (Some a) None xs ys k = absurd k
-front_left (Some a) (Some b) xs ys k = (ys, sym k)
+pub prefix_left : (a b : Known) (xs ys : Bytes) → Keeps (append_known a xs) (append_known b ys)
+    → HasPrefix (append_known a xs) b
+prefix_left None b xs ys k = tt
+prefix_left (Some a) None xs ys k = absurd k
+prefix_left (Some a) (Some b) xs ys k = (ys, sym k)
 
 -- the same before a flush
-pub front_flushed : (a b c : Known) (xs ys : Bytes) → Keeps (append_known a xs) (append_known b ys)
-    → Keeps b c → HasFront (append_known a xs) c
-front_flushed None b c xs ys k l = tt
-front_flushed (Some a) None c xs ys k l = absurd k
-front_flushed (Some a) (Some b) None xs ys k l = absurd l
-front_flushed (Some a) (Some b) (Some c) xs ys k l = (ys, sym k ∙ ap (λ z. z ++ ys) (sym l))
+pub prefix_flushed : (a b c : Known) (xs ys : Bytes) → Keeps (append_known a xs) (append_known b ys)
+    → Keeps b c → HasPrefix (append_known a xs) c
+prefix_flushed None b c xs ys k l = tt
+prefix_flushed (Some a) None c xs ys k l = absurd k
+prefix_flushed (Some a) (Some b) None xs ys k l = absurd l
+prefix_flushed (Some a) (Some b) (Some c) xs ys k l = (ys, sym k ∙ ap (λ z. z ++ ys) (sym l))

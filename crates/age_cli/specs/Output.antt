@@ -16,15 +16,15 @@ pub record Buffered : Type 0 where
 abbrev pub taken_by : Buffered → Known
 taken_by s = append_known s.written s.held
 
--- known bytes stay at the front
+-- known bytes stay at the start
 abbrev pub Grows : (old new : Known) → Type 0
 Grows old new = (more : Bytes) × Appends old new more
 
 -- the output has a prefix of the known bytes of the whole
-abbrev pub HasFront : (whole new : Known) → Type 0
-HasFront None new = ⊤
-HasFront (Some xs) None = ⊥
-HasFront (Some xs) (Some ys) = (rest : Bytes) × (xs ≡ ys ++ rest)
+abbrev pub HasPrefix : (whole new : Known) → Type 0
+HasPrefix None new = ⊤
+HasPrefix (Some xs) None = ⊥
+HasPrefix (Some xs) (Some ys) = (rest : Bytes) × (xs ≡ ys ++ rest)
 
 -- How an output ends that had `old`, and whose sink has `taken`, after work with this result: it
 -- has all of it, and the result is the work's; or a write failed, and it has a prefix of it, and
@@ -32,4 +32,4 @@ HasFront (Some xs) (Some ys) = (rest : Bytes) × (xs ≡ ys ++ rest)
 abbrev pub Ends : (old taken new : Known) (work result : Result ⊤ Fault) → Type 0
 Ends old taken new work result =
     ((result ≡ work) × Keeps taken new)
-    ⊎ ((result ≡ Err Write) × (Grows old new × HasFront taken new))
+    ⊎ ((result ≡ Err Write) × (Grows old new × HasPrefix taken new))

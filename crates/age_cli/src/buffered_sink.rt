@@ -2,7 +2,7 @@
 ghost use Rattle.std.specs.Prelude.{◌≡◌, ◌≤◌, [], length, take, IfOk, OnOk, OnErr};
 ghost use Rattle.std.specs.Io.KnownBytes.{Appends, Keeps, append_known};
 ghost use Rattle.age_header.specs.Device.{Takes};
-ghost use Rattle.age_cli.specs.Output.{Buffered, Ends, Grows, HasFront, taken_by};
+ghost use Rattle.age_cli.specs.Output.{Buffered, Ends, Grows, HasPrefix, taken_by};
 
 use age_file::{BUFFER_SIZE, DeviceFault, Fault, Sink};
 use std::alloc::{AllocError, Global};
@@ -176,7 +176,7 @@ fn flush<W: Write>(out: &mut W, held: &mut Vec<u8>) -> Result<(), Option<io::Err
     ensures all { OnOk result
         (Keeps (append_known (W.contents out.old) held.old.items) (W.contents out.new)) }
     ensures part { OnErr result
-        (HasFront (append_known (W.contents out.old) held.old.items) (W.contents out.new)) }
+        (HasPrefix (append_known (W.contents out.old) held.old.items) (W.contents out.new)) }
     ensures grows { Grows (W.contents out.old) (W.contents out.new) }
 {
     write_held(out, held)?;

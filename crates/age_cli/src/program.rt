@@ -10,7 +10,7 @@ use crate::files::{NamedFile, open, open_seekable, read_just, refuse_shared_inpu
 use crate::output::create;
 use crate::secret::{new_secret_files, read_new_secret, read_secret, read_seed, secret_files};
 use crate::watched::Watched;
-use crate::work::{kept_front, perform_to, range_to};
+use crate::work::{kept_prefix, perform_to, range_to};
 use age_commands::{Secret, Task};
 use age_words::{Command, Job, WordsFault, read_words};
 use std::alloc::Global;
@@ -185,7 +185,7 @@ fn perform_range<'a, F: Files + AllocGlobal, W: Write>(
         unreachable!();
     };
     let file = open_seekable(rt, name.as_str())?;
-    let mut input = Watched::new(rt.alloc(), file, kept_front(job));
+    let mut input = Watched::new(rt.alloc(), file, kept_prefix(job));
     match &job.output {
         Some(name) => {
             let mut output = create(rt, job, name.as_str())?;
@@ -208,7 +208,7 @@ fn perform_on<'a, F: Files + AllocGlobal, R: Read, W: Write>(
     ensures { job.now.output ≡ None → PerformsTo job.now task (R.remaining input.old)
         (W.contents out.old) (W.contents out.new) result }
 {
-    let mut input = Watched::new(rt.alloc(), input, kept_front(job));
+    let mut input = Watched::new(rt.alloc(), input, kept_prefix(job));
     match &job.output {
         Some(name) => {
             let mut output = create(rt, job, name.as_str())?;

@@ -18,7 +18,7 @@ use std::io::{Read, Seek, Write};
 use std::marker::Brand;
 
 /// How many bytes of the input are kept for a message about its header.
-pub(crate) fn kept_front(job: &Job) -> usize {
+pub(crate) fn kept_prefix(job: &Job) -> usize {
     if job.verbose { job.max_header } else { 0 }
 }
 

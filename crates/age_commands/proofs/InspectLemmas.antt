@@ -1,5 +1,5 @@
 -- What reading a header returns, as what `inspect` says of it.
-use Rattle.std.proofs.Common.{◌≡◌, ◌∙◌, ◌++◌, ◌∷◌, ◌+◌, ◌<◌, ℕ, List, ap, arith, get_or, length, take, Option, None, Some, Bool, Ok, Err, inl, inr, refl, [], subst, sym}
+use Rattle.std.proofs.Common.{◌≡◌, ◌∙◌, ◌++◌, ◌∷◌, ◌+◌, ◌<◌, ℕ, List, ap, arith, get_or, length, take, Option, Bool, Ok, Err, inl, inr, refl, [], subst, sym}
 use Rattle.std.proofs.lemmas.List.{append_assoc, append-nil, length-take-le, take_more}
 use Rattle.std.specs.Prelude.{⊤, ◌^◌, ◌-◌, OnOk, Result, codes, min}
 use Rattle.std.specs.Io.KnownBytes.{Appends, Keeps}
@@ -10,13 +10,14 @@ use Rattle.age_header.specs.declared.fault.HeaderFault.TheVariants as header
 use Rattle.age_header.specs.Base64.{IsBase64}
 use Rattle.age_header.specs.Header.{Head, HeaderParts, StanzaParts}
 use Rattle.age_header.specs.Reader.{ReadsHeader, ReadsHeaderOf}
+use Rattle.age_header.proofs.DeviceLemmas.{may-some}
 use Rattle.age_file.specs.declared.fault.Fault.{Fault}
 use Rattle.age_file.specs.declared.fault.Fault.TheVariants.{OutOfMemory, Write}
 use Rattle.age_file.specs.AgeFile.{Bounds}
 use Rattle.age_file.specs.Inspect.{Inspects}
 use Rattle.age_file.specs.Verdict.{header_fault}
 use Rattle.age_commands.specs.declared.inspect.Check.{Check}
-use Rattle.age_commands.specs.Inspect.{Inspecting, InspectsText, IsTable, Shows, ShowsFront, check_of, first_lines, last_lines, row, rows}
+use Rattle.age_commands.specs.Inspect.{Inspecting, InspectsText, IsTable, Shows, ShowsPrefix, check_of, first_lines, last_lines, row, rows}
 
 missed_of : (limits : Bounds) (raw : Bool) (key : Option Bytes) (b : Bytes) (from to old : Known) (e : HeaderFault)
     → ReadsHeaderOf b from to limits.max_header (Err e) → InspectsText limits raw key b old old (Err (header_fault e))
@@ -29,8 +30,7 @@ missed_of limits raw key b from to old header.Memory h = Keeps-refl old
 
 missed_from : (limits : Bounds) (raw : Bool) (key : Option Bytes) (from to old : Known) (e : HeaderFault)
     → ReadsHeader from to limits.max_header (Err e) → Inspecting limits raw key from old old (Err (header_fault e))
-missed_from limits raw key None to old e (b, h) = (b, missed_of limits raw key b None to old e h)
-missed_from limits raw key (Some b) to old e h = missed_of limits raw key b (Some b) to old e h
+missed_from limits raw key from to old e (b, may, h) = (b, may, missed_of limits raw key b from to old e h)
 
 -- there is no header
 pub missed : (limits l : Bounds) (raw : Bool) (key : Option Bytes) (from to old : Known) (fault : Fault) → l ≡ limits
@@ -43,32 +43,24 @@ missed limits l raw key from to old fault same (Err e, is, reads) =
     (subst (λ (m : Bounds). ReadsHeader from to m.max_header (Err e)) same reads))
 
 -- the same of a header that was not shown to its end
-front_of : (limits : Bounds) (raw : Bool) (key : Option Bytes) (b : Bytes) (from to old new : Known) (h : HeaderParts)
-    → ReadsHeaderOf b from to limits.max_header (Ok h) → ShowsFront raw h (check_of key h) old new
-    → InspectsText limits raw key b old new (Err Write)
-front_of limits raw key b from to old new h (text, verdict, took) front = (h, text, verdict, front)
-
-front_from : (limits : Bounds) (raw : Bool) (key : Option Bytes) (from to old new : Known) (h : HeaderParts)
-    → ReadsHeader from to limits.max_header (Ok h) → ShowsFront raw h (check_of key h) old new
+prefix_from : (limits : Bounds) (raw : Bool) (key : Option Bytes) (from to old new : Known) (h : HeaderParts)
+    → ReadsHeader from to limits.max_header (Ok h) → ShowsPrefix raw h (check_of key h) old new
     → Inspecting limits raw key from old new (Err Write)
-front_from limits raw key None to old new h (b, reads) front =
-    (b, front_of limits raw key b None to old new h reads front)
-front_from limits raw key (Some b) to old new h reads front =
-    front_of limits raw key b (Some b) to old new h reads front
+prefix_from limits raw key from to old new h (b, may, (text, verdict, took)) prefix =
+    (b, may, (h, text, verdict, prefix))
 
 -- nothing is shown where memory was refused
 unshown : (limits : Bounds) (raw : Bool) (key : Option Bytes) (from old new : Known) → Keeps old new
     → Inspecting limits raw key from old new (Err OutOfMemory)
-unshown limits raw key None old new k = ([], k)
-unshown limits raw key (Some b) old new k = k
+unshown limits raw key from old new k = let b = may-some from in (b.0, b.1, k)
 
 shown_of : (limits : Bounds) (raw : Bool) (key : Option Bytes) (from to old new : Known) (h : HeaderParts)
     (fault : Fault)
     → ReadsHeader from to limits.max_header (Ok h) → Shows raw h (check_of key h) old new (Err fault)
     → Inspecting limits raw key from old new (Err fault)
-shown_of limits raw key from to old new h fault reads (inl (is, front)) =
+shown_of limits raw key from to old new h fault reads (inl (is, prefix)) =
     subst (λ f. Inspecting limits raw key from old new (Err f)) (sym is)
-    (front_from limits raw key from to old new h reads front)
+    (prefix_from limits raw key from to old new h reads prefix)
 shown_of limits raw key from to old new h fault reads (inr (is, k)) =
     subst (λ f. Inspecting limits raw key from old new (Err f)) (sym is) (unshown limits raw key from old new k)
 
@@ -114,9 +106,9 @@ pub tabled : {E : Type 0} (header : HeaderParts) (checked : Check) (one two thre
     → OnOk r ((shown : Bytes) × IsTable header checked shown × Appends one six shown)
 tabled header checked one two three four five six characters text n (Err e) is mac whole a b c d f = tt
 tabled header checked one two three four five six characters text n (Ok u) is mac whole a b c d f =
-    let front : Bytes = first_lines (length header.stanzas) in
+    let prefix : Bytes = first_lines (length header.stanzas) in
     let lines : Bytes = rows 0 header.stanzas in (
-      front ++ lines ++ codes "mac " ++ characters ++ last_lines n checked,
+      prefix ++ lines ++ codes "mac " ++ characters ++ last_lines n checked,
       record {
         characters = characters;
         text = text;
@@ -125,8 +117,9 @@ tabled header checked one two three four five six characters text n (Ok u) is ma
         spelled = ap (λ k. first_lines (length header.stanzas) ++ rows 0 header.stanzas ++ codes "mac " ++ characters
             ++ last_lines k checked) is;
       },
-      Appends-trans one five six (front ++ lines ++ codes "mac " ++ characters) (last_lines n checked)
-          (Appends-trans one four five (front ++ lines ++ codes "mac ") characters
-          (Appends-trans one three four (front ++ lines) (codes "mac ") (Appends-trans one two three front lines a b) c)
+      Appends-trans one five six (prefix ++ lines ++ codes "mac " ++ characters) (last_lines n checked)
+          (Appends-trans one four five (prefix ++ lines ++ codes "mac ") characters
+          (Appends-trans one three four (prefix ++ lines) (codes "mac ")
+          (Appends-trans one two three prefix lines a b) c)
           d) f,
     )

@@ -1,4 +1,3 @@
 mod InspectLemmas
 mod RangeLemmas
 mod SecretLemmas
-mod TaskLemmas

@@ -28,9 +28,9 @@ nothing told layout at n old none = record {
 }
 
 -- a prefix of a slice is one
-slice_front : (told : Known) (layout : Layout) (at n : ℕ) (xs : Bytes) → HasPlain told layout at xs
+slice_prefix : (told : Known) (layout : Layout) (at n : ℕ) (xs : Bytes) → HasPlain told layout at xs
     → HasPlain told layout at (take n xs)
-slice_front told layout at n xs plain k lt =
+slice_prefix told layout at n xs plain k lt =
     let l : length (take n xs) ≡ min n (length xs) = length-take n xs in
     let byte = plain k (omega arith) in
     (byte.0, byte.1, byte.2 ∙ ap Some (sym (get_or-take n xs k 0 (omega arith))))
@@ -109,7 +109,7 @@ written_part told layout at n k most buf rest old new le plain low a =
       record {
         part = take k (take n buf);
         size = refl;
-        plain = slice_front told layout at k (take n buf) plain;
+        plain = slice_prefix told layout at k (take n buf) plain;
         appends = subst (λ xs. Appends old new (take k xs)) (take-append-le n buf rest le) a;
       },
     )

@@ -5,7 +5,7 @@ use Rattle.std.specs.Str.{bytes_eq}
 use Rattle.std.specs.declared.option.Option.{Option}
 use Rattle.std.specs.declared.option.Option.TheVariants.{None, Some}
 use Rattle.std.specs.Io.KnownBytes.{Appends, Keeps}
-use Rattle.age_header.specs.Device.{Bytes, Known, WritesPart}
+use Rattle.age_header.specs.Device.{Bytes, Known, MayGive, WritesPart}
 use Rattle.age_header.specs.declared.fault.HeaderFault.{HeaderFault}
 use Rattle.age_header.specs.Base64.{IsBase64}
 use Rattle.age_header.specs.Header.{Head, HeaderParts, StanzaParts, line}
@@ -74,9 +74,9 @@ IsShown true header checked shown = Head header.stanzas header.mac shown
 IsShown false header checked shown = IsTable header checked shown
 
 -- a prefix of what is shown of a header was written
-abbrev pub ShowsFront : (raw : Bool) (header : HeaderParts) (checked : Check) (old new : Known)
+abbrev pub ShowsPrefix : (raw : Bool) (header : HeaderParts) (checked : Check) (old new : Known)
     → Type 0
-ShowsFront raw header checked old new =
+ShowsPrefix raw header checked old new =
     (shown : Bytes) × IsShown raw header checked shown × WritesPart old new shown
 
 -- what showing a header writes: all of it, a prefix where a write failed, or nothing
@@ -85,7 +85,7 @@ abbrev pub Shows : (raw : Bool) (header : HeaderParts) (checked : Check) (old ne
 Shows raw header checked old new (Ok _) =
     (shown : Bytes) × IsShown raw header checked shown × Appends old new shown
 Shows raw header checked old new (Err fault) =
-    ((fault ≡ Write) × ShowsFront raw header checked old new)
+    ((fault ≡ Write) × ShowsPrefix raw header checked old new)
     ⊎ ((fault ≡ OutOfMemory) × Keeps old new)
 
 -- what is returned after a header was shown
@@ -108,7 +108,7 @@ abbrev pub ShowsPart : (limits : Bounds) (raw : Bool) (key : Option Bytes) (b : 
 ShowsPart limits raw key b old new =
     (header : HeaderParts) × (text : Bytes)
     × HeaderVerdict b limits.max_header (Ok (found_in text header))
-    × ShowsFront raw header (check_of key header) old new
+    × ShowsPrefix raw header (check_of key header) old new
 
 -- b begins with no header, and this is its fault; nothing was written
 abbrev pub Misses : (limits : Bounds) (b : Bytes) (old new : Known) (fault : Fault) → Type 0
@@ -127,9 +127,8 @@ InspectsText limits raw key b old new (Err Read) = Keeps old new
 InspectsText limits raw key b old new (Err OutOfMemory) = Keeps old new
 InspectsText limits raw key b old new (Err fault) = Misses limits b old new fault
 
--- The same of a source whose bytes may be unknown: then of some bytes.
+-- the same of bytes that a source may give
 abbrev pub Inspecting : (limits : Bounds) (raw : Bool) (key : Option Bytes) (from old new : Known)
     (result : Result ⊤ Fault) → Type 0
-Inspecting limits raw key None old new result =
-    (b : Bytes) × InspectsText limits raw key b old new result
-Inspecting limits raw key (Some b) old new result = InspectsText limits raw key b old new result
+Inspecting limits raw key from old new result =
+    (b : Bytes) × MayGive from b × InspectsText limits raw key b old new result

@@ -3,18 +3,18 @@ use Rattle.std.proofs.Common.{◌≡◌, ℕ, ◌++◌, ◌+◌, ◌-◌, ◌^�
 use Rattle.std.proofs.lemmas.List.{length-drop, length-take, length-take-le, drop-drop, drop_all, take-append-drop}
 use Rattle.age_header.specs.Device.{Bytes, Gives, Known}
 use Rattle.age_file.specs.Ranges.{IsWithin}
-use Rattle.age_stream.specs.Places.{GivesAt, HasPlaces}
+use Rattle.age_stream.specs.Offsets.{GivesAt, HasOffsets}
 
 -- a read at the current offset returns the next bytes
 pub gives-on : {E : Type 0} (told : Known) (size : Option ℕ) (at at2 n : ℕ) (buf : Bytes) (r : Result ℕ E) → r ≡ Ok n
-    → HasPlaces told → IsWithin told at → n ≤ length buf
+    → HasOffsets told → IsWithin told at → n ≤ length buf
     → at2 ≡ min (at + n) (2 ^ 64 - 1) → GivesAt told size at r buf
     → Gives (option_map (drop at) told) (option_map (drop at2) told) r buf
-gives-on {E} told size at at2 n buf r is places within le next h =
+gives-on {E} told size at at2 n buf r is offsets within le next h =
     subst (λ (x : Result ℕ E). Gives (option_map (drop at) told) (option_map (drop at2) told) x buf) (sym is)
-    (go told places within (subst (λ (x : Result ℕ E). GivesAt told size at x buf) is h))
+    (go told offsets within (subst (λ (x : Result ℕ E). GivesAt told size at x buf) is h))
   where
-    go : (t : Known) → HasPlaces t → IsWithin t at → GivesAt {E = E} t size at (Ok n) buf
+    go : (t : Known) → HasOffsets t → IsWithin t at → GivesAt {E = E} t size at (Ok n) buf
         → Gives {E = E} (option_map (drop at) t) (option_map (drop at2) t) (Ok n) buf
     go None p w g = (tt, λ e some. tt)
     go (Some bytes) p w g =

@@ -3,8 +3,7 @@ use Rattle.std.proofs.Common.{◌≡◌, ℕ, ◌+◌, ◌*◌, ◌^◌, ◌≤�
 use Rattle.std.proofs.KnownBytes.{Appends-nil, Appends-trans, Consumes-nil, Consumes-trans}
 use Rattle.std.specs.Io.KnownBytes.{Appends, Consumes}
 use Rattle.age_header.specs.Device.{Bytes, MayGive, WritesPart, Known}
-use Rattle.age_header.proofs.MayGiveLemmas.{may-end, may-more, may-some}
-use Rattle.age_header.proofs.WriteLemmas.{done_part}
+use Rattle.age_header.proofs.DeviceLemmas.{may-end, may-more, may-some, done_part}
 use Rattle.age_file.specs.declared.fault.Fault.{Fault}
 use Rattle.age_file.specs.declared.fault.Fault.TheVariants.{NotAge, BadLine, HeaderTruncated, HeaderTooLarge, MixedPassphrase, NoMatch, WrongKey, Malformed, BadMac, NonceTruncated, ChunkShort, EmptyFinal, BadChunk, TooManyChunks, Read, Write, OutOfMemory, NoRecipients, Refused, IncompatibleRecipients}
 use Rattle.age_file.specs.Copying.{Copies, CopiesPiece}
@@ -43,7 +42,7 @@ copied_all size from a b old m n k false is c (piece, took, put, end) = (
 -- a prefix of a text was written
 front : (old new : Known) (bytes rest : Bytes) → Appends old new bytes → WritesPart old new (bytes ++ rest)
 front old new bytes rest put =
-    done_part old new new (bytes ++ rest) rest [] rest (record { front = bytes; took = put; is = refl }) refl
+    done_part old new new (bytes ++ rest) rest [] rest (record { prefix = bytes; took = put; is = refl }) refl
     (0, Appends-nil new)
 
 -- what was copied, and what may still come
@@ -64,7 +63,7 @@ write_failed from a b old m n k piece c took part =
       c.bytes ++ (piece ++ more.0),
       may-more from a c.bytes (piece ++ more.0) c.took (may-more a b piece more.0 took more.1),
       done_part old m n (c.bytes ++ (piece ++ more.0)) (piece ++ more.0) piece more.0
-          (record { front = c.bytes; took = c.put; is = refl }) refl part,
+          (record { prefix = c.bytes; took = c.put; is = refl }) refl part,
     )
 
 pub copied_failed : (size : ℕ) (from a b old m n : Known) (k : ℕ) (fault : Fault) → Copied from a old m k
@@ -104,7 +103,7 @@ after_piece : (from a old m n : Known) (piece rest : Bytes) → Consumes from a 
     → MayGive from (piece ++ rest) × WritesPart old n (piece ++ rest)
 after_piece from a old m n piece rest took put may part = (
   may-more from a piece rest took may,
-  done_part old m n (piece ++ rest) rest rest [] (record { front = piece; took = put; is = refl })
+  done_part old m n (piece ++ rest) rest rest [] (record { prefix = piece; took = put; is = refl })
       (sym (append-nil rest)) part,
 )
 

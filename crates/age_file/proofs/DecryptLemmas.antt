@@ -1,23 +1,23 @@
 -- What decrypting returns, from what its parts return.
-use Rattle.std.proofs.Common.{◌≡◌, ◌⊎◌, ◌+◌, ◌*◌, ◌/◌, ◌≤◌, ℕ, [], ◌++◌, length, drop, sym, ◌∙◌, ap, refl, subst, arith, inl, inr, Some, None, Result, Ok, Err}
+use Rattle.std.proofs.Common.{◌≡◌, ◌⊎◌, ◌+◌, ◌*◌, ◌/◌, ◌≤◌, ℕ, ◌++◌, length, drop, sym, ◌∙◌, ap, refl, subst, arith, inl, inr, Some, Result, Ok, Err}
 use Rattle.std.specs.Prelude.{option_map}
 use Rattle.std.specs.Io.KnownBytes.{Appends}
 use Rattle.std.proofs.KnownBytes.{Appends-nil}
 use Rattle.std.proofs.lemmas.List.{drop_at, take_all}
 use Rattle.age_header.specs.declared.fault.HeaderFault.{HeaderFault}
 use Rattle.age_header.specs.declared.fault.HeaderFault.TheVariants as header
-use Rattle.age_header.specs.Device.{Bytes, GaveAtMost, MayGive, Known}
+use Rattle.age_header.specs.Device.{Bytes, CountsFaultIf, GaveAtMost, MayGive, Known}
 use Rattle.age_header.specs.Header.{HeaderParts}
 use Rattle.age_header.specs.Reader.{ReadsHeader, Refuses}
 use Rattle.age_header.specs.Verdict.{HeaderVerdict}
-use Rattle.age_header.proofs.MayGiveLemmas.{gave-more, may-some}
-use Rattle.age_header.proofs.OneVerdict.{found_again}
-use Rattle.age_header.proofs.SomeVerdict.{some_verdict}
+use Rattle.age_header.proofs.DeviceLemmas.{gave-more, may-more, may-some}
+use Rattle.age_header.proofs.VerdictUniqueLemmas.{found_again}
+use Rattle.age_header.proofs.VerdictTotalLemmas.{some_verdict}
 use Rattle.age_recipient.specs.declared.key.FileKey.{FileKey}
 use Rattle.age_stream.specs.declared.done.Done.{Done}
 use Rattle.age_stream.specs.declared.fault.StreamFault.{StreamFault}
 use Rattle.age_stream.specs.declared.fault.StreamFault.TheVariants as stream
-use Rattle.age_stream.specs.Counts.{CountsReadFault}
+use Rattle.age_stream.specs.Counts as counts
 use Rattle.age_stream.specs.Opening.{EndsAt, IsAtPiece, WritesReading}
 use Rattle.age_stream.specs.Payload.{pieces}
 use Rattle.age_stream.specs.Reader.{MissesNonce}
@@ -26,7 +26,7 @@ use Rattle.age_file.specs.declared.fault.Fault.{Fault}
 use Rattle.age_file.specs.declared.fault.Fault.TheVariants.{NotAge, BadLine, HeaderTruncated, HeaderTooLarge, MixedPassphrase, NoMatch, WrongKey, Malformed, BadMac, NonceTruncated, ChunkShort, EmptyFinal, BadChunk, TooManyChunks, Read, Write, OutOfMemory, NoRecipients, Refused, IncompatibleRecipients}
 use Rattle.age_file.specs.AgeFile.{Bounds}
 use Rattle.age_file.specs.Decrypt.{BeginsVerdict, Decrypts, DecryptsText, GivesVerdict, TookUpTo, TookThrough, payload_pieces}
-use Rattle.age_file.specs.Device.{CountsRead}
+use Rattle.age_file.specs.Device.{is_read}
 use Rattle.age_file.specs.Inspect.{Inspects}
 use Rattle.age_file.proofs.PayloadLemmas.{WritesPayload, nonce-writes}
 use Rattle.age_file.specs.Verdict.{Answering, IsVerdict, found_in, header_fault, judged, read_under, stream_fault, unlocked}
@@ -48,12 +48,6 @@ pub some-verdict : (limits : Bounds) (answers : Answering) (b : Bytes)
 some-verdict limits answers b =
     let h = some_verdict b limits.max_header in
     (judged limits answers b h.0, record { header = h.0; header_verdict = h.1; is = refl })
-
-pub decrypts-of : (limits : Bounds) (answers : Answering) (come : Known) (b : Bytes) (old new : Known)
-    (r : Result Done Fault) → MayGive come b
-    → DecryptsText limits answers b old new r → Decrypts limits answers come old new r
-decrypts-of limits answers None b old new r may h = (b, h)
-decrypts-of limits answers (Some x) b old new r may h = subst (λ z. DecryptsText limits answers z old new r) (sym may) h
 
 -- the whole is a prefix of itself
 begins-whole : (limits : Bounds) (answers : Answering) (b : Bytes) (old new : Known) (r : Result Done Fault)
@@ -116,8 +110,7 @@ header-text limits answers b old header.TooLarge h =
 
 header-decrypts : (limits : Bounds) (answers : Answering) (come mid old : Known) (g : HeaderFault)
     → ReadsHeader come mid limits.max_header (Err g) → Decrypts limits answers come old old (Err (header_fault g))
-header-decrypts limits answers None mid old g h = (h.0, header-text limits answers h.0 old g h.1)
-header-decrypts limits answers (Some b) mid old g h = header-text limits answers b old g h
+header-decrypts limits answers come mid old g (b, may, h) = (b, may, header-text limits answers b old g h)
 
 pub inspect-decrypts : (limits : Bounds) (answers : Answering) (come mid old : Known) (fault : Fault)
     → Inspects limits come mid (Err fault) → Decrypts limits answers come old old (Err fault)
@@ -136,17 +129,10 @@ pub record IsHeaded (limits : Bounds) (come mid : Known) (h : HeaderParts) : Typ
 
 parts-headed : (limits : Bounds) (come mid : Known) (h : HeaderParts) → ReadsHeader come mid limits.max_header (Ok h)
     → IsHeaded limits come mid h
-parts-headed limits None mid h (b, (text, verdict, took)) = record {
-  text = text;
-  took = (text, tt, omega arith);
-  may = λ rest m. tt;
-  verdict = λ rest m. found_again b limits.max_header (found_in text h) verdict rest;
-}
-parts-headed limits (Some b) None h (text, verdict, took) = absurd took
-parts-headed limits (Some b) (Some r) h (text, verdict, took) = record {
+parts-headed limits come mid h (b, given, (text, verdict, took)) = record {
   text = text;
   took = (text, took, omega arith);
-  may = λ rest m. took ∙ ap (λ t. text ++ t) m;
+  may = λ rest m. may-more come mid text rest took m;
   verdict = λ rest m. found_again b limits.max_header (found_in text h) verdict rest;
 }
 
@@ -172,8 +158,7 @@ verdict-of limits answers come mid h i rest m = record {
 -- memory was refused
 pub memory-decrypts : (limits : Bounds) (answers : Answering) (come old new : Known)
     → Decrypts limits answers come old new (Err OutOfMemory)
-memory-decrypts limits answers None old new = ([], tt)
-memory-decrypts limits answers (Some b) old new = tt
+memory-decrypts limits answers come old new = let b = may-some come in (b.0, b.1, tt)
 
 -- no key
 pub locked-decrypts : (limits : Bounds) (answers : Answering) (come mid old : Known) (h : HeaderParts) (fault : Fault)
@@ -185,11 +170,13 @@ locked-decrypts limits answers come mid old h fault i (inl memory) =
     (memory-decrypts limits answers come old old)
 locked-decrypts limits answers come mid old h fault i (inr key) =
     let is = headed limits come mid h i in
-    let d = may-some mid in
-    decrypts-of limits answers come (is.text ++ d.0) old old (Err fault) (is.may d.0 d.1)
-    (stops-decrypts limits answers (is.text ++ d.0) old fault
-    (subst (λ k. IsVerdict limits answers (is.text ++ d.0) (read_under limits d.0 k)) (sym key)
-    (verdict-of limits answers come mid h is d.0 d.1)))
+    let d = may-some mid in (
+      is.text ++ d.0,
+      is.may d.0 d.1,
+      stops-decrypts limits answers (is.text ++ d.0) old fault
+          (subst (λ k. IsVerdict limits answers (is.text ++ d.0) (read_under limits d.0 k)) (sym key)
+          (verdict-of limits answers come mid h is d.0 d.1)),
+    )
 
 -- ---- the payload
 
@@ -244,8 +231,7 @@ payload-decrypts limits answers come mid old new h k max r i (inl memory) same w
 payload-decrypts limits answers come mid old new h k max r i (inr key) same (c, may, x) =
     let is = headed limits come mid h i in
     let w = subst (λ m. WritesReading (payload_reading k m c) (length (pieces (drop 16 c))) old new r) same x in
-    decrypts-of limits answers come (is.text ++ c) old new (file_result r) (is.may c may)
-    (payload-text limits answers come mid h is k c may old new r key w)
+    (is.text ++ c, is.may c may, payload-text limits answers come mid h is k c may old new r key w)
 
 -- there is no nonce, or no memory
 pub missed-decrypts : (P : Type 0) (limits : Bounds) (answers : Answering) (come mid to old : Known) (before after : ℕ)
@@ -262,16 +248,10 @@ missed-decrypts P limits answers come mid to old before after h k max fault i ke
 
 -- ---- counts, and what was taken
 
-pub reads-file : (old new : ℕ) (fault : StreamFault) → CountsReadFault old new fault
-    → CountsRead {A = Done} old new (Err (stream_fault fault))
+pub reads-file : (old new : ℕ) (fault : StreamFault) → CountsFaultIf counts.is_read old new fault
+    → CountsFaultIf is_read old new (stream_fault fault)
 reads-file old new stream.Read h = h
-reads-file old new stream.Write h = h
-reads-file old new stream.Memory h = h
-reads-file old new stream.NonceTruncated h = h
-reads-file old new (stream.ChunkShort i) h = h
-reads-file old new (stream.EmptyFinal i) h = h
-reads-file old new (stream.BadChunk i) h = h
-reads-file old new stream.TooManyChunks h = h
+reads-file old new _ h = h
 
 took-piece : (limits : Bounds) (come mid to old new : Known) (h : HeaderParts) (i : IsHeaded limits come mid h)
     (fault : StreamFault) (n : ℕ) (e : EndsAt limits.max_chunks 16 mid to old new fault) → e.piece ≤ n

@@ -1,15 +1,14 @@
 -- What a call of `encrypt` has written.
-use Rattle.std.proofs.Common.{Bool, true, false, ◌≡◌, ◌⊎◌, ℕ, ◌+◌, ◌-◌, ◌*◌, ◌<◌, ◌≤◌, List, [], ◌++◌, length, take, refl, sym, subst, inl, inr, arith, None, IfNone, Some, Result, Ok, Err, append_assoc}
+use Rattle.std.proofs.Common.{Bool, true, false, ◌≡◌, ◌⊎◌, ℕ, ◌+◌, ◌-◌, ◌*◌, ◌<◌, ◌≤◌, List, [], ◌++◌, length, take, refl, sym, subst, inl, inr, arith, IfNone, Result, Ok, Err, append_assoc}
 use Rattle.std.proofs.lemmas.List.{append-nil, length-append}
 use Rattle.std.specs.List.{concat}
 use Rattle.std.specs.Io.KnownBytes.{Appends}
 use Rattle.std.proofs.KnownBytes.{Appends-nil, Appends-trans}
-use Rattle.age_header.specs.Device.{Bytes, GaveAtMost, MayGive, WritesPart, Known}
+use Rattle.age_header.specs.Device.{Bytes, GaveAtMost, WritesPart, Known}
 use Rattle.age_header.specs.Header.{StanzaParts, Head}
 use Rattle.age_header.specs.Mac.{header_mac}
-use Rattle.age_header.proofs.MayGiveLemmas.{may-more, may-some}
-use Rattle.age_header.proofs.OneText.{one_text}
-use Rattle.age_header.proofs.WriteLemmas.{done_part}
+use Rattle.age_header.proofs.DeviceLemmas.{may-more, may-some, done_part}
+use Rattle.age_header.proofs.HeaderLemmas.{one_text}
 use Rattle.age_recipient.specs.declared.key.FileKey.{FileKey}
 use Rattle.age_stream.specs.declared.done.Done.{Done}
 use Rattle.age_stream.specs.declared.fault.StreamFault.{StreamFault}
@@ -22,7 +21,7 @@ use Rattle.age_file.specs.declared.fault.Fault.TheVariants.{TooManyChunks, Read,
 use Rattle.age_file.specs.declared.limits.Fresh.{Fresh}
 use Rattle.age_file.specs.AgeFile.{Bounds}
 use Rattle.age_file.specs.Device.{IsLate}
-use Rattle.age_file.specs.NewFile.{BegunFile, EncryptsGiven, EncryptsText, Gathering, IsHeading, MayFillChunk, RefusesFirst, SealsRest, TookWhileEncrypting, TookChunks}
+use Rattle.age_file.specs.NewFile.{BegunFile, EncryptsGiven, EncryptsText, FailsHeading, Gathering, IsHeading, IsRefusal, MayFillChunk, RefusesFirst, SealsRest, TookWhileEncrypting, TookChunks}
 use Rattle.age_file.specs.Verdict.{stream_fault}
 use Rattle.age_file.proofs.DecryptLemmas.{file_result}
 
@@ -47,20 +46,27 @@ made limits k gathered stanzas mac written (is, (text, heading)) head =
     (subst (λ (m : Bytes). Head stanzas m written) is head) in
     record { stanzas = stanzas; heading = subst (λ (t : Bytes). IsHeading limits k gathered stanzas t) same heading }
 
--- of a plaintext that the source may give
-pub encrypts_of : (limits : Bounds) (fresh : Fresh) (gathered : Gathering) (plain : Bytes) (from old new : Known)
-    (r : Result Done Fault)
-    → MayGive from plain → EncryptsText limits fresh gathered plain old new r
-    → EncryptsGiven limits fresh gathered from old new r
-encrypts_of limits fresh gathered plain None old new r may h = (plain, h)
-encrypts_of limits fresh gathered plain (Some b) old new r may h =
-    subst (λ (z : Bytes). EncryptsText limits fresh gathered z old new r) (sym may) h
-
 -- memory was refused
 pub encrypts_refused : (limits : Bounds) (fresh : Fresh) (gathered : Gathering) (from old new : Known)
     → EncryptsGiven limits fresh gathered from old new (Err OutOfMemory)
-encrypts_refused limits fresh gathered None old new = ([], tt)
-encrypts_refused limits fresh gathered (Some plain) old new = tt
+encrypts_refused limits fresh gathered from old new = let plain = may-some from in (plain.0, plain.1, tt)
+
+-- no header was made
+pub encrypts_unmade : (limits : Bounds) (fresh : Fresh) (gathered : Gathering) (from old new : Known) (fault : Fault)
+    → FailsHeading limits fresh.file_key gathered fault
+    → EncryptsGiven limits fresh gathered from old new (Err fault)
+encrypts_unmade limits fresh gathered from old new fault (inl memory) =
+    subst (λ f. EncryptsGiven limits fresh gathered from old new (Err f)) (sym memory)
+    (encrypts_refused limits fresh gathered from old new)
+encrypts_unmade limits fresh gathered from old new fault (inr refusal) =
+    let plain = may-some from in (plain.0, plain.1, go plain.0 fault refusal)
+  where
+    go : (plain : Bytes) (f : Fault) → IsRefusal limits fresh.file_key gathered f
+        → EncryptsText limits fresh gathered plain old new (Err f)
+    go plain TooManyChunks h = absurd h
+    go plain Read h = absurd h
+    go plain Write h = absurd h
+    go plain _ h = tt
 
 -- a prefix of the header and the nonce was written
 pub encrypts_begun : (limits : Bounds) (fresh : Fresh) (gathered : Gathering) (stanzas : List StanzaParts) (mac : Bytes)
@@ -74,14 +80,17 @@ encrypts_begun limits fresh gathered stanzas mac from old new header (text, head
     let front : Bytes = text ++ fresh.nonce in
     let rest : Bytes = concat (sealed_chunks fresh.file_key fresh.nonce plain.0) in
     let is : text ++ payload fresh.file_key fresh.nonce plain.0 ≡ front ++ rest =
-    sym (append_assoc text fresh.nonce rest) in
-    encrypts_of limits fresh gathered plain.0 from old new (Err Write) plain.1 (record {
-      stanzas = m.stanzas;
-      text = text;
-      heading = m.heading;
-      part = done_part old old new (text ++ payload fresh.file_key fresh.nonce plain.0) (front ++ rest) front rest
-          (record { front = []; took = Appends-nil old; is = is }) refl part;
-    })
+    sym (append_assoc text fresh.nonce rest) in (
+      plain.0,
+      plain.1,
+      record {
+        stanzas = m.stanzas;
+        text = text;
+        heading = m.heading;
+        part = done_part old old new (text ++ payload fresh.file_key fresh.nonce plain.0) (front ++ rest) front rest
+            (record { prefix = []; took = Appends-nil old; is = is }) refl part;
+      },
+    )
 
 -- the first chunk was not read, and nothing was written
 pub encrypts_unread : (limits : Bounds) (fresh : Fresh) (gathered : Gathering) (stanzas : List StanzaParts)
@@ -90,8 +99,7 @@ pub encrypts_unread : (limits : Bounds) (fresh : Fresh) (gathered : Gathering) (
     → EncryptsGiven limits fresh gathered from old old (Err Read)
 encrypts_unread limits fresh gathered stanzas mac from old (is, (text, heading)) =
     let plain = may-some from in
-    encrypts_of limits fresh gathered plain.0 from old old (Err Read) plain.1
-    (record { stanzas = stanzas; text = text; heading = heading; part = (0, Appends-nil old) })
+    (plain.0, plain.1, record { stanzas = stanzas; text = text; heading = heading; part = (0, Appends-nil old) })
 
 -- a prefix of the payload was written after them
 begun : (limits : Bounds) (fresh : Fresh) (gathered : Gathering) (text plain : Bytes) (a b c : Known)
@@ -105,7 +113,7 @@ begun limits fresh gathered text plain a b c m front part =
       text = text;
       heading = m.heading;
       part = done_part a b c (text ++ payload fresh.file_key fresh.nonce plain) rest rest []
-          (record { front = text ++ fresh.nonce; took = front; is = sym (append_assoc text fresh.nonce rest) })
+          (record { prefix = text ++ fresh.nonce; took = front; is = sym (append_assoc text fresh.nonce rest) })
           (sym (append-nil rest)) part;
     }
 
@@ -184,8 +192,7 @@ encrypts_payload : (limits : Bounds) (fresh : Fresh) (gathered : Gathering) (tex
     → EncryptsGiven limits fresh gathered from a c (file_result r)
 encrypts_payload limits fresh gathered text from to a b c (Ok done) sixteen m front
     (plain, may, rest, fits, bytes, count) =
-    encrypts_of limits fresh gathered plain from a c (Ok done) may
-    (whole limits fresh gathered text plain a b c done sixteen m front rest fits bytes count)
+    (plain, may, whole limits fresh gathered text plain a b c done sixteen m front rest fits bytes count)
 encrypts_payload limits fresh gathered text from to a b c (Err fault) sixteen m front (chunk, s) = go fault s.stops
   where
     key : Bytes
@@ -193,12 +200,9 @@ encrypts_payload limits fresh gathered text from to a b c (Err fault) sixteen m 
 
     go : (f : StreamFault) → StopsIn key limits.max_chunks 0 [] s.text b c f
         → EncryptsGiven limits fresh gathered from a c (Err (stream_fault f))
-    go stream.Read h = encrypts_of limits fresh gathered s.text from a c (Err Read) s.may
-        (begun limits fresh gathered text s.text a b c m front h)
-    go stream.Write h = encrypts_of limits fresh gathered s.text from a c (Err Write) s.may
-        (begun limits fresh gathered text s.text a b c m front h)
-    go stream.TooManyChunks h = encrypts_of limits fresh gathered s.text from a c (Err TooManyChunks) s.may
-        (up_to_limit limits fresh gathered text s.text a b c m front h.0 h.1)
+    go stream.Read h = (s.text, s.may, begun limits fresh gathered text s.text a b c m front h)
+    go stream.Write h = (s.text, s.may, begun limits fresh gathered text s.text a b c m front h)
+    go stream.TooManyChunks h = (s.text, s.may, up_to_limit limits fresh gathered text s.text a b c m front h.0 h.1)
     go stream.Memory h = absurd h
     go stream.NonceTruncated h = absurd h
     go (stream.ChunkShort i) h = absurd h

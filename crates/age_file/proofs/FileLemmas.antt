@@ -11,7 +11,7 @@ use Rattle.age_header.specs.declared.fault.HeaderFault.{HeaderFault}
 use Rattle.age_header.specs.Header.{StanzaParts, HeaderParts, Head}
 use Rattle.age_header.specs.Mac.{header_mac}
 use Rattle.age_header.specs.Verdict.{Found, BeginsWith, HeaderVerdict}
-use Rattle.age_header.proofs.OneVerdict as headers
+use Rattle.age_header.proofs.VerdictUniqueLemmas as headers
 use Rattle.age_recipient.specs.declared.choice.UnlockFault.{UnlockFault}
 use Rattle.age_recipient.specs.declared.choice.UnlockFault.TheVariants.{Memory}
 use Rattle.age_recipient.specs.declared.key.FileKey.{FileKey}
@@ -96,7 +96,7 @@ checked-unlocked answers h chosen r alone (inr chose) (inr is) =
 -- what follows the header that begins a text
 pub behind : (b : Bytes) (max : ℕ) (found : Found) (begins : BeginsWith b max found)
     → drop (length found.text) b ≡ begins.rest
-behind b max found begins = ap (drop (length found.text)) begins.front
+behind b max found begins = ap (drop (length found.text)) begins.prefix
     ∙ drop_at found.text begins.rest (length found.text) refl
 
 under-file : (limits : Bounds) (answers : Answering) (b p : Bytes) (found : Found)
@@ -118,7 +118,7 @@ under-file limits answers b p found begins (Ok k) is h =
         nonce = body.nonce;
         head = subst (λ (m : Bytes). Head found.stanzas m found.text) has.mac begins.head;
         nonce_len = body.nonce_len;
-        spelled = begins.front ∙ ap (λ x. found.text ++ x)
+        spelled = begins.prefix ∙ ap (λ x. found.text ++ x)
             (sym (behind b limits.max_header found begins) ∙ body.spelled);
         header_fits = begins.fits;
         chunks_fit = body.count;
@@ -143,7 +143,7 @@ file-whole limits answers b p stanzas k file chosen =
     let found : Found = record { stanzas = stanzas; mac = mac; text = file.header } in
     let body : Bytes = payload k file.nonce p in
     let begins : BeginsWith b limits.max_header found =
-    record { rest = body; head = file.head; front = file.spelled; fits = file.header_fits } in
+    record { rest = body; head = file.head; prefix = file.spelled; fits = file.header_fits } in
     let reads : payload_reading k limits.max_chunks (drop (length file.header) b) ≡ whole p =
     ap (payload_reading k limits.max_chunks) (behind b limits.max_header found begins)
     ∙ payload-ok k body p limits.max_chunks

@@ -5,7 +5,7 @@ use Rattle.std.proofs.KnownBytes.{Appends-nil}
 use Rattle.std.proofs.lemmas.Bool.{le-ltb, lt-ltb, cond-false, cond-true}
 use Rattle.std.proofs.lemmas.List.{take_at, drop_at}
 use Rattle.age_header.specs.Device.{Bytes, GaveAtMost, MayGive, Known}
-use Rattle.age_header.proofs.MayGiveLemmas.{gave-more, may-some}
+use Rattle.age_header.proofs.DeviceLemmas.{gave-more, may-some}
 use Rattle.age_recipient.specs.declared.key.FileKey.{FileKey}
 use Rattle.age_stream.specs.declared.done.Done.{Done}
 use Rattle.age_stream.specs.declared.fault.StreamFault.{StreamFault}

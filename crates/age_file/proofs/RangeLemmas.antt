@@ -1,15 +1,15 @@
 -- What opening a file for ranges does, from what its parts do.
 use Rattle.std.proofs.Common.{◌≡◌, ◌⊎◌, ℕ, ◌++◌, ◌+◌, ◌-◌, ◌≤◌, length, drop, sym, ◌∙◌, ap, refl, subst, arith, inl, inr, option_map, Option, Some, None, Result, Ok, Err}
-use Rattle.std.specs.Prelude.{Bool, true, false, IfErr, IfSome, if◌then◌else◌}
+use Rattle.std.specs.Prelude.{◌^◌, min, Bool, true, false, IfErr, IfSome, if◌then◌else◌}
 use Rattle.std.specs.Result.{result_map_both}
 use Rattle.std.specs.Str.{bytes_eq}
 use Rattle.std.proofs.lemmas.List.{length-append, length-drop}
-use Rattle.age_header.specs.Device.{Bytes, Known}
+use Rattle.age_header.specs.Device.{Bytes, CountsFaultIf, Known}
 use Rattle.age_header.specs.declared.fault.HeaderFault.{HeaderFault}
 use Rattle.age_header.specs.declared.fault.HeaderFault.TheVariants as header
 use Rattle.age_header.specs.Header.{HeaderParts}
 use Rattle.age_header.specs.Mac.{header_mac}
-use Rattle.age_header.proofs.MayGiveLemmas.{may-some}
+use Rattle.age_header.proofs.DeviceLemmas.{may-some}
 use Rattle.age_header.specs.Reader.{Refuses}
 use Rattle.age_header.specs.Verdict.{HeaderVerdict}
 use Rattle.age_recipient.specs.declared.key.FileKey.{FileKey}
@@ -18,7 +18,7 @@ use Rattle.age_recipient.specs.declared.choice.UnlockFault.TheVariants as unlock
 use Rattle.age_recipient.specs.Choice.{choice}
 use Rattle.age_stream.specs.declared.fault.StreamFault.{StreamFault}
 use Rattle.age_stream.specs.declared.fault.StreamFault.TheVariants as fault
-use Rattle.age_stream.specs.Counts.{CountsReadFault}
+use Rattle.age_stream.specs.Counts as counts
 use Rattle.age_stream.specs.Ranges as stream
 use Rattle.age_stream.specs.Ranges.{OpensRanges}
 use Rattle.age_stream.specs.Slice.{last_piece, range_outcome}
@@ -26,9 +26,8 @@ use Rattle.age_file.specs.declared.fault.Fault.{Fault}
 use Rattle.age_file.specs.declared.fault.Fault.TheVariants.{BadMac, MixedPassphrase, OutOfMemory}
 use Rattle.age_file.specs.AgeFile.{Bounds, is_mixed}
 use Rattle.age_file.specs.Inspect.{Inspects}
-use Rattle.age_file.specs.Device.{CountsRead, IsNoDeviceFault, IsNoDeviceStage, reads_after}
+use Rattle.age_file.specs.Device.{IsNoDeviceFault, is_read}
 use Rattle.age_file.specs.Ranges.{BeginsFile, HasHeader, IsOpenFault, IsRangesOf, IsSomeHeader, IsWithin, MissesHeader, MissesRanges, RefusesRanges, ranges_under}
-use Rattle.age_file.specs.Stage.{Stage, stage_of, at_header, at_key, at_nonce, at_chunk, at_read, at_write, at_memory, at_recipient}
 use Rattle.age_file.specs.Verdict.{Answering, checked, found_in, header_fault, stream_fault, unlock_fault, unlocked}
 use Rattle.age_file.proofs.DecryptLemmas.{err-err, found-key, headed, reads-file}
 
@@ -70,9 +69,9 @@ pub header-missed : (limits : Bounds) (told mid : Known) (fault : Fault)
     → Inspects limits (option_map (drop 0) told) mid (Err fault) → MissesHeader limits told fault
 header-missed limits None mid fault i = inr (inr tt)
 header-missed limits (Some b) mid fault (Ok parts, is, h) = absurd (cc)
-header-missed limits (Some b) mid fault (Err g, is, h) =
+header-missed limits (Some b) mid fault (Err g, is, (c, may, h)) =
     subst (MissesHeader limits (Some b)) (sym (err-err {A = HeaderParts} fault (header_fault g) is))
-    (refused limits b g h)
+    (refused limits b g (subst (λ x. Refuses x limits.max_header g) (sym may) h))
 
 pub missed-ranges : (limits : Bounds) (answers : Answering) (told : Known) (fault : Fault)
     → MissesHeader limits told fault → MissesRanges limits answers told fault
@@ -164,20 +163,14 @@ payload-named fault.Memory h = tt
 
 pub header-refuses : (limits : Bounds) (answers : Answering) (told told2 : Known) (failed failed2 : ℕ) (fault : Fault)
     → MissesHeader limits told fault → IsOpenFault fault
-    → told2 ≡ told → CountsRead {A = ℕ} failed failed2 (Err fault)
+    → told2 ≡ told → CountsFaultIf is_read failed failed2 fault
     → RefusesRanges limits answers told told2 failed failed2 fault
 header-refuses limits answers told told2 failed failed2 fault m early stay count =
     record { misses = missed-ranges limits answers told fault m; named = early; stay = stay; counted = count }
 
-none-counted : (stage : Stage) (old new : ℕ) → IsNoDeviceStage stage → new ≡ old → new ≡ reads_after stage old
-none-counted at_header old new h e = e
-none-counted at_key old new h e = e
-none-counted at_nonce old new h e = e
-none-counted at_chunk old new h e = e
-none-counted at_read old new h e = absurd h
-none-counted at_write old new h e = absurd h
-none-counted at_memory old new h e = e
-none-counted at_recipient old new h e = e
+none-counted : (fault : Fault) (old new : ℕ) → IsNoDeviceFault fault → new ≡ old → CountsFaultIf is_read old new fault
+none-counted fault old new none same =
+    subst (λ b. new ≡ (if b then min (old + 1) (2 ^ 64 - 1) else old)) (sym none.0) same
 
 pub locked-refuses : (limits : Bounds) (answers : Answering) (told mid told2 : Known) (failed failed2 at : ℕ)
     (h : HeaderParts) (fault : Fault) → mid ≡ told → HasHeader limits told at h
@@ -188,7 +181,7 @@ locked-refuses limits answers told mid told2 failed failed2 at h fault same foun
   misses = locked-ranges limits answers told at h fault found key;
   named = locked-named answers h fault key;
   stay = stay ∙ same;
-  counted = none-counted (stage_of fault) failed failed2 none count;
+  counted = none-counted fault failed failed2 none count;
 }
 
 pub payload-refuses : (limits : Bounds) (answers : Answering) (told mid told2 : Known)
@@ -196,7 +189,7 @@ pub payload-refuses : (limits : Bounds) (answers : Answering) (told mid told2 : 
     → failed1 ≡ failed → max ≡ limits.max_chunks → HasHeader limits told at h
     → (◌≡◌ {A = Result FileKey Fault} (Ok k) (Err OutOfMemory)) ⊎ (Ok k ≡ unlocked answers h)
     → OpensRanges k max at mid (Err fault) → stream.IsOpenFault fault → told2 ≡ mid
-    → CountsReadFault failed1 failed2 fault
+    → CountsFaultIf counts.is_read failed1 failed2 fault
     → RefusesRanges limits answers told told2 failed failed2 (stream_fault fault)
 payload-refuses limits answers told mid told2 failed failed1 failed2 at max h k fault same before most found key opens
     early stay count = record {
@@ -205,7 +198,7 @@ payload-refuses limits answers told mid told2 failed failed1 failed2 at max h k 
           (subst (λ t. OpensRanges k max at t (Err fault)) same opens));
       named = payload-named fault early;
       stay = stay ∙ same;
-      counted = subst (λ n. CountsRead {A = ℕ} n failed2 (Err (stream_fault fault))) before
+      counted = subst (λ n. CountsFaultIf is_read n failed2 (stream_fault fault)) before
           (reads-file failed1 failed2 fault count);
     }
 

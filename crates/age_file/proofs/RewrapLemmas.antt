@@ -11,9 +11,8 @@ use Rattle.age_header.specs.Header.{HeaderParts}
 use Rattle.age_header.specs.Mac.{header_mac}
 use Rattle.age_header.specs.Reader.{ReadsHeader, Refuses}
 use Rattle.age_header.specs.Verdict.{BeginsWith, Found}
-use Rattle.age_header.proofs.MayGiveLemmas.{may-some}
-use Rattle.age_header.proofs.OneVerdict as headers
-use Rattle.age_header.proofs.WriteLemmas.{done_part}
+use Rattle.age_header.proofs.DeviceLemmas.{may-some, done_part}
+use Rattle.age_header.proofs.VerdictUniqueLemmas as headers
 use Rattle.age_recipient.specs.declared.choice.UnlockFault.{UnlockFault}
 use Rattle.age_recipient.specs.declared.choice.UnlockFault.TheVariants as unlock
 use Rattle.age_recipient.specs.declared.key.FileKey.{FileKey}
@@ -35,14 +34,6 @@ use Rattle.age_file.proofs.FileLemmas.{behind, key-unlocked}
 keeps_same : (old : Known) → Keeps old old
 keeps_same None = tt
 keeps_same (Some xs) = refl
-
--- of bytes that the source may give
-rewraps_of : (limits : Bounds) (answers : Answering) (gathered : FileKey → Gathering) (come old new : Known) (b : Bytes)
-    (r : Result (Unit {0}) Fault)
-    → MayGive come b → RewrapsText limits answers gathered b old new r → Rewraps limits answers gathered come old new r
-rewraps_of limits answers gathered None old new b r may h = (b, h)
-rewraps_of limits answers gathered (Some told) old new b r may h =
-    subst (λ t. RewrapsText limits answers gathered t old new r) (sym may) h
 
 -- ---- before the first byte
 
@@ -93,8 +84,7 @@ none_read : (limits : Bounds) (answers : Answering) (gathered : FileKey → Gath
     (g : HeaderFault)
     → ReadsHeader come mid limits.max_header (Err g)
     → Rewraps limits answers gathered come old old (Err (header_fault g))
-none_read limits answers gathered None mid old g h = (h.0, no_header limits answers gathered h.0 old g h.1)
-none_read limits answers gathered (Some b) mid old g h = no_header limits answers gathered b old g h
+none_read limits answers gathered come mid old g (b, may, h) = (b, may, no_header limits answers gathered b old g h)
 
 pub inspect_rewraps : (limits : Bounds) (answers : Answering) (gathered : FileKey → Gathering) (come mid old : Known)
     (fault : Fault)
@@ -134,14 +124,16 @@ pub locked_rewraps : (limits : Bounds) (answers : Answering) (gathered : FileKey
 locked_rewraps limits answers gathered come mid old h fault i r =
     let rest = may-some mid in
     let b : Bytes = i.text ++ rest.0 in
-    let memory : RewrapsText limits answers gathered b old old (Err OutOfMemory) = tt in
-    rewraps_of limits answers gathered come old old b (Err fault) (i.may rest.0 rest.1)
-    (elim r [
-      | inl is ↦ subst (λ f. RewrapsText limits answers gathered b old old (Err f))
-          (sym (err-err {A = FileKey} fault OutOfMemory is)) memory
-      | inr is ↦ refused limits answers gathered b old fault (early_unlocked answers h fault (sym is))
-          (Ok (found_in i.text h), i.verdict rest.0 rest.1, inl (sym is))
-    ])
+    let memory : RewrapsText limits answers gathered b old old (Err OutOfMemory) = tt in (
+      b,
+      i.may rest.0 rest.1,
+      elim r [
+        | inl is ↦ subst (λ f. RewrapsText limits answers gathered b old old (Err f))
+            (sym (err-err {A = FileKey} fault OutOfMemory is)) memory
+        | inr is ↦ refused limits answers gathered b old fault (early_unlocked answers h fault (sym is))
+            (Ok (found_in i.text h), i.verdict rest.0 rest.1, inl (sym is))
+      ],
+    )
 
 -- a reason why there is no new header is early
 early_refusal : (limits : Bounds) (k : FileKey) (gathered : Gathering) (fault : Fault)
@@ -160,7 +152,7 @@ pub heading_rewraps : (limits : Bounds) (answers : Answering) (gathered : FileKe
     → IsHeaded limits come mid h → unlocked answers h ≡ Ok key → FailsHeading limits key (gathered key) fault
     → Rewraps limits answers gathered come old old (Err fault)
 heading_rewraps limits answers gathered come mid old h key fault i chosen fails =
-    rewraps_of limits answers gathered come old old b (Err fault) (i.may rest.0 rest.1) (go fails)
+    (b, i.may rest.0 rest.1, go fails)
   where
     rest : (bytes : Bytes) × MayGive mid bytes
     rest = may-some mid
@@ -206,12 +198,15 @@ pub begun_rewraps : (limits : Bounds) (answers : Answering) (gathered : FileKey 
     → IsHeaded limits come mid h → unlocked answers h ≡ Ok key → Made limits key (gathered key) text
     → WritesPart old new text → Rewraps limits answers gathered come old new (Err Write)
 begun_rewraps limits answers gathered come mid old new h key text i chosen made part =
-    let rest = may-some mid in
-    rewraps_of limits answers gathered come old new (i.text ++ rest.0) (Err Write) (i.may rest.0 rest.1) (
-      text ++ rest.0,
-      new_file limits answers gathered come mid h key text rest.0 i chosen made rest.1,
-      done_part old old new (text ++ rest.0) (text ++ rest.0) text rest.0
-          (record { front = []; took = Appends-nil old; is = refl }) refl part,
+    let rest = may-some mid in (
+      i.text ++ rest.0,
+      i.may rest.0 rest.1,
+      (
+        text ++ rest.0,
+        new_file limits answers gathered come mid h key text rest.0 i chosen made rest.1,
+        done_part old old new (text ++ rest.0) (text ++ rest.0) text rest.0
+            (record { prefix = []; took = Appends-nil old; is = refl }) refl part,
+      ),
     )
 
 -- a prefix of the rest was written after it
@@ -223,7 +218,7 @@ copied_part : (limits : Bounds) (answers : Answering) (gathered : FileKey → Ga
 copied_part limits answers gathered come mid old put new h key text bytes i chosen made front may part = (
   text ++ bytes,
   new_file limits answers gathered come mid h key text bytes i chosen made may,
-  done_part old put new (text ++ bytes) bytes bytes [] (record { front = text; took = front; is = refl })
+  done_part old put new (text ++ bytes) bytes bytes [] (record { prefix = text; took = front; is = refl })
       (sym (append-nil bytes)) part,
 )
 
@@ -233,11 +228,14 @@ pub copied_rewraps : (limits : Bounds) (answers : Answering) (gathered : FileKey
     → Made limits key (gathered key) text → Appends old put text → Copies mid put new r
     → Rewraps limits answers gathered come old new r
 copied_rewraps limits answers gathered come mid old put new h key text (Ok done) i chosen made front
-    (bytes, may, wrote) =
-    rewraps_of limits answers gathered come old new (i.text ++ bytes) (Ok done) (i.may bytes may) (
-      text ++ bytes,
-      new_file limits answers gathered come mid h key text bytes i chosen made may,
-      Appends-trans old put new text bytes front wrote,
+    (bytes, may, wrote) = (
+      i.text ++ bytes,
+      i.may bytes may,
+      (
+        text ++ bytes,
+        new_file limits answers gathered come mid h key text bytes i chosen made may,
+        Appends-trans old put new text bytes front wrote,
+      ),
     )
 copied_rewraps limits answers gathered come mid old put new h key text (Err fault) i chosen made front copied =
     go fault copied
@@ -248,20 +246,21 @@ copied_rewraps limits answers gathered come mid old put new h key text (Err faul
         may wrote
 
     go : (f : Fault) → Copies mid put new (Err f) → Rewraps limits answers gathered come old new (Err f)
-    go Read (bytes, may, wrote) = rewraps_of limits answers gathered come old new (i.text ++ bytes) (Err Read)
-        (i.may bytes may) (inr (part bytes may wrote))
-    go Write (bytes, may, wrote) = rewraps_of limits answers gathered come old new (i.text ++ bytes) (Err Write)
-        (i.may bytes may) (part bytes may wrote)
-    go TooManyChunks ((copy, put-copy, much), (bytes, may, wrote, long)) =
-        rewraps_of limits answers gathered come old new (i.text ++ bytes) (Err TooManyChunks) (i.may bytes may) (
-          part bytes may wrote,
-          omega (arith, length-append i.text bytes, long),
-          (
-            text ++ copy,
-            Appends-trans old put new text copy front put-copy,
-            omega (arith, length-append text copy, much),
-          ),
-        )
+    go Read (bytes, may, wrote) = (i.text ++ bytes, i.may bytes may, inr (part bytes may wrote))
+    go Write (bytes, may, wrote) = (i.text ++ bytes, i.may bytes may, part bytes may wrote)
+    go TooManyChunks ((copy, put-copy, much), (bytes, may, wrote, long)) = (
+      i.text ++ bytes,
+      i.may bytes may,
+      (
+        part bytes may wrote,
+        omega (arith, length-append i.text bytes, long),
+        (
+          text ++ copy,
+          Appends-trans old put new text copy front put-copy,
+          omega (arith, length-append text copy, much),
+        ),
+      ),
+    )
     go OutOfMemory c = absurd c
     go NotAge c = absurd c
     go (BadLine n) c = absurd c
@@ -333,7 +332,7 @@ keeps limits old new b c is chosen v = (
     rest = drop (length is.found.text) b
 
     begins : BeginsWith c limits.max_header found
-    begins = record { rest = rest; head = is.head; front = is.spelled; fits = is.fits }
+    begins = record { rest = rest; head = is.head; prefix = is.spelled; fits = is.fits }
 
     same : judged limits new c (Ok found) ≡ judged limits old b (Ok is.found)
     same =

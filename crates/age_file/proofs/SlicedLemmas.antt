@@ -5,7 +5,7 @@ use Rattle.std.proofs.lemmas.List.{drop-drop}
 use Rattle.age_header.specs.Device.{Bytes}
 use Rattle.age_header.specs.declared.fault.HeaderFault.{HeaderFault}
 use Rattle.age_header.specs.Verdict.{Found}
-use Rattle.age_header.proofs.OneVerdict as headers
+use Rattle.age_header.proofs.VerdictUniqueLemmas as headers
 use Rattle.age_recipient.specs.declared.key.FileKey.{FileKey}
 use Rattle.age_stream.specs.Payload.{payload_key}
 use Rattle.age_stream.specs.Ranges.{HasPlain, RangeState}

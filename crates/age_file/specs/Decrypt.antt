@@ -48,14 +48,14 @@ DecryptsText limits answers b old new (Err Write) = BeginsVerdict limits answers
 DecryptsText limits answers b old new (Err OutOfMemory) = ⊤
 DecryptsText limits answers b old new r = GivesVerdict limits answers b old new r
 
--- The same of a source whose bytes may be unknown: then of some bytes.
+-- the same of bytes that a source may give
 abbrev pub Decrypts : (limits : Bounds) (answers : Answering) (from old new : Known)
     (r : Result Done Fault) → Type 0
-Decrypts limits answers None old new r = (b : Bytes) × DecryptsText limits answers b old new r
-Decrypts limits answers (Some b) old new r = DecryptsText limits answers b old new r
+Decrypts limits answers from old new r =
+    (b : Bytes) × MayGive from b × DecryptsText limits answers b old new r
 
 -- of a source that may have given b at most the header, the nonce, the pieces through number i and
--- one byte were taken
+-- one byte were read
 pub record TookThrough (limits : Bounds) (i : ℕ) (from to : Known) : Type 0 where
   pub b : Bytes
   pub may : MayGive from b
@@ -64,7 +64,7 @@ pub record TookThrough (limits : Bounds) (i : ℕ) (from to : Known) : Type 0 wh
   pub gave : GaveAtMost (length found.text + (nonce_size + (sealed_chunk_size * (i + 1) + 1))) from
       to
 
--- How much of the source was taken where decrypting ended at a piece, or at a write after so many
+-- How much of the source was read where decrypting ended at a piece, or at a write after so many
 -- written bytes.
 abbrev pub TookUpTo : (limits : Bounds) (from to old new : Known) (fault : Fault) → Type 0
 TookUpTo limits from to old new (ChunkShort i) = TookThrough limits i from to

@@ -1,58 +1,27 @@
--- What a result says of the devices: of their counts of failures, and of what was written.
-use Rattle.std.specs.Prelude.{◌≡◌, ◌⊎◌, ℕ, ◌+◌, ◌-◌, ◌^◌, ⊤, min, IfErr, Result, Ok, Err}
+-- What a fault says of the devices: which one counts it, and whether something was written.
+use Rattle.std.specs.Prelude.{◌≡◌, ◌⊎◌, ⊤, Bool, true, false, IfErr, Result}
 use Rattle.age_file.specs.declared.fault.Fault.{Fault}
 use Rattle.age_file.specs.Stage.{Stage, stage_of, at_header, at_key, at_nonce, at_chunk, at_read, at_write, at_memory, at_recipient}
 
--- the count of a device's failures rises by one, up to the largest u64
-abbrev pub counted : ℕ → ℕ
-counted old = min (old + 1) (2 ^ 64 - 1)
+-- a failed read, which the source counts
+abbrev pub is_at_read : Stage → Bool
+is_at_read at_read = true
+is_at_read _ = false
 
--- the count of failed reads after a fault at this stage
-abbrev pub reads_after : (stage : Stage) (old : ℕ) → ℕ
-reads_after at_header old = old
-reads_after at_key old = old
-reads_after at_nonce old = old
-reads_after at_chunk old = old
-reads_after at_read old = counted old
-reads_after at_write old = old
-reads_after at_memory old = old
-reads_after at_recipient old = old
+abbrev pub is_read : Fault → Bool
+is_read fault = is_at_read (stage_of fault)
 
--- the count of failed writes after a fault at this stage
-abbrev pub writes_after : (stage : Stage) (old : ℕ) → ℕ
-writes_after at_header old = old
-writes_after at_key old = old
-writes_after at_nonce old = old
-writes_after at_chunk old = old
-writes_after at_read old = old
-writes_after at_write old = counted old
-writes_after at_memory old = old
-writes_after at_recipient old = old
+-- a failed write, which the sink counts
+abbrev pub is_at_write : Stage → Bool
+is_at_write at_write = true
+is_at_write _ = false
 
--- the count of failed reads rises by one where the result is Read, and else stays
-abbrev pub CountsRead : {A : Type 0} (old new : ℕ) (result : Result A Fault) → Type 0
-CountsRead old new (Ok _) = new ≡ old
-CountsRead old new (Err fault) = new ≡ reads_after (stage_of fault) old
-
--- the count of failed writes rises by one where the result is Write, and else stays
-abbrev pub CountsWrite : {A : Type 0} (old new : ℕ) (result : Result A Fault) → Type 0
-CountsWrite old new (Ok _) = new ≡ old
-CountsWrite old new (Err fault) = new ≡ writes_after (stage_of fault) old
-
--- a stage of no device
-abbrev pub IsNoDeviceStage : Stage → Type 0
-IsNoDeviceStage at_header = ⊤
-IsNoDeviceStage at_key = ⊤
-IsNoDeviceStage at_nonce = ⊤
-IsNoDeviceStage at_chunk = ⊤
-IsNoDeviceStage at_read = ⊥
-IsNoDeviceStage at_write = ⊥
-IsNoDeviceStage at_memory = ⊤
-IsNoDeviceStage at_recipient = ⊤
+abbrev pub is_write : Fault → Bool
+is_write fault = is_at_write (stage_of fault)
 
 -- a fault of no device
 abbrev pub IsNoDeviceFault : Fault → Type 0
-IsNoDeviceFault fault = IsNoDeviceStage (stage_of fault)
+IsNoDeviceFault fault = (is_read fault ≡ false) × (is_write fault ≡ false)
 
 -- a stage before which something may have been written: a chunk, or a device
 abbrev pub IsLateStage : Stage → Type 0

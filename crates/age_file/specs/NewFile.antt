@@ -1,5 +1,5 @@
 -- What a new file is: the stanzas of its recipients, its header, and its payload (C2SP age.md).
-use Rattle.std.specs.Prelude.{◌≡◌, ℕ, ◌+◌, ◌-◌, ◌*◌, ◌<◌, ◌≤◌, ◌⊎◌, Bool, true, false, ⊤, List, [], ◌∷◌, ◌++◌, length, take, Result, Ok, Err, Option, Some, None, Vec}
+use Rattle.std.specs.Prelude.{◌≡◌, ℕ, ◌+◌, ◌-◌, ◌*◌, ◌<◌, ◌≤◌, ◌⊎◌, Bool, true, false, ⊤, List, [], ◌∷◌, ◌++◌, length, map, take, Result, Ok, Err, Option, Some, None, Vec}
 use Rattle.std.specs.Global.{Global}
 use Rattle.std.specs.List.{AllZip, concat}
 use Rattle.std.specs.Io.KnownBytes.{Appends}
@@ -56,6 +56,13 @@ Gathered wrapped meant gathered =
 -- which results a list of recipients may give, as `Gathered wrapped meant`
 abbrev pub Gathering : Type 1
 Gathering = Result (List StanzaParts) Fault → Type 0
+
+-- the results that all these recipients may give for a file key, by what each wraps and its labels
+abbrev pub gathering_by : {R : Type 0} (recipients : List R)
+    (wraps : R → FileKey → Result (List StanzaParts) ℕ) (labels : R → Labels) (k : FileKey)
+    → Gathering
+gathering_by recipients wraps labels k =
+    Gathered (map (λ r. wraps r k) recipients) (map (λ r. labels r) recipients)
 
 -- the header of a new file: its stanzas, of which none is a `scrypt` stanza beside another, and its
 -- text, within the limit
@@ -134,13 +141,11 @@ EncryptsText limits fresh gathered plain old new (Err Write) =
     BegunFile limits fresh gathered plain old new
 EncryptsText limits fresh gathered plain old new (Err fault) = ⊤
 
--- The same of a source whose bytes may be unknown: then of some bytes.
+-- the same of a plaintext that a source may give
 abbrev pub EncryptsGiven : (limits : Bounds) (fresh : Fresh) (gathered : Gathering)
     (from old new : Known) (r : Result Done Fault) → Type 0
-EncryptsGiven limits fresh gathered None old new r =
-    (plain : Bytes) × EncryptsText limits fresh gathered plain old new r
-EncryptsGiven limits fresh gathered (Some plain) old new r =
-    EncryptsText limits fresh gathered plain old new r
+EncryptsGiven limits fresh gathered from old new r =
+    (plain : Bytes) × MayGive from plain × EncryptsText limits fresh gathered plain old new r
 
 -- a fault with which no header was made names the first reason; any other result says nothing of it
 abbrev pub RefusesFirst : (limits : Bounds) (k : FileKey) (gathered : Gathering) (fault : Fault)
@@ -183,7 +188,7 @@ SealsRest s false from to old new result = FinishesBy s old new result × (to �
 abbrev pub MayFillChunk : (from : Known) → Type 0
 MayFillChunk from = (text : Bytes) × MayGive from text × (chunk_size ≤ length text)
 
--- Of the source at most so much was taken: with n full sealed chunks written after the header and
+-- Of the source at most so much was read: with n full sealed chunks written after the header and
 -- the nonce, n + 2 chunks of text.
 pub record TookChunks (limits : Bounds) (fresh : Fresh) (gathered : Gathering)
     (from to old new : Known) : Type 0 where
@@ -196,7 +201,7 @@ pub record TookChunks (limits : Bounds) (fresh : Fresh) (gathered : Gathering)
   pub whole : sealed_chunk_size * n ≤ length written - (length text + nonce_size)
   pub gave : GaveAtMost (chunk_size * (n + 2)) from to
 
--- how much of the source was taken where encrypting ended at a write, or with too many chunks
+-- how much of the source was read where encrypting ended at a write, or with too many chunks
 abbrev pub TookWhileEncrypting : (limits : Bounds) (fresh : Fresh) (gathered : Gathering)
     (from to old new : Known) (fault : Fault) → Type 0
 TookWhileEncrypting limits fresh gathered from to old new TooManyChunks =

@@ -1,7 +1,7 @@
 -- Opening a file for ranges of its plaintext.
 use Rattle.std.specs.Prelude.{◌≡◌, ◌⊎◌, ℕ, ◌+◌, ◌-◌, ◌≤◌, length, drop, IfSome, ⊤, Option, Some, Result, Ok, Err}
 use Rattle.std.specs.Result.{result_map_both}
-use Rattle.age_header.specs.Device.{Bytes, Known}
+use Rattle.age_header.specs.Device.{Bytes, CountsFaultIf, Known}
 use Rattle.age_header.specs.declared.fault.HeaderFault.{HeaderFault}
 use Rattle.age_header.specs.Header.{HeaderParts}
 use Rattle.age_header.specs.Verdict.{Found, HeaderVerdict}
@@ -11,7 +11,7 @@ use Rattle.age_stream.specs.Slice.{last_piece, range_outcome}
 use Rattle.age_file.specs.declared.fault.Fault.{Fault}
 use Rattle.age_file.specs.declared.fault.Fault.TheVariants.{OutOfMemory, Read}
 use Rattle.age_file.specs.AgeFile.{Bounds}
-use Rattle.age_file.specs.Device.{CountsRead}
+use Rattle.age_file.specs.Device.{is_read}
 use Rattle.age_file.specs.Stage.{Stage, stage_of, at_header, at_key, at_nonce, at_chunk, at_read, at_write, at_memory, at_recipient}
 use Rattle.age_file.specs.Verdict.{Answering, found_in, header_fault, parts_of, stream_fault, unlocked}
 use Rattle.age_stream.specs.Sizes.{nonce_size}
@@ -115,7 +115,7 @@ pub record RefusesRanges (limits : Bounds) (answers : Answering) (told told2 : K
   pub misses : MissesRanges limits answers told fault
   pub named : IsOpenFault fault
   pub stay : told2 ≡ told
-  pub counted : CountsRead {A = ℕ} failed failed2 (Err fault)
+  pub counted : CountsFaultIf is_read failed failed2 fault
 
 -- what was made of a source, and what became of it: a reader of the file's ranges, which keeps the
 -- last chunk, or the fault. Of the functions `StartsRanges` of age_stream says more.

@@ -1,8 +1,8 @@
 -- A file with another header for the same file key.
-use Rattle.std.specs.Prelude.{◌≡◌, ◌⊎◌, ◌≤◌, false, List, ◌++◌, ⊤, length, drop, None, Some, Result, Ok, Err}
+use Rattle.std.specs.Prelude.{◌≡◌, ◌⊎◌, ◌≤◌, false, List, ◌++◌, ⊤, length, drop, Result, Ok, Err}
 use Rattle.std.specs.Io.KnownBytes.{Appends, Keeps}
 use Rattle.age_header.specs.declared.fault.HeaderFault.{HeaderFault}
-use Rattle.age_header.specs.Device.{Bytes, Known, WritesPart}
+use Rattle.age_header.specs.Device.{Bytes, Known, MayGive, WritesPart}
 use Rattle.age_header.specs.Header.{StanzaParts, Head}
 use Rattle.age_header.specs.Mac.{header_mac}
 use Rattle.age_header.specs.Verdict.{Found, HeaderVerdict}
@@ -73,9 +73,8 @@ RewrapsText limits answers gathered b old new (Err OutOfMemory) = ⊤
 RewrapsText limits answers gathered b old new (Err fault) =
     RefusesRewrap limits answers gathered b fault
 
--- The same of a source whose bytes may be unknown: then of some bytes.
+-- the same of bytes that a source may give
 abbrev pub Rewraps : (limits : Bounds) (answers : Answering) (gathered : FileKey → Gathering)
     (from old new : Known) (r : Result (Unit {0}) Fault) → Type 0
-Rewraps limits answers gathered None old new r =
-    (b : Bytes) × RewrapsText limits answers gathered b old new r
-Rewraps limits answers gathered (Some b) old new r = RewrapsText limits answers gathered b old new r
+Rewraps limits answers gathered from old new r =
+    (b : Bytes) × MayGive from b × RewrapsText limits answers gathered b old new r

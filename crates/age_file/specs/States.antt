@@ -3,7 +3,7 @@
 use Rattle.std.specs.Prelude.{◌≡◌, ◌⊎◌, ℕ, true, false, ◌++◌, Result, Ok, Err}
 use Rattle.std.specs.Io.KnownBytes.{Appends}
 use denote.Ref.{MutBor}
-use Rattle.age_header.specs.Device.{Bytes, Known, WritesPart}
+use Rattle.age_header.specs.Device.{Bytes, CountsFaultIf, Known, WritesPart}
 use Rattle.age_header.specs.Header.{Head, HeaderParts}
 use Rattle.age_recipient.specs.declared.key.FileKey.{FileKey}
 use Rattle.age_stream.specs.declared.fault.StreamFault.{StreamFault}
@@ -16,7 +16,7 @@ use Rattle.age_file.specs.declared.fault.Fault.{Fault}
 use Rattle.age_file.specs.declared.fault.Fault.TheVariants.{MixedPassphrase, OutOfMemory, Write}
 use Rattle.age_file.specs.declared.limits.Fresh.{Fresh}
 use Rattle.age_file.specs.AgeFile.{Bounds, is_mixed}
-use Rattle.age_file.specs.Device.{CountsRead, CountsWrite}
+use Rattle.age_file.specs.Device.{is_read, is_write}
 use Rattle.age_file.specs.Inspect.{Inspects}
 use Rattle.age_file.specs.Verdict.{stream_fault}
 
@@ -41,7 +41,7 @@ StartsFile taken failed s old new (Err fault) =
     ⊎ ((fault ≡ Write)
     × ((text : Bytes) × Head s.header.stanzas s.header.mac text
     × WritesPart (taken old) (taken new) (text ++ s.fresh.nonce))
-    × CountsWrite {A = ℕ} (failed old) (failed new) (Err fault))
+    × CountsFaultIf is_write (failed old) (failed new) fault)
 
 -- a file whose header was read: the source that gives the rest, the header, and the limits
 abbrev pub input_of : {S H : Type 0} → Decryptor S H → MutBor S
@@ -61,7 +61,7 @@ StartsDecryptor to_come failed limits old new (Ok header) =
     Inspects limits (to_come old) (to_come new) (Ok header) × (is_mixed header.stanzas ≡ false)
     × (failed new ≡ failed old)
 StartsDecryptor to_come failed limits old new (Err fault) =
-    CountsRead {A = HeaderParts} (failed old) (failed new) (Err fault)
+    CountsFaultIf is_read (failed old) (failed new) fault
     × (Inspects limits (to_come old) (to_come new) (Err fault)
     ⊎ ((fault ≡ MixedPassphrase)
     × ((header : HeaderParts) × Inspects limits (to_come old) (to_come new) (Ok header)

@@ -1,6 +1,6 @@
 -- What bytes are to given identities and limits: a plaintext, or the first fault and the plaintext
 -- before it.
-use Rattle.std.specs.Prelude.{◌≡◌, List, length, drop, option_map, Result, Ok, Err, if◌then◌else◌}
+use Rattle.std.specs.Prelude.{◌≡◌, List, length, drop, map, option_map, Result, Ok, Err, if◌then◌else◌}
 use Rattle.std.specs.Str.{bytes_eq}
 use Rattle.age_header.specs.Device.{Bytes}
 use Rattle.age_header.specs.declared.fault.HeaderFault.{HeaderFault}
@@ -62,6 +62,11 @@ with_file_fault r = record { front = r.front; fault = option_map stream_fault r.
 -- what identities make of each list of stanzas: one answer for each identity, in order
 abbrev pub Answering : Type 0
 Answering = List StanzaParts → List Unwrapped
+
+-- the answers of all these identities, each by its meaning
+abbrev pub answers_by : {I : Type 0} (identities : List I)
+    (meaning : I → List StanzaParts → Unwrapped) → Answering
+answers_by identities meaning = λ stanzas. map (λ i. meaning i stanzas) identities
 
 -- the key that was chosen, where the header's MAC is the one under it
 abbrev pub checked : (h : HeaderParts) (chosen : Result FileKey UnlockFault) → Result FileKey Fault

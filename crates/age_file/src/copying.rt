@@ -1,8 +1,9 @@
 //! Copying what follows a header.
 
 ghost use Rattle.std.specs.Prelude.{◌≡◌, ◌≤◌, length};
+ghost use Rattle.age_header.specs.Device.{CountsIf};
 ghost use Rattle.age_file.specs.Copying.{Copies, CopiesPiece, buffer_size};
-ghost use Rattle.age_file.specs.Device.{CountsRead, CountsWrite};
+ghost use Rattle.age_file.specs.Device.{is_read, is_write};
 
 use crate::fault::Fault;
 use age_header::{Sink, Source, fill_from, write_all};
@@ -27,11 +28,11 @@ pub(crate) fn copy_all<S: Source, W: Sink>(
     requires size { length buf.old ≡ buffer_size }
     requires first { first ≤ buffer_size }
     ensures copies { Copies (S.to_come input.old) (W.taken out.old) (W.taken out.new) result }
-    ensures reads { CountsRead (S.failed input.old) (S.failed input.new) result }
-    ensures writes { CountsWrite (W.failed out.old) (W.failed out.new) result }
+    ensures reads { CountsIf is_read (S.failed input.old) (S.failed input.new) result }
+    ensures writes { CountsIf is_write (W.failed out.old) (W.failed out.new) result }
 {
-    let (front, _) = buf.split_at_mut(first);
-    match copy_piece(input, out, front) {
+    let (start, _) = buf.split_at_mut(first);
+    match copy_piece(input, out, start) {
         Ok(true) => copy_pieces(input, out, buf),
         Ok(false) => Ok(()),
         Err(fault) => Err(fault),
@@ -42,8 +43,8 @@ pub(crate) fn copy_all<S: Source, W: Sink>(
 fn copy_pieces<S: Source, W: Sink>(input: &mut S, out: &mut W, buf: &mut [u8]) -> Result<(), Fault>
     requires { length buf.old ≡ buffer_size }
     ensures copies { Copies (S.to_come input.old) (W.taken out.old) (W.taken out.new) result }
-    ensures reads { CountsRead (S.failed input.old) (S.failed input.new) result }
-    ensures writes { CountsWrite (W.failed out.old) (W.failed out.new) result }
+    ensures reads { CountsIf is_read (S.failed input.old) (S.failed input.new) result }
+    ensures writes { CountsIf is_write (W.failed out.old) (W.failed out.new) result }
 {
     let mut copied = 0;
     while copied < MAX_PIECES {
@@ -62,8 +63,8 @@ fn copy_piece<S: Source, W: Sink>(input: &mut S, out: &mut W, buf: &mut [u8]) ->
     ensures len { length buf.new ≡ length buf.old }
     ensures copies { CopiesPiece (length buf.old) (S.to_come input.old) (S.to_come input.new)
         (W.taken out.old) (W.taken out.new) result }
-    ensures reads { CountsRead (S.failed input.old) (S.failed input.new) result }
-    ensures writes { CountsWrite (W.failed out.old) (W.failed out.new) result }
+    ensures reads { CountsIf is_read (S.failed input.old) (S.failed input.new) result }
+    ensures writes { CountsIf is_write (W.failed out.old) (W.failed out.new) result }
 {
     let Ok(n) = fill_from(input, buf, 0) else {
         return Err(Fault::Read);

@@ -1,9 +1,10 @@
 //! Decrypting a whole file.
 
-ghost use Rattle.std.specs.Prelude.{map, IfErr};
+ghost use Rattle.std.specs.Prelude.{IfErr};
+ghost use Rattle.age_header.specs.Device.{CountsIf};
 ghost use Rattle.age_file.specs.Decrypt.{Decrypts, TookUpTo};
-ghost use Rattle.age_file.specs.Device.{CountsRead, CountsWrite, IsQuiet};
-ghost use Rattle.age_file.specs.Verdict.{Answering};
+ghost use Rattle.age_file.specs.Device.{IsQuiet, is_read, is_write};
+ghost use Rattle.age_file.specs.Verdict.{answers_by};
 
 use crate::fault::Fault;
 use crate::fault_conversions::stream_fault;
@@ -37,13 +38,11 @@ pub fn decrypt<S: Source, W: Sink>(
     identities: &[Box<dyn Identity>],
     limits: &Limits,
 ) -> Result<Done, Fault>
-    ensures decrypts { let answers : Answering =
-        λ stanzas. map (λ i. meaning i stanzas) identities.now in
-        Decrypts limits.now answers
+    ensures decrypts { Decrypts limits.now (answers_by identities.now (λ i s. meaning i s))
         (S.to_come input.old) (W.taken out.old) (W.taken out.new) result }
     ensures quiet { IsQuiet out.old out.new result }
-    ensures reads { CountsRead (S.failed input.old) (S.failed input.new) result }
-    ensures writes { CountsWrite (W.failed out.old) (W.failed out.new) result }
+    ensures reads { CountsIf is_read (S.failed input.old) (S.failed input.new) result }
+    ensures writes { CountsIf is_write (W.failed out.old) (W.failed out.new) result }
     ensures took { IfErr result (TookUpTo limits.now (S.to_come input.old) (S.to_come input.new)
         (W.taken out.old) (W.taken out.new)) }
 {

@@ -1,9 +1,9 @@
 //! A file that is read in steps: its header, its key, then its payload chunk by chunk.
 
-ghost use Rattle.std.specs.Prelude.{◌≡◌, map, Ok, Err, IfOk, IfErr};
+ghost use Rattle.std.specs.Prelude.{◌≡◌, Ok, Err, IfOk, IfErr};
 ghost use Rattle.age_stream.specs.Reader.{opener_of, source_of};
 ghost use Rattle.age_stream.specs.Writer.{device_of, fault_of};
-ghost use Rattle.age_file.specs.Verdict.{unlocked, Answering};
+ghost use Rattle.age_file.specs.Verdict.{answers_by, unlocked};
 
 use crate::fault::Fault;
 use crate::fault_conversions::stream_fault;
@@ -111,18 +111,16 @@ impl<'a, S: Source> Decryptor<'a, S> {
     ) -> Result<StreamReader<'a, S>, Refused<'a, S, Fault>>
         ensures same_reference { IfOk result
             (λ reader. (source_of reader).ghost_name ≡ (input_of self.entry).ghost_name) }
-        ensures starts { let answers : Answering =
-            λ stanzas. map (λ i. meaning i stanzas) identities.now in
-            IfOk result (λ reader. StartsUnder S.to_come S.failed (limits_of self.entry)
-            (unlocked answers (header_of self.entry)) (input_of self.entry).now
-            (source_of reader).now (Ok (opener_of reader))) }
+        ensures starts { IfOk result
+            (λ reader. StartsUnder S.to_come S.failed (limits_of self.entry)
+            (unlocked (answers_by identities.now (λ i s. meaning i s)) (header_of self.entry))
+            (input_of self.entry).now (source_of reader).now (Ok (opener_of reader))) }
         ensures handed_back { IfErr result
             (λ refused. (device_of refused).ghost_name ≡ (input_of self.entry).ghost_name) }
-        ensures misses { let answers : Answering =
-            λ stanzas. map (λ i. meaning i stanzas) identities.now in
-            IfErr result (λ refused. StartsUnder S.to_come S.failed (limits_of self.entry)
-            (unlocked answers (header_of self.entry)) (input_of self.entry).now
-            (device_of refused).now (Err (fault_of refused))) }
+        ensures misses { IfErr result
+            (λ refused. StartsUnder S.to_come S.failed (limits_of self.entry)
+            (unlocked (answers_by identities.now (λ i s. meaning i s)) (header_of self.entry))
+            (input_of self.entry).now (device_of refused).now (Err (fault_of refused))) }
     {
         let Decryptor {
             input,
@@ -156,15 +154,13 @@ impl<'a, S: Source> Decryptor<'a, S> {
     ) -> Result<StreamReader<'a, S>, Fault>
         ensures same_reference { IfOk result
             (λ reader. (source_of reader).ghost_name ≡ (input_of self.entry).ghost_name) }
-        ensures starts { let answers : Answering =
-            λ stanzas. map (λ i. meaning i stanzas) identities.now in
-            IfOk result (λ reader. StartsUnder S.to_come S.failed (limits_of self.entry)
-            (unlocked answers (header_of self.entry)) (input_of self.entry).now
-            (source_of reader).now (Ok (opener_of reader))) }
-        ensures misses { let answers : Answering =
-            λ stanzas. map (λ i. meaning i stanzas) identities.now in
-            IfErr result (λ fault. (last : S) × StartsUnder S.to_come S.failed
-            (limits_of self.entry) (unlocked answers (header_of self.entry))
+        ensures starts { IfOk result
+            (λ reader. StartsUnder S.to_come S.failed (limits_of self.entry)
+            (unlocked (answers_by identities.now (λ i s. meaning i s)) (header_of self.entry))
+            (input_of self.entry).now (source_of reader).now (Ok (opener_of reader))) }
+        ensures misses { IfErr result
+            (λ fault. (last : S) × StartsUnder S.to_come S.failed (limits_of self.entry)
+            (unlocked (answers_by identities.now (λ i s. meaning i s)) (header_of self.entry))
             (input_of self.entry).now last (Err fault)) }
     {
         match self.unlocked(alloc, identities) {

@@ -1,10 +1,10 @@
 //! Encrypting a whole file.
 
-ghost use Rattle.std.specs.Prelude.{◌≡◌, ◌⊎◌, ◌++◌, Err, None, map, IfErr};
-ghost use Rattle.age_header.specs.Device.{Bytes, Counts, Writes};
+ghost use Rattle.std.specs.Prelude.{◌≡◌, ◌⊎◌, ◌++◌, Err, None, IfErr};
+ghost use Rattle.age_header.specs.Device.{Bytes, Counts, CountsIf, Writes};
 ghost use Rattle.age_header.specs.Header.{Head};
-ghost use Rattle.age_file.specs.Device.{CountsRead, CountsWrite, IsQuiet};
-ghost use Rattle.age_file.specs.NewFile.{EncryptsGiven, RefusesFirst, Gathered, MayFillChunk, SealsRest, TookWhileEncrypting};
+ghost use Rattle.age_file.specs.Device.{IsQuiet, is_read, is_write};
+ghost use Rattle.age_file.specs.NewFile.{EncryptsGiven, RefusesFirst, MayFillChunk, SealsRest, TookWhileEncrypting, gathering_by};
 ghost use Rattle.age_stream.specs.Counts as stream;
 
 use crate::fault::Fault;
@@ -41,22 +41,18 @@ pub fn encrypt<S: Source, W: Sink>(
     fresh: &Fresh,
     limits: &Limits,
 ) -> Result<Done, Fault>
-    ensures encrypts { let gathered =
-        Gathered (map (λ r. wraps r fresh.now.file_key) recipients.now)
-        (map (λ r. the_labels r) recipients.now) in
-        EncryptsGiven limits.now fresh.now gathered
+    ensures encrypts { EncryptsGiven limits.now fresh.now
+        (gathering_by recipients.now (λ r k. wraps r k) (λ r. the_labels r) fresh.now.file_key)
         (S.to_come plain.old) (W.taken out.old) (W.taken out.new) result }
-    ensures refused { let gathered = Gathered (map (λ r. wraps r fresh.now.file_key) recipients.now)
-        (map (λ r. the_labels r) recipients.now) in
-        IfErr result (RefusesFirst limits.now fresh.now.file_key gathered) }
+    ensures refused { IfErr result (RefusesFirst limits.now fresh.now.file_key
+        (gathering_by recipients.now (λ r k. wraps r k) (λ r. the_labels r) fresh.now.file_key)) }
     ensures quiet { IsQuiet out.old out.new result }
     ensures spared { result ≡ Err Fault.Read
         → (out.new ≡ out.old) ⊎ MayFillChunk (S.to_come plain.old) }
-    ensures reads { CountsRead (S.failed plain.old) (S.failed plain.new) result }
-    ensures writes { CountsWrite (W.failed out.old) (W.failed out.new) result }
-    ensures took { let gathered = Gathered (map (λ r. wraps r fresh.now.file_key) recipients.now)
-        (map (λ r. the_labels r) recipients.now) in
-        IfErr result (TookWhileEncrypting limits.now fresh.now gathered
+    ensures reads { CountsIf is_read (S.failed plain.old) (S.failed plain.new) result }
+    ensures writes { CountsIf is_write (W.failed out.old) (W.failed out.new) result }
+    ensures took { IfErr result (TookWhileEncrypting limits.now fresh.now
+        (gathering_by recipients.now (λ r k. wraps r k) (λ r. the_labels r) fresh.now.file_key)
         (S.to_come plain.old) (S.to_come plain.new) (W.taken out.old) (W.taken out.new)) }
 {
     let header = header_for(alloc, recipients, &fresh.file_key, limits)?;
@@ -88,8 +84,8 @@ fn seal_rest<S: Source, W: Sink>(
     requires { sealer.fault ≡ None }
     ensures seals { SealsRest sealer is_open (S.to_come plain.old) (S.to_come plain.new)
         (W.taken out.old) (W.taken out.new) result }
-    ensures reads { stream.CountsRead (S.failed plain.old) (S.failed plain.new) result }
-    ensures writes { stream.CountsWrite (W.failed out.old) (W.failed out.new) result }
+    ensures reads { CountsIf stream.is_read (S.failed plain.old) (S.failed plain.new) result }
+    ensures writes { CountsIf stream.is_write (W.failed out.old) (W.failed out.new) result }
 {
     let writer = StreamWriter::over(out, sealer);
     if is_open {

@@ -1,9 +1,9 @@
 //! A file that is written in steps: its header, then its payload piece by piece.
 
-ghost use Rattle.std.specs.Prelude.{◌≡◌, map, Ok, Err, IfOk, IfErr};
+ghost use Rattle.std.specs.Prelude.{◌≡◌, Ok, Err, IfOk, IfErr};
 ghost use Rattle.age_header.specs.Mac.{header_mac};
 ghost use Rattle.age_stream.specs.Writer.{device_of, fault_of, sealer_of, sink_of};
-ghost use Rattle.age_file.specs.NewFile.{FailsHeading, Gathered, IsHeading};
+ghost use Rattle.age_file.specs.NewFile.{FailsHeading, IsHeading, gathering_by};
 
 use crate::encrypting::write_front;
 use crate::fault::Fault;
@@ -48,15 +48,14 @@ impl Encryptor {
         fresh: &Fresh,
         limits: &Limits,
     ) -> Result<Encryptor, Fault>
-        ensures ok { let gathered = Gathered (map (λ r. wraps r fresh.now.file_key) recipients.now)
-            (map (λ r. the_labels r) recipients.now) in
-            IfOk result (λ e. (e.fresh ≡ fresh.now) × (e.limits ≡ limits.now)
+        ensures ok { IfOk result (λ e. (e.fresh ≡ fresh.now) × (e.limits ≡ limits.now)
             × (e.header.mac ≡ header_mac fresh.now.file_key.0 e.header.stanzas)
-            × ((text : Bytes)
-            × IsHeading limits.now fresh.now.file_key gathered e.header.stanzas text)) }
-        ensures err { let gathered = Gathered (map (λ r. wraps r fresh.now.file_key) recipients.now)
-            (map (λ r. the_labels r) recipients.now) in
-            IfErr result (FailsHeading limits.now fresh.now.file_key gathered) }
+            × ((text : Bytes) × IsHeading limits.now fresh.now.file_key
+            (gathering_by recipients.now (λ r k. wraps r k) (λ r. the_labels r) fresh.now.file_key)
+            e.header.stanzas text)) }
+        ensures err { IfErr result (FailsHeading limits.now fresh.now.file_key
+            (gathering_by recipients.now (λ r k. wraps r k) (λ r. the_labels r)
+            fresh.now.file_key)) }
     {
         match header_for(alloc, recipients, &fresh.file_key, limits) {
             Ok(header) => Ok(Encryptor {

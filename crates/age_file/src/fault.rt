@@ -1,8 +1,5 @@
 //! The errors of whole files.
 
-#[cfg(test)]
-mod tests;
-
 use age_recipient::StanzaFault;
 use thiserror::Error;
 

@@ -1,6 +1,7 @@
 //! Reading a file's header.
 
-ghost use Rattle.age_file.specs.Device.{CountsRead};
+ghost use Rattle.age_header.specs.Device.{CountsIf};
+ghost use Rattle.age_file.specs.Device.{is_read};
 ghost use Rattle.age_file.specs.Inspect.{Inspects};
 
 use crate::fault::Fault;
@@ -17,7 +18,7 @@ use std::alloc::Global;
 /// `HeaderReader` says; `Read` if the source failed, `OutOfMemory` if an allocation was refused.
 pub fn inspect<S: Source>(alloc: Global, input: &mut S, limits: &Limits) -> Result<Header, Fault>
     ensures verdict { Inspects limits.now (S.to_come input.old) (S.to_come input.new) result }
-    ensures reads { CountsRead (S.failed input.old) (S.failed input.new) result }
+    ensures reads { CountsIf is_read (S.failed input.old) (S.failed input.new) result }
 {
     match HeaderReader::new(limits.max_header()).read_from(alloc, input) {
         Ok(header) => Ok(header),

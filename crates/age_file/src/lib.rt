@@ -43,8 +43,6 @@ mod limits;
 mod new_header;
 mod ranges;
 mod rewrapping;
-#[cfg(test)]
-mod tests;
 mod unlocking;
 
 pub use age_header::{

@@ -6,7 +6,7 @@ ghost use Rattle.age_header.specs.Device.{Bytes};
 ghost use Rattle.age_header.specs.Mac.{header_mac};
 ghost use Rattle.age_recipient.specs.Labels.{MayLabel};
 ghost use Rattle.age_recipient.specs.Wrap.{WrapsAs};
-ghost use Rattle.age_file.specs.NewFile.{FailsHeading, Gathered, Gathers, IsHeading, WrapsAll, gathered_from};
+ghost use Rattle.age_file.specs.NewFile.{FailsHeading, Gathers, IsHeading, WrapsAll, gathered_from, gathering_by};
 
 use crate::fault::Fault;
 use crate::limits::Limits;
@@ -28,13 +28,12 @@ pub fn header_for(
     key: &FileKey,
     limits: &Limits,
 ) -> Result<Header, Fault>
-    ensures ok { let gathered = Gathered (map (λ r. wraps r key.now) recipients.now)
-        (map (λ r. the_labels r) recipients.now) in
-        IfOk result (λ h. (h.mac ≡ header_mac key.now.0 h.stanzas)
-        × ((text : Bytes) × IsHeading limits.now key.now gathered h.stanzas text)) }
-    ensures err { let gathered = Gathered (map (λ r. wraps r key.now) recipients.now)
-        (map (λ r. the_labels r) recipients.now) in
-        IfErr result (FailsHeading limits.now key.now gathered) }
+    ensures ok { IfOk result (λ h. (h.mac ≡ header_mac key.now.0 h.stanzas)
+        × ((text : Bytes) × IsHeading limits.now key.now
+        (gathering_by recipients.now (λ r k. wraps r k) (λ r. the_labels r) key.now)
+        h.stanzas text)) }
+    ensures err { IfErr result (FailsHeading limits.now key.now
+        (gathering_by recipients.now (λ r k. wraps r k) (λ r. the_labels r) key.now)) }
 {
     let stanzas = match gather_stanzas(alloc, recipients, key) {
         Ok(stanzas) => stanzas,
@@ -64,9 +63,8 @@ fn gather_stanzas(
     recipients: &[Box<dyn Recipient>],
     key: &FileKey,
 ) -> Result<Vec<Stanza>, Fault>
-    ensures { let gathered = Gathered (map (λ r. wraps r key.now) recipients.now)
-        (map (λ r. the_labels r) recipients.now) in
-        Gathers gathered result }
+    ensures { Gathers
+        (gathering_by recipients.now (λ r k. wraps r k) (λ r. the_labels r) key.now) result }
 {
     let stanzas = match wrap_all(alloc, recipients, key) {
         Ok(stanzas) => stanzas,

@@ -1,11 +1,12 @@
 //! Ranges of a file's plaintext.
 
-ghost use Rattle.std.specs.Prelude.{◌≡◌, ◌+◌, ◌≤◌, ℕ, map, Ok, Err, IfOk, IfErr};
+ghost use Rattle.std.specs.Prelude.{◌≡◌, ◌+◌, ◌≤◌, Ok, Err, IfOk, IfErr};
+ghost use Rattle.age_header.specs.Device.{CountsFaultIf};
 ghost use Rattle.age_stream.specs.Ranges.{chunks_of, source_at_of};
-ghost use Rattle.age_file.specs.Device.{CountsRead};
+ghost use Rattle.age_file.specs.Device.{is_read};
 ghost use Rattle.age_stream.specs.Writer.{device_of, fault_of};
 ghost use Rattle.age_file.specs.Ranges.{HasHeader, IsOpenFault, IsSomeHeader, MissesHeader, StartsFileRanges};
-ghost use Rattle.age_file.specs.Verdict.{Answering};
+ghost use Rattle.age_file.specs.Verdict.{answers_by};
 
 use crate::at_source::{AtSource, Origin};
 use crate::fault::Fault;
@@ -48,8 +49,8 @@ fn header_at<'a, D: ReadAt, K: Origin>(
         (λ refused. MissesHeader limits.now K.bytes (fault_of refused)) }
     ensures named { IfErr result (λ refused. IsOpenFault (fault_of refused)) }
     ensures left { IfErr result (λ refused. D.bytes (device_of refused).now ≡ K.bytes) }
-    ensures counted { IfErr result (λ refused. CountsRead {A = ℕ} (D.failed dev.old)
-        (D.failed (device_of refused).now) (Err (fault_of refused))) }
+    ensures counted { IfErr result (λ refused. CountsFaultIf is_read (D.failed dev.old)
+        (D.failed (device_of refused).now) (fault_of refused)) }
 {
     let mut source: AtSource<'a, D, K> = AtSource::new(dev);
     match inspect(alloc, &mut source, limits) {
@@ -83,8 +84,8 @@ fn read_header_at<'a, D: ReadAt>(
         (λ refused. MissesHeader limits.now (D.bytes dev.old) (fault_of refused)) }
     ensures named { IfErr result (λ refused. IsOpenFault (fault_of refused)) }
     ensures left { IfErr result (λ refused. D.bytes (device_of refused).now ≡ D.bytes dev.old) }
-    ensures counted { IfErr result (λ refused. CountsRead {A = ℕ} (D.failed dev.old)
-        (D.failed (device_of refused).now) (Err (fault_of refused))) }
+    ensures counted { IfErr result (λ refused. CountsFaultIf is_read (D.failed dev.old)
+        (D.failed (device_of refused).now) (fault_of refused)) }
 {
     header_at::<D, Brand>(alloc, dev, limits)
 }
@@ -101,16 +102,14 @@ pub fn opened_ranges<'a, D: ReadAt>(
 ) -> Result<RangeReader<'a, D>, Refused<'a, D, Fault>>
     ensures same_reference { IfOk result
         (λ reader. (source_at_of reader).ghost_name ≡ dev.entry.ghost_name) }
-    ensures ranges { let answers : Answering =
-        λ stanzas. map (λ i. meaning i stanzas) identities.now in
-        IfOk result (λ reader. StartsFileRanges D.bytes D.given D.failed D.was_read D.found
-        limits.now answers dev.old (source_at_of reader).now (Ok (chunks_of reader))) }
+    ensures ranges { IfOk result (λ reader. StartsFileRanges D.bytes D.given D.failed D.was_read
+        D.found limits.now (answers_by identities.now (λ i s. meaning i s)) dev.old
+        (source_at_of reader).now (Ok (chunks_of reader))) }
     ensures handed_back { IfErr result
         (λ refused. (device_of refused).ghost_name ≡ dev.entry.ghost_name) }
-    ensures refuses { let answers : Answering =
-        λ stanzas. map (λ i. meaning i stanzas) identities.now in
-        IfErr result (λ refused. StartsFileRanges D.bytes D.given D.failed D.was_read D.found
-        limits.now answers dev.old (device_of refused).now (Err (fault_of refused))) }
+    ensures refuses { IfErr result (λ refused. StartsFileRanges D.bytes D.given D.failed D.was_read
+        D.found limits.now (answers_by identities.now (λ i s. meaning i s)) dev.old
+        (device_of refused).now (Err (fault_of refused))) }
 {
     let HeaderAt { header, dev, at } = match read_header_at(alloc, dev, limits) {
         Ok(found) => found,
@@ -148,14 +147,12 @@ pub fn open_ranges<'a, D: ReadAt>(
 ) -> Result<RangeReader<'a, D>, Fault>
     ensures same_reference { IfOk result
         (λ reader. (source_at_of reader).ghost_name ≡ dev.entry.ghost_name) }
-    ensures ranges { let answers : Answering =
-        λ stanzas. map (λ i. meaning i stanzas) identities.now in
-        IfOk result (λ reader. StartsFileRanges D.bytes D.given D.failed D.was_read D.found
-        limits.now answers dev.old (source_at_of reader).now (Ok (chunks_of reader))) }
-    ensures refuses { let answers : Answering =
-        λ stanzas. map (λ i. meaning i stanzas) identities.now in
-        IfErr result (λ fault. (last : D) × StartsFileRanges D.bytes D.given D.failed D.was_read
-        D.found limits.now answers dev.old last (Err fault)) }
+    ensures ranges { IfOk result (λ reader. StartsFileRanges D.bytes D.given D.failed D.was_read
+        D.found limits.now (answers_by identities.now (λ i s. meaning i s)) dev.old
+        (source_at_of reader).now (Ok (chunks_of reader))) }
+    ensures refuses { IfErr result (λ fault. (last : D) × StartsFileRanges D.bytes D.given D.failed
+        D.was_read D.found limits.now (answers_by identities.now (λ i s. meaning i s))
+        dev.old last (Err fault)) }
 {
     match opened_ranges(alloc, dev, identities, limits) {
         Ok(reader) => Ok(reader),

@@ -1,10 +1,10 @@
 //! Replacing the header of a file; the payload stays.
 
-ghost use Rattle.std.specs.Prelude.{map};
-ghost use Rattle.age_file.specs.Device.{CountsRead, CountsWrite, IsQuiet};
-ghost use Rattle.age_file.specs.NewFile.{Gathered};
+ghost use Rattle.age_header.specs.Device.{CountsIf};
+ghost use Rattle.age_file.specs.Device.{IsQuiet, is_read, is_write};
+ghost use Rattle.age_file.specs.NewFile.{gathering_by};
 ghost use Rattle.age_file.specs.Rewrap.{Rewraps};
-ghost use Rattle.age_file.specs.Verdict.{Answering};
+ghost use Rattle.age_file.specs.Verdict.{answers_by};
 
 use crate::copying::{BUFFER_SIZE, copy_all};
 use crate::fault::Fault;
@@ -35,14 +35,12 @@ pub fn rewrap<S: Source, W: Sink>(
     recipients: &[Box<dyn Recipient>],
     limits: &Limits,
 ) -> Result<(), Fault>
-    ensures rewraps { let answers : Answering =
-        λ stanzas. map (λ i. meaning i stanzas) identities.now in
-        Rewraps limits.now answers (λ key. Gathered (map (λ r. wraps r key) recipients.now)
-        (map (λ r. the_labels r) recipients.now))
+    ensures rewraps { Rewraps limits.now (answers_by identities.now (λ i s. meaning i s))
+        (gathering_by recipients.now (λ r k. wraps r k) (λ r. the_labels r))
         (S.to_come input.old) (W.taken out.old) (W.taken out.new) result }
     ensures quiet { IsQuiet out.old out.new result }
-    ensures reads { CountsRead (S.failed input.old) (S.failed input.new) result }
-    ensures writes { CountsWrite (W.failed out.old) (W.failed out.new) result }
+    ensures reads { CountsIf is_read (S.failed input.old) (S.failed input.new) result }
+    ensures writes { CountsIf is_write (W.failed out.old) (W.failed out.new) result }
 {
     let header = match inspect(alloc, input, limits) {
         Ok(header) => header,

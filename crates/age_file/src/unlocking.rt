@@ -1,10 +1,10 @@
 //! Finding the file key of a header.
 
-ghost use Rattle.std.specs.Prelude.{◌≡◌, ◌⊎◌, map, Err, IfErr};
+ghost use Rattle.std.specs.Prelude.{◌≡◌, ◌⊎◌, Err, IfErr};
 ghost use Rattle.std.specs.List.{list_any};
 ghost use Rattle.age_file.specs.AgeFile.{is_mixed, is_scrypt};
 ghost use Rattle.age_file.specs.Device.{IsNoDeviceFault};
-ghost use Rattle.age_file.specs.Verdict.{checked, unlocked};
+ghost use Rattle.age_file.specs.Verdict.{answers_by, checked, unlocked};
 
 use crate::fault::Fault;
 use crate::fault_conversions::unlock_fault;
@@ -25,7 +25,7 @@ pub fn unlock_header(
     header: &Header,
 ) -> Result<FileKey, Fault>
     ensures key { (result ≡ Err Fault.OutOfMemory)
-        ⊎ (result ≡ unlocked (λ stanzas. map (λ i. meaning i stanzas) identities.now) header.now) }
+        ⊎ (result ≡ unlocked (answers_by identities.now (λ i s. meaning i s)) header.now) }
     ensures no_device { IfErr result IsNoDeviceFault }
 {
     if is_mixed(header.stanzas()) {

@@ -3,35 +3,37 @@ use Rattle.std.proofs.Common.{◌≡◌, ℕ, zero, suc, ◌+◌, ◌-◌, ◌*�
 use Rattle.std.proofs.lemmas.List.{take_more, append-nil}
 use Rattle.std.proofs.lemmas.List.Concat.{flat_map-append}
 use Rattle.age_kdf.specs.Bytes.{Bytes}
-use Rattle.age_header.specs.Header.{StanzaParts, argument_line, line, version_line, version_size}
+use Rattle.age_header.specs.Header.{StanzaParts, argument_line, line, version_line, version_size, line_size, bytes_of_a_line, mac_size}
 use Rattle.age_header.specs.Base64.{base64_of}
 use Rattle.age_header.specs.Text.{body_lines, body_text, stanza_text, signed, mac_end}
 use Rattle.age_header.proofs.TextLemmas.{signs_size}
 
-pub line_size : (t : Bytes) → length (line t) ≡ length t + 1
-line_size t = length-append t (10 ∷ [])
+pub length-line : (t : Bytes) → length (line t) ≡ length t + 1
+length-line t = length-append t (10 ∷ [])
 
-lines_size : (n : ℕ) (b : Bytes) → 48 * n ≤ length b
-    → length (body_lines n b) ≡ 65 * n + ((4 * (length b - 48 * n) + 2) / 3 + 1)
+lines_size : (n : ℕ) (b : Bytes) → bytes_of_a_line * n ≤ length b
+    → length (body_lines n b) ≡ (line_size + 1) * n + ((4 * (length b - bytes_of_a_line * n) + 2) / 3 + 1)
 unfolding body_lines
-lines_size zero b low = omega (arith, line_size (base64_of b), signs_size b)
+lines_size zero b low = omega (arith, length-line (base64_of b), signs_size b)
 lines_size (suc n) b low =
-    let back : Bytes = drop 48 b in
-    let m : length back ≡ length b - 48 = length-drop 48 b in
+    let back : Bytes = drop bytes_of_a_line b in
+    let m : length back ≡ length b - bytes_of_a_line = length-drop bytes_of_a_line b in
     let rest = lines_size n back (omega arith) in
-    let left : length back - 48 * n ≡ length b - 48 * suc n = omega arith in
-    let front : length (take 48 b) ≡ 48 = omega (arith, length-take 48 b) in
-    let more : length (body_lines n back) ≡ 65 * n + ((4 * (length b - 48 * suc n) + 2) / 3 + 1) = rw (← left) rest in
-    let sum = length-append (line (base64_of (take 48 b))) (body_lines n back) in
-    let one = line_size (base64_of (take 48 b)) in
-    let characters = signs_size (take 48 b) in
+    let left : length back - bytes_of_a_line * n ≡ length b - bytes_of_a_line * suc n = omega arith in
+    let prefix : length (take bytes_of_a_line b) ≡ bytes_of_a_line = omega (arith, length-take bytes_of_a_line b) in
+    let more : length (body_lines n back)
+    ≡ (line_size + 1) * n + ((4 * (length b - bytes_of_a_line * suc n) + 2) / 3 + 1) = rw (← left) rest in
+    let sum = length-append (line (base64_of (take bytes_of_a_line b))) (body_lines n back) in
+    let one = length-line (base64_of (take bytes_of_a_line b)) in
+    let characters = signs_size (take bytes_of_a_line b) in
     omega arith
 
-pub body_size : (b : Bytes) → length (body_text b) ≡ 65 * (length b / 48) + ((length b % 48 * 4 + 2) / 3 + 1)
+pub body_size : (b : Bytes) → length (body_text b)
+    ≡ (line_size + 1) * (length b / bytes_of_a_line) + ((length b % bytes_of_a_line * 4 + 2) / 3 + 1)
 unfolding body_text
 body_size b =
-    let s = lines_size (length b / 48) b (omega arith) in
-    let left : length b - 48 * (length b / 48) ≡ length b % 48 = omega arith in
+    let s = lines_size (length b / bytes_of_a_line) b (omega arith) in
+    let left : length b - bytes_of_a_line * (length b / bytes_of_a_line) ≡ length b % bytes_of_a_line = omega arith in
     omega arith
 
 -- a list of texts, one more
@@ -52,16 +54,16 @@ pub length-version_line : length version_line ≡ version_size
 unfolding version_line
 length-version_line = refl
 
-pub mac_end_size : (mac : Bytes) → length mac ≡ 32 → length (mac_end mac) ≡ 45
+pub mac_end_size : (mac : Bytes) → length mac ≡ mac_size → length (mac_end mac) ≡ 45
 unfolding mac_end
 mac_end_size mac n = omega (arith, signs_size mac, length-append (base64_of mac) (10 ∷ []))
 
-pub header_size : (ss : List StanzaParts) (mac : Bytes) → length mac ≡ 32
+pub header_size : (ss : List StanzaParts) (mac : Bytes) → length mac ≡ mac_size
     → length (signed ss ++ mac_end mac) ≡ 70 + length (flat_map stanza_text ss)
 unfolding signed
 header_size ss mac n =
     let all = length-append (signed ss) (mac_end mac) in
-    let front = length-append (version_line ++ flat_map stanza_text ss) (codes "---") in
+    let prefix = length-append (version_line ++ flat_map stanza_text ss) (codes "---") in
     let first = length-append version_line (flat_map stanza_text ss) in
     let end = mac_end_size mac n in
     let v = length-version_line in

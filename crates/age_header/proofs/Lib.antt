@@ -1,25 +1,16 @@
-mod ArgumentLemmas
-mod Base64Joined
-mod Base64Lemmas
-mod FillLemmas
-mod FrontPaths
-pub mod MayGiveLemmas
+mod ArgumentsLemmas
+pub mod Base64Lemmas
+pub mod DeviceLemmas
+mod FillingLemmas
+pub mod HeaderLemmas
 pub mod LengthLemmas
-mod LineLemmas
-mod OneReading
-pub mod OneText
-mod OneStep
-mod PathLemmas
-mod Spelled
-mod StepRuns
-mod TakeLemmas
+mod LinesLemmas
+pub mod ReaderLemmas
+mod StanzaLemmas
+mod StepsLemmas
 pub mod TextLemmas
-mod VerdictPaths
-mod SourceVerdicts
-mod FirstLine
-mod LaterLines
-pub mod WriteLemmas
-pub mod OneVerdict
-mod HeadLemmas
-pub mod Decoding
-pub mod SomeVerdict
+mod VerdictFirstLineLemmas
+mod VerdictLaterLinesLemmas
+mod VerdictPathLemmas
+pub mod VerdictTotalLemmas
+pub mod VerdictUniqueLemmas

@@ -9,10 +9,9 @@ use Rattle.base64.specs.GeneralPurpose.{IsBytes, IsEncodedOver, encode_of, encod
 use Rattle.base64.specs.declared.engine.general_purpose.GeneralPurpose.{GeneralPurpose}
 use Rattle.age_kdf.specs.Bytes.{Bytes}
 use Rattle.age_header.specs.Base64.{IsBase64, alphabet, base64_of}
-use Rattle.age_header.specs.Header.{StanzaParts, Head, IsStanza, AreStanzas, IsFullLine, argument_line, line, version_line}
+use Rattle.age_header.specs.Header.{StanzaParts, Head, IsStanza, AreStanzas, IsFullLine, argument_line, line, version_line, line_size, bytes_of_a_line}
 use Rattle.age_header.specs.Text.{IsPlain, IsWhole, IsHeaderValue, body_lines, body_text, stanza_text, signed, mac_end}
-use Rattle.age_header.proofs.Base64Lemmas.{IsBase64-encode, encode_of-unpadded}
-use Rattle.age_header.proofs.Base64Joined.{IsBase64-append}
+use Rattle.age_header.proofs.Base64Lemmas.{IsBase64-encode, encode_of-unpadded, IsBase64-append}
 
 -- what the engine wrote into a buffer
 pub encoded : (e : GeneralPurpose) (m old new : Bytes) (len : ℕ) → IsPlain e → IsEncodedOver e m old new
@@ -30,17 +29,19 @@ pub encoded_size_plain : (e : GeneralPurpose) (n : ℕ) → IsPlain e → encode
 encoded_size_plain e n p = rw p.unpadded refl
 
 -- one full line more
-pub body_step : (b piece after : Bytes) → 48 ≤ length b → piece ≡ take 48 b → after ≡ drop 48 b
+pub body_step : (b piece after : Bytes) → bytes_of_a_line ≤ length b → piece ≡ take bytes_of_a_line b
+    → after ≡ drop bytes_of_a_line b
     → body_text b ≡ base64_of piece ++ (10 ∷ body_text after)
 unfolding body_text body_lines
 body_step b piece after h p a =
-    let n : length b / 48 ≡ suc (length (drop 48 b) / 48) = omega (arith, length-drop 48 b) in
-    rw (n, p, a) (append_assoc (base64_of (take 48 b)) (10 ∷ []) _)
+    let n : length b / bytes_of_a_line ≡ suc (length (drop bytes_of_a_line b) / bytes_of_a_line) =
+    omega (arith, length-drop bytes_of_a_line b) in
+    rw (n, p, a) (append_assoc (base64_of (take bytes_of_a_line b)) (10 ∷ []) _)
 
-pub body_end : (b : Bytes) → length b < 48 → body_text b ≡ base64_of b ++ 10 ∷ []
+pub body_end : (b : Bytes) → length b < bytes_of_a_line → body_text b ≡ base64_of b ++ 10 ∷ []
 unfolding body_text body_lines
 body_end b h =
-    let n : length b / 48 ≡ 0 = omega arith in
+    let n : length b / bytes_of_a_line ≡ 0 = omega arith in
     rw n refl
 
 -- one element more of a list of texts
@@ -95,11 +96,12 @@ record Cut (n : ℕ) (b : Bytes) : Type 0 where
   full : List Bytes
   last : Bytes
   each : AllByRecursion IsFullLine full
-  low : length last < 64
+  low : length last < line_size
   text : IsBase64 b (concat full ++ last)
   spelled : body_lines n b ≡ flat_map line full ++ line last
 
-cut : (n : ℕ) (b : Bytes) → IsBytes b → 48 * n ≤ length b → length b < 48 * n + 48 → Cut n b
+cut : (n : ℕ) (b : Bytes) → IsBytes b → bytes_of_a_line * n ≤ length b
+    → length b < bytes_of_a_line * n + bytes_of_a_line → Cut n b
 unfolding body_lines
 cut zero b h low high = record {
   full = [];
@@ -110,30 +112,31 @@ cut zero b h low high = record {
   spelled = refl;
 }
 cut (suc n) b h low high =
-    let front : Bytes = take 48 b in
-    let back : Bytes = drop 48 b in
-    let size : length front ≡ 48 = omega (arith, length-take 48 b) in
-    let full : length (base64_of front) ≡ 64 = omega (arith, signs_size front) in
-    let four : length (base64_of front) ≡ 4 * 16 = full in
-    let rest = cut n back (bytes_drop 48 b h) (omega (arith, length-drop 48 b)) (omega (arith, length-drop 48 b)) in
-    let both = IsBase64-append 16 front (base64_of front) back (concat rest.full ++ rest.last) four
-    (characters_are front (bytes_take 48 b h)) rest.text in
+    let prefix : Bytes = take bytes_of_a_line b in
+    let back : Bytes = drop bytes_of_a_line b in
+    let size : length prefix ≡ bytes_of_a_line = omega (arith, length-take bytes_of_a_line b) in
+    let full : length (base64_of prefix) ≡ line_size = omega (arith, signs_size prefix) in
+    let four : length (base64_of prefix) ≡ 4 * 16 = full in
+    let rest = cut n back (bytes_drop bytes_of_a_line b h) (omega (arith, length-drop bytes_of_a_line b))
+    (omega (arith, length-drop bytes_of_a_line b)) in
+    let both = IsBase64-append 16 prefix (base64_of prefix) back (concat rest.full ++ rest.last) four
+    (characters_are prefix (bytes_take bytes_of_a_line b h)) rest.text in
     record {
-      full = base64_of front ∷ rest.full;
+      full = base64_of prefix ∷ rest.full;
       last = rest.last;
       each = (full, rest.each);
       low = rest.low;
-      text = rw (append_assoc (base64_of front) (concat rest.full) rest.last)
-          (subst (λ (z : Bytes). IsBase64 z (base64_of front ++ (concat rest.full ++ rest.last)))
-          (take-append-drop 48 b) both);
-      spelled = ap (λ (z : Bytes). line (base64_of front) ++ z) rest.spelled
-          ∙ sym (append_assoc (line (base64_of front)) (flat_map line rest.full) (line rest.last));
+      text = rw (append_assoc (base64_of prefix) (concat rest.full) rest.last)
+          (subst (λ (z : Bytes). IsBase64 z (base64_of prefix ++ (concat rest.full ++ rest.last)))
+          (take-append-drop bytes_of_a_line b) both);
+      spelled = ap (λ (z : Bytes). line (base64_of prefix) ++ z) rest.spelled
+          ∙ sym (append_assoc (line (base64_of prefix)) (flat_map line rest.full) (line rest.last));
     }
 
 pub stanza_text_is : (s : StanzaParts) → IsWhole s → IsStanza s (stanza_text s)
 unfolding stanza_text body_text
 stanza_text_is s h =
-    let c = cut (length s.body / 48) s.body h.1 (omega arith) (omega arith) in
+    let c = cut (length s.body / bytes_of_a_line) s.body h.1 (omega arith) (omega arith) in
     record {
       full = c.full;
       last = c.last;

@@ -1,18 +1,28 @@
 -- What a read or a write does to the known bytes of a device, and to its count of failures.
-use Rattle.std.specs.Prelude.{◌≡◌, ℕ, ◌+◌, ◌-◌, ◌^◌, ◌<◌, ◌≤◌, min, length, take, ⊤, MatchResult}
+use Rattle.std.specs.Prelude.{◌≡◌, ℕ, ◌+◌, ◌-◌, ◌^◌, ◌<◌, ◌≤◌, Bool, true, min, length, take, ⊤, MatchResult, if◌then◌else◌}
 use Rattle.std.specs.declared.option.Option.{Option}
 use Rattle.std.specs.declared.option.Option.TheVariants.{None, Some}
 use Rattle.std.specs.declared.result.Result.{Result}
 use Rattle.std.specs.Io.KnownBytes.{Consumes, Appends, Keeps, IsAtEnd}
 pub use Rattle.age_kdf.specs.Bytes.{Bytes}
 
--- the bytes that a source still gives, or that a sink has taken, where they are known; else None
+-- the bytes that are to come from a source, or that a sink has taken, if they are known; else None
 abbrev pub Known : Type 0
 Known = Option Bytes
 
--- an Err raises the count by one, or leaves it at the largest u64; an Ok leaves it
+-- a fault that is the device's raises its count by one, or leaves it at the largest u64; any other
+-- leaves it
+abbrev pub CountsFaultIf : {E : Type 0} (is_own : E → Bool) (old new : ℕ) (fault : E) → Type 0
+CountsFaultIf is_own old new fault =
+    new ≡ (if is_own fault then min (old + 1) (2 ^ 64 - 1) else old)
+
+-- the same of a result; an Ok leaves the count
+abbrev pub CountsIf : {A E : Type 0} (is_own : E → Bool) (old new : ℕ) (r : Result A E) → Type 0
+CountsIf is_own old new r = MatchResult r (λ _. new ≡ old) (CountsFaultIf is_own old new)
+
+-- the same where each fault is the device's
 abbrev pub Counts : {A E : Type 0} (old new : ℕ) (r : Result A E) → Type 0
-Counts old new r = MatchResult r (λ _. new ≡ old) (λ _. new ≡ min (old + 1) (2 ^ 64 - 1))
+Counts old new r = CountsIf (λ _. true) old new r
 
 -- Ok(n) gives the next n bytes, and 0 for a nonempty buffer only at the end; an Err says nothing of
 -- the bytes

@@ -1,4 +1,4 @@
--- How one line is taken from a source.
+-- How one line is read from a source.
 use Rattle.std.specs.Prelude.{◌≡◌, ℕ, ◌<◌, ⊤, ◌++◌, [], ◌∷◌}
 use Rattle.std.specs.declared.option.Option.{Option}
 use Rattle.std.specs.Io.KnownBytes.{IsAtEnd}
@@ -8,11 +8,11 @@ use Rattle.age_header.specs.declared.fault.HeaderFault.TheVariants.{Read, Memory
 use Rattle.age_header.specs.declared.lines.LineEnd.{LineEnd}
 use Rattle.age_header.specs.declared.lines.LineEnd.TheVariants.{Lf, Input, Room}
 
--- the bytes that a line took
-abbrev pub taken : (text : Bytes) (end : LineEnd) → Bytes
-taken text Lf = text ++ 10 ∷ []
-taken text Input = text
-taken text Room = text
+-- the bytes that are read for a line
+abbrev pub line_bytes : (text : Bytes) (end : LineEnd) → Bytes
+line_bytes text Lf = text ++ 10 ∷ []
+line_bytes text Input = text
+line_bytes text Room = text
 
 -- how a line of at most `max_len` bytes ended, and what the source still has
 abbrev pub IsEnd : (end : LineEnd) (len max_len : ℕ) (left : Option Bytes) → Type 0

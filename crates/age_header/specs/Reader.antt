@@ -1,11 +1,11 @@
 -- What a reader of headers returns.
-use Rattle.std.specs.Prelude.{◌≡◌, ℕ, ◌+◌, ◌-◌, ◌^◌, min, ⊤}
+use Rattle.std.specs.Prelude.{ℕ, ⊤, Bool, true, false}
 use Rattle.std.specs.declared.option.Option.{Option}
 use Rattle.std.specs.declared.option.Option.TheVariants.{None, Some}
 use Rattle.std.specs.declared.result.Result.{Result}
 use Rattle.std.specs.declared.result.Result.TheVariants.{Ok, Err}
 use Rattle.std.specs.Io.KnownBytes.{Consumes}
-use Rattle.age_header.specs.Device.{Known}
+use Rattle.age_header.specs.Device.{Known, MayGive}
 use Rattle.age_kdf.specs.Bytes.{Bytes}
 use Rattle.age_header.specs.declared.fault.HeaderFault.{HeaderFault}
 use Rattle.age_header.specs.declared.fault.HeaderFault.TheVariants.{Read, Memory}
@@ -20,7 +20,7 @@ Refuses b max Memory = ⊤
 Refuses b max fault = IsFault b max fault
 
 -- What a reader under a limit of max bytes returns where b comes: its verdict. Where that is a
--- header, just the header's bytes are taken.
+-- header, only the header's bytes are read.
 abbrev pub ReadsHeaderOf : (b : Bytes) (from to : Known) (max : ℕ)
     (result : Result HeaderParts HeaderFault) → Type 0
 ReadsHeaderOf b from to max (Ok h) =
@@ -29,15 +29,14 @@ ReadsHeaderOf b from to max (Ok h) =
     × Consumes from to text
 ReadsHeaderOf b from to max (Err fault) = Refuses b max fault
 
--- The same of a source: of the bytes that were to come, or of some bytes where they are unknown.
+-- the same of bytes that a source may give
 abbrev pub ReadsHeader : (from to : Known) (max : ℕ) (r : Result HeaderParts HeaderFault) → Type 0
-ReadsHeader None to max r = (b : Bytes) × ReadsHeaderOf b None to max r
-ReadsHeader (Some b) to max r = ReadsHeaderOf b (Some b) to max r
+ReadsHeader from to max r = (b : Bytes) × MayGive from b × ReadsHeaderOf b from to max r
 
--- the count of failures rises by one where the result is Read, and else stays
-abbrev pub CountsRead : {A : Type 0} (old new : ℕ) (result : Result A HeaderFault) → Type 0
-CountsRead old new (Err Read) = new ≡ min (old + 1) (2 ^ 64 - 1)
-CountsRead old new _ = new ≡ old
+-- a failed read, which the source counts
+abbrev pub is_read : HeaderFault → Bool
+is_read Read = true
+is_read _ = false
 
 -- a reader between calls: its limit, and the fault that it keeps
 pub record ReaderState : Type 0 where

@@ -1,4 +1,4 @@
--- What bytes are to a reader of headers: a header at their front, or the first fault.
+-- What bytes are to a reader of headers: a header at their start, or the first fault.
 use Rattle.std.specs.Prelude.{◌≡◌, ◌≢◌, ℕ, ◌<◌, ◌≤◌, ◌⊎◌, List, [], ◌++◌, length, take, flat_map}
 use Rattle.std.specs.Io.{StartsWith}
 use Rattle.std.specs.List.{concat, AllByRecursion}
@@ -50,7 +50,7 @@ lines_text ls = flat_map line ls
 pub record AreLines (ls : List Bytes) (b : Bytes) : Type 0 where
   pub rest : Bytes
   pub each : AllByRecursion IsLineText ls
-  pub front : b ≡ lines_text ls ++ rest
+  pub prefix : b ≡ lines_text ls ++ rest
 
 -- The least number of first lines of b that are a header or not viable: fewer lines are viable and
 -- no header.
@@ -103,5 +103,5 @@ HeaderVerdict b max (Err fault) = IsFault b max fault
 pub record BeginsWith (b : Bytes) (max : ℕ) (found : Found) : Type 0 where
   pub rest : Bytes
   pub head : Head found.stanzas found.mac found.text
-  pub front : b ≡ found.text ++ rest
+  pub prefix : b ≡ found.text ++ rest
   pub fits : length found.text ≤ max

@@ -82,17 +82,17 @@ impl Arguments {
 }
 
 /// The text after this prefix, if it begins with the prefix.
-pub(crate) fn strip_prefix<'a>(text: &'a [u8], front: &[u8]) -> Option<&'a [u8]>
-    ensures { MatchOption result ((x : Bytes) → text.now ≢ front.now ++ x)
-        (λ x. text.now ≡ front.now ++ x.now) }
+pub(crate) fn strip_prefix<'a>(text: &'a [u8], prefix: &[u8]) -> Option<&'a [u8]>
+    ensures { MatchOption result ((x : Bytes) → text.now ≢ prefix.now ++ x)
+        (λ x. text.now ≡ prefix.now ++ x.now) }
 {
-    text.strip_prefix(front)
+    text.strip_prefix(prefix)
 }
 
 /// The number of visible characters (bytes 33 to 126) at the start of the text.
 pub(crate) fn visible_len(text: &[u8]) -> usize
     ensures bound { result ≤ length text.now }
-    ensures front { AllByRecursion IsVisible (take result text.now) }
+    ensures prefix { AllByRecursion IsVisible (take result text.now) }
     ensures rest { NoVisible (drop result text.now) }
 {
     for (i, byte) in text.iter().enumerate() {

@@ -104,8 +104,8 @@ impl<'a> Source for MemSource<'a> {
 
     fn read(&mut self, buf: &mut [u8]) -> Result<usize, DeviceFault> {
         let n = self.rest.len().min(buf.len());
-        let (front, rest) = self.rest.split_at(n);
-        buf[..n].copy_from_slice(front);
+        let (prefix, rest) = self.rest.split_at(n);
+        buf[..n].copy_from_slice(prefix);
         self.rest = rest;
         Ok(n)
     }

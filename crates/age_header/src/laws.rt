@@ -25,7 +25,7 @@ pub fn one_reading()
     ensures reading { (ss ts : List StanzaParts) (m n h : Bytes) → Head ss m h → Head ts n h
         → (ss ≡ ts) × (m ≡ n) }
     ensures text { (ss : List StanzaParts) (m h k : Bytes) → Head ss m h → Head ss m k → h ≡ k }
-    ensures front { (ss ts : List StanzaParts) (m n h x : Bytes) → Head ss m h → Head ts n (h ++ x)
+    ensures prefix { (ss ts : List StanzaParts) (m n h x : Bytes) → Head ss m h → Head ts n (h ++ x)
         → x ≡ [] }
 {}
 
@@ -41,7 +41,7 @@ pub fn one_verdict()
 
 /// The text under a header's MAC is the header's text without the last 45 bytes: the space, the
 /// MAC's 43 characters and the LF.
-pub fn signed_front()
+pub fn signed_prefix()
     ensures { (ss : List StanzaParts) (mac h : Bytes) → Head ss mac h
         → signed ss ≡ take (length h - 45) h }
 {}

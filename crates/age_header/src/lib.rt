@@ -28,8 +28,6 @@ mod reader;
 mod signing;
 mod size;
 mod stanza;
-#[cfg(test)]
-mod tests;
 mod writer;
 
 pub use device::{DeviceFault, MemSink, MemSource, ReadSource, Sink, Source, WriteSink, write_all};

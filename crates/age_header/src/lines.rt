@@ -2,9 +2,10 @@
 
 ghost use Rattle.std.specs.Prelude.{◌≡◌, length, IfOk, IfErr};
 ghost use Rattle.std.specs.Io.KnownBytes.{Consumes};
+ghost use Rattle.age_header.specs.Device.{CountsIf};
 ghost use Rattle.age_header.specs.Verdict.{IsLineText};
-ghost use Rattle.age_header.specs.Reader.{CountsRead};
-ghost use Rattle.age_header.specs.Lines.{taken, IsEnd, IsOutside};
+ghost use Rattle.age_header.specs.Reader.{is_read};
+ghost use Rattle.age_header.specs.Lines.{line_bytes, IsEnd, IsOutside};
 
 use crate::device::Source;
 use crate::fault::HeaderFault;
@@ -28,9 +29,9 @@ pub(crate) fn read_line<S: Source>(
     input: &mut S,
     max_len: usize,
 ) -> Result<(Vec<u8>, LineEnd), HeaderFault>
-    ensures count { CountsRead (S.failed input.old) (S.failed input.new) result }
+    ensures count { CountsIf is_read (S.failed input.old) (S.failed input.new) result }
     ensures bytes { IfOk result (λ l. Consumes (S.to_come input.old) (S.to_come input.new)
-        (taken l.0.items l.1)) }
+        (line_bytes l.0.items l.1)) }
     ensures text { IfOk result (λ l. IsLineText l.0.items) }
     ensures end { IfOk result (λ l. IsEnd l.1 (length l.0.items) max_len (S.to_come input.new)) }
     ensures err { IfErr result IsOutside }

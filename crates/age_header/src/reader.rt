@@ -2,10 +2,11 @@
 
 ghost use Rattle.std.specs.Prelude.{◌≡◌, ◌≤◌, ◌++◌, length, codes, None, Err, IfOk, IfErr, OnOk, IfSome, IfNone};
 ghost use Rattle.std.specs.Io.KnownBytes.{Consumes};
+ghost use Rattle.age_header.specs.Device.{CountsIf};
 ghost use Rattle.age_kdf.specs.Bytes.{Bytes};
 ghost use Rattle.age_header.specs.Base64.{IsBase64};
 ghost use Rattle.age_header.specs.Header.{mac_size, version_line, version_size};
-ghost use Rattle.age_header.specs.Reader.{ReadsHeader, CountsRead};
+ghost use Rattle.age_header.specs.Reader.{ReadsHeader, is_read};
 ghost use Rattle.age_header.specs.Text.{IsPlain};
 
 use crate::arguments::strip_prefix;
@@ -66,7 +67,7 @@ impl HeaderReader {
             (λ e. (result ≡ Err e) × (input.new ≡ input.old)) }
         ensures keeps { self.new ≡ record { max = self.old.max; fault = fault_of result } }
         ensures count { IfNone self.old.fault
-            (CountsRead (S.failed input.old) (S.failed input.new) result) }
+            (CountsIf is_read (S.failed input.old) (S.failed input.new) result) }
         ensures verdict { IfNone self.old.fault
             (ReadsHeader (S.to_come input.old) (S.to_come input.new) self.old.max result) }
     {
@@ -83,7 +84,7 @@ impl HeaderReader {
 
 /// Reads the header at the start of the input.
 fn read_header<S: Source>(alloc: Global, input: &mut S, max: usize) -> Result<Header, HeaderFault>
-    ensures count { CountsRead (S.failed input.old) (S.failed input.new) result }
+    ensures count { CountsIf is_read (S.failed input.old) (S.failed input.new) result }
     ensures verdict { ReadsHeader (S.to_come input.old) (S.to_come input.new) max result }
 {
     read_version(alloc, input, max)?;
@@ -117,7 +118,7 @@ fn read_header<S: Source>(alloc: Global, input: &mut S, max: usize) -> Result<He
 
 /// Reads the version line.
 fn read_version<S: Source>(alloc: Global, input: &mut S, max: usize) -> Result<(), HeaderFault>
-    ensures count { CountsRead (S.failed input.old) (S.failed input.new) result }
+    ensures count { CountsIf is_read (S.failed input.old) (S.failed input.new) result }
     ensures ok { OnOk result
         ((version_size ≤ max) × Consumes (S.to_come input.old) (S.to_come input.new) version_line) }
     ensures err { IfErr result

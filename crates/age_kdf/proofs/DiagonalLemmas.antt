@@ -5,7 +5,7 @@ use Rattle.std.specs.Simd.Lanes.{zip2}
 use Rattle.std.proofs.lemmas.Simd.{get_or-zip2, get_or-replicate, length-zip2}
 use Rattle.age_kdf.specs.Bytes.{Words}
 use Rattle.age_kdf.specs.Salsa.{quarter, columns, rows}
-use Rattle.age_kdf.specs.Diagonals.{quartered, spread, turned}
+use Rattle.age_kdf.specs.Diagonals.{four_steps, words_in_order, rotation}
 
 -- two shifts of each lane and an or rotate it
 pub shifts_rotate : (x : Words) (k j : ℕ) → length x ≡ 4 → 0 < k → k < 32 → j < 4
@@ -30,12 +30,12 @@ shifts_rotate x k j long low high inside =
 abbrev pub AreQuartered : Words → Words → Words → Words → Words → Words → Words → Words → Type 0
 AreQuartered a b c d e f g h = (j : ℕ) → j < 4
     → (slice_index e j, slice_index f j, slice_index g j, slice_index h j)
-    ≡ quartered (slice_index a j) (slice_index b j) (slice_index c j) (slice_index d j)
+    ≡ four_steps (slice_index a j) (slice_index b j) (slice_index c j) (slice_index d j)
 
 -- the steps in every lane are those on the columns
 pub columns_spread : (a b c d e f g h : Words) → AreQuartered a b c d e f g h
-    → spread (e ∷ f ∷ g ∷ h ∷ []) ≡ columns (spread (a ∷ b ∷ c ∷ d ∷ []))
-unfolding columns quarter quartered
+    → words_in_order (e ∷ f ∷ g ∷ h ∷ []) ≡ columns (words_in_order (a ∷ b ∷ c ∷ d ∷ []))
+unfolding columns quarter four_steps
 columns_spread a b c d e f g h q =
     let q0 = q 0 (omega arith) in
     let q1 = q 1 (omega arith) in
@@ -45,9 +45,9 @@ columns_spread a b c d e f g h q =
     ∷ (q0 i).2 ∷ (q1 i).1 ∷ (q2 i).0 ∷ (q3 i).3 ∷ (q0 i).3 ∷ (q1 i).2 ∷ (q2 i).1 ∷ (q3 i).0 ∷ []
 
 -- the steps in every lane are those on the rows, where the lanes are moved before and back after
-pub rows_spread : (a b c d e f g h : Words) → AreQuartered a (turned 1 d) (turned 2 c) (turned 3 b) e f g h
-    → spread (e ∷ turned 1 h ∷ turned 2 g ∷ turned 3 f ∷ []) ≡ rows (spread (a ∷ b ∷ c ∷ d ∷ []))
-unfolding rows quarter quartered
+pub rows_spread : (a b c d e f g h : Words) → AreQuartered a (rotation 1 d) (rotation 2 c) (rotation 3 b) e f g h
+    → words_in_order (e ∷ rotation 1 h ∷ rotation 2 g ∷ rotation 3 f ∷ []) ≡ rows (words_in_order (a ∷ b ∷ c ∷ d ∷ []))
+unfolding rows quarter four_steps
 rows_spread a b c d e f g h q =
     let q0 = q 0 (omega arith) in
     let q1 = q 1 (omega arith) in

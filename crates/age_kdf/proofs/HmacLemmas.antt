@@ -5,7 +5,7 @@ use Rattle.sha2.specs.Sha256.{sha256, digest_bytes}
 use Rattle.age_kdf.specs.Bytes.{Bytes}
 use Rattle.age_kdf.specs.Hmac.{hmac}
 
--- a key written over the front of 64 zeros is the key with zeros after it
+-- a key written over the first of 64 zeros is the key with zeros after it
 pub zeros_behind : (key : Bytes) → key ++ drop (length key) (replicate 64 0) ≡ key ++ replicate (64 - length key) 0
 zeros_behind key = ap (λ z. key ++ z) (drop-replicate (length key) 64 0)
 

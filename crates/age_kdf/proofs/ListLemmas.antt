@@ -1,4 +1,4 @@
--- Lists that are written from the front, and lists computed element by element from two lists.
+-- Lists that are written from the start, and lists computed element by element from two lists.
 use Rattle.std.proofs.Common.{◌≡◌, ℕ, ◌<◌, ◌≤◌, List, length, take, get_or, sym, ◌∙◌, arith}
 use Rattle.std.specs.Simd.Lanes.{zip2}
 use Rattle.std.proofs.lemmas.List.{same_lists, get_or_default, take_all}

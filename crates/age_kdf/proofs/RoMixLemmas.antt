@@ -44,8 +44,8 @@ low_word k (w ∷ ws) h =
 -- the first word of the last block modulo N is Integerify(X) modulo N
 pub index_is : (r k : ℕ) (x : Words) → 0 < r → k ≤ 32 → get_or x (32 * r - 16) 0 % 2 ^ k ≡ integerify r (2 ^ k) x
 index_is r k x pos h =
-    let place : 32 * r - 16 ≡ 16 * (2 * r - 1) + 0 = omega arith in
-    ap (λ p. get_or x p 0 % 2 ^ k) place
+    let at_is : 32 * r - 16 ≡ 16 * (2 * r - 1) + 0 = omega arith in
+    ap (λ p. get_or x p 0 % 2 ^ k) at_is
     ∙ ap (λ w. w % 2 ^ k) (sym (get_or-chunk (16 * (2 * r - 1)) 16 x 0 0 (omega arith)))
     ∙ sym (low_word k (block x (2 * r - 1)) h)
 

@@ -8,21 +8,21 @@ use borrow.Rule.Slice.PartMut.{put_mid}
 use Rattle.age_kdf.specs.Scrypt.{words_of, word_at, parts_mixed}
 use Rattle.age_kdf.specs.RoMix.{romix}
 
--- words that lie in the front bytes
-words-front : (xs ys : Bytes) (n : ℕ) → 4 * n ≤ length xs → words_of (xs ++ ys) n ≡ words_of xs n
+-- words that lie in the first bytes
+words-prefix : (xs ys : Bytes) (n : ℕ) → 4 * n ≤ length xs → words_of (xs ++ ys) n ≡ words_of xs n
 unfolding words_of
-words-front xs ys zero room = refl
-words-front xs ys (suc n) room =
+words-prefix xs ys zero room = refl
+words-prefix xs ys (suc n) room =
     let at : (k : ℕ) → k < length xs → get_or (xs ++ ys) k 0 ≡ get_or xs k 0 = λ k h. get_or-append xs ys 0 k h in
     rw (
       at (4 * n) (omega arith),
       at (4 * n + 1) (omega arith),
       at (4 * n + 2) (omega arith),
       at (4 * n + 3) (omega arith),
-      words-front xs ys n (omega arith),
+      words-prefix xs ys n (omega arith),
     ) refl
 
--- a word that lies after the front bytes
+-- a word that lies after the first bytes
 word_behind : (xs ys : Bytes) (k : ℕ) → word_at (xs ++ ys) (length xs + k) ≡ word_at ys k
 word_behind xs ys k =
     let at : (i : ℕ) → get_or (xs ++ ys) (length xs + k + i) 0 ≡ get_or ys (k + i) 0 = λ i.
@@ -36,24 +36,24 @@ pub words-joined : (xs ys : Bytes) (m n : ℕ) → length xs ≡ 4 * m
 unfolding words_of
 words-joined xs ys m zero len =
     let none : m + 0 ≡ m = omega arith in
-    ap (words_of (xs ++ ys)) none ∙ words-front xs ys m (omega arith) ∙ sym (append-nil (words_of xs m))
+    ap (words_of (xs ++ ys)) none ∙ words-prefix xs ys m (omega arith) ∙ sym (append-nil (words_of xs m))
 words-joined xs ys m (suc n) len =
     let next : m + suc n ≡ suc (m + n) = omega arith in
-    let place : 4 * (m + n) ≡ length xs + 4 * n = omega arith in
+    let at_is : 4 * (m + n) ≡ length xs + 4 * n = omega arith in
     ap (words_of (xs ++ ys)) next
-    ∙ ap₂ (λ p q. p ++ q ∷ []) (words-joined xs ys m n len) (ap (word_at (xs ++ ys)) place ∙ word_behind xs ys (4 * n))
+    ∙ ap₂ (λ p q. p ++ q ∷ []) (words-joined xs ys m n len) (ap (word_at (xs ++ ys)) at_is ∙ word_behind xs ys (4 * n))
     ∙ append_assoc (words_of xs m) (words_of ys n) _
 
 -- a block of eight words written after those that were written before
-pub block_loaded : (words ws : Words) (front block : Bytes) (i k : ℕ) → take (8 * i) words ≡ words_of front (8 * i)
-    → ws ≡ words_of block 8 → length ws ≡ 8 → length front ≡ 32 * i → 8 * i + 8 ≤ length words
-    → take (8 * (i + 1)) (put_mid (8 * i) k words ws) ≡ words_of (front ++ block) (8 * (i + 1))
-block_loaded words ws front block i k before is len long room =
+pub block_loaded : (words ws : Words) (prefix block : Bytes) (i k : ℕ) → take (8 * i) words ≡ words_of prefix (8 * i)
+    → ws ≡ words_of block 8 → length ws ≡ 8 → length prefix ≡ 32 * i → 8 * i + 8 ≤ length words
+    → take (8 * (i + 1)) (put_mid (8 * i) k words ws) ≡ words_of (prefix ++ block) (8 * (i + 1))
+block_loaded words ws prefix block i k before is len long room =
     let next : 8 * i + 8 ≡ 8 * (i + 1) = omega arith in
     take-put_mid (8 * i) k words ws (8 * (i + 1)) (omega arith) (omega arith)
     ∙ ap₂ ◌++◌ before is
-    ∙ sym (words-joined front block (8 * i) 8 (omega arith))
-    ∙ ap (words_of (front ++ block)) next
+    ∙ sym (words-joined prefix block (8 * i) 8 (omega arith))
+    ∙ ap (words_of (prefix ++ block)) next
 
 -- a part mixed in place after those that were mixed before
 pub part_mixed : (r n size i k next : ℕ) (b parts x : Words) → size ≡ 32 * r → k ≡ size → next ≡ size * i + size

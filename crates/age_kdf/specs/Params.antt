@@ -7,7 +7,7 @@ pub record Costs : Type 0 where
   pub r : ℕ
   pub p : ℕ
 
--- the parameters that are taken: N is above 1 and below 2 ^ (16 * r), as the RFC asks, and
+-- the parameters that are accepted: N is above 1 and below 2 ^ (16 * r), as the RFC asks, and
 -- log_n, r and p are at most 30, 32 and 32
 pub record InRange (log_n r p : ℕ) : Type 0 where
   pub log_low : 1 ≤ log_n

@@ -15,7 +15,7 @@ unfoldable pub pbkdf2_sum : (pass first : Bytes) (c : ℕ) → Bytes
 pbkdf2_sum pass first zero = replicate 32 0
 pbkdf2_sum pass first (suc c) = zip2 bit_xor (pbkdf2_sum pass first c) (pbkdf2_round pass first c)
 
--- T_i = F(pass, salt, c, i): U_1 is taken of the salt and i as four bytes, the greatest first
+-- T_i = F(pass, salt, c, i): U_1 is the PRF of the salt and i as four bytes, the greatest first
 abbrev pub pbkdf2_block : (pass salt : Bytes) (c i : ℕ) → Bytes
 pbkdf2_block pass salt c i = pbkdf2_sum pass (salt ++ to_be_bytes w32 i) c
 

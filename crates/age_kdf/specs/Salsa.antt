@@ -14,7 +14,7 @@ step x b a d k =
     let sum = add32 (slice_index x a) (slice_index x d) in
     slice_set x b (bit_xor (slice_index x b) (rotate_left w32 sum k))
 
--- the four steps on places a, b, c, d
+-- the four steps on indices a, b, c, d
 unfoldable pub quarter : (a b c d : ℕ) (x : Words) → Words
 quarter a b c d x =
     let x1 = step x b a d 7 in

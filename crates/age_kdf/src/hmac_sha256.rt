@@ -12,7 +12,7 @@ const IPAD: u8 = 0x36;
 const OPAD: u8 = 0x5c;
 
 // Writes `bytes` over the start of `block`.
-fn put_front(block: &mut [u8; 64], bytes: &[u8])
+fn put_prefix(block: &mut [u8; 64], bytes: &[u8])
     requires { length bytes.now ≤ 64 }
     ensures { block.new ≡ bytes.now ++ drop (length bytes.now) block.old }
 {
@@ -25,9 +25,9 @@ fn block_key(key: &[u8]) -> [u8; 64]
 {
     let mut block = [0u8; 64];
     if key.len() <= 64 {
-        put_front(&mut block, key);
+        put_prefix(&mut block, key);
     } else {
-        put_front(&mut block, &Sha256::digest(key));
+        put_prefix(&mut block, &Sha256::digest(key));
     }
     block
 }

@@ -4,12 +4,12 @@ ghost use Rattle.std.specs.Prelude.{◌≡◌, ◌+◌, ◌*◌, ◌<◌, ◌++�
 ghost use Rattle.age_kdf.specs.Bytes.{Bytes};
 
 /// Writes block `i`, or as much of its start as there is room for: if `out` held the blocks of
-/// `front` before, it then holds these and `block`.
+/// `prefix` before, it then holds these and `block`.
 pub(crate) fn put_block(out: &mut [u8], i: usize, block: &[u8; 32])
     requires { 32 * i < length out.old }
-    ensures { (front : Bytes) → length front ≡ 32 * i
-        → take (32 * i) out.old ≡ take (length out.old) front
-        → take (32 * (i + 1)) out.new ≡ take (length out.old) (front ++ block.now) }
+    ensures { (prefix : Bytes) → length prefix ≡ 32 * i
+        → take (32 * i) out.old ≡ take (length out.old) prefix
+        → take (32 * (i + 1)) out.new ≡ take (length out.old) (prefix ++ block.now) }
 {
     let at = 32 * i;
     let room = out.len() - at;

@@ -6,7 +6,7 @@ ghost use Rattle.std.specs.Prelude.{◌≡◌, ℕ, ◌<◌, slice_index, bit_xo
 ghost use Rattle.std.specs.Int.{w32, rotate_left};
 ghost use Rattle.std.specs.Simd.Lanes.{zip2};
 ghost use Rattle.age_kdf.specs.Salsa.{add32, columns, rows, salsa8};
-ghost use Rattle.age_kdf.specs.Diagonals.{stepped, quartered, spread, turned};
+ghost use Rattle.age_kdf.specs.Diagonals.{next_word, four_steps, words_in_order, rotation};
 
 use std::simd::u32x4;
 
@@ -37,7 +37,7 @@ fn xor(x: u32x4, y: u32x4) -> u32x4
 fn step(b: u32x4, a: u32x4, d: u32x4, k: u32) -> u32x4
     requires { (0 < k) × (k < 32) }
     ensures { (j : ℕ) → j < 4
-        → slice_index result j ≡ stepped (slice_index b j) (slice_index a j) (slice_index d j) k }
+        → slice_index result j ≡ next_word (slice_index b j) (slice_index a j) (slice_index d j) k }
 {
     xor(b, rotated(sum(a, d), k))
 }
@@ -53,7 +53,7 @@ fn quarter(a: u32x4, b: u32x4, c: u32x4, d: u32x4) -> (u32x4, u32x4, u32x4, u32x
           slice_index
               result.3 j,
         )
-        ≡ quartered (slice_index a j) (slice_index b j) (slice_index c j) (slice_index d j) }
+        ≡ four_steps (slice_index a j) (slice_index b j) (slice_index c j) (slice_index d j) }
 {
     let b1 = step(b, a, d, 7);
     let c1 = step(c, b1, a, 9);
@@ -65,28 +65,28 @@ fn quarter(a: u32x4, b: u32x4, c: u32x4, d: u32x4) -> (u32x4, u32x4, u32x4, u32x
 // Each lane moved down by one, two or three positions.
 #[inline(always)]
 fn turned_1(v: u32x4) -> u32x4
-    ensures { result ≡ turned 1 v }
+    ensures { result ≡ rotation 1 v }
 {
     v.swizzle([1, 2, 3, 0])
 }
 
 #[inline(always)]
 fn turned_2(v: u32x4) -> u32x4
-    ensures { result ≡ turned 2 v }
+    ensures { result ≡ rotation 2 v }
 {
     v.swizzle([2, 3, 0, 1])
 }
 
 #[inline(always)]
 fn turned_3(v: u32x4) -> u32x4
-    ensures { result ≡ turned 3 v }
+    ensures { result ≡ rotation 3 v }
 {
     v.swizzle([3, 0, 1, 2])
 }
 
 #[inline(always)]
 fn columns(s: [u32x4; 4]) -> [u32x4; 4]
-    ensures { spread result ≡ columns (spread s) }
+    ensures { words_in_order result ≡ columns (words_in_order s) }
 {
     let [a, b, c, d] = s;
     let (a, b, c, d) = quarter(a, b, c, d);
@@ -95,7 +95,7 @@ fn columns(s: [u32x4; 4]) -> [u32x4; 4]
 
 #[inline(always)]
 fn rows(s: [u32x4; 4]) -> [u32x4; 4]
-    ensures { spread result ≡ rows (spread s) }
+    ensures { words_in_order result ≡ rows (words_in_order s) }
 {
     let [a, b, c, d] = s;
     let (a, d, c, b) = quarter(a, turned_1(d), turned_2(c), turned_3(b));
@@ -104,7 +104,7 @@ fn rows(s: [u32x4; 4]) -> [u32x4; 4]
 
 #[inline(always)]
 fn diagonals(x: &[u32; 16]) -> [u32x4; 4]
-    ensures { spread result ≡ x.now }
+    ensures { words_in_order result ≡ x.now }
 {
     [
         u32x4::from_array([x[0], x[5], x[10], x[15]]),
@@ -117,7 +117,7 @@ fn diagonals(x: &[u32; 16]) -> [u32x4; 4]
 // The sums of the words, in their order.
 #[inline(always)]
 fn sums(s: [u32x4; 4], t: [u32x4; 4]) -> [u32; 16]
-    ensures { result ≡ zip2 add32 (spread s) (spread t) }
+    ensures { result ≡ zip2 add32 (words_in_order s) (words_in_order t) }
 {
     let [x0, x5, x10, x15] = sum(s[0], t[0]).to_array();
     let [x4, x9, x14, x3] = sum(s[1], t[1]).to_array();

@@ -5,6 +5,7 @@ use Rattle.std.specs.String.{string_bytes}
 use Rattle.age_kdf.specs.Bytes.{Bytes}
 use Rattle.age_recipient.specs.declared.unwrapped.StanzaFault.TheVariants.{ArgCount}
 use Rattle.age_recipient.specs.declared.unwrapped.Unwrapped.TheVariants.{Malformed}
+use Rattle.age_recipient.specs.PassphraseHolders.{most_work}
 use Rattle.age_recipient.specs.PassphraseStanza.{arguments_answer, is_work_factor, number_from}
 
 -- digits make a number no smaller
@@ -12,15 +13,15 @@ number_grows : (n : ℕ) (digits : Bytes) → n ≤ number_from n digits
 number_grows n [] = omega arith
 number_grows n (c ∷ digits) = let more = number_grows (n * 10 + (c - 48)) digits in omega (arith, more)
 
--- three digits or more, the first not 0, spell a number above 30
-pub long_number : (text : Bytes) → 3 ≤ length text → is_work_factor text ≡ true → 30 < number_from 0 text
+-- three digits or more, the first not 0, spell a number above the greatest work factor
+pub long_number : (text : Bytes) → 3 ≤ length text → is_work_factor text ≡ true → most_work < number_from 0 text
 long_number [] n h = absurd (omega arith)
 long_number (a ∷ []) n h = absurd (omega arith)
 long_number (a ∷ b ∷ []) n h = absurd (omega arith)
 long_number (a ∷ b ∷ c ∷ text) n h =
     let test = and_parts (nat_le 49 a && nat_le a 57) _ h in
-    let front = and_parts (nat_le 49 a) (nat_le a 57) test.0 in
-    let low : 49 ≤ a = leb-true 49 a front.0 in
+    let prefix = and_parts (nat_le 49 a) (nat_le a 57) test.0 in
+    let low : 49 ≤ a = leb-true 49 a prefix.0 in
     let more = number_grows (((0 * 10 + (a - 48)) * 10 + (b - 48)) * 10 + (c - 48)) text in
     omega (arith, more)
 

@@ -1,7 +1,9 @@
 -- A body, cut into ciphertext and tag.
 use Rattle.std.proofs.Common.{◌≡◌, ◌++◌, take, drop, take-append-drop}
 use Rattle.age_kdf.specs.Bytes.{Bytes}
+use Rattle.age_recipient.specs.Key.{file_key_size}
 
-pub joined : (body front back x y : Bytes) → front ≡ take 16 body → back ≡ drop 16 body → x ≡ front → y ≡ back
+pub joined : (body prefix back x y : Bytes) → prefix ≡ take file_key_size body → back ≡ drop file_key_size body
+    → x ≡ prefix → y ≡ back
     → x ++ y ≡ body
-joined body front back x y f b xf yb = rw (xf, yb, f, b) (take-append-drop 16 body)
+joined body prefix back x y f b xf yb = rw (xf, yb, f, b) (take-append-drop file_key_size body)

@@ -9,10 +9,11 @@ use Rattle.std.specs.Fmt.{decimal}
 use Rattle.std.specs.Int.Digits.{digits_of}
 use Rattle.std.specs.declared.result.Result.{Result}
 use Rattle.age_kdf.specs.Bytes.{Bytes}
+use Rattle.age_cipher.specs.Bytes.{tag_size}
 use Rattle.age_cipher.proofs.OpeningLemmas.{length-sealed, opened-sealed}
 use Rattle.age_header.specs.Base64.{decoded, base64_of}
 use Rattle.age_header.specs.Header.{StanzaParts}
-use Rattle.age_header.proofs.Decoding.{decoded-base64_of}
+use Rattle.age_header.proofs.Base64Lemmas.{decoded-base64_of}
 use Rattle.age_recipient.specs.declared.key.FileKey.{FileKey}
 use Rattle.age_recipient.specs.declared.unwrapped.Unwrapped.{Unwrapped}
 use Rattle.age_recipient.specs.declared.unwrapped.Unwrapped.TheVariants.{Key}
@@ -22,8 +23,8 @@ use Rattle.age_recipient.specs.KeyedHolders.{KeySecret, key_unwraps, key_wraps}
 use Rattle.age_recipient.specs.KeyedStanza.{keyed_answer, keyed_stanza, keyed_wrap_key}
 use Rattle.age_recipient.specs.PassphraseHolders.{most_work, PairFits, PassSecret, PassGuess, pass_wraps, pass_unwraps}
 use Rattle.age_recipient.specs.PassphraseStanza.{is_work_factor, number_from, pass_answer, pass_stanza, pass_wrap_key}
-use Rattle.age_recipient.specs.Salt.{IsSalt, salt_of}
-use Rattle.age_recipient.specs.Sealing.{sealed_key, unsealed, zero_nonce}
+use Rattle.age_recipient.specs.Salt.{IsSalt, salt_of, salt_size}
+use Rattle.age_recipient.specs.Sealing.{sealed_key, sealed_key_size, unsealed, zero_nonce}
 
 -- f holds of each number below n
 abbrev all_below : (f : ℕ → Bool) (n : ℕ) → Bool
@@ -71,14 +72,15 @@ unsealed-sealed wrap_key file_key = rw (opened-sealed wrap_key zero_nonce [] fil
 
 -- a sealed key has 32 bytes
 sealed_whole : (wrap_key : Bytes) (file_key : FileKey) → IsFileKey file_key
-    → nat_eq (length (sealed_key wrap_key file_key)) 32 ≡ true
+    → nat_eq (length (sealed_key wrap_key file_key)) sealed_key_size ≡ true
 sealed_whole wrap_key file_key is =
-    eq-eqb (length (sealed_key wrap_key file_key)) 32
-    (length-sealed wrap_key zero_nonce [] file_key.0 ∙ ap (λ n. n + 16) is.len)
+    eq-eqb (length (sealed_key wrap_key file_key)) sealed_key_size
+    (length-sealed wrap_key zero_nonce [] file_key.0 ∙ ap (λ n. n + tag_size) is.len)
 
 -- a salt's characters spell it
 salt_spelled : (salt : Bytes) → IsSalt salt → salt_of (decoded (base64_of salt)) ≡ Some salt
-salt_spelled salt is = rw (decoded-base64_of salt is.bytes, eq-eqb (length salt) 16 is.len) refl
+salt_spelled salt is =
+    rw (decoded-base64_of salt is.bytes, eq-eqb (length salt) salt_size is.len) refl
 
 -- an identity's answer to the stanza that a recipient of the same passphrase makes
 pass_opens : (pass salt : Bytes) (work max : ℕ) (file_key : FileKey) → IsSalt salt

@@ -10,7 +10,7 @@
 //! let key = unlock(alloc, identities.as_slice(), stanzas.as_slice())?;
 //! ```
 //!
-//! This crate has those of a passphrase and, with a stanza of this project's own, of a secret of 32
+//! This crate has those of a passphrase and, with a stanza of this project's own, of a key of 32
 //! bytes. A caller's own kind implements `Recipient` or `Identity`, and states its meaning as a
 //! function.
 //!
@@ -28,8 +28,6 @@ mod passphrase;
 mod recipient;
 mod sealing;
 mod stanza_list;
-#[cfg(test)]
-mod tests;
 mod unwrapped;
 
 pub use choice::{UnlockFault, unlock};

@@ -12,7 +12,7 @@ use Rattle.age_stream.specs.declared.fault.StreamFault.TheVariants.{NonceTruncat
 use Rattle.age_stream.specs.declared.layout.Layout.{Layout}
 use Rattle.age_stream.specs.Opening.{IsAtPiece}
 use Rattle.age_stream.specs.Payload.{pieces, chunk_nonce, payload_key}
-use Rattle.age_stream.specs.Places.{EndsBefore, HasAt, WereRead}
+use Rattle.age_stream.specs.Offsets.{EndsBefore, HasAt, WereRead}
 use Rattle.age_stream.specs.Reading.{opened_at, outcome}
 use Rattle.age_stream.specs.Ranges.{last_len, opens_to, IsOpenFault, IsVerified, JudgesLast, OpensRanges}
 use Rattle.age_stream.specs.Slice.{opening, plain_len, chunk_len, last_piece, last_outcome, range_outcome}

@@ -9,7 +9,7 @@ use Rattle.age_stream.specs.Payload.{chunk_nonce, pieces}
 use Rattle.age_stream.specs.Reading.{opened_at}
 use Rattle.age_stream.proofs.ReadingLemmas.{cut-count}
 use Rattle.age_stream.specs.declared.layout.Layout.{Layout}
-use Rattle.age_stream.specs.Places.{HasAt}
+use Rattle.age_stream.specs.Offsets.{HasAt}
 use Rattle.age_stream.specs.Ranges.{bytes_from, opens_to, IsThere}
 use Rattle.age_stream.specs.Slice.{chunk_len}
 use Rattle.age_stream.proofs.SliceLemmas.{opening-at}

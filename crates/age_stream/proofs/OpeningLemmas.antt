@@ -7,10 +7,10 @@ use Rattle.age_stream.specs.declared.fault.StreamFault.{StreamFault}
 use Rattle.std.proofs.Common.{◌⊎◌, inl, inr, subst}
 use Rattle.std.specs.Prelude.{IfNone, IfSome, IsErrOf}
 use Rattle.age_kdf.specs.Bytes.{Bytes}
-use Rattle.age_header.specs.Device.{GaveAtMost, MayGive, Known}
-use Rattle.age_stream.specs.declared.fault.StreamFault.TheVariants.{NonceTruncated, ChunkShort, EmptyFinal, BadChunk, TooManyChunks, Read, Write, Memory}
+use Rattle.age_header.specs.Device.{CountsFaultIf, GaveAtMost, MayGive, Known}
+use Rattle.age_stream.specs.declared.fault.StreamFault.TheVariants.{Read}
 use Rattle.age_stream.specs.declared.opening.Piece.{Piece}
-use Rattle.age_stream.specs.Counts.{CountsReadFault}
+use Rattle.age_stream.specs.Counts.{is_read}
 use Rattle.age_stream.specs.Opening.{Advances, IsAtPiece, OpenerState, OpensPiece, OpensNext, left_of, ahead_len, held_of}
 use Rattle.age_stream.specs.Reading.{outcome, first_outcome, after_first}
 
@@ -35,19 +35,20 @@ after-more ahead given d filled len is =
     ∙ ap Some (drop-append-le 65552 filled d (omega arith))
 
 -- no byte follows
-pub outcome-last : (key : Bytes) (max i : ℕ) (ahead given front : Bytes) → length front < 65553 → front ≡ ahead ++ given
-    → first_outcome key max i (ahead ++ given) ≡ outcome key max i true front
-outcome-last key max i ahead given front len is =
-    let yes : nat_le (length front) 65552 ≡ true = le-leb (length front) 65552 (omega arith) in
+pub outcome-last : (key : Bytes) (max i : ℕ) (ahead given prefix : Bytes) → length prefix < 65553
+    → prefix ≡ ahead ++ given
+    → first_outcome key max i (ahead ++ given) ≡ outcome key max i true prefix
+outcome-last key max i ahead given prefix len is =
+    let yes : nat_le (length prefix) 65552 ≡ true = le-leb (length prefix) 65552 (omega arith) in
     ap (first_outcome key max i) (sym is)
-    ∙ ap (λ b. outcome key max i b (take 65552 front)) yes
-    ∙ ap (outcome key max i true) (take_all 65552 front (omega arith))
+    ∙ ap (λ b. outcome key max i b (take 65552 prefix)) yes
+    ∙ ap (outcome key max i true) (take_all 65552 prefix (omega arith))
 
-pub after-last : (ahead given front : Bytes) → length front < 65553 → front ≡ ahead ++ given
+pub after-last : (ahead given prefix : Bytes) → length prefix < 65553 → prefix ≡ ahead ++ given
     → after_first (ahead ++ given) ≡ None
-after-last ahead given front len is =
-    let yes : nat_le (length front) 65552 ≡ true = le-leb (length front) 65552 (omega arith) in
-    ap after_first (sym is) ∙ ap (λ b. cond b None (Some (drop 65552 front))) yes
+after-last ahead given prefix len is =
+    let yes : nat_le (length prefix) 65552 ≡ true = le-leb (length prefix) 65552 (omega arith) in
+    ap after_first (sym is) ∙ ap (λ b. cond b None (Some (drop 65552 prefix))) yes
 
 -- what a call returns while pieces are left
 pub opens-err : (key : Bytes) (max i : ℕ) (held : Known) (ahead c : Bytes) (left : Known) (text : Bytes)
@@ -66,15 +67,9 @@ ahead-one bytes size = take_all 1 (drop 65552 bytes) (omega (arith, length-drop 
 
 -- a fault of a piece is none of a read
 pub counts-piece : (max i old new : ℕ) (fault : StreamFault) → IsAtPiece max i fault → new ≡ old
-    → CountsReadFault old new fault
-counts-piece max i old new NonceTruncated at is = absurd at
-counts-piece max i old new (ChunkShort j) at is = is
-counts-piece max i old new (EmptyFinal j) at is = is
-counts-piece max i old new (BadChunk j) at is = is
-counts-piece max i old new TooManyChunks at is = is
+    → CountsFaultIf is_read old new fault
 counts-piece max i old new Read at is = absurd at
-counts-piece max i old new Write at is = absurd at
-counts-piece max i old new Memory at is = absurd at
+counts-piece max i old new _ at is = is
 
 unkept : {P : Type 0} (fault : Option StreamFault) → P → IfNone fault P
 unkept None p = p
@@ -131,17 +126,17 @@ pub advances-ok : (now : OpenerState) (from to : Known) (key : Bytes) (max i ahe
     ⊎ Advances now (parts key max (i + 1) piece.more 1 items piece.len fault) from to (Ok true))
 advances-ok now from to key max i ahead len more old slice bytes items fault piece view is_more none same size le
     new_size all small within full opens gave =
-    let front : Bytes = take ahead (drop 65552 old) in
-    let l : length front ≡ ahead = ahead-len ahead old size le in
-    let held : held_of more front ≡ Some front = ap (λ m. held_of m front) is_more in
+    let prefix : Bytes = take ahead (drop 65552 old) in
+    let l : length prefix ≡ ahead = ahead-len ahead old size le in
+    let held : held_of more prefix ≡ Some prefix = ap (λ m. held_of m prefix) is_more in
     let next : OpenerState = parts key max (i + 1) piece.more 1 items piece.len fault in
     let one : IfSome (held_of piece.more (take 1 (drop 65552 items)))
     (λ a. (length a ≡ 1) × (length (take piece.len items) ≡ 65536)) =
     one-ahead piece.more piece.len items (ap length all ∙ new_size) full in
     let left : take 1 (drop 65552 items) ≡ drop 65552 bytes = ap (λ t. take 1 (drop 65552 t)) all
     ∙ ahead-one bytes new_size in
-    let short : ahead_len (held_of more front) ≤ 1 = short-ahead more front (omega arith) in
-    let given : GaveAtMost (65553 - ahead_len (held_of more front)) from to =
+    let short : ahead_len (held_of more prefix) ≤ 1 = short-ahead more prefix (omega arith) in
+    let given : GaveAtMost (65553 - ahead_len (held_of more prefix)) from to =
     subst (λ h. GaveAtMost (65553 - ahead_len h) from to) (sym held)
     (subst (λ n. GaveAtMost (65553 - n) from to) (sym l) (unread piece gave)) in
     subst (λ s. IfNone s.fault (IsErrOf {T = Bool} (Ok true) Read ⊎ Advances s next from to (Ok true))) view
@@ -154,16 +149,16 @@ advances-ok now from to key max i ahead len more old slice bytes items fault pie
       gave = given;
       opens = λ d may.
           let o = unread piece opens d may in
-          let at : first_outcome key max i (front ++ o.0) ≡ Ok (take piece.len items) =
+          let at : first_outcome key max i (prefix ++ o.0) ≡ Ok (take piece.len items) =
           ap (λ t. first_outcome key max i (take ahead (drop 65552 t) ++ o.0)) (sym same) ∙ o.2.0
           ∙ ap (λ t. Ok (take piece.len t)) (sym all) in
-          let rest : left_of (held_of piece.more (take 1 (drop 65552 items))) d ≡ after_first (front ++ o.0) =
+          let rest : left_of (held_of piece.more (take 1 (drop 65552 items))) d ≡ after_first (prefix ++ o.0) =
           ap (λ t. left_of (held_of piece.more t) d) left ∙ o.2.2
           ∙ ap (λ t. after_first (take ahead (drop 65552 t) ++ o.0)) same in (
             o.0,
             o.1,
-            opens-ok key max i (held_of more front)
-                (left_of (held_of piece.more (take 1 (drop 65552 items))) d) front o.0 (take piece.len items) held at
+            opens-ok key max i (held_of more prefix)
+                (left_of (held_of piece.more (take 1 (drop 65552 items))) d) prefix o.0 (take piece.len items) held at
                 rest,
           );
     })))
@@ -198,12 +193,12 @@ advances-err now from to key max i ahead len more old slice bytes items kept fau
     advances-read now (parts key max i false ahead items 0 (Some fault)) from to fault read
 advances-err now from to key max i ahead len more old slice bytes items kept fault view is_more same size le small
     (inr opens) (inr gave) (inr at) =
-    let front : Bytes = take ahead (drop 65552 old) in
-    let l : length front ≡ ahead = ahead-len ahead old size le in
-    let held : held_of more front ≡ Some front = ap (λ m. held_of m front) is_more in
+    let prefix : Bytes = take ahead (drop 65552 old) in
+    let l : length prefix ≡ ahead = ahead-len ahead old size le in
+    let held : held_of more prefix ≡ Some prefix = ap (λ m. held_of m prefix) is_more in
     let next : OpenerState = parts key max i false ahead items 0 (Some fault) in
-    let short : ahead_len (held_of more front) ≤ 1 = short-ahead more front (omega arith) in
-    let given : GaveAtMost (65553 - ahead_len (held_of more front)) from to =
+    let short : ahead_len (held_of more prefix) ≤ 1 = short-ahead more prefix (omega arith) in
+    let given : GaveAtMost (65553 - ahead_len (held_of more prefix)) from to =
     subst (λ h. GaveAtMost (65553 - ahead_len h) from to) (sym held)
     (subst (λ n. GaveAtMost (65553 - n) from to) (sym l) gave) in
     subst (λ s. IfNone s.fault (IsErrOf {T = Bool} (Err fault) Read ⊎ Advances s next from to (Err fault))) view
@@ -216,9 +211,13 @@ advances-err now from to key max i ahead len more old slice bytes items kept fau
       gave = given;
       opens = λ d may.
           let o = opens d may in
-          let is : first_outcome key max i (front ++ o.0) ≡ Err fault =
-          ap (λ t. first_outcome key max i (take ahead (drop 65552 t) ++ o.0)) (sym same) ∙ o.2 in
-          (o.0, o.1, opens-err key max i (held_of more front) front o.0 (left_of next.held d) next.text fault held is);
+          let is : first_outcome key max i (prefix ++ o.0) ≡ Err fault =
+          ap (λ t. first_outcome key max i (take ahead (drop 65552 t) ++ o.0)) (sym same) ∙ o.2 in (
+            o.0,
+            o.1,
+            opens-err key max i (held_of more prefix) prefix o.0
+                (left_of next.held d) next.text fault held is,
+          );
     })))
 
 -- after the last piece

@@ -10,9 +10,9 @@ use Rattle.age_stream.specs.Slice.{opening, chunk_len, IsSlice}
 use Rattle.age_stream.proofs.SliceLemmas.{slice-on}
 
 -- the text that is put after the first `done` bytes
-pub put-front : (old mid new : Bytes) (done n : ℕ) → done ≤ length old → length mid ≡ n
+pub put-prefix : (old mid new : Bytes) (done n : ℕ) → done ≤ length old → length mid ≡ n
     → new ≡ take done old ++ mid ++ drop (done + n) old → take (done + n) new ≡ take done old ++ mid
-put-front old mid new done n le sized is =
+put-prefix old mid new done n le sized is =
     let l : length (take done old) ≡ done = length-take-le done old le in
     let all : length (take done old ++ mid) ≡ length (take done old) + length mid = length-append (take done old) mid in
     ap (take (done + n)) is ∙ take_at (take done old ++ mid) (drop (done + n) old) (done + n) (omega arith)
@@ -34,11 +34,12 @@ pub rest-on : (old new first : Bytes) (done n : ℕ) → drop done old ≡ drop 
 rest-on old new first done n so_far e = e ∙ sym (drop-drop n done old) ∙ ap (drop n) so_far ∙ drop-drop n done first
 
 -- so far, one chunk on
-pub front-on : (key rest text old new : Bytes) (at done i skip n : ℕ) → at + done ≡ 65536 * i + skip → done ≤ length old
+pub prefix-on : (key rest text old new : Bytes) (at done i skip n : ℕ) → at + done ≡ 65536 * i + skip
+    → done ≤ length old
     → skip + n ≤ length text → length text ≤ 65536
     → opening key rest i ≡ Some text → IsSlice key rest at (take done old)
     → take (done + n) new ≡ take done old ++ take n (drop skip text) → IsSlice key rest at (take (done + n) new)
-front-on key rest text old new at done i skip n pos le within size opens so_far e =
+prefix-on key rest text old new at done i skip n pos le within size opens so_far e =
     let l : length (take done old) ≡ done = length-take-le done old le in
     subst (IsSlice key rest at) (sym e)
     (slice-on key rest (take done old) text at i skip n (omega arith) opens within size so_far)

@@ -5,7 +5,7 @@ use Rattle.std.proofs.lemmas.List.{length-take-le, length-drop, drop-drop, get_o
 use Rattle.std.proofs.Math.Seq.{take-add}
 use Rattle.age_kdf.specs.Bytes.{Bytes}
 use Rattle.age_header.specs.Device.{Known}
-use Rattle.age_stream.specs.Places.{HasAt, StaysRead, WereRead}
+use Rattle.age_stream.specs.Offsets.{HasAt, StaysRead, WereRead}
 
 -- further bytes after those that were read
 pub has-on : (told : Known) (at got n : ℕ) (old new : Bytes) → got + n ≤ length new → length new ≡ length old

@@ -42,7 +42,7 @@ cut-some size held p = go (cut_into size held p) (is_end-cut size held p)
     go [] e = absurd (true≢false e)
     go (c ∷ cs) e = omega arith
 
--- the reading of some outcomes, the first at the front
+-- the reading of some outcomes, in order
 reading_first : (r : Result Bytes StreamFault) (rs : List (Result Bytes StreamFault))
     → record { front = front (r ∷ rs); fault = first_fault (r ∷ rs) }
     ≡ then_read r (record { front = front rs; fault = first_fault rs })

@@ -9,8 +9,7 @@ use Rattle.age_cipher.specs.Sealing.{sealed}
 use Rattle.age_cipher.proofs.OpeningLemmas.{length-sealed}
 use Rattle.age_header.specs.Device.{GaveAtMost, WritesPart, Known}
 use Rattle.age_header.specs.Filling.{Filled}
-use Rattle.age_header.proofs.MayGiveLemmas.{may-end, may-more, may-some}
-use Rattle.age_header.proofs.WriteLemmas.{Done, done_part}
+use Rattle.age_header.proofs.DeviceLemmas.{may-end, may-more, may-some, Done, done_part}
 use Rattle.age_stream.specs.declared.fault.StreamFault.{StreamFault}
 use Rattle.age_stream.specs.declared.fault.StreamFault.TheVariants.{Read, Write, TooManyChunks}
 use Rattle.age_stream.specs.Cutting.{cut, cut_into}
@@ -77,11 +76,11 @@ pub chunks-after : (key : Bytes) (i j : ℕ) (held text now piece full next more
 chunks-after key i j held text now piece full next more a b h f =
     let m : ℕ = 65536 - length now in
     let at : length now + m ≡ 65536 = omega (arith, h.fits) in
-    let front : Bytes = take m piece in
+    let prefix : Bytes = take m piece in
     let back : Bytes = drop m piece in
     let lp : length now + length piece ≡ 65537 = piece-len now piece full next h in
-    let lf : length front ≡ m = length-take-le m piece (omega arith) in
-    let whole : now ++ front ≡ full = sym (take-append-add now piece m) ∙ ap (λ k. take k (now ++ piece)) at
+    let lf : length prefix ≡ m = length-take-le m piece (omega arith) in
+    let whole : now ++ prefix ≡ full = sym (take-append-add now piece m) ∙ ap (λ k. take k (now ++ piece)) at
     ∙ ap (take 65536) h.all ∙ take_at full next 65536 h.size in
     let rest : back ≡ next = sym (drop-append-add now piece m) ∙ ap (λ k. drop k (now ++ piece)) at
     ∙ ap (drop 65536) h.all ∙ drop_at full next 65536 h.size in
@@ -89,8 +88,8 @@ chunks-after key i j held text now piece full next more a b h f =
     ap (λ t. sealed_after key i held t) (append_assoc text piece more)
     ∙ f.chunks (piece ++ more)
     ∙ ap (λ t. f.gone ++ sealed_after key j now t)
-    (ap (λ t. t ++ more) (sym (take-append-drop m piece)) ∙ append_assoc front back more)
-    ∙ ap (λ cs. f.gone ++ sealed_from key j cs) (cut-fits 65536 now front (back ++ more) (omega arith))
+    (ap (λ t. t ++ more) (sym (take-append-drop m piece)) ∙ append_assoc prefix back more)
+    ∙ ap (λ cs. f.gone ++ sealed_from key j cs) (cut-fits 65536 now prefix (back ++ more) (omega arith))
     ∙ ap (λ t. f.gone ++ sealed_after key j t (back ++ more)) whole
     ∙ ap (λ t. f.gone ++ sealed_after key j full (t ++ more)) rest
     ∙ ap (λ cs. f.gone ++ cs) (chunks-full key j full (next ++ more) (omega (arith, h.one)) h.size)
@@ -127,7 +126,7 @@ done-fed : (key : Bytes) (i j : ℕ) (held text now more : Bytes) (rest : List B
     (f : Fed key i j held text now a b)
     → sealed_after key i held more ≡ f.gone ++ rest → Done a b (concat (sealed_after key i held more)) (concat rest)
 done-fed key i j held text now more rest a b f is =
-    record { front = concat f.gone; took = f.written; is = ap concat is ∙ concat-append f.gone rest }
+    record { prefix = concat f.gone; took = f.written; is = ap concat is ∙ concat-append f.gone rest }
 
 wrote-fed : (key : Bytes) (i j : ℕ) (held text now part : Bytes) (a b c : Known) → Fed key i j held text now a b
     → Appends b c part → WroteAtLeast (65552 * (j - i)) a c
@@ -263,13 +262,13 @@ first-of [] k lt = absurd (omega arith)
 first-of (x ∷ xs) zero lt = refl
 first-of (x ∷ xs) (suc k) lt = first-of xs k (omega arith)
 
--- a chunk that went out, by the byte that is then in front
-pub fed-next : (key : Bytes) (i j k : ℕ) (held text now piece full next front : Bytes) (a b c : Known)
+-- a chunk that went out, by the byte that is then first
+pub fed-next : (key : Bytes) (i j k : ℕ) (held text now piece full next prefix : Bytes) (a b c : Known)
     → IsFull now piece full next → Fed key i j held text now a b
-    → k ≡ j + 1 → front ≡ next → Appends b c (sealed key (chunk_nonce j false) [] full)
-    → Fed key i k held (text ++ piece) front a c
-fed-next key i j k held text now piece full next front a b c h f is same put =
-    subst (λ n. Fed key i n held (text ++ piece) front a c) (sym is)
+    → k ≡ j + 1 → prefix ≡ next → Appends b c (sealed key (chunk_nonce j false) [] full)
+    → Fed key i k held (text ++ piece) prefix a c
+fed-next key i j k held text now piece full next prefix a b c h f is same put =
+    subst (λ n. Fed key i n held (text ++ piece) prefix a c) (sym is)
     (subst (λ t. Fed key i (j + 1) held (text ++ piece) t a c) (sym same)
     (fed-full key i j held text now piece full next a b c h f put))
 

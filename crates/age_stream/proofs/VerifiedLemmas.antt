@@ -5,7 +5,7 @@ use Rattle.std.proofs.lemmas.List.{length-drop, length-take-le, get_or_append_le
 use Rattle.std.proofs.lemmas.Option.{slice_get-get_or}
 use Rattle.age_kdf.specs.Bytes.{Bytes}
 use Rattle.age_stream.specs.declared.layout.Layout.{Layout}
-use Rattle.age_stream.specs.Places.{StaysRead}
+use Rattle.age_stream.specs.Offsets.{StaysRead}
 use Rattle.age_stream.specs.Ranges.{IsVerified, IsVerifiedByte, KeepsVerified, RangeState, kept_text}
 use Rattle.age_stream.specs.Slice.{chunk_len}
 

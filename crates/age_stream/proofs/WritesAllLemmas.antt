@@ -8,8 +8,7 @@ use Rattle.std.proofs.lemmas.Bool.{le-leb, lt-leb, cases_lt}
 use Rattle.std.proofs.lemmas.List.{take_all}
 use Rattle.age_kdf.specs.Bytes.{Bytes}
 use Rattle.age_header.specs.Device.{GaveAtMost, MayGive, WritesPart, Known}
-use Rattle.age_header.proofs.MayGiveLemmas.{gave-more, may-some}
-use Rattle.age_header.proofs.WriteLemmas.{done_part}
+use Rattle.age_header.proofs.DeviceLemmas.{gave-more, may-some, done_part}
 use Rattle.age_stream.specs.declared.done.Done.{Done}
 use Rattle.age_stream.specs.declared.fault.StreamFault.{StreamFault}
 use Rattle.age_stream.specs.declared.fault.StreamFault.TheVariants.{NonceTruncated, ChunkShort, EmptyFinal, BadChunk, TooManyChunks, Read, Write, Memory}
@@ -272,7 +271,7 @@ part-of : (all rest : Reading StreamFault) (front part : Bytes) (a b c : Known) 
     → Appends a b front → (more : Bytes) → rest.front ≡ part ++ more → WritesPart b c part → WritesPart a c all.front
 part-of all rest front part a b c is put more cut wrote =
     done_part a b c all.front rest.front part more
-    (record { front = front; took = put; is = ap (λ (r : Reading StreamFault). r.front) is }) cut wrote
+    (record { prefix = front; took = put; is = ap (λ (r : Reading StreamFault). r.front) is }) cut wrote
 
 -- a read failed
 pub writes-read : (s t : OpenerState) (n : ℕ) (from now a b : Known) → Opened s t n from now a b

@@ -3,7 +3,7 @@ pub mod Cutting
 pub mod Opening
 pub mod Sizes
 pub mod Payload
-pub mod Places
+pub mod Offsets
 pub mod Ranges
 pub mod Reader
 pub mod Reading

@@ -140,7 +140,7 @@ WritesAll s from old new r =
     (length (pieces_left (left_of s.held c))) old new r
 
 -- A fault of a piece or of a write: at which piece it was met, what had been written, and how much
--- of the source had been taken. `before` bytes were taken before the pieces: 16 where the nonce
+-- of the source had been read. `before` bytes were read before the pieces: 16 where the nonce
 -- counts.
 pub record EndsAt (max before : ℕ) (from to old new : Known) (fault : StreamFault)
     : Type 0 where

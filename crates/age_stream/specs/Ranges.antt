@@ -1,7 +1,7 @@
 -- A reader of ranges between two calls, and what its calls do.
-use Rattle.std.specs.Prelude.{ℕ, [], ◌+◌, ◌-◌, ◌*◌, ◌/◌, ◌^◌, ◌<◌, ◌≤◌, ◌≡◌, ◌⊎◌, length, take, drop, min, nat_eq, slice_get, slice_index, ◌%◌, unwrap_or, IsSome, IfSome, MatchResult, ⊤, Bool, false, Option, Some, None, Result, Ok, Err, if◌then◌else◌}
+use Rattle.std.specs.Prelude.{ℕ, [], ◌+◌, ◌-◌, ◌*◌, ◌/◌, ◌^◌, ◌<◌, ◌≤◌, ◌≡◌, ◌⊎◌, length, take, drop, min, nat_eq, slice_get, slice_index, ◌%◌, unwrap_or, IsSome, IfSome, IfOk, IfErr, OnErr, MatchResult, ⊤, Bool, false, Option, Some, None, Result, Ok, Err, if◌then◌else◌}
 use Rattle.age_cipher.specs.Bytes.{Key}
-use Rattle.age_header.specs.Device.{Known}
+use Rattle.age_header.specs.Device.{CountsFaultIf, CountsIf, Known}
 use Rattle.age_kdf.specs.Bytes.{Bytes}
 use denote.Ref.{MutBor}
 use Rattle.age_recipient.specs.declared.key.FileKey.{FileKey}
@@ -9,9 +9,9 @@ use Rattle.age_stream.specs.declared.fault.StreamFault.{StreamFault}
 use Rattle.age_stream.specs.declared.fault.StreamFault.TheVariants.{BadChunk, Read, Write, Memory}
 use Rattle.age_stream.specs.declared.layout.Layout.{Layout}
 use Rattle.age_stream.specs.declared.ranges.RangeReader.{RangeReader}
-use Rattle.age_stream.specs.Counts.{CountsReadFault}
+use Rattle.age_stream.specs.Counts.{is_read}
 use Rattle.age_stream.specs.Payload.{payload_key}
-use Rattle.age_stream.specs.Places.{WereRead}
+use Rattle.age_stream.specs.Offsets.{WereRead}
 use Rattle.age_stream.specs.Reading.{opened_at}
 use Rattle.age_stream.specs.Slice.{opening, plain_len, chunk_len, IsSlice, last_piece, last_outcome, range_outcome}
 use Rattle.age_stream.specs.Sizes.{nonce_size, tag_size, chunk_size, sealed_chunk_size}
@@ -137,6 +137,44 @@ sealed_span layout from end =
     min (sealed_chunk_size * end) (layout.plain + tag_size * layout.count)
     - sealed_chunk_size * from
 
+-- what a call on a reader of ranges may change: its source, its chunks, and the caller's buffer
+pub record RangeParts (D : Type 0) : Type 0 where
+  pub source : D
+  pub chunks : RangeState
+  pub buf : Bytes
+
+-- One call for the range from `at` on that the buffer has room for, whether or not the source's
+-- contents are known. `told` gives them, `gave` and `failed` the source's counts, and `was_read`
+-- the bytes that were read of it.
+pub record ReadsRange {D : Type 0} (told : D → Known) (gave failed : D → ℕ)
+    (was_read : D → (at byte : ℕ) → Type 0) (at : ℕ) (old new : RangeParts D)
+    (r : Result ℕ StreamFault) : Type 0 where
+  pub stay : told new.source ≡ told old.source
+  pub same : new.chunks.layout ≡ old.chunks.layout
+  pub sound : IsSound (told old.source) old.chunks → IsSound (told old.source) new.chunks
+  pub keeps_verified : KeepsVerified (was_read old.source) old.chunks
+      → KeepsVerified (was_read new.source) new.chunks
+  pub verified : KeepsVerified (was_read old.source) old.chunks
+      → GivesVerified (was_read new.source) old.chunks.layout at old.buf new.buf r
+  pub number : IfOk r (λ n. n ≡ range_len old.chunks at (length old.buf))
+  pub filled : IfOk r (λ n. Fills (told old.source) old.chunks at n old.buf new.buf)
+  pub stop : IfErr r (Stops (told old.source) old.chunks at
+      (range_len old.chunks at (length old.buf)) old.buf new.buf new.chunks.opened)
+  pub count : CountsIf is_read (failed old.source) (failed new.source) r
+  pub kept_chunk : IfOk r
+      (λ n. 0 < n → new.chunks.index ≡ Some ((at + n - 1) / chunk_size))
+  pub none : OnErr r (new.chunks.index ≡ None)
+  pub rises : old.chunks.opened ≤ new.chunks.opened
+  pub counts : IfOk r (λ n. 0 < n → OpenedAtLeast old.chunks new.chunks.opened
+      ((at + n - 1) / chunk_size + 1 - first_to_open old.chunks.index at))
+  pub opened : (end : ℕ) → at + range_len old.chunks at (length old.buf) ≤ chunk_size * end
+      → new.chunks.opened ≤ old.chunks.opened + (end - first_to_open old.chunks.index at)
+  pub given : (end : ℕ) → at + range_len old.chunks at (length old.buf) ≤ chunk_size * end
+      → gave new.source
+      ≤ gave old.source + sealed_span old.chunks.layout (first_to_open old.chunks.index at) end
+  pub empty : range_len old.chunks at (length old.buf) ≡ 0
+      → (new.chunks ≡ old.chunks) × (new.source ≡ old.source)
+
 -- the length of the last piece, if all pieces together have n bytes
 abbrev pub last_len : (n : ℕ) → ℕ
 last_len n = n - sealed_chunk_size * ((n - 1) / sealed_chunk_size)
@@ -205,7 +243,7 @@ StartsRanges told given failed was_read found file_key max at old new r =
     × MatchResult r
     (λ s. BeginsAt file_key at (was_read new) (found new) s × KeepsVerified (was_read new) s
     × (failed new ≡ failed old))
-    (λ fault. IsOpenFault fault × CountsReadFault (failed old) (failed new) fault)
+    (λ fault. IsOpenFault fault × CountsFaultIf is_read (failed old) (failed new) fault)
 
 -- the source of a reader, and its chunks
 abbrev pub source_at_of : {D B : Type 0} → RangeReader D B → MutBor D

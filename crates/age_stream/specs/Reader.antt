@@ -1,12 +1,12 @@
 -- A reader of a payload: what its constructors and its calls do.
 use Rattle.std.specs.Prelude.{ℕ, ◌≡◌, ◌⊎◌, IfErr, IsErrOf, Bool, true, false, Option, None, Some, Result, Ok, Err}
 use denote.Ref.{MutBor}
-use Rattle.age_header.specs.Device.{Known, GaveAtMost}
+use Rattle.age_header.specs.Device.{CountsFaultIf, CountsIf, GaveAtMost, Known}
 use Rattle.age_recipient.specs.declared.key.FileKey.{FileKey}
 use Rattle.age_stream.specs.declared.fault.StreamFault.{StreamFault}
 use Rattle.age_stream.specs.declared.fault.StreamFault.TheVariants.{Read}
 use Rattle.age_stream.specs.declared.reader.StreamReader.{StreamReader}
-use Rattle.age_stream.specs.Counts.{CountsRead, CountsReadFault}
+use Rattle.age_stream.specs.Counts.{is_read}
 use Rattle.age_stream.specs.Opening.{Advances, OpenerState, Starts}
 use Rattle.age_stream.specs.Sizes.{nonce_size}
 use Rattle.age_stream.specs.Writer.{IsRefusedMemory}
@@ -16,7 +16,7 @@ use Rattle.age_stream.specs.Writer.{IsRefusedMemory}
 abbrev pub MissesNonce : (file_key : FileKey) (max : ℕ) (from to : Known) (before after : ℕ)
     (fault : StreamFault) → Type 0
 MissesNonce file_key max from to before after fault =
-    Starts file_key max from to (Err fault) × CountsReadFault before after fault
+    Starts file_key max from to (Err fault) × CountsFaultIf is_read before after fault
     × ((fault ≡ Read) ⊎ GaveAtMost nonce_size from to)
 
 -- what was made of a source, and what became of it: the nonce was read, and piece 0 is the opener's
@@ -41,7 +41,7 @@ is_lent (Err fault) = Err fault
 abbrev pub Lends : (old new : OpenerState) (from to : Known) (before after : ℕ)
     (r : Result Bool StreamFault) → Type 0
 Lends old new from to before after r =
-    IfErr r (λ fault. new.fault ≡ Some fault) × CountsRead before after r
+    IfErr r (λ fault. new.fault ≡ Some fault) × CountsIf is_read before after r
     × (IsErrOf r Read ⊎ Advances old new from to r)
 
 -- the source of a reader, and its opener

@@ -64,7 +64,7 @@ StopsIn key max i held text old new TooManyChunks =
     × Appends old new (concat (take (max - 1 - i) (sealed_after key i held text)))
 StopsIn key max i held text old new _ = ⊥
 
--- a text that the source may have given was taken
+-- a text that the source may have given was read
 pub record IsFed (key : Key) (i j : ℕ) (held now : Bytes) (from to old new : Known)
     : Type 0 where
   pub text : Bytes
@@ -73,7 +73,7 @@ pub record IsFed (key : Key) (i j : ℕ) (held now : Bytes) (from to old new : K
   pub fed : Fed key i j held text now old new
 
 -- a fault was met in a text that the source may have given, with chunk j the next to be written; so
--- much of the source was taken
+-- much of the source was read
 pub record Stopped (key : Key) (max i j : ℕ) (held : Bytes) (from to old new : Known)
     (fault : StreamFault) : Type 0 where
   pub text : Bytes
@@ -92,7 +92,7 @@ Fills s t from to (Ok more) =
 Fills s t from to (Err fault) =
     (fault ≡ Read) × (t.key ≡ s.key) × (t.max_chunks ≡ s.max_chunks) × (t.fault ≡ Some Read)
 
--- all that a source gives was taken by a sealer that keeps no fault
+-- all that a source gives was read by a sealer that keeps no fault
 abbrev pub TakesAll : {A : Type 0} (s t : SealerState) (from to old new : Known)
     (r : Result A StreamFault) → Type 0
 TakesAll s t from to old new r =

@@ -3,18 +3,18 @@ use Rattle.std.specs.Prelude.{ℕ, ◌≡◌, ◌≤◌, ◌<◌, ◌≢◌, len
 use Rattle.std.specs.Io.KnownBytes.{Appends}
 use Rattle.age_kdf.specs.Bytes.{Bytes}
 use denote.Ref.{MutBor}
-use Rattle.age_header.specs.Device.{Known, WritesPart}
+use Rattle.age_header.specs.Device.{CountsFaultIf, Known, WritesPart}
 use Rattle.age_recipient.specs.declared.key.FileKey.{FileKey}
 use Rattle.age_stream.specs.declared.fault.StreamFault.{StreamFault}
 use Rattle.age_stream.specs.declared.fault.StreamFault.TheVariants.{Memory, Read, Write}
-use Rattle.age_stream.specs.Counts.{CountsWriteFault}
+use Rattle.age_stream.specs.Counts.{is_write}
 use Rattle.age_stream.specs.declared.writer.StreamWriter.{StreamWriter}
 use Rattle.age_stream.specs.declared.refused.Refused.{Refused}
 use Rattle.age_stream.specs.Payload.{payload_key}
 use Rattle.age_stream.specs.Sealing.{Fed, SealerState, StopsIn, at_start}
 use Rattle.age_stream.specs.Sizes.{chunk_size}
 
--- A piece was taken by a sealer that keeps no fault: whatever still comes, what is written is as
+-- A text was passed to a sealer that keeps no fault: whatever still comes, what is written is as
 -- before. Or a fault was met: of the sink, or too many chunks.
 abbrev pub TakesPiece : {A : Type 0} (s t : SealerState) (piece : Bytes) (old new : Known)
     (r : Result A StreamFault) → Type 0
@@ -35,7 +35,7 @@ StartsWriter taken failed file_key nonce max old new (Ok sealer) =
     × (sealer ≡ at_start (payload_key file_key nonce) max)
 StartsWriter taken failed file_key nonce max old new (Err fault) =
     (fault ≡ Write) × WritesPart (taken old) (taken new) nonce
-    × CountsWriteFault (failed old) (failed new) fault
+    × CountsFaultIf is_write (failed old) (failed new) fault
 
 -- memory was refused, and nothing was written
 abbrev pub IsRefusedMemory : {W : Type 0} (old new : W) (fault : StreamFault) → Type 0

@@ -1,10 +1,11 @@
 //! The chunks of a payload, of which one is kept. The source is passed to each call.
-ghost use Rattle.std.specs.Prelude.{◌≡◌, ◌+◌, ◌-◌, ◌*◌, ◌/◌, ◌<◌, ◌≤◌, ◌++◌, ℕ, length, take, drop, min, Some, None, IfOk, OnOk, OnErr, IfErr, if◌then◌else◌};
-ghost use Rattle.age_stream.specs.Counts.{CountsRead};
-ghost use Rattle.age_stream.specs.Places.{StaysRead};
-ghost use Rattle.age_stream.specs.Ranges.{BeginsAt, Fills, GivesVerified, IsLost, IsOpenFault, IsSound, IsVerified, KeepsVerified, OpenedAtLeast, OpensRanges, Probes, Stops, first_to_open, is_kept, kept_text, range_len, sealed_span};
+ghost use Rattle.std.specs.Prelude.{◌≡◌, ◌+◌, ◌-◌, ◌/◌, ◌<◌, ◌≤◌, ◌++◌, length, take, drop, min, Some, None, IfOk, OnOk, OnErr, IfErr, if◌then◌else◌};
+ghost use Rattle.age_header.specs.Device.{CountsIf};
+ghost use Rattle.age_stream.specs.Counts.{is_read};
+ghost use Rattle.age_stream.specs.Offsets.{StaysRead};
+ghost use Rattle.age_stream.specs.Ranges.{BeginsAt, IsLost, IsOpenFault, IsSound, KeepsVerified, OpenedAtLeast, OpensRanges, Probes, ReadsRange, is_kept, kept_text};
 ghost use Rattle.age_stream.specs.Slice.{chunk_len};
-ghost use Rattle.age_stream.specs.Sizes.{chunk_size, tag_size, chunk_buf_size};
+ghost use Rattle.age_stream.specs.Sizes.{tag_size, chunk_buf_size};
 
 use crate::buffer::ChunkBuf;
 use crate::chunk_keys::payload_key;
@@ -101,7 +102,7 @@ impl Chunks {
             (BeginsAt key.now payload_at (D.was_read dev.new) (D.found dev.new)) }
         ensures verified { IfOk result (KeepsVerified (D.was_read dev.new)) }
         ensures named { IfErr result IsOpenFault }
-        ensures count { CountsRead (D.failed dev.old) (D.failed dev.new) result }
+        ensures count { CountsIf is_read (D.failed dev.old) (D.failed dev.new) result }
     {
         let Ok(buf) = ChunkBuf::new(alloc) else {
             return Err(StreamFault::Memory);
@@ -148,7 +149,7 @@ impl Chunks {
             ≤ D.given dev.old
             + (if is_kept self.old.index i then 0
             else chunk_len self.old.layout.plain i + tag_size) }
-        ensures count { CountsRead (D.failed dev.old) (D.failed dev.new) result }
+        ensures count { CountsIf is_read (D.failed dev.old) (D.failed dev.new) result }
     {
         if self.index == Some(i) {
             return Ok(());
@@ -178,32 +179,9 @@ impl Chunks {
         at: u64,
         buf: &mut [u8],
     ) -> Result<usize, StreamFault>
-        ensures stay { D.bytes dev.new ≡ D.bytes dev.old }
-        ensures same { self.new.layout ≡ self.old.layout }
-        ensures sound { IsSound (D.bytes dev.old) self.old → IsSound (D.bytes dev.old) self.new }
-        ensures keeps_verified { KeepsVerified (D.was_read dev.old) self.old
-            → KeepsVerified (D.was_read dev.new) self.new }
-        ensures verified { KeepsVerified (D.was_read dev.old) self.old
-            → GivesVerified (D.was_read dev.new) self.old.layout at buf.old buf.new result }
-        ensures number { IfOk result (λ n. n ≡ range_len self.old at (length buf.old)) }
-        ensures filled { IfOk result (λ n. Fills (D.bytes dev.old) self.old at n buf.old buf.new) }
-        ensures stop { IfErr result (Stops (D.bytes dev.old) self.old at
-            (range_len self.old at (length buf.old)) buf.old buf.new self.new.opened) }
-        ensures count { CountsRead (D.failed dev.old) (D.failed dev.new) result }
-        ensures kept_chunk { IfOk result
-            (λ n. 0 < n → self.new.index ≡ Some ((at + n - 1) / chunk_size)) }
-        ensures none { OnErr result (self.new.index ≡ None) }
-        ensures rises { self.old.opened ≤ self.new.opened }
-        ensures counts { IfOk result (λ n. 0 < n
-            → OpenedAtLeast self.old self.new.opened
-            ((at + n - 1) / chunk_size + 1 - first_to_open self.old.index at)) }
-        ensures opened { (end : ℕ) → at + range_len self.old at (length buf.old) ≤ chunk_size * end
-            → self.new.opened ≤ self.old.opened + (end - first_to_open self.old.index at) }
-        ensures given { (end : ℕ) → at + range_len self.old at (length buf.old) ≤ chunk_size * end
-            → D.given dev.new
-            ≤ D.given dev.old + sealed_span self.old.layout (first_to_open self.old.index at) end }
-        ensures empty { range_len self.old at (length buf.old) ≡ 0
-            → (self.new ≡ self.old) × (dev.new ≡ dev.old) }
+        ensures reads { ReadsRange D.bytes D.given D.failed D.was_read at
+            (record { source = dev.old; chunks = self.old; buf = buf.old })
+            (record { source = dev.new; chunks = self.new; buf = buf.new }) result }
     {
         let layout = self.layout();
         let end = range_len(layout.plain, at, buf.len());

@@ -35,8 +35,6 @@ mod reader;
 mod refused;
 mod sealing;
 mod sizes;
-#[cfg(test)]
-mod tests;
 mod writer;
 
 pub use buffer::ChunkBuf;

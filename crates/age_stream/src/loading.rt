@@ -1,9 +1,9 @@
 //! Reading pieces at their offsets, each opened in place.
 ghost use Rattle.std.specs.Prelude.{◌≡◌, ◌⊎◌, ◌^◌, ◌+◌, ◌-◌, ◌*◌, ◌<◌, ◌≤◌, length, take, drop, Some, None, IfOk, OnOk, OnErr, IfErr, IfSome};
 ghost use Rattle.std.specs.Bool.{OnTrue, OnFalse};
-ghost use Rattle.age_header.specs.Device.{Counts};
-ghost use Rattle.age_stream.specs.Counts.{CountsRead};
-ghost use Rattle.age_stream.specs.Places.{EndsBefore, HasAt, IsPast, StaysRead, WereRead};
+ghost use Rattle.age_header.specs.Device.{Counts, CountsIf};
+ghost use Rattle.age_stream.specs.Counts.{is_read};
+ghost use Rattle.age_stream.specs.Offsets.{EndsBefore, HasAt, IsPast, StaysRead, WereRead};
 ghost use Rattle.age_stream.specs.Ranges.{IsOpenFault, IsThere, IsVerified, JudgesLast, last_len, opens_to};
 ghost use Rattle.age_stream.specs.Slice.{chunk_len};
 ghost use Rattle.age_stream.specs.Sizes.{nonce_size, tag_size, chunk_buf_size};
@@ -11,7 +11,7 @@ ghost use Rattle.age_stream.specs.Sizes.{nonce_size, tag_size, chunk_buf_size};
 use crate::chunk_keys::chunk_nonce;
 use crate::fault::StreamFault;
 use crate::layout::Layout;
-use crate::opening::{open_chunk, open_front};
+use crate::opening::{open_chunk, open_prefix};
 use crate::read_at::ReadAt;
 use crate::sizes::{CHUNK_SIZE, NONCE_SIZE, SEALED_CHUNK_SIZE, TAG_SIZE};
 use age_header::DeviceFault;
@@ -36,7 +36,7 @@ fn read_after<D: ReadAt>(
     requires room { end ≤ length buf.old }
     ensures stay { D.bytes dev.new ≡ D.bytes dev.old }
     ensures within { IfOk result (λ n. got + n ≤ end) }
-    ensures front { take got buf.new ≡ take got buf.old }
+    ensures prefix { take got buf.new ≡ take got buf.old }
     ensures gives { IfOk result
         (λ n. HasAt (D.bytes dev.old) (at + got) (take n (drop got buf.new))) }
     ensures found { D.found dev.new ≡ D.found dev.old }
@@ -48,10 +48,10 @@ fn read_after<D: ReadAt>(
     ensures none_given { OnErr result (D.given dev.new ≡ D.given dev.old) }
     ensures count { Counts (D.failed dev.old) (D.failed dev.new) result }
 {
-    let place = at + got as u64;
-    let (front, _) = buf.split_at_mut(end);
-    let (_, hole) = front.split_at_mut(got);
-    dev.read_at(place, hole)
+    let offset = at + got as u64;
+    let (prefix, _) = buf.split_at_mut(end);
+    let (_, hole) = prefix.split_at_mut(got);
+    dev.read_at(offset, hole)
 }
 
 /// Reads the first `end` bytes of `buf`, in as many reads as it takes; false if the source ends
@@ -113,7 +113,7 @@ pub(crate) fn load<D: ReadAt>(
         × (IsThere (D.bytes dev.old) layout
         → opens_to (D.bytes dev.old) layout i ≡ None))) }
     ensures given { D.given dev.new ≤ D.given dev.old + (chunk_len layout.plain i + tag_size) }
-    ensures count { CountsRead (D.failed dev.old) (D.failed dev.new) result }
+    ensures count { CountsIf is_read (D.failed dev.old) (D.failed dev.new) result }
 {
     let nonce = chunk_nonce(i as u128, i + 1 == layout.count);
     let end = chunk_len(layout, i) + TAG_SIZE;
@@ -121,7 +121,7 @@ pub(crate) fn load<D: ReadAt>(
         Err(_) => Err(StreamFault::Read),
         Ok(false) => Err(StreamFault::BadChunk(i as u128)),
         Ok(true) => {
-            if open_front(&layout.key, &nonce, buf, end) {
+            if open_prefix(&layout.key, &nonce, buf, end) {
                 Ok(())
             } else {
                 Err(StreamFault::BadChunk(i as u128))
@@ -143,7 +143,7 @@ pub(crate) fn payload_start<D: ReadAt>(dev: &mut D, at: u64) -> Result<PayloadSt
     ensures err { IfErr result (λ fault. (fault ≡ StreamFault.Read)
         ⊎ ((fault ≡ StreamFault.NonceTruncated) × EndsBefore (D.bytes dev.old) (at + nonce_size))) }
     ensures given { D.given dev.new ≤ D.given dev.old + nonce_size }
-    ensures count { CountsRead (D.failed dev.old) (D.failed dev.new) result }
+    ensures count { CountsIf is_read (D.failed dev.old) (D.failed dev.new) result }
 {
     let Ok(size) = dev.size() else {
         return Err(StreamFault::Read);
@@ -183,7 +183,7 @@ pub(crate) fn load_last<D: ReadAt>(
         (layout.count - 1) (take (chunk_len layout.plain (layout.count - 1)) buf.new)) }
     ensures named { IfErr result IsOpenFault }
     ensures given { D.given dev.new ≤ D.given dev.old + last_len sealed }
-    ensures count { CountsRead (D.failed dev.old) (D.failed dev.new) result }
+    ensures count { CountsIf is_read (D.failed dev.old) (D.failed dev.new) result }
 {
     let last = sealed.saturating_sub(1) / SEALED_CHUNK_SIZE as u64;
     if last as u128 >= max {

@@ -3,8 +3,8 @@ ghost use Rattle.std.specs.Prelude.{◌≡◌, ◌≢◌, ◌⊎◌, ◌<◌, �
 ghost use Rattle.std.specs.Bool.{OnTrue, OnFalse};
 ghost use Rattle.age_kdf.specs.Bytes.{Bytes};
 ghost use Rattle.age_cipher.specs.Sealing.{opened};
-ghost use Rattle.age_header.specs.Device.{GaveAtMost, MayGive};
-ghost use Rattle.age_stream.specs.Counts.{CountsRead, CountsWrite};
+ghost use Rattle.age_header.specs.Device.{CountsIf, GaveAtMost, MayGive};
+ghost use Rattle.age_stream.specs.Counts.{is_read, is_write};
 ghost use Rattle.age_stream.specs.Opening.{Advances, EndsAt, GivesNonce, GivesText, IsAtPiece, IsSpent, OpensPiece, Starts, WritesAll};
 ghost use Rattle.age_stream.specs.Reading.{outcome};
 ghost use Rattle.age_stream.specs.Sizes.{chunk_size, sealed_chunk_size, most_chunks, nonce_size, tag_size, chunk_buf_size};
@@ -72,7 +72,7 @@ impl ChunkOpener {
             result }
         ensures gave { IsErrOf result StreamFault.Read
             ⊎ GaveAtMost nonce_size (S.to_come source.old) (S.to_come source.new) }
-        ensures count { CountsRead (S.failed source.old) (S.failed source.new) result }
+        ensures count { CountsIf is_read (S.failed source.old) (S.failed source.new) result }
     {
         let nonce = match read_nonce(source) {
             Ok(nonce) => nonce,
@@ -112,7 +112,7 @@ impl ChunkOpener {
             (λ f. (result ≡ Err f) × (source.new ≡ source.old) × (self.new ≡ self.old)) }
         ensures keeps { IfNone self.old.fault (IfErr result (λ f. self.new.fault ≡ Some f)) }
         ensures count { IfNone self.old.fault
-            (CountsRead (S.failed source.old) (S.failed source.new) result) }
+            (CountsIf is_read (S.failed source.old) (S.failed source.new) result) }
         ensures opens { IfNone self.old.fault (IsErrOf result StreamFault.Read
             ⊎ Advances self.old self.new (S.to_come source.old) (S.to_come source.new) result) }
         ensures blank { IfNone self.old.fault (MatchResult result
@@ -162,8 +162,8 @@ impl ChunkOpener {
         ensures ends { IfErr result (λ f. (f ≡ StreamFault.Read)
             ⊎ EndsAt self.max_chunks 0 (S.to_come source.old) (S.to_come source.new)
             (W.taken out.old) (W.taken out.new) f) }
-        ensures reads { CountsRead (S.failed source.old) (S.failed source.new) result }
-        ensures writes { CountsWrite (W.failed out.old) (W.failed out.new) result }
+        ensures reads { CountsIf is_read (S.failed source.old) (S.failed source.new) result }
+        ensures writes { CountsIf is_write (W.failed out.old) (W.failed out.new) result }
     {
         let mut opener = self;
         let mut done = Done {
@@ -207,7 +207,7 @@ fn next_piece<S: Source>(
     requires index { i ≤ max }
     requires small { max ≤ most_chunks }
     ensures len { length bytes.new ≡ chunk_buf_size }
-    ensures count { CountsRead (S.failed source.old) (S.failed source.new) result }
+    ensures count { CountsIf is_read (S.failed source.old) (S.failed source.new) result }
     ensures opens { IsErrOf result StreamFault.Read
         ⊎ ((d : Bytes) → MayGive (S.to_come source.new) d
         → (c : Bytes) × MayGive (S.to_come source.old) c
@@ -242,7 +242,7 @@ fn read_nonce<S: Source>(source: &mut S) -> Result<[u8; 16], StreamFault>
     ensures nonce { GivesNonce (S.to_come source.old) (S.to_come source.new) result }
     ensures gave { IsErrOf result StreamFault.Read
         ⊎ GaveAtMost nonce_size (S.to_come source.old) (S.to_come source.new) }
-    ensures count { CountsRead (S.failed source.old) (S.failed source.new) result }
+    ensures count { CountsIf is_read (S.failed source.old) (S.failed source.new) result }
 {
     let mut nonce = [0; NONCE_SIZE];
     match fill_from(source, &mut nonce, 0) {
@@ -257,10 +257,10 @@ fn carry(bytes: &mut [u8], ahead: usize)
     requires size { length bytes.old ≡ chunk_buf_size }
     requires ahead { ahead ≤ 1 }
     ensures len { length bytes.new ≡ chunk_buf_size }
-    ensures front { take ahead bytes.new ≡ take ahead (drop sealed_chunk_size bytes.old) }
+    ensures prefix { take ahead bytes.new ≡ take ahead (drop sealed_chunk_size bytes.old) }
 {
-    let (front, end) = bytes.split_at_mut(SEALED_CHUNK_SIZE);
-    let (first, _) = front.split_at_mut(ahead);
+    let (prefix, end) = bytes.split_at_mut(SEALED_CHUNK_SIZE);
+    let (first, _) = prefix.split_at_mut(ahead);
     let (next, _) = end.split_at(ahead);
     first.copy_from_slice(next);
 }
@@ -302,7 +302,7 @@ pub fn open_chunk(
     if is_empty_final(last, i, end) {
         return Err(StreamFault::EmptyFinal(i));
     }
-    if open_front(key, &chunk_nonce(i, last), bytes, end) {
+    if open_prefix(key, &chunk_nonce(i, last), bytes, end) {
         Ok(end - TAG_SIZE)
     } else {
         Err(StreamFault::BadChunk(i))
@@ -317,7 +317,7 @@ fn is_empty_final(last: bool, i: u128, len: usize) -> bool
 }
 
 /// Opens the first `end` bytes in place; if they don't open, the buffer is unchanged.
-pub(crate) fn open_front(key: &[u8; 32], nonce: &[u8; 12], bytes: &mut [u8], end: usize) -> bool
+pub(crate) fn open_prefix(key: &[u8; 32], nonce: &[u8; 12], bytes: &mut [u8], end: usize) -> bool
     requires low { tag_size ≤ end }
     requires high { end ≤ length bytes.old }
     requires size { end ≤ sealed_chunk_size }
@@ -328,8 +328,8 @@ pub(crate) fn open_front(key: &[u8; 32], nonce: &[u8; 12], bytes: &mut [u8], end
         ≡ Some (take (end - tag_size) bytes.new)) }
     ensures refused { OnFalse result (opened key.now nonce.now [] (take end bytes.old) ≡ None) }
 {
-    let (front, _) = bytes.split_at_mut(end);
-    let (text, mac) = front.split_at_mut(end - TAG_SIZE);
+    let (prefix, _) = bytes.split_at_mut(end);
+    let (text, mac) = prefix.split_at_mut(end - TAG_SIZE);
     let mut tag = [0u8; TAG_SIZE];
     tag.copy_from_slice(mac);
     open_in_place(key, nonce, b"", text, &tag)

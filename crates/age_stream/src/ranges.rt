@@ -1,8 +1,6 @@
 //! Reading any part of a plaintext from a caller's source.
-ghost use Rattle.std.specs.Prelude.{◌≡◌, ◌+◌, ◌-◌, ◌*◌, ◌/◌, ◌<◌, ◌≤◌, ℕ, length, Ok, Err, Some, None, IfOk, IfErr, OnErr};
-ghost use Rattle.age_stream.specs.Counts.{CountsRead};
-ghost use Rattle.age_stream.specs.Ranges.{Fills, GivesVerified, IsSound, KeepsVerified, OpenedAtLeast, StartsRanges, Stops, first_to_open, range_len, sealed_span};
-ghost use Rattle.age_stream.specs.Sizes.{chunk_size};
+ghost use Rattle.std.specs.Prelude.{◌≡◌, Ok, Err, IfOk, IfErr};
+ghost use Rattle.age_stream.specs.Ranges.{ReadsRange, StartsRanges};
 
 use crate::chunks::Chunks;
 use crate::fault::StreamFault;
@@ -114,40 +112,10 @@ impl<'a, D: ReadAt> RangeReader<'a, D> {
     /// and no chunk is kept. A later call reads the source again.
     pub fn read_range(&mut self, at: u64, buf: &mut [u8]) -> Result<usize, StreamFault>
         ensures same_reference { self.new.dev.ghost_name ≡ self.old.dev.ghost_name }
-        ensures stay { D.bytes self.new.dev.now ≡ D.bytes self.old.dev.now }
-        ensures same { self.new.chunks.layout ≡ self.old.chunks.layout }
-        ensures sound { IsSound (D.bytes self.old.dev.now) self.old.chunks
-            → IsSound (D.bytes self.old.dev.now) self.new.chunks }
-        ensures keeps_verified { KeepsVerified (D.was_read self.old.dev.now) self.old.chunks
-            → KeepsVerified (D.was_read self.new.dev.now) self.new.chunks }
-        ensures verified { KeepsVerified (D.was_read self.old.dev.now) self.old.chunks
-            → GivesVerified (D.was_read self.new.dev.now) self.old.chunks.layout at buf.old buf.new
+        ensures reads { ReadsRange D.bytes D.given D.failed D.was_read at
+            (record { source = self.old.dev.now; chunks = self.old.chunks; buf = buf.old })
+            (record { source = self.new.dev.now; chunks = self.new.chunks; buf = buf.new })
             result }
-        ensures number { IfOk result (λ n. n ≡ range_len self.old.chunks at (length buf.old)) }
-        ensures filled { IfOk result
-            (λ n. Fills (D.bytes self.old.dev.now) self.old.chunks at n buf.old buf.new) }
-        ensures stop { IfErr result (Stops (D.bytes self.old.dev.now) self.old.chunks at
-            (range_len self.old.chunks at (length buf.old)) buf.old buf.new
-            self.new.chunks.opened) }
-        ensures count { CountsRead (D.failed self.old.dev.now) (D.failed self.new.dev.now) result }
-        ensures kept_chunk { IfOk result
-            (λ n. 0 < n → self.new.chunks.index ≡ Some ((at + n - 1) / chunk_size)) }
-        ensures none { OnErr result (self.new.chunks.index ≡ None) }
-        ensures rises { self.old.chunks.opened ≤ self.new.chunks.opened }
-        ensures counts { IfOk result (λ n. 0 < n
-            → OpenedAtLeast self.old.chunks self.new.chunks.opened
-            ((at + n - 1) / chunk_size + 1 - first_to_open self.old.chunks.index at)) }
-        ensures opened { (end : ℕ)
-            → at + range_len self.old.chunks at (length buf.old) ≤ chunk_size * end
-            → self.new.chunks.opened
-            ≤ self.old.chunks.opened + (end - first_to_open self.old.chunks.index at) }
-        ensures given { (end : ℕ)
-            → at + range_len self.old.chunks at (length buf.old) ≤ chunk_size * end
-            → D.given self.new.dev.now
-            ≤ D.given self.old.dev.now
-            + sealed_span self.old.chunks.layout (first_to_open self.old.chunks.index at) end }
-        ensures empty { range_len self.old.chunks at (length buf.old) ≡ 0
-            → (self.new.chunks ≡ self.old.chunks) × (self.new.dev.now ≡ self.old.dev.now) }
     {
         self.chunks.read_range(self.dev, at, buf)
     }

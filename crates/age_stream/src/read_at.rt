@@ -4,7 +4,7 @@ ghost use Rattle.std.specs.Prelude.{◌≡◌, ◌+◌, ◌-◌, ◌^◌, ℕ, S
 ghost use Rattle.std.specs.declared.option.Option.{Option};
 ghost use Rattle.std.specs.Io.{ReadsAtMost};
 ghost use Rattle.age_header.specs.Device.{Known, Counts};
-ghost use Rattle.age_stream.specs.Places.{CountsGiven, FindsSize, GivesAt, HasPlaces, StaysRead, WereRead};
+ghost use Rattle.age_stream.specs.Offsets.{CountsGiven, FindsSize, GivesAt, HasOffsets, StaysRead, WereRead};
 
 use age_header::DeviceFault;
 use std::io::{Read, Seek, SeekFrom};
@@ -48,7 +48,7 @@ pub trait ReadAt {
         ensures stay { bytes self.new ≡ bytes self.old }
         ensures found { found self.new ≡ found self.old }
         ensures bound { ReadsAtMost result buf.new }
-        ensures places { HasPlaces (bytes self.old) }
+        ensures offsets { HasOffsets (bytes self.old) }
         ensures bytes { GivesAt (bytes self.old) (found self.old) at result buf.new }
         ensures stays_read { StaysRead (was_read self.old) (was_read self.new) }
         ensures read { IfOk result (λ n. WereRead (was_read self.new) at (take n buf.new)) }

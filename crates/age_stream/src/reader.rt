@@ -1,7 +1,8 @@
 //! Reading a payload chunk by chunk from a caller's source.
 ghost use Rattle.std.specs.Prelude.{◌≡◌, ◌⊎◌, ◌≤◌, [], Ok, Err, Some, None, IfOk, IfErr, IfSome, IfNone, IsErrOf, ⊤};
 ghost use Rattle.std.specs.Borrow.{sem, follows_so};
-ghost use Rattle.age_stream.specs.Counts.{CountsRead, CountsWrite};
+ghost use Rattle.age_header.specs.Device.{CountsIf};
+ghost use Rattle.age_stream.specs.Counts.{is_read, is_write};
 ghost use Rattle.age_stream.specs.Opening.{Advances, EndsAt, WritesAll};
 ghost use Rattle.age_stream.specs.Reader.{Lends, StartsReader, is_lent};
 ghost use mathlib.Core.Option.{none};
@@ -110,7 +111,7 @@ impl<'a, S: Source> StreamReader<'a, S> {
         ensures keeps { IfNone self.old.opener.fault
             (IfErr result (λ f. self.new.opener.fault ≡ Some f)) }
         ensures count { IfNone self.old.opener.fault
-            (CountsRead (S.failed self.old.input.now) (S.failed self.new.input.now) result) }
+            (CountsIf is_read (S.failed self.old.input.now) (S.failed self.new.input.now) result) }
         ensures opens { IfNone self.old.opener.fault (IsErrOf result StreamFault.Read
             ⊎ Advances self.old.opener self.new.opener (S.to_come self.old.input.now)
             (S.to_come self.new.input.now) result) }
@@ -165,9 +166,9 @@ impl<'a, S: Source> StreamReader<'a, S> {
             ⊎ EndsAt self.entry.opener.max_chunks 0 (S.to_come self.entry.input.now)
             (S.to_come self.exit.0.now) (W.taken out.old) (W.taken out.new) f)) }
         ensures reads { IfNone self.entry.opener.fault
-            (CountsRead (S.failed self.entry.input.now) (S.failed self.exit.0.now) result) }
+            (CountsIf is_read (S.failed self.entry.input.now) (S.failed self.exit.0.now) result) }
         ensures writes { IfNone self.entry.opener.fault
-            (CountsWrite (W.failed out.old) (W.failed out.new) result) }
+            (CountsIf is_write (W.failed out.old) (W.failed out.new) result) }
     {
         let StreamReader { input, opener } = self;
         match opener.kept() {

@@ -2,9 +2,9 @@
 ghost use Rattle.std.specs.Prelude.{◌≡◌, ◌⊎◌, ◌<◌, ◌≤◌, ◌+◌, ◌-◌, ◌^◌, ◌++◌, [], length, take, Some, None, Ok, Err, IfOk, OnOk, OnErr, IfErr, IfSome, IfNone, MatchResult};
 ghost use Rattle.std.specs.Io.KnownBytes.{Appends, IsAtEnd};
 ghost use Rattle.age_cipher.specs.Sealing.{sealed};
-ghost use Rattle.age_header.specs.Device.{Counts, Writes};
+ghost use Rattle.age_header.specs.Device.{Counts, CountsIf, Writes};
 ghost use Rattle.age_header.specs.Filling.{Filled};
-ghost use Rattle.age_stream.specs.Counts.{CountsRead, CountsWrite};
+ghost use Rattle.age_stream.specs.Counts.{is_read, is_write};
 ghost use Rattle.age_stream.specs.Sealing.{Fills, IsFed, PutsFull, Stopped, TakesAll, FinishesBy};
 ghost use Rattle.age_stream.specs.Payload.{payload_key, chunk_nonce};
 ghost use Rattle.age_stream.specs.Sizes.{chunk_size, sealed_chunk_size, most_chunks, tag_size, chunk_buf_size};
@@ -82,7 +82,7 @@ impl ChunkSealer {
         ensures fills { IfNone self.old.fault
             (Fills self.old self.new (S.to_come plain.old) (S.to_come plain.new) result) }
         ensures reads { IfNone self.old.fault
-            (CountsRead (S.failed plain.old) (S.failed plain.new) result) }
+            (CountsIf is_read (S.failed plain.old) (S.failed plain.new) result) }
     {
         if let Some(kept) = self.fault {
             return Err(kept);
@@ -110,9 +110,9 @@ impl ChunkSealer {
         ensures takes { IfNone self.old.fault (TakesAll self.old self.new (S.to_come plain.old)
             (S.to_come plain.new) (W.taken out.old) (W.taken out.new) result) }
         ensures reads { IfNone self.old.fault
-            (CountsRead (S.failed plain.old) (S.failed plain.new) result) }
+            (CountsIf is_read (S.failed plain.old) (S.failed plain.new) result) }
         ensures writes { IfNone self.old.fault
-            (CountsWrite (W.failed out.old) (W.failed out.new) result) }
+            (CountsIf is_write (W.failed out.old) (W.failed out.new) result) }
     {
         if let Some(fault) = self.fault {
             return Err(fault);
@@ -144,7 +144,7 @@ impl ChunkSealer {
         ensures text { IfNone self.fault
             (FinishesBy self (W.taken out.old) (W.taken out.new) result) }
         ensures writes { IfNone self.fault
-            (CountsWrite (W.failed out.old) (W.failed out.new) result) }
+            (CountsIf is_write (W.failed out.old) (W.failed out.new) result) }
     {
         let ChunkSealer {
             key,
@@ -192,8 +192,8 @@ fn feed<S: Source, W: Sink>(
         × IsAtEnd (S.to_come plain.new))
         (Stopped key.now max index.old index.new (take len bytes.old) (S.to_come plain.old)
         (S.to_come plain.new) (W.taken out.old) (W.taken out.new)) }
-    ensures reads { CountsRead (S.failed plain.old) (S.failed plain.new) result }
-    ensures writes { CountsWrite (W.failed out.old) (W.failed out.new) result }
+    ensures reads { CountsIf is_read (S.failed plain.old) (S.failed plain.new) result }
+    ensures writes { CountsIf is_write (W.failed out.old) (W.failed out.new) result }
 {
     let mut held = len;
     loop {
@@ -227,8 +227,8 @@ fn fill_up_to<S: Source>(
     ensures end { IfOk result (λ n. n < most → IsAtEnd (S.to_come plain.new)) }
     ensures count { Counts (S.failed plain.old) (S.failed plain.new) result }
 {
-    let (front, _) = bytes.split_at_mut(most);
-    fill_from(plain, front, held)
+    let (prefix, _) = bytes.split_at_mut(most);
+    fill_from(plain, prefix, held)
 }
 
 /// Writes the full chunk at the start of the buffer, as one that is not the last, and moves the
@@ -247,7 +247,7 @@ fn put_full<W: Sink>(
     ensures within { index.new < max }
     ensures puts { PutsFull key.now max index.old index.new bytes.old bytes.new (W.taken out.old)
         (W.taken out.new) result }
-    ensures writes { CountsWrite (W.failed out.old) (W.failed out.new) result }
+    ensures writes { CountsIf is_write (W.failed out.old) (W.failed out.new) result }
 {
     if *index + 1 >= max {
         return Err(StreamFault::TooManyChunks);

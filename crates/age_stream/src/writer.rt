@@ -1,7 +1,7 @@
 //! Writing a payload piece by piece to a caller's sink.
 ghost use Rattle.std.specs.Prelude.{◌≡◌, ◌⊎◌, ◌≤◌, Ok, Err, IfOk, IfErr, IfSome, IfNone};
-ghost use Rattle.age_header.specs.Device.{Writes};
-ghost use Rattle.age_stream.specs.Counts.{CountsRead, CountsWrite};
+ghost use Rattle.age_header.specs.Device.{CountsIf, Writes};
+ghost use Rattle.age_stream.specs.Counts.{is_read, is_write};
 ghost use Rattle.age_stream.specs.Sealing.{FinishesBy, SealsAll};
 ghost use Rattle.age_stream.specs.Writer.{IsRefusedMemory, StartsWriter, TakesPiece};
 ghost use Rattle.age_stream.specs.Sizes.{most_chunks};
@@ -160,7 +160,7 @@ impl<'a, W: Sink> StreamWriter<'a, W> {
         ensures takes { IfNone self.old.sealer.fault (TakesPiece self.old.sealer self.new.sealer
             piece.now (W.taken self.old.out.now) (W.taken self.new.out.now) result) }
         ensures count { IfNone self.old.sealer.fault
-            (CountsWrite (W.failed self.old.out.now) (W.failed self.new.out.now) result) }
+            (CountsIf is_write (W.failed self.old.out.now) (W.failed self.new.out.now) result) }
     {
         let mut source = MemSource::new(piece);
         self.sealer.write_from(&mut source, self.out)
@@ -179,9 +179,9 @@ impl<'a, W: Sink> StreamWriter<'a, W> {
             (S.to_come plain.old) (S.to_come plain.new) (W.taken self.entry.out.now)
             (W.taken self.exit.0.now) result) }
         ensures reads { IfNone self.entry.sealer.fault
-            (CountsRead (S.failed plain.old) (S.failed plain.new) result) }
+            (CountsIf is_read (S.failed plain.old) (S.failed plain.new) result) }
         ensures writes { IfNone self.entry.sealer.fault
-            (CountsWrite (W.failed self.entry.out.now) (W.failed self.exit.0.now) result) }
+            (CountsIf is_write (W.failed self.entry.out.now) (W.failed self.exit.0.now) result) }
     {
         let StreamWriter { out, sealer } = self;
         let mut sealer = sealer;
@@ -202,7 +202,7 @@ impl<'a, W: Sink> StreamWriter<'a, W> {
         ensures text { IfNone self.entry.sealer.fault (FinishesBy self.entry.sealer
             (W.taken self.entry.out.now) (W.taken self.exit.0.now) result) }
         ensures count { IfNone self.entry.sealer.fault
-            (CountsWrite (W.failed self.entry.out.now) (W.failed self.exit.0.now) result) }
+            (CountsIf is_write (W.failed self.entry.out.now) (W.failed self.exit.0.now) result) }
     {
         let StreamWriter { out, sealer } = self;
         sealer.finish(out)
@@ -220,7 +220,7 @@ impl<'a, W: Sink> StreamWriter<'a, W> {
 fn put_nonce<W: Sink>(nonce: &[u8; 16], out: &mut W) -> Result<(), StreamFault>
     ensures text { Writes (W.taken out.old) (W.taken out.new) result nonce.now }
     ensures fault { IfErr result (λ fault. fault ≡ StreamFault.Write) }
-    ensures count { CountsWrite (W.failed out.old) (W.failed out.new) result }
+    ensures count { CountsIf is_write (W.failed out.old) (W.failed out.new) result }
 {
     match write_all(out, nonce) {
         Ok(()) => Ok(()),

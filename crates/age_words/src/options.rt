@@ -117,23 +117,33 @@ fn bare_subcommand<'a>(
         .display_name("agep")
 }
 
+/// The command with one more option or word. Each command adds its own by this, so that another one
+/// changes no proof.
+fn with_arg<'a>(command: Command<'a>, arg: Arg<'a>) -> Result<Command<'a>, AllocError>
+    requires plain { (app_of command).top.is_plain ≡ true }
+    requires own { arg.global ≡ false }
+    ensures { IfOk result (λ command. (app_of command).top.is_plain ≡ true) }
+{
+    command.arg(arg)
+}
+
 fn encrypt_command<'a>(alloc: Global) -> Result<Command<'a>, AllocError>
     ensures { IfOk result (λ command. (app_of command).top.is_plain ≡ true) }
 {
-    bare_subcommand(
+    let command = bare_subcommand(
         alloc,
         "encrypt",
         "Encrypt a file with a passphrase or a key",
         ENCRYPT_END,
-    )?
-    .arg(pass_option(alloc))?
-    .arg(key_option(alloc))?
-    .arg(work_option(alloc))?
-    .arg(seed_option(alloc, SEED_HELP))?
-    .arg(max_header_option(alloc))?
-    .arg(output_option(alloc, ENCRYPTED_OUTPUT_HELP))?
-    .arg(verbose_option(alloc))?
-    .arg(input_word(alloc))
+    )?;
+    let command = with_arg(command, pass_option(alloc))?;
+    let command = with_arg(command, key_option(alloc))?;
+    let command = with_arg(command, work_option(alloc))?;
+    let command = with_arg(command, seed_option(alloc, SEED_HELP))?;
+    let command = with_arg(command, max_header_option(alloc))?;
+    let command = with_arg(command, output_option(alloc, ENCRYPTED_OUTPUT_HELP))?;
+    let command = with_arg(command, verbose_option(alloc))?;
+    with_arg(command, input_word(alloc))
 }
 
 fn decrypt_command<'a>(alloc: Global) -> Result<Command<'a>, AllocError>
@@ -145,7 +155,8 @@ fn decrypt_command<'a>(alloc: Global) -> Result<Command<'a>, AllocError>
         "Decrypt a file with a passphrase or a key",
         DECRYPT_END,
     )?;
-    with_opening_options(alloc, command, PLAIN_OUTPUT_HELP)?.arg(input_word(alloc))
+    let command = with_opening_options(alloc, command, PLAIN_OUTPUT_HELP)?;
+    with_arg(command, input_word(alloc))
 }
 
 /// The options of the commands that find a file's key.
@@ -157,13 +168,12 @@ fn with_opening_options<'a>(
     requires { (app_of command).top.is_plain ≡ true }
     ensures { IfOk result (λ command. (app_of command).top.is_plain ≡ true) }
 {
-    command
-        .arg(pass_option(alloc))?
-        .arg(key_option(alloc))?
-        .arg(max_work_option(alloc))?
-        .arg(max_header_option(alloc))?
-        .arg(output_option(alloc, output_help))?
-        .arg(verbose_option(alloc))
+    let command = with_arg(command, pass_option(alloc))?;
+    let command = with_arg(command, key_option(alloc))?;
+    let command = with_arg(command, max_work_option(alloc))?;
+    let command = with_arg(command, max_header_option(alloc))?;
+    let command = with_arg(command, output_option(alloc, output_help))?;
+    with_arg(command, verbose_option(alloc))
 }
 
 fn inspect_command<'a>(alloc: Global) -> Result<Command<'a>, AllocError>
@@ -176,17 +186,17 @@ fn inspect_command<'a>(alloc: Global) -> Result<Command<'a>, AllocError>
         "Write the header's bytes instead of a table",
     );
     let file_key = text_option(alloc, FILE_KEY, 'f', "FILE", FILE_KEY_HELP);
-    bare_subcommand(
+    let command = bare_subcommand(
         alloc,
         "inspect",
         "Show what the header of an age file holds",
         INSPECT_END,
-    )?
-    .arg(raw)?
-    .arg(file_key)?
-    .arg(max_header_option(alloc))?
-    .arg(verbose_option(alloc))?
-    .arg(input_word(alloc))
+    )?;
+    let command = with_arg(command, raw)?;
+    let command = with_arg(command, file_key)?;
+    let command = with_arg(command, max_header_option(alloc))?;
+    let command = with_arg(command, verbose_option(alloc))?;
+    with_arg(command, input_word(alloc))
 }
 
 fn range_command<'a>(alloc: Global) -> Result<Command<'a>, AllocError>
@@ -198,15 +208,20 @@ fn range_command<'a>(alloc: Global) -> Result<Command<'a>, AllocError>
         "Decrypt a part of a file with a passphrase or a key",
         RANGE_END,
     )?;
-    with_opening_options(alloc, command, PLAIN_OUTPUT_HELP)?
-        .arg(offset_word(
-            alloc,
-            AT,
-            "AT",
-            "The offset of the first byte in the plaintext, from 0",
-        ))?
-        .arg(offset_word(alloc, LEN, "LEN", "The maximum number of bytes to write"))?
-        .arg(required_word(alloc, INPUT, "IN", SEEKABLE_INPUT_HELP))
+    let at = offset_word(
+        alloc,
+        AT,
+        "AT",
+        "The offset of the first byte in the plaintext, from 0",
+    );
+    let len = offset_word(alloc, LEN, "LEN", "The maximum number of bytes to write");
+    let command = with_opening_options(alloc, command, PLAIN_OUTPUT_HELP)?;
+    let command = with_arg(command, at)?;
+    let command = with_arg(command, len)?;
+    with_arg(
+        command,
+        required_word(alloc, INPUT, "IN", SEEKABLE_INPUT_HELP),
+    )
 }
 
 fn rewrap_command<'a>(alloc: Global) -> Result<Command<'a>, AllocError>
@@ -218,12 +233,16 @@ fn rewrap_command<'a>(alloc: Global) -> Result<Command<'a>, AllocError>
         "Give a file a new passphrase or key without encrypting it again",
         REWRAP_END,
     )?;
-    with_opening_options(alloc, command, ENCRYPTED_OUTPUT_HELP)?
-        .arg(text_option(alloc, NEW_PASS, 'P', "FILE", NEW_PASS_HELP))?
-        .arg(text_option(alloc, NEW_KEY, 'K', "FILE", NEW_KEY_HELP).action(ArgAction::Append))?
-        .arg(work_option(alloc))?
-        .arg(seed_option(alloc, SALT_HELP))?
-        .arg(input_word(alloc))
+    let new_key = text_option(alloc, NEW_KEY, 'K', "FILE", NEW_KEY_HELP).action(ArgAction::Append);
+    let command = with_opening_options(alloc, command, ENCRYPTED_OUTPUT_HELP)?;
+    let command = with_arg(
+        command,
+        text_option(alloc, NEW_PASS, 'P', "FILE", NEW_PASS_HELP),
+    )?;
+    let command = with_arg(command, new_key)?;
+    let command = with_arg(command, work_option(alloc))?;
+    let command = with_arg(command, seed_option(alloc, SALT_HELP))?;
+    with_arg(command, input_word(alloc))
 }
 
 fn pass_option<'a>(alloc: Global) -> Arg<'a>

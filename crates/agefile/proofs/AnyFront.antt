@@ -4,7 +4,7 @@ use Rattle.std.proofs.lemmas.Bool.{cases_lt, le-ltb, lt-ltb, cond-false, cond-tr
 use Rattle.std.proofs.lemmas.List.{drop_at, take-append-drop, take-append-le, take-take}
 use Rattle.std.proofs.Math.Seq.{take-append-add}
 use Rattle.age_kdf.specs.Bytes.{Bytes}
-use Rattle.age_header.proofs.OneVerdict as headers
+use Rattle.age_header.proofs.VerdictUniqueLemmas as headers
 use Rattle.age_recipient.specs.declared.key.FileKey.{FileKey}
 use Rattle.age_stream.specs.Payload.{payload_key}
 use Rattle.age_file.specs.declared.fault.Fault.{Fault}
@@ -61,9 +61,9 @@ longer : (answers : Answering) (n : ℕ) (b : Bytes) (s : Start) → IsStart ans
 longer answers n b s (Err e, verdict, is) = absurd (cc)
 longer answers n b s (Ok found, verdict, is) =
     let w = headers.begins_found (take n b) limits.max_header found verdict in
-    let whole : b ≡ found.text ++ (w.rest ++ drop n b) = sym (take-append-drop n b) ∙ ap (λ t. t ++ drop n b) w.front
+    let whole : b ≡ found.text ++ (w.rest ++ drop n b) = sym (take-append-drop n b) ∙ ap (λ t. t ++ drop n b) w.prefix
     ∙ append_assoc found.text w.rest (drop n b) in
-    let before : drop (length found.text) (take n b) ≡ w.rest = ap (drop (length found.text)) w.front
+    let before : drop (length found.text) (take n b) ≡ w.rest = ap (drop (length found.text)) w.prefix
     ∙ drop_at found.text w.rest (length found.text) refl in
     let behind : drop (length found.text) b ≡ w.rest ++ drop n b = ap (drop (length found.text)) whole
     ∙ drop_at found.text (w.rest ++ drop n b) (length found.text) refl in
@@ -74,7 +74,7 @@ longer answers n b s (Ok found, verdict, is) =
     let same : take 16 (w.rest ++ drop n b) ≡ take 16 w.rest = take-append-le 16 w.rest (drop n b) long in (
       Ok found,
       headers.found_begins b limits.max_header found
-          (record { rest = w.rest ++ drop n b; head = w.head; front = whole; fits = w.fits }),
+          (record { rest = w.rest ++ drop n b; head = w.head; prefix = whole; fits = w.fits }),
       under_as (length found.text) w.rest (w.rest ++ drop n b) key s mine
           (omega (arith, long, length-append w.rest (drop n b))) same
           ∙ ap (λ r. start_under (length found.text) r key) (sym behind),
@@ -96,17 +96,17 @@ shorter answers n b s within (Err e, verdict, is) = absurd (cc)
 shorter answers n b s within (Ok found, verdict, is) =
     let w = headers.begins_found b limits.max_header found verdict in
     let len : ℕ = length found.text in
-    let behind : drop len b ≡ w.rest = ap (drop len) w.front ∙ drop_at found.text w.rest len refl in
+    let behind : drop len b ≡ w.rest = ap (drop len) w.prefix ∙ drop_at found.text w.rest len refl in
     let key = unlocked answers (parts_of found) in
     let mine : Ok s ≡ start_under len w.rest key = is ∙ ap (λ r. start_under len r key) behind in
     let f = first_of len w.rest key s mine in
     let cut : Bytes = take (n - len) w.rest in
-    let front : take n b ≡ found.text ++ cut = front_of n found.text w.rest b w.front (omega (arith, within, f.1)) in
+    let front : take n b ≡ found.text ++ cut = front_of n found.text w.rest b w.prefix (omega (arith, within, f.1)) in
     let rest : drop len (take n b) ≡ cut = ap (drop len) front ∙ drop_at found.text cut len refl in
     let same : take 16 cut ≡ take 16 w.rest = take-take 16 (n - len) w.rest (omega (arith, within, f.1)) in (
       Ok found,
       headers.found_begins (take n b) limits.max_header found
-          (record { rest = cut; head = w.head; front = front; fits = w.fits }),
+          (record { rest = cut; head = w.head; prefix = front; fits = w.fits }),
       under_as len w.rest cut key s mine (omega (arith, f.0, f.1, within, length-take (n - len) w.rest)) same
           ∙ ap (λ r. start_under len r key) (sym rest),
     )

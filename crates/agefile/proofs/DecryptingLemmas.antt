@@ -9,7 +9,7 @@ use Rattle.age_stream.specs.declared.fault.StreamFault.{StreamFault}
 use Rattle.age_stream.specs.Opening.{GivesText}
 use Rattle.age_stream.specs.Payload.{payload_key}
 use Rattle.age_stream.specs.Reading.{Reading, after_first, first_outcome, outcome, reading_from, stops}
-use Rattle.age_stream.proofs.RangeLemmas.{put-front, put-rest, rest-on}
+use Rattle.age_stream.proofs.RangeLemmas.{put-prefix, put-rest, rest-on}
 use Rattle.age_stream.proofs.WritesAllLemmas.{before, first-err, first-ok}
 use Rattle.age_file.specs.declared.fault.Fault.{Fault}
 use Rattle.age_file.specs.declared.fault.Fault.TheVariants.{NonceTruncated, OutOfMemory}
@@ -166,7 +166,7 @@ put old out mid new text len n fits count is joined rest =
     ∙ ap (λ m. take len out ++ m) (is ∙ ap (λ d. text ++ d) later)
     ∙ sym (append_assoc (take len out) text (drop (len + n) out)) in
     record {
-      front = put-front out text new len n (omega (arith, fits)) (sym count) all;
+      front = put-prefix out text new len n (omega (arith, fits)) (sym count) all;
       rest = rest-on out new old len n rest (put-rest out text new len n (omega (arith, fits)) (sym count) all);
       size = omega (
         arith,

@@ -11,8 +11,8 @@ use Rattle.age_header.specs.Base64.{IsBase64, base64_of}
 use Rattle.age_header.specs.Header.{AreStanzas, Head, HeaderParts, StanzaParts, line, version_line}
 use Rattle.age_header.specs.Mac.{header_mac}
 use Rattle.age_header.specs.Verdict.{Found, HeaderVerdict}
-use Rattle.age_header.proofs.LengthLemmas.{line_size, length-version_line}
-use Rattle.age_header.proofs.OneVerdict.{begins_found}
+use Rattle.age_header.proofs.LengthLemmas.{length-line, length-version_line}
+use Rattle.age_header.proofs.VerdictUniqueLemmas.{begins_found}
 use Rattle.age_header.proofs.TextLemmas.{characters_are}
 use Rattle.age_recipient.specs.declared.key.FileKey.{FileKey}
 use Rattle.age_file.specs.declared.fault.Fault.{Fault}
@@ -115,11 +115,11 @@ read_whole : (text : Bytes) (found : Found) (ss : List StanzaParts)
     → Ok ss ≡ unless_mixed (stanzas_in text (Ok found)) → Reads text ss
 read_whole text found ss h ge eq =
     let b = begins_found (probe text) limits.max_header found h in
-    let size : length (probe text) ≡ length found.text + length b.rest = ap length b.front
+    let size : length (probe text) ≡ length found.text + length b.rest = ap length b.prefix
     ∙ length-append found.text b.rest in
     let whole : found.text ≡ probe text =
     sym (append-nil found.text) ∙ ap (λ r. found.text ++ r) (sym (nil_from_length b.rest (omega (arith, size, ge))))
-    ∙ sym b.front in
+    ∙ sym b.prefix in
     let late : stanzas_in text (Ok found) ≡ Ok found.stanzas =
     cond-false (nat_lt (length found.text) (length (probe text))) _ _ (le-ltb _ _ ge) in
     let u = unmixed (is_mixed found.stanzas) found.stanzas ss (sym (eq ∙ ap unless_mixed late)) in
@@ -161,7 +161,7 @@ framed_size text characters len =
       length-version_line,
       length-append (version_line ++ text) (line (codes "--- " ++ characters)),
       length-append version_line text,
-      line_size (codes "--- " ++ characters),
+      length-line (codes "--- " ++ characters),
       length-append (codes "--- ") characters,
     )
 
@@ -171,7 +171,7 @@ same_body text mac ss h =
     let mine : length (line (codes "--- " ++ replicate 43 65)) ≡ 48 = refl in
     let sized : length h.characters ≡ 43 = omega (arith, b64_size mac h.characters h.mac_text, h.mac_len) in
     let theirs : length (line (codes "--- " ++ h.characters)) ≡ 48 =
-    omega (arith, sized, line_size (codes "--- " ++ h.characters), length-append (codes "--- ") h.characters) in
+    omega (arith, sized, length-line (codes "--- " ++ h.characters), length-append (codes "--- ") h.characters) in
     let front : version_line ++ text ≡ version_line ++ h.body = same_front _ _ _ _ h.spelled (mine ∙ sym theirs) in
     sym (drop_at version_line text 22 length-version_line) ∙ ap (drop 22) front
     ∙ drop_at version_line h.body 22 length-version_line

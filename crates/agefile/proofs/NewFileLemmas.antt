@@ -6,7 +6,7 @@ use Rattle.age_kdf.specs.Bytes.{Bytes}
 use Rattle.age_header.specs.declared.fault.HeaderFault.{HeaderFault}
 use Rattle.age_header.specs.Header.{AreStanzas, Head, IsStanza, StanzaParts}
 use Rattle.age_header.specs.Verdict.{Found, HeaderVerdict}
-use Rattle.age_header.proofs.OneVerdict as headers
+use Rattle.age_header.proofs.VerdictUniqueLemmas as headers
 use Rattle.age_recipient.specs.declared.key.FileKey.{FileKey}
 use Rattle.age_recipient.specs.Choice.{choice}
 use Rattle.age_recipient.specs.Key.{IsFileKey}
@@ -68,10 +68,10 @@ same_stanzas text m n ss ts h k =
     let two : Found = record { stanzas = ts; mac = n; text = text } in
     let first : HeaderVerdict text (length text) (Ok one) =
     headers.found_begins text (length text) one
-    (record { rest = []; head = h; front = sym (append-nil text); fits = omega arith }) in
+    (record { rest = []; head = h; prefix = sym (append-nil text); fits = omega arith }) in
     let second : HeaderVerdict text (length text) (Ok two) =
     headers.found_begins text (length text) two
-    (record { rest = []; head = k; front = sym (append-nil text); fits = omega arith }) in
+    (record { rest = []; head = k; prefix = sym (append-nil text); fits = omega arith }) in
     ap stanzas_of (headers.one_verdict text (length text) (Ok one) (Ok two) first second)
 
 -- a text of one stanza is read as this stanza

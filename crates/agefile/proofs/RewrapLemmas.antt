@@ -6,7 +6,7 @@ use Rattle.age_kdf.specs.Bytes.{Bytes}
 use Rattle.age_header.specs.Header.{StanzaParts}
 use Rattle.age_header.specs.Mac.{header_mac}
 use Rattle.age_header.specs.Verdict.{Found}
-use Rattle.age_header.proofs.OneVerdict.{found_begins}
+use Rattle.age_header.proofs.VerdictUniqueLemmas.{found_begins}
 use Rattle.age_recipient.specs.declared.key.FileKey.{FileKey}
 use Rattle.age_stream.specs.Reading.{Reading}
 use Rattle.age_file.specs.declared.fault.Fault.{Fault}
@@ -32,7 +32,7 @@ begins_made key rest ss header v heading is =
     record {
       header = Ok found;
       header_verdict = found_begins (header.items ++ rest) limits.max_header found
-          (record { rest = rest; head = heading.head; front = refl; fits = heading.fits });
+          (record { rest = rest; head = heading.head; prefix = refl; fits = heading.fits });
       is = is ∙ ap (λ x. read_under limits x (Ok k)) (sym behind)
           ∙ ap (read_under limits (drop (length header.items) (header.items ++ rest)))
           (sym (key-unlocked (by_file_key key) (parts_of found) k

@@ -10,7 +10,7 @@ use Rattle.age_header.specs.declared.fault.HeaderFault.TheVariants.{Truncated}
 use Rattle.age_header.specs.Header.{line, version_line, version_size}
 use Rattle.age_header.specs.Verdict.{AreLines, BeginsAsAge, Decides, Found, Finds, HeaderVerdict, IsLineText, lines_text}
 use Rattle.age_header.proofs.LengthLemmas.{length-version_line}
-use Rattle.age_header.proofs.OneVerdict as headers
+use Rattle.age_header.proofs.VerdictUniqueLemmas as headers
 use Rattle.age_recipient.specs.declared.key.FileKey.{FileKey}
 use Rattle.age_stream.specs.Payload.{payload_key}
 use Rattle.age_file.specs.declared.fault.Fault.{Fault}
@@ -86,10 +86,10 @@ fewer_lines : (ks ls : List Bytes) (p b : Bytes) (d : AreLines ks p) (e : AreLin
 fewer_lines ks ls p b d e rest is short = elim (cases_lt (length ks) (length ls)) [
   | inl lt ↦ lt
   | inr ge ↦
-      let whole : lines_text ls ++ e.rest ≡ lines_text ks ++ (d.rest ++ rest) = sym e.front ∙ is
-      ∙ ap (λ (z : Bytes). z ++ rest) d.front ∙ append_assoc (lines_text ks) d.rest rest in
+      let whole : lines_text ls ++ e.rest ≡ lines_text ks ++ (d.rest ++ rest) = sym e.prefix ∙ is
+      ∙ ap (λ (z : Bytes). z ++ rest) d.prefix ∙ append_assoc (lines_text ks) d.rest rest in
       let size = more_lines ls ks e.rest (d.rest ++ rest) e.each d.each whole ge in
-      let all : length p ≡ length (lines_text ks) + length d.rest = ap length d.front
+      let all : length p ≡ length (lines_text ks) + length d.rest = ap length d.prefix
       ∙ length-append (lines_text ks) d.rest in
       absurd (omega (arith, short, size, all))
 ]
@@ -111,7 +111,7 @@ cut_short b max n x h short =
     let front : take max b ≡ p ++ behind = sym (take-append-drop n (take max b))
     ∙ ap (λ (z : Bytes). z ++ behind) (take-take n max b (omega (arith, short, fits))) in
     let version : b ≡ version_line ++ (w.head.body ++ (line (codes "--- " ++ w.head.characters) ++ w.rest)) =
-    w.front ∙ ap (λ (z : Bytes). z ++ w.rest) w.head.spelled
+    w.prefix ∙ ap (λ (z : Bytes). z ++ w.rest) w.head.spelled
     ∙ append_assoc (version_line ++ w.head.body) (line (codes "--- " ++ w.head.characters)) w.rest
     ∙ append_assoc version_line w.head.body (line (codes "--- " ++ w.head.characters) ++ w.rest) in
     let age : BeginsAsAge p = subst (λ (z : Bytes). BeginsAsAge (take n z)) (sym version)
@@ -122,14 +122,14 @@ cut_short b max n x h short =
           let lines : AreLines ks p = record {
             rest = d.lines.rest;
             each = d.lines.each;
-            front =
-                sym same ∙ d.lines.front;
+            prefix =
+                sym same ∙ d.lines.prefix;
           } in
           let there : AreLines ks (take max b) = record {
             rest = d.lines.rest ++ behind;
             each = d.lines.each;
-            front =
-                front ∙ ap (λ (z : Bytes). z ++ behind) lines.front
+            prefix =
+                front ∙ ap (λ (z : Bytes). z ++ behind) lines.prefix
                 ∙ append_assoc (lines_text ks) d.lines.rest behind;
           } in
           let f = h.decides.first ks there
@@ -167,19 +167,19 @@ short_start answers n b s low (Ok found, verdict, is) = elim (cases_lt n (length
     within answers n b s low found verdict is ge =
         let w = headers.begins_found b limits.max_header found verdict in
         let len : ℕ = length found.text in
-        let behind : drop len b ≡ w.rest = ap (drop len) w.front ∙ drop_at found.text w.rest len refl in
+        let behind : drop len b ≡ w.rest = ap (drop len) w.prefix ∙ drop_at found.text w.rest len refl in
         let key = unlocked answers (parts_of found) in
         let mine : Ok s ≡ start_under len w.rest key = is ∙ ap (λ r. start_under len r key) behind in
         let f = first_of len w.rest key s mine in
         let cut : Bytes = take (n - len) w.rest in
         let split : n ≡ len + (n - len) = omega (arith, ge) in
-        let front : take n b ≡ found.text ++ cut = ap (λ k. take k b) split ∙ ap (take (len + (n - len))) w.front
+        let front : take n b ≡ found.text ++ cut = ap (λ k. take k b) split ∙ ap (take (len + (n - len))) w.prefix
         ∙ take-append-add found.text w.rest (n - len) in
         let rest : drop len (take n b) ≡ cut = ap (drop len) front ∙ drop_at found.text cut len refl in
         let few : length cut < 16 = omega (arith, f.1, low, length-take (n - len) w.rest) in (
           Ok found,
           headers.found_begins (take n b) limits.max_header found
-              (record { rest = cut; head = w.head; front = front; fits = w.fits }),
+              (record { rest = cut; head = w.head; prefix = front; fits = w.fits }),
           too_few len w.rest cut key s mine few ∙ ap (λ r. start_under len r key) (sym rest),
         )
 

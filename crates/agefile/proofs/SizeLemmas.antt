@@ -7,7 +7,7 @@ use Rattle.age_kdf.specs.Bytes.{Bytes}
 use Rattle.age_cipher.proofs.OpeningLemmas.{length-sealed}
 use Rattle.age_header.specs.Base64.{IsBase64, base64_of}
 use Rattle.age_header.specs.Header.{Head, IsFullLine, IsStanza, StanzaParts, argument_line, line, version_line}
-use Rattle.age_header.proofs.LengthLemmas.{line_size, length-version_line}
+use Rattle.age_header.proofs.LengthLemmas.{length-line, length-version_line}
 use Rattle.age_header.proofs.TextLemmas.{signs_size}
 use Rattle.age_recipient.specs.declared.key.FileKey.{FileKey}
 use Rattle.age_recipient.specs.KeyedStanza.{keyed_stanza, keyed_wrap_key}
@@ -37,7 +37,7 @@ full_size (f ∷ full) all = let one : length f ≡ 64 = all.0 in let rest = ful
 -- the body's lines of a stanza with a body of 32 bytes
 body_lines_size : (full : List Bytes) (last : Bytes) → AllByRecursion IsFullLine full
     → length (concat full ++ last) ≡ 43 → length (flat_map line full ++ line last) ≡ 44
-body_lines_size [] last all size = omega (arith, line_size last)
+body_lines_size [] last all size = omega (arith, length-line last)
 body_lines_size (f ∷ full) last all size =
     let lines = full_size (f ∷ full) all in
     absurd (omega (arith, length-append (concat (f ∷ full)) last))
@@ -59,7 +59,7 @@ stanza_size s text size is =
 pub least_header : (ss : List StanzaParts) (mac text : Bytes) → Head ss mac text → 70 ≤ length text
 least_header ss mac text h =
     let characters : length h.characters ≡ 43 = omega (arith, b64_size mac h.characters h.mac_text, h.mac_len) in
-    let end = line_size (codes "--- " ++ h.characters) in
+    let end = length-line (codes "--- " ++ h.characters) in
     let all : length text ≡ length (version_line ++ h.body ++ line (codes "--- " ++ h.characters)) =
     ap length h.spelled in
     omega (
@@ -79,7 +79,7 @@ header_size s mac text size h =
     let none : length h.stanza_text.1 ≡ 0 = ap length h.stanza_text.3 in
     let body : length h.body ≡ length (h.stanza_text.0 ++ h.stanza_text.1) = ap length h.stanza_text.4 in
     let characters : length h.characters ≡ 43 = omega (arith, b64_size mac h.characters h.mac_text, h.mac_len) in
-    let end = line_size (codes "--- " ++ h.characters) in
+    let end = length-line (codes "--- " ++ h.characters) in
     ap length h.spelled ∙ omega (
       arith,
       length-version_line,

@@ -3,17 +3,18 @@ use Rattle.std.proofs.Common.{◌≡◌, ◌⊎◌, ◌+◌, ◌-◌, ◌<◌, �
 use Rattle.std.proofs.lemmas.Bool.{le-ltb, lt-ltb, cond-false, cond-true}
 use Rattle.std.proofs.lemmas.List.{drop_at}
 use Rattle.age_kdf.specs.Bytes.{Bytes}
-use Rattle.age_header.specs.Device.{Known}
+use Rattle.age_header.specs.Device.{CountsFaultIf, Known}
 use Rattle.age_header.specs.declared.fault.HeaderFault.{HeaderFault}
 use Rattle.age_header.specs.declared.fault.HeaderFault.TheVariants as header
 use Rattle.age_header.specs.Header.{StanzaParts, HeaderParts}
 use Rattle.age_header.specs.Verdict.{HeaderVerdict}
+use Rattle.age_header.proofs.ReaderLemmas.{reads_known}
 use Rattle.age_recipient.specs.declared.key.FileKey.{FileKey}
 use Rattle.age_recipient.specs.declared.unwrapped.Unwrapped.{Unwrapped}
 use Rattle.age_stream.specs.Payload.{payload_key}
 use Rattle.age_file.specs.declared.fault.Fault.{Fault}
 use Rattle.age_file.specs.declared.fault.Fault.TheVariants.{NonceTruncated, OutOfMemory, Read}
-use Rattle.age_file.specs.Device.{CountsRead}
+use Rattle.age_file.specs.Device.{is_read}
 use Rattle.age_file.specs.Inspect.{Inspects}
 use Rattle.age_file.specs.Verdict.{Answering, header_fault, unlocked}
 use Rattle.age_file.proofs.DecryptLemmas.{err-err}
@@ -32,26 +33,17 @@ faulty answers b g verdict = inr (Err g, verdict, refl)
 
 pub start_none : (answers : Answering) (b : Bytes) (mid : Known) (fault : Fault)
     → Inspects limits (Some b) mid (Err fault)
-    → CountsRead {A = HeaderParts} 0 0 (Err fault) → FindsStart answers b (Err fault)
+    → CountsFaultIf is_read 0 0 fault → FindsStart answers b (Err fault)
 start_none answers b mid fault (Ok parts, is, h) count = absurd (cc)
 start_none answers b mid fault (Err header.Read, is, h) count =
-    let read_count : CountsRead {A = HeaderParts} 0 0 (Err Read) =
-    subst (λ f. CountsRead {A = HeaderParts} 0 0 (Err f)) (err-err {A = HeaderParts} fault Read is) count in
+    let read_count : CountsFaultIf is_read 0 0 Read =
+    subst (λ f. CountsFaultIf is_read 0 0 f) (err-err {A = HeaderParts} fault Read is) count in
     absurd (omega (arith, read_count))
 start_none answers b mid fault (Err header.Memory, is, h) count =
     inl (ap Err (err-err {A = HeaderParts} fault OutOfMemory is))
-start_none answers b mid fault (Err header.NotAge, is, h) count =
+start_none answers b mid fault (Err g, is, h) count =
     subst (λ f. FindsStart answers b (Err f)) (sym (err-err {A = HeaderParts} fault _ is))
-    (faulty answers b header.NotAge h)
-start_none answers b mid fault (Err (header.BadLine n), is, h) count =
-    subst (λ f. FindsStart answers b (Err f)) (sym (err-err {A = HeaderParts} fault _ is))
-    (faulty answers b (header.BadLine n) h)
-start_none answers b mid fault (Err header.Truncated, is, h) count =
-    subst (λ f. FindsStart answers b (Err f)) (sym (err-err {A = HeaderParts} fault _ is))
-    (faulty answers b header.Truncated h)
-start_none answers b mid fault (Err header.TooLarge, is, h) count =
-    subst (λ f. FindsStart answers b (Err f)) (sym (err-err {A = HeaderParts} fault _ is))
-    (faulty answers b header.TooLarge h)
+    (faulty answers b g (reads_known b mid limits.max_header (Err g) h))
 
 -- a header that was read, and what follows it
 pub record Fronts (b rest : Bytes) (h : HeaderParts) : Type 0 where
@@ -61,8 +53,9 @@ pub record Fronts (b rest : Bytes) (h : HeaderParts) : Type 0 where
 
 pub fronts : (b rest : Bytes) (h : HeaderParts) → Inspects limits (Some b) (Some rest) (Ok h) → Fronts b rest h
 fronts b rest h (Err g, is, _) = absurd (cc)
-fronts b rest h (Ok parts, is, (text, verdict, took)) =
-    subst (Fronts b rest) (sym (ok-ok h parts is)) (record { text = text; verdict = verdict; front = took })
+fronts b rest h (Ok parts, is, reads) =
+    let r = reads_known b (Some rest) limits.max_header (Ok parts) reads in
+    subst (Fronts b rest) (sym (ok-ok h parts is)) (record { text = r.0; verdict = r.1; front = r.2 })
 
 found-start : (answers : Answering) (b rest : Bytes) (h : HeaderParts) (f : Fronts b rest h)
     (start : Result Start Fault)

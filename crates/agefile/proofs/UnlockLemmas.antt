@@ -1,17 +1,18 @@
 -- Finding a file key, from what its parts return; and the verdict, by the file key.
 use Rattle.std.proofs.Common.{◌≡◌, ◌≢◌, ◌⊎◌, ℕ, ◌+◌, ◌-◌, List, [], ◌∷◌, map, length, take, drop, sym, ◌∙◌, ap, refl, subst, arith, inl, inr, length-append, Some, Result, Ok, Err}
 use Rattle.age_kdf.specs.Bytes.{Bytes}
-use Rattle.age_header.specs.Device.{Known}
+use Rattle.age_header.specs.Device.{CountsFaultIf, Known}
 use Rattle.age_header.specs.declared.fault.HeaderFault.{HeaderFault}
 use Rattle.age_header.specs.declared.fault.HeaderFault.TheVariants as header
 use Rattle.age_header.specs.Header.{StanzaParts, HeaderParts}
 use Rattle.age_header.specs.Verdict.{HeaderVerdict}
+use Rattle.age_header.proofs.ReaderLemmas.{reads_known}
 use Rattle.age_recipient.specs.declared.key.FileKey.{FileKey}
 use Rattle.age_recipient.specs.declared.unwrapped.Unwrapped.{Unwrapped}
 use Rattle.age_stream.specs.Reading.{Reading, stops}
 use Rattle.age_file.specs.declared.fault.Fault.{Fault}
 use Rattle.age_file.specs.declared.fault.Fault.TheVariants.{OutOfMemory, Read}
-use Rattle.age_file.specs.Device.{CountsRead}
+use Rattle.age_file.specs.Device.{is_read}
 use Rattle.age_file.specs.Inspect.{Inspects}
 use Rattle.age_file.specs.Verdict.{Answering, IsVerdict, header_fault, judged, parts_of, read_under, unlocked}
 use Rattle.age_file.proofs.DecryptLemmas.{err-err}
@@ -35,18 +36,16 @@ faulty answers b fault g is verdict = inr (Err g, verdict, ap Err (err-err {A = 
 
 pub key_none : (answers : Answering) (b : Bytes) (mid : Known) (fault : Fault)
     → Inspects limits (Some b) mid (Err fault)
-    → CountsRead {A = HeaderParts} 0 0 (Err fault) → FindsKey answers b (Err fault)
+    → CountsFaultIf is_read 0 0 fault → FindsKey answers b (Err fault)
 key_none answers b mid fault (Ok parts, is, h) count = absurd (cc)
 key_none answers b mid fault (Err header.Read, is, h) count =
-    let read_count : CountsRead {A = HeaderParts} 0 0 (Err Read) =
-    subst (λ f. CountsRead {A = HeaderParts} 0 0 (Err f)) (err-err {A = HeaderParts} fault Read is) count in
+    let read_count : CountsFaultIf is_read 0 0 Read =
+    subst (λ f. CountsFaultIf is_read 0 0 f) (err-err {A = HeaderParts} fault Read is) count in
     absurd (omega (arith, read_count))
 key_none answers b mid fault (Err header.Memory, is, h) count =
     inl (ap Err (err-err {A = HeaderParts} fault OutOfMemory is))
-key_none answers b mid fault (Err header.NotAge, is, h) count = faulty answers b fault header.NotAge is h
-key_none answers b mid fault (Err (header.BadLine n), is, h) count = faulty answers b fault (header.BadLine n) is h
-key_none answers b mid fault (Err header.Truncated, is, h) count = faulty answers b fault header.Truncated is h
-key_none answers b mid fault (Err header.TooLarge, is, h) count = faulty answers b fault header.TooLarge is h
+key_none answers b mid fault (Err g, is, h) count =
+    faulty answers b fault g is (reads_known b mid limits.max_header (Err g) h)
 
 pub key_locked : (answers : Answering) (b rest : Bytes) (h : HeaderParts) (fault : Fault)
     → Inspects limits (Some b) (Some rest) (Ok h)

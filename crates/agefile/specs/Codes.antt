@@ -4,6 +4,7 @@ use Rattle.agefile.specs.declared.code.TheConstants.{BAD_ARGUMENTS, OK, OUT_OF_M
 use Rattle.age_recipient.specs.declared.unwrapped.StanzaFault.{StanzaFault}
 use Rattle.age_recipient.specs.declared.unwrapped.StanzaFault.TheVariants.{ArgCount, Salt, WorkFactorText, WorkFactorTooHigh, BodyLength, Other}
 use Rattle.age_file.specs.declared.fault.Fault.{Fault}
+-- generated: variants of faults, one line
 use Rattle.age_file.specs.declared.fault.Fault.TheVariants.{NotAge, BadLine, HeaderTruncated, HeaderTooLarge, MixedPassphrase, NoMatch, WrongKey, Malformed, BadMac, NonceTruncated, ChunkShort, EmptyFinal, BadChunk, TooManyChunks, Read, Write, OutOfMemory, NoRecipients, Refused, IncompatibleRecipients}
 
 -- no fault
@@ -13,10 +14,6 @@ ok = OK
 -- an allocation was refused
 abbrev pub out_of_memory : ℕ
 out_of_memory = OUT_OF_MEMORY
-
--- the plaintext has more chunks than the limit
-abbrev pub too_many_chunks : ℕ
-too_many_chunks = 14
 
 -- the buffer is too small for the output
 abbrev pub too_small : ℕ
@@ -36,26 +33,32 @@ bad_arguments = BAD_ARGUMENTS
 
 -- a fault's code
 abbrev pub fault_code : Fault → ℕ
+-- generated: codes of faults
 fault_code NotAge = 1
-fault_code (BadLine line) = 2
+fault_code (BadLine _) = 2
 fault_code HeaderTruncated = 3
 fault_code HeaderTooLarge = 4
 fault_code MixedPassphrase = 5
 fault_code NoMatch = 6
 fault_code WrongKey = 7
-fault_code (Malformed part) = 8
+fault_code (Malformed _) = 8
 fault_code BadMac = 9
 fault_code NonceTruncated = 10
-fault_code (ChunkShort i) = 11
-fault_code (EmptyFinal i) = 12
-fault_code (BadChunk i) = 13
-fault_code TooManyChunks = too_many_chunks
+fault_code (ChunkShort _) = 11
+fault_code (EmptyFinal _) = 12
+fault_code (BadChunk _) = 13
+fault_code TooManyChunks = 14
 fault_code Read = 15
 fault_code Write = 16
-fault_code OutOfMemory = out_of_memory
+fault_code OutOfMemory = OUT_OF_MEMORY
 fault_code NoRecipients = 18
-fault_code (Refused i reason) = 19
-fault_code (IncompatibleRecipients i) = 20
+fault_code (Refused _ _) = 19
+fault_code (IncompatibleRecipients _) = 20
+-- end of codes of faults
+
+-- the plaintext has more chunks than the limit
+abbrev pub too_many_chunks : ℕ
+too_many_chunks = fault_code TooManyChunks
 
 -- the line or the chunk of a fault, else 0; of a chunk's number beyond 64 bits the largest of 64
 -- bits

@@ -10,6 +10,7 @@ use crate::report::Report;
 pub(crate) fn give_up(code: u32, out: &mut [u8], report: &mut Report) -> u32
     ensures { GivesUp code out.old out.new report.new result }
 {
+    // The proof reads from this that the buffer is unchanged.
     let _ = out;
     *report = Report::default();
     code

@@ -82,6 +82,7 @@ pub extern "C" fn agefile_begin(
 pub(crate) fn refuse(fault: Fault, out: &mut [u8], report: &mut Report) -> u32
     ensures { Refuses fault out.old out.new report.new result }
 {
+    // The proof reads from this that the buffer is unchanged.
     let _ = out;
     *report = Report::of_fault(0, fault);
     fault_code(fault)

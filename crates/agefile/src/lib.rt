@@ -38,12 +38,10 @@ mod payload;
 mod phase;
 mod ranges;
 mod report;
+pub mod round_trips;
 mod sealing;
 mod sizes;
 mod start;
-#[cfg(test)]
-mod tests;
-pub mod there_and_back;
 mod unlocking;
 mod version;
 mod wrapping;

@@ -40,7 +40,7 @@ fn run(rt: &HostRuntime, owned: &[String]) -> u8
     )
 }
 
-/// Prints why the arguments cannot be read.
+/// Prints why the arguments cannot be read. A failed write changes nothing: the status says enough.
 fn refuse(rt: &HostRuntime, kind: io::ErrorKind) -> u8
     ensures { result ≤ 2 }
 {

@@ -40,7 +40,7 @@ fn nonce_of(number: u64) -> [u8; 12] {
     [a, b, c, d, e, f, g, h, 0, 0, 0, 0]
 }
 
-fn front(bytes: &[u8]) -> u64
+fn prefix(bytes: &[u8]) -> u64
     requires { 8 ≤ length bytes.now }
 {
     u64::from_le_bytes([
@@ -68,25 +68,25 @@ fn one_text(
     requires same_size { length sealed.now ≡ length text.old }
 {
     match part {
-        Part::Seal => front(&seal_in_place(key, &nonce_of(number), &[], text)),
+        Part::Seal => prefix(&seal_in_place(key, &nonce_of(number), &[], text)),
         Part::Open => {
             text.copy_from_slice(sealed);
             if open_in_place(key, &nonce_of(0), &[], text, tag) {
-                front(text)
+                prefix(text)
             } else {
                 0
             }
         }
         Part::ChaCha20 => {
             chacha20_xor(key, &nonce_of(number), 1, text);
-            front(text)
+            prefix(text)
         }
         Part::Poly1305 => {
             let mut mac = Poly1305::new(key);
             mac.update(text);
             let tag = mac.tag();
             text[0] = tag[0];
-            front(&tag)
+            prefix(&tag)
         }
     }
 }

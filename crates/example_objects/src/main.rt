@@ -18,7 +18,7 @@ const FRESH: Fresh = Fresh {
 };
 
 fn main(rt: HostRuntime) -> io::Result<()> {
-    match there_and_back(rt.alloc(), b"hello") {
+    match file_and_text(rt.alloc(), b"hello") {
         Ok((file, text)) => {
             println!(rt; "file: {} bytes", file.len())?;
             println!(rt;
@@ -31,7 +31,7 @@ fn main(rt: HostRuntime) -> io::Result<()> {
 }
 
 /// The file of a text, and the text that is read from it.
-fn there_and_back(alloc: Global, text: &[u8]) -> Result<(Vec<u8>, Vec<u8>), Fault> {
+fn file_and_text(alloc: Global, text: &[u8]) -> Result<(Vec<u8>, Vec<u8>), Fault> {
     let mut recipients: Vec<Box<dyn Recipient>> = Vec::new(alloc);
     let mut identities: Vec<Box<dyn Identity>> = Vec::new(alloc);
     let key = FRESH.file_key;

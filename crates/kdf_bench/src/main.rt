@@ -10,8 +10,8 @@ use std::env;
 
 const UNTOUCHED: [u8; 32] = [0xaa; 32];
 
-fn number(words: &[String], place: usize) -> Result<u32> {
-    let word = words.get(place).context("usage: kdf_bench LOG_N R P")?;
+fn number(words: &[String], index: usize) -> Result<u32> {
+    let word = words.get(index).context("usage: kdf_bench LOG_N R P")?;
     word.parse::<u32>().context("LOG_N, R and P are numbers")
 }
 

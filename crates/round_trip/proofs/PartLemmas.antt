@@ -8,8 +8,8 @@ use Rattle.std.proofs.lemmas.List.{append-nil, drop-drop, length-append, length-
 use Rattle.age_file.specs.Words.{Bytes}
 use Rattle.age_cipher.specs.Sealing.{sealed}
 use Rattle.age_cipher.proofs.OpeningLemmas.{opened-sealed}
-use Rattle.age_header.proofs.OneVerdict as headers
-use Rattle.age_header.specs.Device.{Known}
+use Rattle.age_header.proofs.VerdictUniqueLemmas as headers
+use Rattle.age_header.specs.Device.{CountsFaultIf, Known}
 use Rattle.age_header.specs.Header.{StanzaParts}
 use Rattle.age_recipient.specs.declared.unwrapped.Unwrapped.{Unwrapped}
 use Rattle.age_stream.specs.declared.layout.Layout.{Layout}
@@ -24,7 +24,7 @@ use Rattle.age_stream.proofs.WholeSlices.{whole-is}
 use Rattle.age_file.specs.declared.fault.Fault.{Fault}
 use Rattle.age_file.specs.declared.fault.Fault.TheVariants.{BadChunk, OutOfMemory, Read}
 use Rattle.age_file.specs.AgeFile.{Bounds}
-use Rattle.age_file.specs.Device.{CountsRead}
+use Rattle.age_file.specs.Device.{is_read}
 use Rattle.age_file.specs.Ranges.{IsRangesOf, MissesRanges}
 use Rattle.age_file.specs.Verdict.{Answering, IsVerdict, judged, read_under}
 use Rattle.age_file.proofs.FileLemmas.{with_file_fault-whole}
@@ -163,14 +163,14 @@ never_read (Err fault) (inr read) never = absurd (never (ap Err read))
 
 pub unopened : {X : Type 0} (laws : SlicedLaws) (limits : Bounds) (meaning : X → List StanzaParts → Unwrapped)
     (xs : List X) (x : X) (b plain : Bytes) (bytes : Known) (fault : Fault) → xs ≡ x ∷ [] → bytes ≡ Some b
-    → CountsRead {A = ℕ} 0 0 (Err fault) → MissesRanges limits (λ s. map (λ i. meaning i s) xs) bytes fault
+    → CountsFaultIf is_read 0 0 fault → MissesRanges limits (λ s. map (λ i. meaning i s) xs) bytes fault
     → IsVerdict limits (λ s. meaning x s ∷ []) b (whole plain) → fault ≡ OutOfMemory
 unopened laws limits meaning xs x b plain bytes fault list is count misses v =
     elim (laws.opens limits (λ s. meaning x s ∷ []) b plain fault v
     (subst (λ z. MissesRanges limits (λ s. map (λ i. meaning i s) z) (Some b) fault) list
     (subst (λ k. MissesRanges limits (λ s. map (λ i. meaning i s) xs) k fault) is misses))) [
-      | inl read ↦ let none : CountsRead {A = ℕ} 0 0 (Err Read) =
-          subst (λ f. CountsRead {A = ℕ} 0 0 (Err f)) read count in absurd (omega arith)
+      | inl read ↦ let none : CountsFaultIf is_read 0 0 Read =
+          subst (λ f. CountsFaultIf is_read 0 0 f) read count in absurd (omega arith)
       | inr memory ↦ memory
     ]
 

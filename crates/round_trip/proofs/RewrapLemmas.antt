@@ -2,12 +2,13 @@
 use Rattle.std.proofs.Common.{◌≡◌, ◌∙◌, ◌+◌, ◌^◌, ◌<◌, ◌≤◌, ℕ, List, [], ◌∷◌, length, map, sym, ap, subst, arith, refl, inl, inr, Some, Result, Ok, Err}
 use Rattle.std.specs.Prelude.{IfErr, IfOk}
 use Rattle.age_file.specs.Words.{Bytes}
-use Rattle.age_header.specs.Device.{Known}
+use Rattle.age_header.specs.Device.{CountsFaultIf, Known}
 use Rattle.age_header.specs.declared.fault.HeaderFault.{HeaderFault}
 use Rattle.age_header.specs.Header.{StanzaParts}
 use Rattle.age_header.specs.Mac.{header_mac}
 use Rattle.age_header.specs.Verdict.{BeginsWith, Found, HeaderVerdict}
-use Rattle.age_header.proofs.OneVerdict as headers
+use Rattle.age_header.proofs.DeviceLemmas.{may-known}
+use Rattle.age_header.proofs.VerdictUniqueLemmas as headers
 use Rattle.age_recipient.specs.declared.key.FileKey.{FileKey}
 use Rattle.age_recipient.specs.declared.labels.Labels.{Labels}
 use Rattle.age_recipient.specs.declared.unwrapped.Unwrapped.{Unwrapped}
@@ -19,9 +20,9 @@ use Rattle.age_file.specs.declared.fault.Fault.{Fault}
 use Rattle.age_file.specs.declared.fault.Fault.TheVariants.{NotAge, BadLine, HeaderTruncated, HeaderTooLarge, MixedPassphrase, NoMatch, WrongKey, Malformed, BadMac, NonceTruncated, ChunkShort, EmptyFinal, BadChunk, TooManyChunks, Read, Write, OutOfMemory, NoRecipients, Refused, IncompatibleRecipients}
 use Rattle.age_file.specs.AgeFile.{AgeFile, Bounds}
 use Rattle.age_file.specs.Copying.{most_copied}
-use Rattle.age_file.specs.Device.{CountsRead}
+use Rattle.age_file.specs.Device.{is_read}
 use Rattle.age_file.specs.NewFile.{Gathered, Gathering, IsRefusal}
-use Rattle.age_file.specs.Rewrap.{IsRefusedBy, RefusesRewrap, Rewrapped, RewrapsText}
+use Rattle.age_file.specs.Rewrap.{IsRefusedBy, RefusesRewrap, Rewrapped, Rewraps, RewrapsText}
 use Rattle.age_file.specs.Verdict.{Answering, IsVerdict, parts_of, unlocked}
 use Rattle.age_file.proofs.FileLemmas.{file-whole, key-unlocked}
 use Rattle.round_trip.specs.Losses.{IsUnwritten}
@@ -39,7 +40,7 @@ header_is : (limits : Bounds) (answers : Answering) (k : FileKey) (stanzas : Lis
 header_is limits answers k stanzas plain b file r chosen h =
     let found = found_of limits k stanzas plain b file in
     let begins : BeginsWith b limits.max_header found =
-    record { rest = payload k file.nonce plain; head = file.head; front = file.spelled; fits = file.header_fits } in
+    record { rest = payload k file.nonce plain; head = file.head; prefix = file.spelled; fits = file.header_fits } in
     headers.one_verdict b limits.max_header r (Ok found) h (headers.found_begins b limits.max_header found begins)
 
 unlocked_is : (limits : Bounds) (answers : Answering) (k : FileKey) (stanzas : List StanzaParts) (plain b : Bytes)
@@ -82,7 +83,7 @@ refused_by limits answers gathered k stanzas plain b fault file chosen h =
 
 unrewrapped : (limits : Bounds) (answers : Answering) (gathered : FileKey → Gathering) (k : FileKey)
     (stanzas : List StanzaParts) (plain b : Bytes) (fault : Fault) (old new : Known) → length b < 2 ^ 64
-    → AgeFile limits k stanzas plain b → choice (answers stanzas) ≡ Ok k → CountsRead {A = Unit {0}} 0 0 (Err fault)
+    → AgeFile limits k stanzas plain b → choice (answers stanzas) ≡ Ok k → CountsFaultIf is_read 0 0 fault
     → RewrapsText limits answers gathered b old new (Err fault)
     → IsUnwritten (IsRefusal limits k (gathered k)) limits plain fault
 unrewrapped limits answers gathered k stanzas plain b NotAge old new short file chosen count h =
@@ -127,9 +128,9 @@ unrewrapped limits answers gathered k stanzas plain b TooManyChunks old new shor
 pub unrewrapped_one : {X Y : Type 0} (limits : Bounds) (meaning : X → List StanzaParts → Unwrapped) (xs : List X)
     (x : X) (wraps : Y → FileKey → Result (List StanzaParts) ℕ) (labels : Y → Labels) (ys : List Y) (y : Y)
     (a b : Bytes) (fault : Fault) (old new : Known) → length b < 2 ^ 64 → xs ≡ x ∷ [] → ys ≡ y ∷ [] → a ≡ b
-    → CountsRead {A = Unit {0}} 0 0 (Err fault)
-    → RewrapsText limits (λ s. map (λ i. meaning i s) xs) (λ key. Gathered (map (λ r. wraps r key) ys) (map labels ys))
-    a old new (Err fault)
+    → CountsFaultIf is_read 0 0 fault
+    → Rewraps limits (λ s. map (λ i. meaning i s) xs) (λ key. Gathered (map (λ r. wraps r key) ys) (map labels ys))
+    (Some a) old new (Err fault)
     → (stanzas : List StanzaParts) (k : FileKey) (plain : Bytes) → AgeFile limits k stanzas plain b
     → meaning x stanzas ≡ Key k
     → IsUnwritten (IsRefusal limits k (Gathered (wraps y k ∷ []) (labels y ∷ []))) limits plain fault
@@ -139,25 +140,29 @@ unrewrapped_one limits meaning xs x wraps labels ys y a b fault old new short li
     fault old new short file (ap (λ u. choice (u ∷ [])) means) count
     (subst (λ z. RewrapsText limits (λ s. meaning x s ∷ []) (λ key. Gathered (wraps y key ∷ []) (labels y ∷ [])) z old
     new (Err fault)) come
-    (subst (λ z. RewrapsText limits (λ s. meaning x s ∷ []) (λ key. Gathered (map (λ r. wraps r key) z) (map labels z))
-    a old new (Err fault)) to
-    (subst (λ z. RewrapsText limits (λ s. map (λ i. meaning i s) z)
-    (λ key. Gathered (map (λ r. wraps r key) ys) (map labels ys)) a old new (Err fault)) list h)))
+    (may-known (λ z. RewrapsText limits (λ s. meaning x s ∷ []) (λ key. Gathered (wraps y key ∷ []) (labels y ∷ [])) z
+    old new (Err fault)) a
+    (subst (λ z. Rewraps limits (λ s. meaning x s ∷ []) (λ key. Gathered (map (λ r. wraps r key) z) (map labels z))
+    (Some a) old new (Err fault)) to
+    (subst (λ z. Rewraps limits (λ s. map (λ i. meaning i s) z)
+    (λ key. Gathered (map (λ r. wraps r key) ys) (map labels ys)) (Some a) old new (Err fault)) list h))))
 
 -- what was written of one recipient
 pub rewrapped_one : {X Y : Type 0} (limits : Bounds) (meaning : X → List StanzaParts → Unwrapped) (xs : List X) (x : X)
     (wraps : Y → FileKey → Result (List StanzaParts) ℕ) (labels : Y → Labels) (ys : List Y) (y : Y)
     (a b c : Bytes) → xs ≡ x ∷ [] → ys ≡ y ∷ [] → a ≡ b
-    → RewrapsText limits (λ s. map (λ i. meaning i s) xs) (λ key. Gathered (map (λ r. wraps r key) ys) (map labels ys))
-    a (Some []) (Some c) (Ok tt)
+    → Rewraps limits (λ s. map (λ i. meaning i s) xs) (λ key. Gathered (map (λ r. wraps r key) ys) (map labels ys))
+    (Some a) (Some []) (Some c) (Ok tt)
     → (is : Rewrapped limits (λ s. meaning x s ∷ []) b c) × (wraps y is.key ≡ Ok is.stanzas)
 rewrapped_one limits meaning xs x wraps labels ys y a b c list to come h =
     let t = subst (λ z. RewrapsText limits (λ s. meaning x s ∷ []) (λ key. Gathered (wraps y key ∷ []) (labels y ∷ []))
     z (Some []) (Some c) (Ok tt)) come
-    (subst (λ z. RewrapsText limits (λ s. meaning x s ∷ []) (λ key. Gathered (map (λ r. wraps r key) z) (map labels z))
-    a (Some []) (Some c) (Ok tt)) to
-    (subst (λ z. RewrapsText limits (λ s. map (λ i. meaning i s) z)
-    (λ key. Gathered (map (λ r. wraps r key) ys) (map labels ys)) a (Some []) (Some c) (Ok tt)) list h)) in
+    (may-known (λ z. RewrapsText limits (λ s. meaning x s ∷ []) (λ key. Gathered (wraps y key ∷ []) (labels y ∷ [])) z
+    (Some []) (Some c) (Ok tt)) a
+    (subst (λ z. Rewraps limits (λ s. meaning x s ∷ []) (λ key. Gathered (map (λ r. wraps r key) z) (map labels z))
+    (Some a) (Some []) (Some c) (Ok tt)) to
+    (subst (λ z. Rewraps limits (λ s. map (λ i. meaning i s) z)
+    (λ key. Gathered (map (λ r. wraps r key) ys) (map labels ys)) (Some a) (Some []) (Some c) (Ok tt)) list h))) in
     let is : c ≡ t.0 = t.2 in
     subst (λ z. (is : Rewrapped limits (λ s. meaning x s ∷ []) b z) × (wraps y is.key ≡ Ok is.stanzas)) (sym is)
     (t.1.0, gathered_one (wraps y t.1.0.key) (labels y ∷ []) t.1.0.stanzas t.1.1)

@@ -3,13 +3,15 @@ use Rattle.std.proofs.Common.{◌≡◌, ◌∙◌, ℕ, List, [], ◌∷◌, �
 use Rattle.std.specs.Prelude.{IfErr}
 use Rattle.std.proofs.lemmas.List.{append-nil}
 use Rattle.std.proofs.lemmas.Option.{none-some}
+use Rattle.age_header.specs.Device.{CountsFaultIf}
+use Rattle.age_header.proofs.DeviceLemmas.{may-known}
 use Rattle.age_file.specs.declared.fault.Fault.{Fault}
 use Rattle.age_file.specs.declared.fault.Fault.TheVariants.{NotAge, BadLine, HeaderTruncated, HeaderTooLarge, MixedPassphrase, NoMatch, WrongKey, Malformed, BadMac, NonceTruncated, ChunkShort, EmptyFinal, BadChunk, TooManyChunks, Read, Write, OutOfMemory, NoRecipients, Refused, IncompatibleRecipients}
 use Rattle.age_file.specs.declared.limits.Fresh.{Fresh}
 use Rattle.age_file.specs.AgeFile.{AgeFile, Bounds}
-use Rattle.age_file.specs.Decrypt.{Decrypts, GivesVerdict}
-use Rattle.age_file.specs.Device.{CountsRead}
-use Rattle.age_file.specs.NewFile.{EncryptsText, Gathered, Gathering, RefusesFirst, IsRefusal}
+use Rattle.age_file.specs.Decrypt.{Decrypts, DecryptsText, GivesVerdict}
+use Rattle.age_file.specs.Device.{is_read}
+use Rattle.age_file.specs.NewFile.{EncryptsGiven, EncryptsText, Gathered, Gathering, RefusesFirst, IsRefusal}
 use Rattle.age_file.specs.Verdict.{Answering, IsVerdict}
 use Rattle.age_file.specs.Words.{Bytes, Done, Known, Labels, Reading, StanzaParts, Unwrapped, whole}
 use Rattle.round_trip.specs.Losses.{IsLoss, IsMemoryFault, IsUnwritten, none}
@@ -26,11 +28,16 @@ gathered_one (Err code) meant stanzas (place, apart, e) = cc
 
 pub file_of_one : (limits : Bounds) (fresh : Fresh) (wrapped : Result (List StanzaParts) ℕ) (meant : List Labels)
     (plain file : Bytes) (done : Done)
-    → EncryptsText limits fresh (Gathered (wrapped ∷ []) meant) plain (Some []) (Some file) (Ok done)
+    → EncryptsGiven limits fresh (Gathered (wrapped ∷ []) meant) (Some plain) (Some []) (Some file) (Ok done)
     → (stanzas : List StanzaParts) × (wrapped ≡ Ok stanzas) × AgeFile limits fresh.file_key stanzas plain file
-file_of_one limits fresh wrapped meant plain file done h =
-    let is : file ≡ h.0 = h.2 in
-    (h.1.stanzas, gathered_one wrapped meant h.1.stanzas h.1.heading.gives, rw is h.1.file)
+file_of_one limits fresh wrapped meant plain file done given =
+    let h = may-known (λ x. EncryptsText limits fresh (Gathered (wrapped ∷ []) meant) x (Some []) (Some file) (Ok done))
+    plain given in
+    let is : file ≡ h.0 = h.2 in (
+      h.1.stanzas,
+      gathered_one wrapped meant h.1.stanzas h.1.heading.gives,
+      subst (λ f. AgeFile limits fresh.file_key h.1.stanzas plain f) (sym is) h.1.file,
+    )
 
 -- bytes have one verdict
 abbrev pub IsOnce : Bounds → Answering → Bytes → Type 0
@@ -40,8 +47,9 @@ pub text_of_whole : (limits : Bounds) (answers : Answering) (b plain text : Byte
     → IsOnce limits answers b
     → IsVerdict limits answers b (whole plain) → Decrypts limits answers (Some b) (Some []) (Some text) (Ok done)
     → text ≡ plain
-text_of_whole limits answers b plain text done once is h = h.3
-    ∙ ap (λ (v : Reading Fault). v.front) (once h.0 (whole plain) h.1 is)
+text_of_whole limits answers b plain text done once is decrypts =
+    let h = may-known (λ x. DecryptsText limits answers x (Some []) (Some text) (Ok done)) b decrypts in
+    h.3 ∙ ap (λ (v : Reading Fault). v.front) (once h.0 (whole plain) h.1 is)
 
 -- what is read whole has no fault
 no_fault : (limits : Bounds) (answers : Answering) (b plain : Bytes) (fault : Fault) (old new : Known)
@@ -52,8 +60,8 @@ no_fault limits answers b plain fault old new once is h =
 
 pub lost_of_whole : (limits : Bounds) (answers : Answering) (b plain : Bytes) (fault : Fault) (old new : Known)
     → IsOnce limits answers b
-    → IsVerdict limits answers b (whole plain) → CountsRead {A = Done} 0 0 (Err fault)
-    → Decrypts limits answers (Some b) old new (Err fault) → IsMemoryFault fault
+    → IsVerdict limits answers b (whole plain) → CountsFaultIf is_read 0 0 fault
+    → DecryptsText limits answers b old new (Err fault) → IsMemoryFault fault
 lost_of_whole limits answers b plain OutOfMemory old new once is count h = inl refl
 lost_of_whole limits answers b plain Write old new once is count h = inr refl
 lost_of_whole limits answers b plain Read old new once is count h = absurd (omega arith)
@@ -97,16 +105,17 @@ pub lost_of_one : {X : Type 0} (limits : Bounds) (meaning : X → List StanzaPar
     (a b plain : Bytes) (fault : Fault)
     (old new : Known) → xs ≡ x ∷ [] → a ≡ b → IsOnce limits (λ s. meaning x s ∷ []) b
     → IsVerdict limits (λ s. meaning x s ∷ []) b (whole plain)
-    → CountsRead {A = Done} 0 0 (Err fault)
+    → CountsFaultIf is_read 0 0 fault
     → Decrypts limits (λ s. map (λ i. meaning i s) xs) (Some a) old new (Err fault) → IsMemoryFault fault
 lost_of_one limits meaning xs x a b plain fault old new list come once is count h =
     lost_of_whole limits (λ s. meaning x s ∷ []) b plain fault old new once is count
+    (may-known (λ z. DecryptsText limits (λ s. meaning x s ∷ []) z old new (Err fault)) b
     (subst (λ z. Decrypts limits (λ s. meaning x s ∷ []) (Some z) old new (Err fault)) come
-    (subst (λ z. Decrypts limits (λ s. map (λ i. meaning i s) z) (Some a) old new (Err fault)) list h))
+    (subst (λ z. Decrypts limits (λ s. map (λ i. meaning i s) z) (Some a) old new (Err fault)) list h)))
 
 -- why no file was written from memory
 unwritten : (limits : Bounds) (fresh : Fresh) (gathered : Gathering) (plain : Bytes) (fault : Fault) (old new : Known)
-    → CountsRead {A = Done} 0 0 (Err fault)
+    → CountsFaultIf is_read 0 0 fault
     → RefusesFirst limits fresh.file_key gathered fault → EncryptsText limits fresh gathered plain old new (Err fault)
     → IsUnwritten (IsRefusal limits fresh.file_key gathered) limits plain fault
 unwritten limits fresh gathered plain NotAge old new count refused h = inr (inr refused)
@@ -133,15 +142,17 @@ unwritten limits fresh gathered plain TooManyChunks old new count refused h = in
 -- the same where the recipient stands alone in a list
 pub unwritten_of_one : {X : Type 0} (limits : Bounds) (fresh : Fresh) (wraps : X → Result (List StanzaParts) ℕ)
     (labels : X → Labels) (xs : List X) (x : X) (a plain : Bytes) (fault : Fault)
-    (old new : Known) → xs ≡ x ∷ [] → a ≡ plain → CountsRead {A = Done} 0 0 (Err fault)
+    (old new : Known) → xs ≡ x ∷ [] → a ≡ plain → CountsFaultIf is_read 0 0 fault
     → RefusesFirst limits fresh.file_key (Gathered (map wraps xs) (map labels xs)) fault
-    → EncryptsText limits fresh (Gathered (map wraps xs) (map labels xs)) a old new (Err fault)
+    → EncryptsGiven limits fresh (Gathered (map wraps xs) (map labels xs)) (Some a) old new (Err fault)
     → IsUnwritten (IsRefusal limits fresh.file_key (Gathered (wraps x ∷ []) (labels x ∷ []))) limits plain fault
 unwritten_of_one limits fresh wraps labels xs x a plain fault old new list come count refused h =
     unwritten limits fresh (Gathered (wraps x ∷ []) (labels x ∷ [])) plain fault old new count
     (subst (λ z. RefusesFirst limits fresh.file_key (Gathered (map wraps z) (map labels z)) fault) list refused)
     (subst (λ z. EncryptsText limits fresh (Gathered (wraps x ∷ []) (labels x ∷ [])) z old new (Err fault)) come
-    (subst (λ z. EncryptsText limits fresh (Gathered (map wraps z) (map labels z)) a old new (Err fault)) list h))
+    (may-known (λ z. EncryptsText limits fresh (Gathered (wraps x ∷ []) (labels x ∷ [])) z old new (Err fault)) a
+    (subst (λ z. EncryptsGiven limits fresh (Gathered (map wraps z) (map labels z)) (Some a) old new (Err fault)) list
+    h)))
 
 -- a loss where no header is refused
 pub no_refusal : (refuses : Fault → Type 0) (limits : Bounds) (plain : Bytes) (fault : Fault)

@@ -13,8 +13,6 @@ mod file;
 mod pairs;
 mod rewrapping;
 mod slicing;
-#[cfg(test)]
-mod tests;
 
 pub use file::{decrypted, encrypted};
 pub use pairs::{Lost, key_there_and_back, pass_there_and_back, there_and_back};

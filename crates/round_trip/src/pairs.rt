@@ -78,6 +78,7 @@ pub(crate) fn has_sixteen_bytes(key: FileKey)
 pub(crate) fn are_bounds(limits: &Limits)
     ensures { IsBounds limits.now }
 {
+    // A call makes the invariant known.
     let _ = limits.max_chunks();
 }
 

@@ -1,4 +1,4 @@
-//! The recipient and the identity of one secret of 32 bytes.
+//! The recipient and the identity of one key of 32 bytes.
 
 ghost use Rattle.std.specs.Prelude.{◌≡◌};
 ghost use Rattle.age_recipient.specs.Salt.{IsSalt};
@@ -6,7 +6,7 @@ ghost use Rattle.age_recipient.specs.Salt.{IsSalt};
 use super::recipient::{KeyIdentity, KeyRecipient};
 use crate::matched::Matched;
 
-/// A recipient and an identity of one secret: the identity unwraps what the recipient wraps.
+/// A recipient and an identity of one key: the identity unwraps what the recipient wraps.
 #[derive(Drop)]
 pub struct KeyPair {
     recipient: KeyRecipient,
@@ -16,7 +16,7 @@ pub struct KeyPair {
 }
 
 impl KeyPair {
-    /// Makes the pair of this secret: a recipient with a salt of 16 bytes, and an identity.
+    /// Makes the pair of this key: a recipient with a salt of 16 bytes, and an identity.
     pub fn new(key: [u8; 32], salt: [u8; 16]) -> KeyPair
         ensures recipient { ⟦<KeyPair as Matched>⟧.the_recipient result
             ≡ record { key = key; salt = salt } }

@@ -1,4 +1,4 @@
-//! The recipient and the identity of a secret of 32 bytes.
+//! The recipient and the identity of a key of 32 bytes.
 
 ghost use Rattle.std.specs.Prelude.{◌≡◌};
 
@@ -12,7 +12,7 @@ use age_header::Stanza;
 use std::alloc::{AllocError, Global};
 use std::marker::Model;
 
-/// Wraps a file key under a secret of 32 bytes, in a stanza of this project's own. The salt must be
+/// Wraps a file key under a key of 32 bytes, in a stanza of this project's own. The salt must be
 /// 16 random bytes, fresh for each file.
 #[derive(Drop)]
 pub struct KeyRecipient {
@@ -29,7 +29,7 @@ impl Model for KeyRecipient {
 }
 
 impl KeyRecipient {
-    /// Makes a recipient of this secret, with a salt.
+    /// Makes a recipient of this key, with a salt.
     pub fn new(key: [u8; 32], salt: [u8; 16]) -> KeyRecipient
         ensures { result ≡ record { key = key; salt = salt } }
     {
@@ -53,7 +53,7 @@ impl Recipient for KeyRecipient {
     }
 }
 
-/// Unwraps a file key with a secret of 32 bytes. The first stanza of type `example.org/key` that is
+/// Unwraps a file key with a key of 32 bytes. The first stanza of type `example.org/key` that is
 /// malformed or that opens decides.
 #[derive(Drop)]
 pub struct KeyIdentity {
@@ -70,7 +70,7 @@ impl Model for KeyIdentity {
 }
 
 impl KeyIdentity {
-    /// Makes an identity of this secret.
+    /// Makes an identity of this key.
     pub fn new(key: [u8; 32]) -> KeyIdentity
         ensures { result ≡ key }
     {

@@ -1,11 +1,11 @@
-//! Keyed stanzas, this project's own: they wrap a file key under a secret of 32 bytes.
+//! Keyed stanzas, this project's own: they wrap a file key under a key of 32 bytes.
 
 ghost use Rattle.std.specs.Prelude.{◌≡◌, Some, map, IfOk};
 ghost use Rattle.std.specs.String.{string_bytes};
 ghost use Rattle.age_recipient.specs.KeyedStanza.{arguments_answer, keyed_answer, keyed_stanza, keyed_wrap_key, salted_answer};
 
 use crate::key::FileKey;
-use crate::sealing::{seal_key, unseal_key};
+use crate::sealing::{SEALED_KEY_SIZE, seal_key, unseal_key};
 use crate::stanza_list::{after_type, salt_of};
 use crate::unwrapped::{StanzaFault, Unwrapped};
 use age_header::{Stanza, base64_no_pad};
@@ -79,7 +79,7 @@ fn arguments_answer(
 fn salted_answer(key: &[u8; 32], body: &[u8], salt: &[u8; 16]) -> Unwrapped
     ensures { result ≡ salted_answer key.now body.now (Some salt.now) }
 {
-    if body.len() != 32 {
+    if body.len() != SEALED_KEY_SIZE {
         return Unwrapped::Malformed(StanzaFault::BodyLength);
     }
     unseal_key(&keyed_wrap_key(key, salt), body)

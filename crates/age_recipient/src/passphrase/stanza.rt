@@ -8,7 +8,7 @@ ghost use Rattle.age_recipient.specs.Sealing.{sealed_key_size};
 
 use super::work::{is_work_factor, work_at_most};
 use crate::key::FileKey;
-use crate::sealing::{seal_key, unseal_key};
+use crate::sealing::{SEALED_KEY_SIZE, seal_key, unseal_key};
 use crate::stanza_list::{after_type, salt_of};
 use crate::unwrapped::{StanzaFault, Unwrapped};
 use age_header::{Stanza, base64_no_pad};
@@ -44,8 +44,8 @@ fn labelled(salt: &[u8; 16]) -> [u8; 44]
     ensures { result ≡ LABEL.now ++ salt.now }
 {
     let mut text = [0; 44];
-    let (front, back) = text.split_at_mut(28);
-    front.copy_from_slice(LABEL);
+    let (prefix, back) = text.split_at_mut(LABEL.len());
+    prefix.copy_from_slice(LABEL);
     back.copy_from_slice(salt);
     text
 }
@@ -136,7 +136,7 @@ fn salted_answer(
     let Some(work) = work_at_most(work, max) else {
         return Ok(Unwrapped::Malformed(StanzaFault::WorkFactorTooHigh));
     };
-    if body.len() != 32 {
+    if body.len() != SEALED_KEY_SIZE {
         return Ok(Unwrapped::Malformed(StanzaFault::BodyLength));
     }
     Ok(unseal_key(&pass_wrap_key(alloc, pass, salt, work)?, body))

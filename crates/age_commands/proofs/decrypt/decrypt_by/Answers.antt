@@ -1,4 +1,5 @@
 use Rattle.std.proofs.Common.{rules}
+use Rattle.age_header.proofs.DeviceLemmas.{may-some}
 use Rattle.age_commands.proofs.SecretLemmas.{decrypts_alone}
 use Rattle.age_commands.proofs.decrypt.decrypt_by.Goals as goal
 
@@ -7,3 +8,7 @@ returns-in-Ok-clause-decrypts g c =
     decrypts_alone (λ i. (goal.Identity-dyn g (i.vtable, i.value)).meaning i.value) c.in-Ok.identities.items
     c.args.identity _ _ _ _ _ _ (search rules)
     c.limits_of.ensures (rw c.as_slice.ensures.value at c.decrypt.ensures.decrypts)
+
+pub returns-clause-decrypts : goal.returns-clause-decrypts
+returns-clause-decrypts g c =
+    let b = may-some (g.S.Source.to_come c.args.input.now) in (b.0, b.1, tt)

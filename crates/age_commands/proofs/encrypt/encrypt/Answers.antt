@@ -1,5 +1,6 @@
 use Rattle.std.proofs.Common.{◌∙◌, ap}
 use denote.Param.Object.{read_made}
+use Rattle.age_header.proofs.DeviceLemmas.{may-some}
 use Rattle.age_commands.specs.Secret.{labels_of, wraps_of}
 use Rattle.age_commands.proofs.SecretLemmas.{encrypting_meant}
 use Rattle.age_commands.proofs.encrypt.encrypt.Goals as goal
@@ -13,3 +14,11 @@ returns-in-Ok-new-clause-encrypts g c =
     let labels = read_made own-1 entry-1-1 at-1-1 same-1-1 _ (λ j y. j.1.the_labels y) _ _ _ c.into_dyn_box.ensures.1
     ∙ ap labels_of made in
     encrypting_meant _ _ _ _ _ _ _ _ _ _ wraps labels c.encrypt_for.ensures.encrypts
+
+pub returns-in_default-clause-encrypts : goal.returns-in_default-clause-encrypts
+returns-in_default-clause-encrypts g c =
+    let b = may-some (g.S.Source.to_come c.args.input.now) in ((b.0, b.1, tt), tt)
+
+pub returns-clause-encrypts : goal.returns-clause-encrypts
+returns-clause-encrypts g c =
+    let b = may-some (g.S.Source.to_come c.args.input.now) in ((b.0, b.1, tt), tt)

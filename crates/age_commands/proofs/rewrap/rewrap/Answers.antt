@@ -1,5 +1,6 @@
 use Rattle.std.proofs.Common.{◌∙◌, ap}
 use denote.Param.Object.{read_made}
+use Rattle.age_header.proofs.DeviceLemmas.{may-some}
 use Rattle.age_commands.specs.Secret.{labels_of, unwraps_of, wraps_of}
 use Rattle.age_commands.proofs.SecretLemmas.{rewrapping_meant}
 use Rattle.age_commands.proofs.rewrap.rewrap.Goals as goal
@@ -15,3 +16,19 @@ returns-in-Ok-new-3-clause-rewraps g c =
     let labels = read_made own-2 entry-2-1 at-2-1 same-2-1 _ (λ j y. j.1.the_labels y) _ _ _
     c.into_dyn_box-in-Ok-new-3.ensures.1 ∙ ap labels_of made in
     rewrapping_meant _ _ _ _ _ _ _ _ _ _ _ answers wraps labels c.rewrap_for.ensures.rewraps
+
+pub returns-in_default-clause-rewraps : goal.returns-in_default-clause-rewraps
+returns-in_default-clause-rewraps g c =
+    let b = may-some (g.S.Source.to_come c.args.input.now) in (b.0, b.1, tt)
+
+pub returns-in_default-new-clause-rewraps : goal.returns-in_default-new-clause-rewraps
+returns-in_default-new-clause-rewraps g c =
+    let b = may-some (g.S.Source.to_come c.args.input.now) in (b.0, b.1, tt)
+
+pub returns-in_default-new-2-clause-rewraps : goal.returns-in_default-new-2-clause-rewraps
+returns-in_default-new-2-clause-rewraps g c =
+    let b = may-some (g.S.Source.to_come c.args.input.now) in (b.0, b.1, tt)
+
+pub returns-in-Err-clause-rewraps : goal.returns-in-Err-clause-rewraps
+returns-in-Err-clause-rewraps g c =
+    let b = may-some (g.S.Source.to_come c.args.input.now) in (b.0, b.1, tt)

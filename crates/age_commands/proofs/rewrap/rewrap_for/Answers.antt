@@ -1,4 +1,5 @@
 use Rattle.std.proofs.Common.{rules}
+use Rattle.age_header.proofs.DeviceLemmas.{may-some}
 use Rattle.age_commands.proofs.SecretLemmas.{rewraps_alone}
 use Rattle.age_commands.proofs.rewrap.rewrap_for.Goals as goal
 
@@ -10,3 +11,11 @@ returns-clause-rewraps g c =
     (λ r. (goal.Recipient-dyn g (r.vtable, r.value)).the_labels r.value) _ c.args.identity _ c.args.recipient _ _ _ _ _
     _ (search rules) (search rules)
     c.limits_of.ensures answers
+
+pub returns-in_default-clause-rewraps : goal.returns-in_default-clause-rewraps
+returns-in_default-clause-rewraps g c =
+    let b = may-some (g.S.Source.to_come c.args.input.now) in (b.0, b.1, tt)
+
+pub returns-in_default-vec-clause-rewraps : goal.returns-in_default-vec-clause-rewraps
+returns-in_default-vec-clause-rewraps g c =
+    let b = may-some (g.S.Source.to_come c.args.input.now) in (b.0, b.1, tt)

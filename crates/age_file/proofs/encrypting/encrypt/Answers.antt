@@ -1,6 +1,22 @@
-use Rattle.std.proofs.Common.{rules, Ok, Err, inr}
-use Rattle.age_file.proofs.EncryptLemmas.{encrypts_begun, encrypts_sealed, encrypts_unread, filled, read_late, sealed_filled, takes_begun, takes_sealed}
+use Rattle.std.proofs.Common.{◌≡◌, rules, Ok, Err, inr}
+use Rattle.age_header.proofs.DeviceLemmas.{may-some}
+use Rattle.age_file.specs.NewFile.{gathering_by}
+use Rattle.age_file.proofs.EncryptLemmas.{encrypts_begun, encrypts_sealed, encrypts_unmade, encrypts_unread, filled, read_late, sealed_filled, takes_begun, takes_sealed}
 use Rattle.age_file.proofs.encrypting.encrypt.Goals as goal
+
+pub returns-in_err-header-clause-encrypts : goal.returns-in_err-header-clause-encrypts
+returns-in_err-header-clause-encrypts g c =
+    let gathered = gathering_by c.args.recipients.now
+    (λ r k. (goal.Recipient-dyn g (r.vtable, r.value)).wraps r.value k)
+    (λ r. (goal.Recipient-dyn g (r.vtable, r.value)).the_labels r.value) c.args.fresh.now.file_key in
+    let is : c.from_residual.result ≡ Err c.in_err-header.field-0.0 = search rules in
+    rw is (encrypts_unmade c.args.limits.now c.args.fresh.now gathered (g.S.Source.to_come c.args.plain.now)
+    (g.W.Sink.taken c.args.out.now) (g.W.Sink.taken c.args.out.now) c.in_err-header.field-0.0
+    c.in_err-header.ensures.err)
+
+pub returns-in_default-clause-encrypts : goal.returns-in_default-clause-encrypts
+returns-in_default-clause-encrypts g c =
+    let plain = may-some (g.S.Source.to_come c.args.plain.now) in (plain.0, plain.1, tt)
 
 pub returns-in-Err-clause-encrypts : goal.returns-in-Err-clause-encrypts
 returns-in-Err-clause-encrypts g c = encrypts_unread _ _ _ _ _ _ _ c.in_ok-header.ensures.ok

@@ -1,6 +1,6 @@
 use Rattle.std.proofs.Common.{◌++◌, refl}
 use Rattle.age_header.specs.Device.{Bytes}
-use Rattle.age_header.proofs.WriteLemmas.{done_start, done_more, done_part, part_at_exit, writes_last}
+use Rattle.age_header.proofs.DeviceLemmas.{done_start, done_more, done_part, part_at_exit, writes_last}
 use Rattle.age_file.proofs.encrypting.write_front.Goals as goal
 
 pub returns-in_err-write_header-clause-text : goal.returns-in_err-write_header-clause-text

@@ -3,5 +3,5 @@ use Rattle.std.proofs.lemmas.Bool.Decides.{Decides-eqb}
 use Rattle.age_header.proofs.arguments.strip_prefix.Goals as goal
 
 pub returns : goal.returns
-returns c = strip_prefix_is Decides-eqb c.args.text.now c.args.front.now c.strip_prefix.result
+returns c = strip_prefix_is Decides-eqb c.args.text.now c.args.prefix.now c.strip_prefix.result
     c.strip_prefix.ensures.cases

@@ -3,7 +3,7 @@ use Rattle.std.proofs.lemmas.Str.{IsUtf8-from_ascii}
 use Rattle.std.proofs.lemmas.Bool.{false≢true}
 use Rattle.std.specs.Str.{IsUtf8}
 use Rattle.age_kdf.specs.Bytes.{Bytes}
-use Rattle.age_header.proofs.ArgumentLemmas.{visible_ascii}
+use Rattle.age_header.proofs.ArgumentsLemmas.{visible_ascii}
 use Rattle.age_header.proofs.arguments.visible_string.Goals as goal
 
 pub unreachable-requires : goal.unreachable-requires

@@ -1,8 +1,7 @@
 use Rattle.std.proofs.Common.{◌∙◌, sym, subst}
 use Rattle.age_kdf.specs.Bytes.{Bytes}
 use Rattle.age_header.specs.Base64.{IsBase64}
-use Rattle.age_header.proofs.Base64Lemmas.{IsBase64-only, IsBase64-encode, IsBase64-bytes, encode_of-unpadded}
-use Rattle.age_header.proofs.Decoding.{b64_decoded, none_decoded}
+use Rattle.age_header.proofs.Base64Lemmas.{IsBase64-only, IsBase64-encode, IsBase64-bytes, encode_of-unpadded, b64_decoded, none_decoded}
 use Rattle.age_header.proofs.base64_no_pad.decode.Goals as goal
 
 pub returns-in-Ok-clause-some : goal.returns-in-Ok-clause-some

@@ -1,5 +1,5 @@
 use Rattle.std.proofs.Common.{◌∙◌}
-use Rattle.age_header.proofs.FillLemmas.{filled-more}
+use Rattle.age_header.proofs.FillingLemmas.{filled-more}
 use Rattle.age_header.proofs.filling.fill_from.Goals as goal
 
 pub loop-at-preserved : goal.loop-at-preserved

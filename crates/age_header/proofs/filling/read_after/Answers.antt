@@ -1,5 +1,5 @@
 use Rattle.std.proofs.Common.{rules}
-use Rattle.age_header.proofs.FillLemmas.{got-read}
+use Rattle.age_header.proofs.FillingLemmas.{got-read}
 use Rattle.age_header.proofs.filling.read_after.Goals as goal
 
 pub returns-clause-bytes : goal.returns-clause-bytes

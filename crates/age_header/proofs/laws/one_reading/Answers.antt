@@ -2,8 +2,7 @@ use Rattle.std.proofs.Common.{[], sym, subst}
 use Rattle.std.proofs.lemmas.List.{append-nil}
 use Rattle.age_kdf.specs.Bytes.{Bytes}
 use Rattle.age_header.specs.Header.{Head}
-use Rattle.age_header.proofs.OneReading.{reading}
-use Rattle.age_header.proofs.OneText.{one_text}
+use Rattle.age_header.proofs.HeaderLemmas.{reading, one_text}
 use Rattle.age_header.proofs.laws.one_reading.Goals as goal
 
 pub returns-clause-reading : goal.returns-clause-reading
@@ -14,5 +13,5 @@ returns-clause-reading c ss ts m n h a b =
 pub returns-clause-text : goal.returns-clause-text
 returns-clause-text c = one_text
 
-pub returns-clause-front : goal.returns-clause-front
-returns-clause-front c ss ts m n h x a b = let r = reading ss ts m n h x a b in r.0
+pub returns-clause-prefix : goal.returns-clause-prefix
+returns-clause-prefix c ss ts m n h x a b = let r = reading ss ts m n h x a b in r.0

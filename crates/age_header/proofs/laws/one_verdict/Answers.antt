@@ -1,5 +1,5 @@
-use Rattle.age_header.proofs.OneVerdict.{one_verdict, begins_found, found_begins}
-use Rattle.age_header.proofs.SomeVerdict.{some_verdict}
+use Rattle.age_header.proofs.VerdictUniqueLemmas.{one_verdict, begins_found, found_begins}
+use Rattle.age_header.proofs.VerdictTotalLemmas.{some_verdict}
 use Rattle.age_header.proofs.laws.one_verdict.Goals as goal
 
 pub returns-clause-some : goal.returns-clause-some

@@ -1,4 +1,4 @@
-use Rattle.age_header.proofs.StepRuns.{no_base64}
+use Rattle.age_header.proofs.StepsLemmas.{no_base64}
 use Rattle.age_header.proofs.progress.body_line.Goals as goal
 
 pub returns-in_default-clause-none : goal.returns-in_default-clause-none

@@ -2,7 +2,7 @@ use Rattle.std.proofs.Common.{◌≡◌, ◌∙◌, length, sym, ap, subst, code
 use Rattle.std.proofs.lemmas.List.{append_cancel_left}
 use Rattle.age_kdf.specs.Bytes.{Bytes}
 use Rattle.age_header.specs.Base64.{IsBase64}
-use Rattle.age_header.proofs.OneStep.{IsBase64-injective}
+use Rattle.age_header.proofs.Base64Lemmas.{IsBase64-injective}
 use Rattle.age_header.proofs.reader.end_mac.Goals as goal
 
 pub returns-clause-none : goal.returns-clause-none

@@ -1,12 +1,26 @@
-use Rattle.std.proofs.Common.{◌≡◌, ◌∙◌, length, sym, ap, subst, arith}
+use Rattle.std.proofs.Common.{◌≡◌, ◌∙◌, length, sym, ap, subst, arith, rules, Err}
 use Rattle.std.proofs.lemmas.Bool.{iff_false}
 use Rattle.std.proofs.lemmas.Grind.{common_steps}
 use Rattle.age_kdf.specs.Bytes.{Bytes}
 use Rattle.age_header.specs.Base64.{IsBase64}
 use Rattle.age_header.specs.Steps.{Step}
-use Rattle.age_header.proofs.LaterLines.{path_truncated, path_too_large, path_header, path_bad, path_more, path_lines}
+use Rattle.age_header.proofs.DeviceLemmas.{may-some}
+use Rattle.age_header.proofs.ReaderLemmas.{outside}
+use Rattle.age_header.proofs.VerdictLaterLinesLemmas.{path_truncated, path_too_large, path_header, path_bad, path_more, path_lines}
 use Rattle.age_header.proofs.reader.read_header.Goals as goal
 use Rattle.age_header.proofs.reader.read_header.Goals.{then-is_whole+in-Ok-None, else-is_whole}
+
+pub returns-in_err-text-clause-verdict : goal.returns-in_err-text-clause-verdict
+returns-in_err-text-clause-verdict g c =
+    let is : c.from_residual-in_err-text.result ≡ Err c.in_err-text.field-0.0 = search rules in
+    rw is (outside _ (g.S.Source.to_come c.read_line.new.input) c.args.max c.in_err-text.field-0.0
+    c.in_err-text.ensures.err)
+
+pub returns-in-Err-clause-verdict : goal.returns-in-Err-clause-verdict
+returns-in-Err-clause-verdict g c = let b = may-some (g.S.Source.to_come c.args.input.now) in (b.0, b.1, tt)
+
+pub returns-in-Err-step-clause-verdict : goal.returns-in-Err-step-clause-verdict
+returns-in-Err-step-clause-verdict g c = let b = may-some (g.S.Source.to_come c.args.input.now) in (b.0, b.1, tt)
 
 pub returns-in-Input-clause-verdict : goal.returns-in-Input-clause-verdict
 returns-in-Input-clause-verdict g c =

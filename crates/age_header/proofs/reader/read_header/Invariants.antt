@@ -1,5 +1,5 @@
 use Rattle.std.proofs.Common.{◌≡◌}
-use Rattle.age_header.proofs.VerdictPaths.{Reached}
+use Rattle.age_header.proofs.VerdictPathLemmas.{Reached}
 use Rattle.age_header.proofs.reader.read_header.Given as goal
 
 abbrev pub invariant-lines : goal.invariant-lines

@@ -1,17 +1,24 @@
-use Rattle.std.proofs.Common.{◌≡◌, ◌∙◌, ◌++◌, length, sym, ap, arith}
+use Rattle.std.proofs.Common.{◌≡◌, ◌∙◌, ◌++◌, length, sym, ap, arith, rules, Err}
 use Rattle.std.proofs.lemmas.Grind.{common_steps}
 use Rattle.std.proofs.lemmas.List.{nil_from_length}
 use Rattle.age_kdf.specs.Bytes.{Bytes}
-use Rattle.age_header.proofs.PathLemmas.{version_text}
-use Rattle.age_header.proofs.FirstLine.{no_front, short_line, short_input, short_room, version_taken}
+use Rattle.age_header.proofs.VerdictPathLemmas.{version_text}
+use Rattle.age_header.proofs.ReaderLemmas.{outside}
+use Rattle.age_header.proofs.VerdictFirstLineLemmas.{no_prefix, short_line, short_input, short_room, version_read}
 use Rattle.age_header.proofs.reader.read_version.Goals as goal
+
+pub returns-in_err-first-clause-err : goal.returns-in_err-first-clause-err
+returns-in_err-first-clause-err g c =
+    let is : c.from_residual.result ≡ Err c.in_err-first.field-0.0 = search rules in
+    rw is (outside _ (g.S.Source.to_come c.read_line.new.input) c.args.max c.in_err-first.field-0.0
+    c.in_err-first.ensures.err)
 
 pub returns-in_default-clause-err : goal.returns-in_default-clause-err
 unfolding version_text
 returns-in_default-clause-err g c =
     let first : Bytes = c.in_ok-first.first.items in
     let end = rw c.min.ensures at c.in_ok-first.ensures.end in
-    no_front _ _ first c.in_ok-first.end c.args.max c.in_ok-first.ensures.bytes c.in_ok-first.ensures.text end
+    no_prefix _ _ first c.in_ok-first.end c.args.max c.in_ok-first.ensures.bytes c.in_ok-first.ensures.text end
     (λ x e. c.in_default.ensures x (e ∙ ap (λ (z : Bytes). z ++ x) (sym c.as_slice.ensures.value)))
 
 pub returns-in-Input-clause-err : goal.returns-in-Input-clause-err
@@ -49,5 +56,5 @@ returns-clause-ok g c =
     let bytes = rw c.in-Lf.is at c.in_ok-first.ensures.bytes in
     let end = rw (c.in-Lf.is, c.min.ensures) at c.in_ok-first.ensures.end in
     let is = rw c.as_slice.ensures.value at c.in-Some.ensures in
-    version_taken _ _ first c.in-Some.rest.now c.args.max bytes end is
+    version_read _ _ first c.in-Some.rest.now c.args.max bytes end is
     (nil_from_length c.in-Some.rest.now (grind (arith, common_steps)))

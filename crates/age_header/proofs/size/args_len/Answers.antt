@@ -2,7 +2,7 @@ use Rattle.std.proofs.Common.{◌≡◌, ◌+◌, ◌∷◌, [], ℕ, length, le
 use Rattle.std.proofs.lemmas.List.{take_all}
 use Rattle.std.specs.String.{string_bytes}
 use Rattle.age_kdf.specs.Bytes.{Bytes}
-use Rattle.age_header.proofs.ArgumentLemmas.{spaced}
+use Rattle.age_header.proofs.ArgumentsLemmas.{spaced}
 use Rattle.age_header.proofs.TextLemmas.{flat_of_map}
 use Rattle.age_header.proofs.LengthLemmas.{flat_size}
 use Rattle.age_header.proofs.size.args_len.Goals as goal

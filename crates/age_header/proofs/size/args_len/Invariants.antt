@@ -1,6 +1,6 @@
 use Rattle.std.proofs.Common.{◌≡◌, ◌+◌, ◌-◌, ◌^◌, min, length, map, take}
 use Rattle.std.specs.String.{string_bytes}
-use Rattle.age_header.proofs.ArgumentLemmas.{spaced}
+use Rattle.age_header.proofs.ArgumentsLemmas.{spaced}
 use Rattle.age_header.proofs.size.args_len.Given as goal
 
 abbrev pub invariant-loop-arg : goal.invariant-loop-arg

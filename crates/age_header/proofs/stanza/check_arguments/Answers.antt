@@ -1,6 +1,6 @@
 use Rattle.std.proofs.Common.{arith, ap, length}
 use Rattle.std.proofs.lemmas.Grind.{common_steps}
-use Rattle.age_header.proofs.TakeLemmas.{args_take}
+use Rattle.age_header.proofs.StanzaLemmas.{args_take}
 use Rattle.age_header.proofs.stanza.check_arguments.Goals as goal
 
 pub loop-i-preserved : goal.loop-i-preserved

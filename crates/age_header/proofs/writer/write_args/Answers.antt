@@ -3,9 +3,9 @@ use Rattle.std.proofs.lemmas.List.{drop_all}
 use Rattle.std.specs.String.{string_bytes}
 use Rattle.age_kdf.specs.Bytes.{Bytes}
 use Rattle.age_header.specs.Header.{argument_line}
-use Rattle.age_header.proofs.ArgumentLemmas.{spaced}
+use Rattle.age_header.proofs.ArgumentsLemmas.{spaced}
 use Rattle.age_header.proofs.TextLemmas.{args_step}
-use Rattle.age_header.proofs.WriteLemmas.{done_start, done_more, done_part, part_at_exit, writes_last}
+use Rattle.age_header.proofs.DeviceLemmas.{done_start, done_more, done_part, part_at_exit, writes_last}
 use Rattle.age_header.proofs.writer.write_args.Goals as goal
 
 pub returns-in_err-write_all-clause-text : goal.returns-in_err-write_all-clause-text

@@ -2,7 +2,7 @@ use Rattle.std.proofs.Common.{◌∙◌, [], ◌∷◌, refl, arith}
 use Rattle.age_header.specs.Base64.{base64_of}
 use Rattle.age_header.specs.Text.{body_text}
 use Rattle.age_header.proofs.TextLemmas.{body_step, body_end}
-use Rattle.age_header.proofs.WriteLemmas.{done_more, done_part, part_at_exit, writes_last}
+use Rattle.age_header.proofs.DeviceLemmas.{done_more, done_part, part_at_exit, writes_last}
 use Rattle.age_header.proofs.writer.write_body.Goals as goal
 
 pub returns-in_err-write_base64-clause-text : goal.returns-in_err-write_base64-clause-text

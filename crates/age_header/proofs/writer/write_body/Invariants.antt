@@ -1,6 +1,6 @@
 use Rattle.std.proofs.Common.{◌≡◌, length}
 use Rattle.age_header.specs.Text.{body_text}
-use Rattle.age_header.proofs.WriteLemmas.{Done}
+use Rattle.age_header.proofs.DeviceLemmas.{Done}
 use Rattle.age_header.proofs.writer.write_body.Given as goal
 
 abbrev pub invariant-loop-rest : goal.invariant-loop-rest

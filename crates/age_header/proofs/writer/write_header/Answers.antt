@@ -3,7 +3,7 @@ use Rattle.age_kdf.specs.Bytes.{Bytes}
 use Rattle.age_header.specs.Header.{Head}
 use Rattle.age_header.specs.Text.{signed, mac_end}
 use Rattle.age_header.proofs.TextLemmas.{header_text_is}
-use Rattle.age_header.proofs.WriteLemmas.{done_start, done_more, done_part, part_at_exit, writes_last}
+use Rattle.age_header.proofs.DeviceLemmas.{done_start, done_more, done_part, part_at_exit, writes_last}
 use Rattle.age_header.proofs.writer.write_header.Goals as goal
 
 pub returns-in_err-write_signed-clause-text : goal.returns-in_err-write_signed-clause-text
@@ -25,7 +25,7 @@ returns-clause-text g c =
     let mac : Bytes = c.args.header.now.mac in
     let text : Bytes = signed ss ++ mac_end mac in
     let head : Head ss mac text = header_text_is ss mac c.stanzas.ensures.whole in
-    let front = rw c.stanzas.ensures.value at c.in_ok-write_signed.ensures.text in
-    let one = done_more _ _ _ text text (signed ss) (mac_end mac) (done_start _ text) refl front in
+    let prefix = rw c.stanzas.ensures.value at c.in_ok-write_signed.ensures.text in
+    let one = done_more _ _ _ text text (signed ss) (mac_end mac) (done_start _ text) refl prefix in
     let last = rw c.mac.ensures at c.write_mac.ensures.text in
     (text, head, writes_last _ _ _ c.write_mac.result text (mac_end mac) one last)

@@ -2,7 +2,7 @@ use Rattle.std.proofs.Common.{[], ◌∷◌, ◌++◌, refl}
 use Rattle.age_kdf.specs.Bytes.{Bytes}
 use Rattle.age_header.specs.Base64.{base64_of}
 use Rattle.age_header.specs.Text.{mac_end}
-use Rattle.age_header.proofs.WriteLemmas.{done_start, done_more, done_part, part_at_exit, writes_last}
+use Rattle.age_header.proofs.DeviceLemmas.{done_start, done_more, done_part, part_at_exit, writes_last}
 use Rattle.age_header.proofs.writer.write_mac.Goals as goal
 
 pub returns-in_err-write_all-clause-text : goal.returns-in_err-write_all-clause-text

@@ -4,7 +4,7 @@ use Rattle.age_kdf.specs.Bytes.{Bytes}
 use Rattle.age_header.specs.Header.{argument_line, version_line}
 use Rattle.age_header.specs.Text.{body_text, stanza_text, signed}
 use Rattle.age_header.proofs.TextLemmas.{stanza_step}
-use Rattle.age_header.proofs.WriteLemmas.{done_start, done_more, done_part, part_at_exit, writes_last}
+use Rattle.age_header.proofs.DeviceLemmas.{done_start, done_more, done_part, part_at_exit, writes_last}
 use Rattle.age_header.proofs.writer.write_signed.Goals as goal
 
 pub returns-in_err-write_all-clause-text : goal.returns-in_err-write_all-clause-text

@@ -1,6 +1,6 @@
 use Rattle.std.proofs.Common.{◌≡◌, ◌++◌, drop, flat_map, codes}
 use Rattle.age_header.specs.Text.{signed, stanza_text}
-use Rattle.age_header.proofs.WriteLemmas.{Done}
+use Rattle.age_header.proofs.DeviceLemmas.{Done}
 use Rattle.age_header.proofs.writer.write_signed.Given as goal
 
 abbrev pub invariant-loop-stanza : goal.invariant-loop-stanza

@@ -8,9 +8,9 @@ pub pairs-init : goal.pairs-init
 unfolding mixed evens odds
 pairs-init c =
     let many : length c.args.from.now - (32 * c.args.r - 16) ≡ 16 = omega arith in
-    let place : 32 * c.args.r - 16 ≡ 16 * (2 * c.args.r - 1) = omega arith in
+    let at_is : 32 * c.args.r - 16 ≡ 16 * (2 * c.args.r - 1) = omega arith in
     record {
-      x = c.copy_from_slice.ensures.after ∙ ap₂ (λ n a. take n (drop a c.args.from.now)) many place;
+      x = c.copy_from_slice.ensures.after ∙ ap₂ (λ n a. take n (drop a c.args.from.now)) many at_is;
       even = refl;
       odd = refl;
     }

@@ -1,9 +1,9 @@
 use Rattle.std.proofs.Common.{refl}
-use Rattle.age_kdf.specs.Diagonals.{quartered}
+use Rattle.age_kdf.specs.Diagonals.{four_steps}
 use Rattle.age_kdf.proofs.salsa.quarter.Goals as goal
 
 pub returns : goal.returns
-unfolding quartered
+unfolding four_steps
 returns c = λ j inside. rw (
   c.step-a1.ensures j inside,
   c.step-d1.ensures j inside,

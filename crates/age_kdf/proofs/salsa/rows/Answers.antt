@@ -1,5 +1,5 @@
 use Rattle.std.proofs.Common.{[], slice_index, slice_index_or, ◌∙◌}
-use Rattle.age_kdf.specs.Diagonals.{quartered}
+use Rattle.age_kdf.specs.Diagonals.{four_steps}
 use Rattle.age_kdf.proofs.DiagonalLemmas.{rows_spread}
 use Rattle.age_kdf.proofs.salsa.rows.Goals as goal
 
@@ -13,4 +13,4 @@ returns c =
     rw (c.turned_1-2.ensures, c.turned_2-2.ensures, c.turned_3-2.ensures)
     (rows_spread a (slice_index_or s 1 []) (slice_index_or s 2 []) (slice_index_or s 3 []) _ _ _ _
     (λ j inside. c.quarter.ensures j inside
-    ∙ (λ i. quartered (slice_index a j) (slice_index (d i) j) (slice_index (e i) j) (slice_index (b i) j))))
+    ∙ (λ i. four_steps (slice_index a j) (slice_index (d i) j) (slice_index (e i) j) (slice_index (b i) j))))

@@ -1,5 +1,5 @@
 use Rattle.std.proofs.Common.{arith, length, ◌≡◌, ◌+◌, ◌≤◌, ◌∙◌, take, drop, subst}
-use Rattle.age_stream.specs.Places.{HasAt}
+use Rattle.age_stream.specs.Offsets.{HasAt}
 use Rattle.age_stream.proofs.ReadAtLemmas.{has-on, read-on}
 use Rattle.age_stream.proofs.loading.read_full.Goals as goal
 
@@ -18,12 +18,12 @@ loop-got-preserved g c =
       stay = c.read_after.ensures.stay ∙ old.stay;
       len = same ∙ old.len;
       within = within;
-      so_far = has-on told c.args.at got n c.loop-got.buf c.read_after.new.buf room same c.read_after.ensures.front
+      so_far = has-on told c.args.at got n c.loop-got.buf c.read_after.new.buf room same c.read_after.ensures.prefix
           old.so_far more;
       found = c.read_after.ensures.found ∙ old.found;
       kept = λ at byte was. c.read_after.ensures.stays_read at byte (old.kept at byte was);
       read = read-on (g.D.ReadAt.was_read c.loop-got.dev) (g.D.ReadAt.was_read c.read_after.new.dev) c.args.at got n
-          c.loop-got.buf c.read_after.new.buf room same c.read_after.ensures.front
+          c.loop-got.buf c.read_after.new.buf room same c.read_after.ensures.prefix
           c.read_after.ensures.stays_read old.read c.in_ok-n.ensures.read;
       given = omega (arith, c.in_ok-n.ensures.given, old.given);
       failed = c.in_ok-n.ensures.count ∙ old.failed;

@@ -1,5 +1,5 @@
 use Rattle.std.proofs.Common.{length, ◌-◌, ◌≡◌, ◌+◌, ◌≤◌, take}
-use Rattle.age_stream.specs.Places.{HasAt, StaysRead, WereRead}
+use Rattle.age_stream.specs.Offsets.{HasAt, StaysRead, WereRead}
 use Rattle.age_stream.proofs.loading.read_full.Given as goal
 
 abbrev pub invariant-loop-got : goal.invariant-loop-got

@@ -1,7 +1,7 @@
 use Rattle.std.proofs.Common.{rules, arith, ◌≡◌, ◌∙◌, ◌++◌, ap, sym, length, take, drop, inr}
 use Rattle.std.proofs.lemmas.List.{drop-drop, length-take-le, take_all}
 use Rattle.age_kdf.specs.Bytes.{Bytes}
-use Rattle.age_header.proofs.MayGiveLemmas.{may-end, may-more}
+use Rattle.age_header.proofs.DeviceLemmas.{may-end, may-more}
 use Rattle.age_stream.proofs.OpeningLemmas.{counts-piece, outcome-last, after-last, outcome-more, after-more}
 use Rattle.age_stream.proofs.opening.next_piece.Goals as goal
 
@@ -11,7 +11,7 @@ returns-in-Ok-open_chunk-clause-opens g c = inr (λ d may.
     let filled : Bytes = c.fill_from.new.buf in
     let ahead : Bytes = take c.args.ahead (drop 65552 c.args.bytes.now) in
     let l : length (take c.in-Ok.n filled) ≡ c.in-Ok.n = length-take-le c.in-Ok.n filled (search rules) in
-    let is : take c.in-Ok.n filled ≡ ahead ++ f.piece = f.is ∙ ap (λ t. t ++ f.piece) c.carry.ensures.front in (
+    let is : take c.in-Ok.n filled ≡ ahead ++ f.piece = f.is ∙ ap (λ t. t ++ f.piece) c.carry.ensures.prefix in (
       f.piece,
       may-end _ _ f.piece f.bytes (c.in-Ok.ensures.end (search rules)),
       (
@@ -28,7 +28,7 @@ returns-in-Err-clause-opens g c = inr (λ d may.
     let filled : Bytes = c.fill_from.new.buf in
     let ahead : Bytes = take c.args.ahead (drop 65552 c.args.bytes.now) in
     let l : length (take c.in-Ok.n filled) ≡ c.in-Ok.n = length-take-le c.in-Ok.n filled (search rules) in
-    let is : take c.in-Ok.n filled ≡ ahead ++ f.piece = f.is ∙ ap (λ t. t ++ f.piece) c.carry.ensures.front in (
+    let is : take c.in-Ok.n filled ≡ ahead ++ f.piece = f.is ∙ ap (λ t. t ++ f.piece) c.carry.ensures.prefix in (
       f.piece,
       may-end _ _ f.piece f.bytes (c.in-Ok.ensures.end (search rules)),
       outcome-last c.args.key.now c.args.max c.args.i ahead f.piece (take c.in-Ok.n filled) (omega arith) is
@@ -42,7 +42,7 @@ returns-in-Ok-open_chunk-2-clause-opens g c = inr (λ d may.
     let ahead : Bytes = take c.args.ahead (drop 65552 c.args.bytes.now) in
     let size : length filled ≡ 65553 = search rules in
     let all : take c.in-Ok.n filled ≡ filled = take_all c.in-Ok.n filled (omega arith) in
-    let is : filled ≡ ahead ++ f.piece = sym all ∙ f.is ∙ ap (λ t. t ++ f.piece) c.carry.ensures.front in
+    let is : filled ≡ ahead ++ f.piece = sym all ∙ f.is ∙ ap (λ t. t ++ f.piece) c.carry.ensures.prefix in
     let rest : drop 65552 c.open_chunk-else-n-le-SEALED_CHUNK_SIZE.new.bytes ≡ drop 65552 filled =
     sym (drop-drop 16 65536 c.open_chunk-else-n-le-SEALED_CHUNK_SIZE.new.bytes)
     ∙ ap (drop 16) c.in-Ok-open_chunk-2.ensures.rest ∙ drop-drop 16 65536 filled in (
@@ -63,7 +63,7 @@ returns-in-Err-open_chunk-clause-opens g c = inr (λ d may.
     let ahead : Bytes = take c.args.ahead (drop 65552 c.args.bytes.now) in
     let size : length filled ≡ 65553 = search rules in
     let all : take c.in-Ok.n filled ≡ filled = take_all c.in-Ok.n filled (omega arith) in
-    let is : filled ≡ ahead ++ f.piece = sym all ∙ f.is ∙ ap (λ t. t ++ f.piece) c.carry.ensures.front in (
+    let is : filled ≡ ahead ++ f.piece = sym all ∙ f.is ∙ ap (λ t. t ++ f.piece) c.carry.ensures.prefix in (
       f.piece ++ d,
       may-more _ _ f.piece d f.bytes may,
       outcome-more c.args.key.now c.args.max c.args.i ahead f.piece d filled size is ∙ c.in-Err-open_chunk.ensures.text,

@@ -25,21 +25,21 @@ returns-then-is_empty_final-clause-text c =
     (ap (λ n. c.args.last && nat_lt 0 c.args.i && nat_eq n 16) l ∙ sym c.is_empty_final.ensures
     ∙ c.if-is_empty_final.true)
 
-pub returns-then-open_front-clause-text : goal.returns-then-open_front-clause-text
-returns-then-open_front-clause-text c =
+pub returns-then-open_prefix-clause-text : goal.returns-then-open_prefix-clause-text
+returns-then-open_prefix-clause-text c =
     let l : length (take c.args.end c.args.bytes.now) ≡ c.args.end =
     length-take-le c.args.end c.args.bytes.now (search rules) in (
       outcome-open c.args.key.now c.args.max c.args.i c.args.last (take c.args.end c.args.bytes.now)
-          (Some (take (c.args.end - 16) c.open_front.new.bytes)) (omega arith) (omega arith)
+          (Some (take (c.args.end - 16) c.open_prefix.new.bytes)) (omega arith) (omega arith)
           (ap (λ n. c.args.last && nat_lt 0 c.args.i && nat_eq n 16) l ∙ sym c.is_empty_final.ensures
           ∙ c.if-is_empty_final.false)
           (ap (λ n. opened c.args.key.now n [] (take c.args.end c.args.bytes.now)) (sym c.chunk_nonce.ensures)
-          ∙ OnTrue_at c.if-open_front.true c.open_front.ensures.opened),
+          ∙ OnTrue_at c.if-open_prefix.true c.open_prefix.ensures.opened),
       search rules,
     )
 
-pub returns-else-open_front-clause-text : goal.returns-else-open_front-clause-text
-returns-else-open_front-clause-text c =
+pub returns-else-open_prefix-clause-text : goal.returns-else-open_prefix-clause-text
+returns-else-open_prefix-clause-text c =
     let l : length (take c.args.end c.args.bytes.now) ≡ c.args.end =
     length-take-le c.args.end c.args.bytes.now (search rules) in
     outcome-open c.args.key.now c.args.max c.args.i c.args.last (take c.args.end c.args.bytes.now) None (omega arith)
@@ -47,4 +47,4 @@ returns-else-open_front-clause-text c =
     (ap (λ n. c.args.last && nat_lt 0 c.args.i && nat_eq n 16) l ∙ sym c.is_empty_final.ensures
     ∙ c.if-is_empty_final.false)
     (ap (λ n. opened c.args.key.now n [] (take c.args.end c.args.bytes.now)) (sym c.chunk_nonce.ensures)
-    ∙ OnFalse_at c.if-open_front.false c.open_front.ensures.refused)
+    ∙ OnFalse_at c.if-open_prefix.false c.open_prefix.ensures.refused)

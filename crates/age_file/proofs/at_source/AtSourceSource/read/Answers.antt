@@ -17,4 +17,4 @@ returns-in-Ok-clause-bytes g c =
     (subst (λ u. Gives (option_map (drop c.self.inside.at) told) (option_map (drop next) u) r buf)
     (sym c.read_at-read.ensures.stay)
     (gives-on told (g.D.ReadAt.found c.self.inside.dev.now) c.self.inside.at next c.in-Ok.n buf r c.in-Ok.is
-    c.read_at-read.ensures.places c.self.invariant.2 le sum c.read_at-read.ensures.bytes))
+    c.read_at-read.ensures.offsets c.self.invariant.2 le sum c.read_at-read.ensures.bytes))

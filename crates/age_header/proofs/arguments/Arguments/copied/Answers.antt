@@ -1,4 +1,4 @@
-use Rattle.age_header.proofs.TakeLemmas.{copies_take}
+use Rattle.age_header.proofs.StanzaLemmas.{copies_take}
 use Rattle.age_header.proofs.arguments.Arguments.copied.Goals as goal
 
 pub loop-text-preserved : goal.loop-text-preserved

@@ -4,7 +4,7 @@ use Rattle.std.proofs.lemmas.List.{nil_from_length, map_push}
 use Rattle.std.specs.String.{string_bytes}
 use Rattle.age_kdf.specs.Bytes.{Bytes}
 use Rattle.age_header.specs.Arguments.{NoVisible}
-use Rattle.age_header.proofs.ArgumentLemmas.{no_arrow, stuck_space, stuck_empty, parsed_more, parsed_nothing}
+use Rattle.age_header.proofs.ArgumentsLemmas.{no_arrow, stuck_space, stuck_empty, parsed_more, parsed_nothing}
 use Rattle.age_header.proofs.arguments.Arguments.parse.Goals as goal
 
 pub returns-in_default-clause-none : goal.returns-in_default-clause-none
@@ -31,7 +31,7 @@ loop-rest-preserved c =
     omega (arith, c.visible_len-len.ensures.bound)) in
     let more = parsed_more c.args.text.now _ c.loop-rest.rest.now tail w (drop len tail) c.loop-rest.invariant
     c.in-Some-strip_prefix.ensures
-    (sym (take-append-drop len tail)) some c.visible_len-len.ensures.front c.visible_len-len.ensures.rest in
+    (sym (take-append-drop len tail)) some c.visible_len-len.ensures.prefix c.visible_len-len.ensures.rest in
     let texts : map string_bytes c.push.new.self.items ≡ map string_bytes c.loop-rest.texts.items ++ w ∷ [] =
     ap (λ (x : List (String Global)). map string_bytes x) c.in_ok-push.ensures.items
     ∙ map_push string_bytes c.loop-rest.texts.items _

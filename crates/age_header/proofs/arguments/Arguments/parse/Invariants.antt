@@ -1,6 +1,6 @@
 use Rattle.std.proofs.Common.{map, length}
 use Rattle.std.specs.String.{string_bytes}
-use Rattle.age_header.proofs.ArgumentLemmas.{Parsed}
+use Rattle.age_header.proofs.ArgumentsLemmas.{Parsed}
 use Rattle.age_header.proofs.arguments.Arguments.parse.Given as goal
 
 abbrev pub invariant-loop-rest : goal.invariant-loop-rest

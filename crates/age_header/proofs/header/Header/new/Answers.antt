@@ -4,7 +4,7 @@ use Rattle.std.proofs.lemmas.List.{take_all}
 use Rattle.std.specs.List.{AllByRecursion}
 use Rattle.age_header.specs.Header.{StanzaParts}
 use Rattle.age_header.specs.Text.{IsWhole}
-use Rattle.age_header.proofs.TakeLemmas.{all_take}
+use Rattle.age_header.proofs.StanzaLemmas.{all_take}
 use Rattle.age_header.proofs.header.Header.new.Goals as goal
 
 pub loop-stanza-preserved : goal.loop-stanza-preserved

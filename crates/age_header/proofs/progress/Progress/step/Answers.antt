@@ -1,6 +1,6 @@
 use Rattle.std.proofs.Common.{◌≡◌, sym, subst}
 use Rattle.age_header.specs.Steps.{State, Step, between, within}
-use Rattle.age_header.proofs.StepRuns.{no_arguments}
+use Rattle.age_header.proofs.StepsLemmas.{no_arguments}
 use Rattle.age_header.proofs.progress.Progress.step.Goals as goal
 
 pub returns-in-None-2-clause-none : goal.returns-in-None-2-clause-none

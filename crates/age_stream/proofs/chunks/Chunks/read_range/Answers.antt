@@ -1,72 +1,153 @@
 use Rattle.std.proofs.Common.{arith, ◌≡◌, ◌+◌, ◌-◌, ◌*◌, ◌/◌, ◌<◌, ◌≤◌, ◌∙◌, ap, sym, refl, inl, inr, length, take, drop, min, Some, None, if◌then◌else◌, subst}
 use Rattle.age_stream.specs.declared.layout.Layout.{Layout}
-use Rattle.age_stream.specs.Ranges.{HasPlain, IsSound, bytes_from, is_kept, opens_to}
+use Rattle.age_header.specs.Device.{CountsFaultIf}
+use Rattle.age_stream.specs.Counts.{is_read}
+use Rattle.age_stream.specs.Ranges.{HasPlain, IsSound, OpenedAtLeast, bytes_from, first_to_open, is_kept, opens_to, sealed_span}
 use Rattle.age_stream.specs.Slice.{chunk_len}
-use Rattle.age_stream.proofs.RangeLemmas.{put-front, put-rest, length-part, rest-on, front-on, counts-at_first, counts-later, opened-later, given-later, opened-at_first, given-at_first, at-chunk, under-chunk, below-chunk, opens-moved}
+use Rattle.age_stream.proofs.RangeLemmas.{put-prefix, put-rest, length-part, rest-on, prefix-on, counts-at_first, counts-later, opened-later, given-later, opened-at_first, given-at_first, at-chunk, under-chunk, below-chunk, opens-moved}
 use Rattle.age_stream.proofs.VerifiedLemmas.{changed-verified, verified-on, verified-text}
 use Rattle.age_stream.proofs.chunks.Chunks.read_range.Goals as goal
 
-pub returns-clause-filled : goal.returns-clause-filled
-returns-clause-filled g c =
-    let inv = c.loop-done.invariant in
-    let end : c.loop-done.done ≡ c.range_len-end.result = omega (arith, inv.within, c.loop-done-test.false) in (
-      subst (λ n. drop n c.loop-done.buf ≡ drop n c.args.buf.now) end inv.rest,
-      λ sound. subst (λ n. HasPlain (g.D.ReadAt.bytes c.args.dev.now) c.args.self.now.layout c.args.at
-          (take n c.loop-done.buf)) end (inv.front sound),
-    )
-
-pub returns-in-Err-clause-stop : goal.returns-in-Err-clause-stop
-returns-in-Err-clause-stop g c =
+pub returns : goal.returns
+returns g c =
     let inv = c.loop-done.invariant in
     let s = c.args.self.now in
     let l = c.loop-done.self in
-    let told = g.D.ReadAt.bytes c.args.dev.now in
+    let at = c.args.at in
+    let n = c.range_len-end.result in
     let i = c.loop-done.i in
-    let pos : c.args.at + c.loop-done.done ≡ 65536 * i + c.loop-done.skip = inv.pos c.loop-done-test.true in
-    let done : c.loop-done.done ≡ 65536 * i - c.args.at = elim inv.stage [
-      | inl z ↦ let e = z.0 in let low : 65536 * i ≤ c.args.at = below-chunk c.args.at i z.1 in omega (arith, e, low)
+    let end : c.loop-done.done ≡ n = omega (arith, inv.within, c.loop-done-test.false) in
+    let same : c.layout-layout.result.plain ≡ s.layout.plain = ap (λ (x : Layout). x.plain) c.layout-layout.ensures in
+    let is : n ≡ min (length c.args.buf.now) (s.layout.plain - at) = c.range_len-end.ensures
+    ∙ ap (λ p. min (length c.args.buf.now) (p - at)) same in
+    record {
+      reads = record {
+        stay = inv.stay;
+        same = inv.layout;
+        sound = inv.sound;
+        keeps_verified = inv.keeps;
+        verified = λ keeps k lt. inv.verified keeps k (omega (arith, end, lt));
+        number = is;
+        filled = (
+          subst (λ k. drop k c.loop-done.buf ≡ drop k c.args.buf.now) end inv.rest,
+          λ sound. subst (λ k. HasPlain (g.D.ReadAt.bytes c.args.dev.now) s.layout at (take k c.loop-done.buf)) end
+              (inv.prefix sound),
+        );
+        stop = tt;
+        count = inv.failed;
+        kept_chunk = λ some. elim inv.stage [
+          | inl z ↦ let e = z.0 in absurd (omega (arith, e, some, end))
+          | inr z ↦ z.4 ∙ ap Some (omega (arith, z.0, z.1, z.3, inv.below, end))
+        ];
+        none = tt;
+        rises = inv.rises;
+        counts = λ some. elim inv.stage [
+          | inl z ↦ let e = z.0 in absurd (omega (arith, e, some, end))
+          | inr z ↦ let e : i ≡ (at + n - 1) / 65536 + 1 = omega (arith, z.0, z.1, z.3, inv.below, end) in
+              subst (λ k. OpenedAtLeast s l.opened (k - first_to_open s.index at)) e inv.counts
+        ];
+        opened = λ last fits. elim inv.stage [
+          | inl z ↦ let e = z.4 in omega (arith, e)
+          | inr z ↦ omega (arith, z.3, fits, end, is, inv.opened)
+        ];
+        given = λ last fits. elim inv.stage [
+          | inl z ↦ let e = z.5 in omega (arith, e)
+          | inr z ↦ omega (arith, z.3, fits, end, is, inv.given)
+        ];
+        empty = λ none. elim inv.stage [
+          | inl z ↦ (z.6, z.7)
+          | inr z ↦ absurd (omega (arith, z.0, none, end, is))
+        ];
+      };
+    }
+
+pub returns-in-Err : goal.returns-in-Err
+returns-in-Err g c =
+    let inv = c.loop-done.invariant in
+    let s = c.args.self.now in
+    let l = c.loop-done.self in
+    let h = c.hold-held.new.self in
+    let told = g.D.ReadAt.bytes c.args.dev.now in
+    let at = c.args.at in
+    let i = c.loop-done.i in
+    let n = c.range_len-end.result in
+    let pos : at + c.loop-done.done ≡ 65536 * i + c.loop-done.skip = inv.pos c.loop-done-test.true in
+    let done : c.loop-done.done ≡ 65536 * i - at = elim inv.stage [
+      | inl z ↦ let e = z.0 in let low : 65536 * i ≤ at = below-chunk at i z.1 in omega (arith, e, low)
       | inr z ↦ let e = z.1 in omega (arith, e, pos)
     ] in
     let same : c.layout-layout.result.plain ≡ s.layout.plain = ap (λ (x : Layout). x.plain) c.layout-layout.ensures in
+    let is : n ≡ min (length c.args.buf.now) (s.layout.plain - at) = c.range_len-end.ensures
+    ∙ ap (λ p. min (length c.args.buf.now) (p - at)) same in
+    let more : c.loop-done.done < n = c.loop-done-test.true in
+    let touched : 65536 * i < s.layout.plain = omega (arith, pos, more, is) in
+    let more_given = subst (λ (x : Layout). g.D.ReadAt.given c.hold-held.new.dev
+    ≤ g.D.ReadAt.given c.loop-done.dev + (if is_kept l.index i then 0 else chunk_len x.plain i + 16)) inv.layout
+    c.hold-held.ensures.given in
+    let opened : h.opened ≤ s.opened + (i + 1 - first_to_open s.index at) = elim inv.stage [
+      | inl z ↦ opened-at_first l.index s.index h.opened l.opened s.opened at i z.3 z.1 c.hold-held.ensures.opened z.4
+      | inr z ↦ opened-later (is_kept s.index (at / 65536)) h.opened l.opened s.opened (at / 65536) i
+          (if is_kept l.index i then 1 else 0) c.hold-held.ensures.opened z.2 inv.opened
+    ] in
+    let given : g.D.ReadAt.given c.hold-held.new.dev
+    ≤ g.D.ReadAt.given c.args.dev.now + sealed_span s.layout (first_to_open s.index at) (i + 1) = elim inv.stage [
+      | inl z ↦ given-at_first l.index s.index (g.D.ReadAt.given c.hold-held.new.dev)
+          (g.D.ReadAt.given c.loop-done.dev) (g.D.ReadAt.given c.args.dev.now) at i s.layout z.3 z.1 more_given z.5
+          touched
+      | inr z ↦ given-later (is_kept s.index (at / 65536)) (is_kept l.index i) (g.D.ReadAt.given c.hold-held.new.dev)
+          (g.D.ReadAt.given c.loop-done.dev) (g.D.ReadAt.given c.args.dev.now) (at / 65536) i s.layout
+          more_given z.2 touched inv.given
+    ] in
     record {
-      some = omega (arith, c.loop-done-test.true, c.range_len-end.ensures, same);
-      chunk = i;
-      from = elim inv.stage [
-        | inl z ↦ at-chunk c.args.at i z.1
-        | inr z ↦ under-chunk c.args.at i z.2
-      ];
-      to = omega (arith, pos, c.loop-done-test.true, c.range_len-end.ensures, same);
-      filled = (
-        subst (λ n. drop n c.loop-done.buf ≡ drop n c.args.buf.now) done inv.rest,
-        λ sound. subst (λ n. HasPlain told s.layout c.args.at (take n c.loop-done.buf)) done (inv.front sound),
-      );
-      lost = elim c.in-Err.ensures.lost [
-        | inl h ↦ inl h
-        | inr h ↦ inr (
-          h.0,
-          λ sound. opens-moved (g.D.ReadAt.bytes c.loop-done.dev) told l.layout s.layout i None inv.stay inv.layout
-              (h.1 (subst (λ t. IsSound t l) (sym inv.stay) (inv.sound sound))),
-        )
-      ];
-      counts = elim inv.stage [
-        | inl z ↦ counts-at_first l.index s.index c.hold-held.new.self.opened l.opened s.opened c.args.at i z.3 z.1
-            c.hold-held.ensures.counts z.4
-        | inr z ↦ counts-later (is_kept s.index (c.args.at / 65536)) l.index c.hold-held.new.self.opened l.opened
-            s.opened (c.args.at / 65536) i z.4 z.2
-            c.hold-held.ensures.counts inv.counts
-      ];
+      reads = record {
+        stay = c.hold-held.ensures.stay ∙ inv.stay;
+        same = c.hold-held.ensures.same ∙ inv.layout;
+        sound = λ told_so. subst (λ x. IsSound x h) inv.stay (c.hold-held.ensures.sound
+            (subst (λ x. IsSound x l) (sym inv.stay) (inv.sound told_so)));
+        keeps_verified = λ keeps. c.hold-held.ensures.keeps_verified (inv.keeps keeps);
+        verified = λ keeps. changed-verified (g.D.ReadAt.was_read c.loop-done.dev)
+            (g.D.ReadAt.was_read c.hold-held.new.dev) s.layout c.args.buf.now c.loop-done.buf at c.loop-done.done
+            c.hold-held.ensures.stays_read inv.rest (inv.verified keeps);
+        number = tt;
+        filled = tt;
+        stop = record {
+          some = omega (arith, more, is);
+          chunk = i;
+          from = elim inv.stage [
+            | inl z ↦ at-chunk at i z.1
+            | inr z ↦ under-chunk at i z.2
+          ];
+          to = omega (arith, pos, more, is);
+          filled = (
+            subst (λ k. drop k c.loop-done.buf ≡ drop k c.args.buf.now) done inv.rest,
+            λ sound. subst (λ k. HasPlain told s.layout at (take k c.loop-done.buf)) done (inv.prefix sound),
+          );
+          lost = elim c.in-Err.ensures.lost [
+            | inl x ↦ inl x
+            | inr x ↦ inr (
+              x.0,
+              λ sound. opens-moved (g.D.ReadAt.bytes c.loop-done.dev) told l.layout s.layout i None inv.stay inv.layout
+                  (x.1 (subst (λ t. IsSound t l) (sym inv.stay) (inv.sound sound))),
+            )
+          ];
+          counts = elim inv.stage [
+            | inl z ↦ counts-at_first l.index s.index h.opened l.opened s.opened at i z.3 z.1
+                c.hold-held.ensures.counts z.4
+            | inr z ↦ counts-later (is_kept s.index (at / 65536)) l.index h.opened l.opened s.opened (at / 65536) i z.4
+                z.2 c.hold-held.ensures.counts inv.counts
+          ];
+        };
+        count = subst (λ k. CountsFaultIf is_read k (g.D.ReadAt.failed c.hold-held.new.dev) c.in-Err.fault) inv.failed
+            c.in-Err.ensures.count;
+        kept_chunk = tt;
+        none = c.in-Err.ensures.none;
+        rises = omega (arith, inv.rises, c.hold-held.ensures.rises);
+        counts = tt;
+        opened = λ last fits. omega (arith, pos, more, is, fits, opened);
+        given = λ last fits. omega (arith, pos, more, is, fits, given);
+        empty = λ none. absurd (omega (arith, more, is, none));
+      };
     }
-
-pub returns-clause-verified : goal.returns-clause-verified
-returns-clause-verified g c keeps k lt =
-    let inv = c.loop-done.invariant in
-    inv.verified keeps k (omega (arith, inv.within, c.loop-done-test.false, lt))
-
-pub returns-in-Err-clause-verified : goal.returns-in-Err-clause-verified
-returns-in-Err-clause-verified g c keeps =
-    changed-verified (g.D.ReadAt.was_read c.loop-done.dev) (g.D.ReadAt.was_read c.hold-held.new.dev)
-    c.args.self.now.layout c.args.buf.now c.loop-done.buf c.args.at c.loop-done.done
-    c.hold-held.ensures.stays_read c.loop-done.invariant.rest (c.loop-done.invariant.verified keeps)
 
 pub loop-done-preserved : goal.loop-done-preserved
 loop-done-preserved g c =
@@ -128,16 +209,16 @@ loop-done-preserved g c =
       below = omega (arith, next);
       rest = rest-on c.loop-done.buf c.put-n.new.buf c.args.buf.now done n inv.rest
           (put-rest c.loop-done.buf (take n (drop skip t)) c.put-n.new.buf done n (omega (arith, room)) sized put);
-      front = λ told_so. front-on s.layout.key (bytes_from told s.layout.first) t c.loop-done.buf c.put-n.new.buf at
-          done i skip n pos (omega (arith, room)) part size (opens told_so) (inv.front told_so)
-          (put-front c.loop-done.buf (take n (drop skip t)) c.put-n.new.buf done n (omega (arith, room)) sized put);
+      prefix = λ told_so. prefix-on s.layout.key (bytes_from told s.layout.first) t c.loop-done.buf c.put-n.new.buf at
+          done i skip n pos (omega (arith, room)) part size (opens told_so) (inv.prefix told_so)
+          (put-prefix c.loop-done.buf (take n (drop skip t)) c.put-n.new.buf done n (omega (arith, room)) sized put);
       keeps = λ keeps. c.hold-held.ensures.keeps_verified (inv.keeps keeps);
       verified = λ keeps. verified-on (g.D.ReadAt.was_read c.loop-done.dev) (g.D.ReadAt.was_read c.hold-held.new.dev)
           s.layout t c.loop-done.buf c.put-n.new.buf at done i skip n
           c.hold-held.ensures.stays_read pos (omega (arith, room)) (omega (arith, room, new_len)) part size
           (verified-text (g.D.ReadAt.was_read c.hold-held.new.dev) h s.layout i t lies c.in_default.ensures.kept_chunk
           c.text.ensures.text (c.hold-held.ensures.keeps_verified (inv.keeps keeps)))
-          (inv.verified keeps) (put-front c.loop-done.buf (take n (drop skip t)) c.put-n.new.buf done n
+          (inv.verified keeps) (put-prefix c.loop-done.buf (take n (drop skip t)) c.put-n.new.buf done n
           (omega (arith, room)) sized put);
       counts = elim inv.stage [
         | inl z ↦ counts-at_first l.index s.index h.opened l.opened s.opened at i z.3 z.1 c.hold-held.ensures.counts z.4

@@ -17,7 +17,7 @@ invariant-loop-done g l =
       pos : l.done < l.end → l.at + l.done ≡ chunk_size * l.i + l.skip;
       below : l.at + l.done ≤ chunk_size * l.i + l.skip;
       rest : drop l.done l.buf ≡ drop l.done l.fn.buf;
-      front : IsSound told s → HasPlain told s.layout l.at (take l.done l.buf);
+      prefix : IsSound told s → HasPlain told s.layout l.at (take l.done l.buf);
       keeps : KeepsVerified (g.D.ReadAt.was_read l.fn.dev) s
           → KeepsVerified (g.D.ReadAt.was_read l.dev) l.self;
       verified : KeepsVerified (g.D.ReadAt.was_read l.fn.dev) s → (k : ℕ) → k < l.done

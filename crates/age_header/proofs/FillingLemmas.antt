@@ -1,0 +1,46 @@
+-- One read after another into a buffer.
+use Rattle.std.proofs.Common.{◌≡◌, ◌∙◌, ◌++◌, ◌+◌, ◌≤◌, ℕ, [], length, take, ap, sym, arith, append-nil, append_assoc, length-append, Result, Ok, Err, IfOk}
+use Rattle.std.proofs.KnownBytes.{Consumes-trans, Consumes-nil}
+use Rattle.std.proofs.Math.Seq.{take-append-add, take-append_seam}
+use Rattle.std.specs.Io.{ReadsAtMost}
+use Rattle.age_kdf.specs.Bytes.{Bytes}
+use Rattle.age_header.specs.declared.device.DeviceFault.{DeviceFault}
+use Rattle.age_header.specs.Device.{Gives, Known}
+use Rattle.age_header.specs.Filling.{Filled, Got}
+
+pub filled-none : (start : ℕ) (buf : Bytes) (a : Known) → start ≤ length buf → Filled start start buf buf a a
+filled-none start buf a le = record {
+  piece = [];
+  len = omega arith;
+  room = le;
+  is = sym (append-nil (take start buf));
+  bytes = Consumes-nil a;
+}
+
+pub filled-more : (start at n : ℕ) (buf mid after : Bytes) (a b c : Known) → length mid ≡ length buf
+    → Filled start at buf mid a b → Got at n mid after b c → Filled start (at + n) buf after a c
+filled-more start at n buf mid after a b c size f h = record {
+  piece = f.piece ++ h.piece;
+  len = omega (arith, length-append f.piece h.piece, f.len, h.len);
+  room = omega (arith, h.room, size);
+  is = h.is ∙ ap (λ t. t ++ h.piece) f.is ∙ append_assoc (take start buf) f.piece h.piece;
+  bytes = Consumes-trans a b c f.piece h.piece f.bytes h.bytes;
+}
+
+-- one read after a prefix
+pub got-read : (r : Result ℕ DeviceFault) (at : ℕ) (buf prefix rest after : Bytes) (a b : Known) → buf ≡ prefix ++ rest
+    → length prefix ≡ at → length after ≡ length rest
+    → ReadsAtMost r after → Gives a b r after → IfOk r (λ n. Got at n buf (prefix ++ after) a b)
+got-read (Err e) at buf prefix rest after a b is len size bound gives = tt
+got-read (Ok n) at buf prefix rest after a b is len size bound gives =
+    let all : length buf ≡ length prefix + length rest = ap length is ∙ length-append prefix rest in
+    record {
+      piece = take n after;
+      len = sym bound.1;
+      room = omega (arith, all, len, size, bound.0);
+      is = ap (λ k. take (k + n) (prefix ++ after)) (sym len) ∙ take-append-add prefix after n
+          ∙ ap (λ t. t ++ take n after)
+          (sym (ap (take at) is ∙ ap (λ k. take k (prefix ++ rest)) (sym len) ∙ take-append_seam prefix rest));
+      bytes = gives.0;
+      none = λ zero room. gives.1 zero (omega (arith, all, len, size, room));
+    }

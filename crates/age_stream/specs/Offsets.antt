@@ -1,0 +1,49 @@
+-- What a read at an offset gives of the contents of a source, and what it does to the source's
+-- counts.
+use Rattle.std.specs.Prelude.{◌≡◌, ℕ, ◌+◌, ◌-◌, ◌^◌, ◌<◌, ◌≤◌, min, length, take, drop, slice_index, ⊤, IfSome, IfOk, MatchResult, Option, Some, None, Result}
+use Rattle.age_header.specs.Device.{Known}
+use Rattle.age_kdf.specs.Bytes.{Bytes}
+
+-- xs are the known bytes from offset `at` on
+abbrev pub HasAt : (told : Known) (at : ℕ) (xs : Bytes) → Type 0
+HasAt None at xs = ⊤
+HasAt (Some bytes) at xs = xs ≡ take (length xs) (drop at bytes)
+
+-- no known byte has this offset
+abbrev pub IsPast : (told : Known) (at : ℕ) → Type 0
+IsPast told at = IfSome told (λ bytes. length bytes ≤ at)
+
+-- the known bytes end before this offset
+abbrev pub EndsBefore : (told : Known) (at : ℕ) → Type 0
+EndsBefore told end = IfSome told (λ bytes. length bytes < end)
+
+-- Ok(n) gives the n bytes from offset `at` on, and none of them with room only past the end of the
+-- known bytes, and of the known size
+abbrev pub GivesAt : {E : Type 0} (told : Known) (size : Option ℕ) (at : ℕ) (r : Result ℕ E)
+    (buf : Bytes) → Type 0
+GivesAt told size at r buf =
+    IfOk r (λ n. HasAt told at (take n buf)
+    × (n ≡ 0 → 0 < length buf → IsPast told at × IfSome size (λ s. s ≤ at)))
+
+-- each of xs was read, at its offset from `at` on
+abbrev pub WereRead : (was_read : (at byte : ℕ) → Type 0) (at : ℕ) (xs : Bytes) → Type 0
+WereRead was_read at xs = (k : ℕ) → k < length xs → was_read (at + k) (slice_index xs k)
+
+-- what was read before stays so
+abbrev pub StaysRead : (old new : (at byte : ℕ) → Type 0) → Type 0
+StaysRead old new = (at byte : ℕ) → old at byte → new at byte
+
+-- the offsets of all known bytes fit a u64
+abbrev pub HasOffsets : Known → Type 0
+HasOffsets told = IfSome told (λ bytes. length bytes < 2 ^ 64)
+
+-- a count rises by n on Ok(n), and stays at the largest u64; an Err leaves it
+abbrev pub CountsGiven : {E : Type 0} (old new : ℕ) (r : Result ℕ E) → Type 0
+CountsGiven old new r = MatchResult r (λ n. new ≡ min (old + n) (2 ^ 64 - 1)) (λ _. new ≡ old)
+
+-- the size, which is that of the known bytes, is found on Ok; what was found stays
+abbrev pub FindsSize : {E : Type 0} (told : Known) (old new : Option ℕ) (r : Result ℕ E) → Type 0
+FindsSize told old new r =
+    MatchResult r
+    (λ n. (new ≡ Some n) × IfSome old (λ s. n ≡ s) × IfSome told (λ bytes. n ≡ length bytes))
+    (λ _. new ≡ old)

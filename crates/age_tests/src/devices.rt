@@ -1,0 +1,51 @@
+//! A source that counts its calls, gives less than it is asked for, and fails once.
+
+use age_header::{DeviceFault, Source};
+
+/// Gives at most `most` of these bytes at a time, counts its reads, and fails at the read with this
+/// number, counted from 1. Its contents are not known to proofs.
+#[derive(Drop)]
+pub(super) struct FailingSource<'a> {
+    pub(super) rest: &'a [u8],
+    most: usize,
+    failing: u64,
+    pub(super) reads: u64,
+    pub(super) failures: u64,
+}
+
+impl<'a> FailingSource<'a> {
+    pub(super) fn new(bytes: &'a [u8], most: usize, failing: u64) -> FailingSource<'a> {
+        FailingSource {
+            rest: bytes,
+            most,
+            failing,
+            reads: 0,
+            failures: 0,
+        }
+    }
+}
+
+impl<'a> Source for FailingSource<'a> {
+    ghost use Rattle.std.specs.Prelude.{None};
+
+    ghost failed = { λ s. s.failures };
+
+    ghost to_come = { λ _. None };
+
+    fn read(&mut self, buf: &mut [u8]) -> Result<usize, DeviceFault> {
+        self.reads = self.reads.wrapping_add(1);
+        if self.reads == self.failing {
+            self.failures = self.failures.saturating_add(1);
+            return Err(DeviceFault);
+        }
+        let n = self.rest.len().min(buf.len()).min(self.most);
+        let (front, rest) = self.rest.split_at(n);
+        buf[..n].copy_from_slice(front);
+        self.rest = rest;
+        Ok(n)
+    }
+
+    fn failures(&self) -> u64 {
+        self.failures
+    }
+}

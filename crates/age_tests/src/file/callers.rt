@@ -1,0 +1,237 @@
+//! Recipients and identities of a caller: what the calls make of each.
+
+use super::objects::{
+    CountingIdentity, FixedIdentity, LabelledRecipient, LongRecipient, NoStanza,
+    OutOfMemoryIdentity, RefusingRecipient, ScryptBesideAnother, X25519Shape,
+};
+use super::{
+    FRESH, Identities, PASS, Recipients, SALT, decrypted, done, encrypted, key_recipients,
+    passphrase_identities, passphrase_recipients,
+};
+use age_file::{Fault, Limits};
+use age_recipient::{
+    FileKey, KeyRecipient, LabelSet, Labels, PassIdentity, PassRecipient, StanzaFault, Unwrapped,
+};
+use age_stream::Done;
+use std::alloc::Global;
+use std::cell::Cell;
+use std::rc::Rc;
+use std::test::Fail;
+
+pub(super) const VERSION: &[u8] = b"age-encryption.org/v1\n";
+
+pub(super) const PASSPHRASE_STANZA: &[u8] =
+    b"-> scrypt AAAAAAAAAAAAAAAAAAAAAA 10\nAAAAAAAAAAAAAAAAAAAAAAAAAAAAAAAAAAAAAAAAAAA\n";
+
+pub(super) const OTHER_STANZA: &[u8] = b"-> x\n\n";
+
+pub(super) const END: &[u8] = b"--- AAAAAAAAAAAAAAAAAAAAAAAAAAAAAAAAAAAAAAAAAAA\n";
+
+/// What a caller's identity makes of the stanzas, with the right identity after it: what decrypting
+/// returns, and what it writes.
+#[test]
+fn callers_identity_decides_before_the_next(rt: HostRuntime) -> Result<(), Fail> {
+    let alloc = rt.alloc();
+    let limits = Limits::default();
+    let (_, file) = encrypted(alloc, b"abc", &passphrase_recipients(alloc)?, &limits);
+    let seven = StanzaFault::Other(7);
+    for (name, answer, expected) in [
+        (
+            "another key",
+            Unwrapped::Key(FileKey([0; 16])),
+            Err(Fault::BadMac),
+        ),
+        ("the file key", Unwrapped::Key(FRESH.file_key), done(3)),
+        (
+            "malformed",
+            Unwrapped::Malformed(seven),
+            Err(Fault::Malformed(seven)),
+        ),
+        ("wrong key", Unwrapped::Failed, done(3)),
+        ("no own stanza", Unwrapped::NotMine, done(3)),
+    ] {
+        let mut identities: Identities = Vec::new(alloc);
+        identities.push(Box::new(alloc, FixedIdentity { answer })?)?;
+        identities.push(Box::new(alloc, PassIdentity::new(alloc, PASS, 22)?)?)?;
+        let (met, plain) = decrypted(alloc, file.as_slice(), &identities, &limits);
+        assert!(rt; met == expected, "{name}");
+        let written = if expected.is_ok() {
+            b"abc".as_slice()
+        } else {
+            b""
+        };
+        assert!(rt; plain.as_slice() == written, "{name}");
+    }
+    let mut starved: Identities = Vec::new(alloc);
+    starved.push(Box::new(alloc, OutOfMemoryIdentity)?)?;
+    let (met, plain) = decrypted(alloc, file.as_slice(), &starved, &limits);
+    assert!(rt; met == Err(Fault::OutOfMemory));
+    assert!(rt; plain.is_empty());
+    Ok(())
+}
+
+/// A recipient whose stanza has one argument of so many letters.
+fn recipients_of_length(alloc: Global, count: usize) -> Result<Recipients, Fail> {
+    let mut text = String::new(alloc);
+    for _ in 0..count {
+        text.push('a')?;
+    }
+    let mut recipients: Recipients = Vec::new(alloc);
+    recipients.push(Box::new(alloc, LongRecipient { text })?)?;
+    Ok(recipients)
+}
+
+/// What is refused before the first byte, and the greatest header.
+#[test]
+fn refused_recipients_write_nothing(rt: HostRuntime) -> Result<(), Fail> {
+    let alloc = rt.alloc();
+    let Some(limits) = Limits::new(1_024, 1) else {
+        unreachable!();
+    };
+    let none: Recipients = Vec::new(alloc);
+    let mut mixed = passphrase_recipients(alloc)?;
+    mixed.push(Box::new(alloc, KeyRecipient::new([3; 32], SALT))?)?;
+    let mut refuses = key_recipients(alloc, 3)?;
+    refuses.push(Box::new(alloc, RefusingRecipient { code: 7 })?)?;
+    let mut silent: Recipients = Vec::new(alloc);
+    silent.push(Box::new(alloc, NoStanza)?)?;
+    let mut pair: Recipients = Vec::new(alloc);
+    pair.push(Box::new(alloc, ScryptBesideAnother)?)?;
+    let mut two_passphrases = passphrase_recipients(alloc)?;
+    two_passphrases.push(Box::new(alloc, PassRecipient::new(alloc, PASS, SALT, 10)?)?)?;
+    for (name, recipients, fault) in [
+        ("no recipient", &none, Fault::NoRecipients),
+        ("recipient without a stanza", &silent, Fault::NoRecipients),
+        (
+            "passphrase and key",
+            &mixed,
+            Fault::IncompatibleRecipients(1),
+        ),
+        (
+            "two passphrases",
+            &two_passphrases,
+            Fault::IncompatibleRecipients(1),
+        ),
+        (
+            "scrypt stanza beside another",
+            &pair,
+            Fault::MixedPassphrase,
+        ),
+        ("refusing recipient", &refuses, Fault::Refused(1, 7)),
+        (
+            "header over the limit",
+            &recipients_of_length(alloc, 950)?,
+            Fault::HeaderTooLarge,
+        ),
+    ] {
+        let (answer, out) = encrypted(alloc, b"", recipients, &limits);
+        assert!(rt; answer == Err(fault), "{name}");
+        assert!(rt; out.is_empty(), "{name}");
+    }
+    let (answer, out) = encrypted(alloc, b"", &recipients_of_length(alloc, 949)?, &limits);
+    assert!(rt; answer == done(0));
+    assert_eq!(rt; out.len(), 1_024 + 32);
+    silent.push(Box::new(alloc, KeyRecipient::new([3; 32], SALT))?)?;
+    let (answer, out) = encrypted(alloc, b"", &silent, &limits);
+    assert!(rt; answer == done(0));
+    assert_eq!(rt; out.len(), 188);
+    Ok(())
+}
+
+/// Recipients with these labels; None stands for one that must stand alone.
+fn labelled(alloc: Global, all: &[Option<&[&str]>]) -> Result<Recipients, Fail> {
+    let mut recipients: Recipients = Vec::new(alloc);
+    for names in all {
+        let labels = match names {
+            Some(names) => Labels::Names(LabelSet::new(alloc, names)?),
+            None => Labels::Alone,
+        };
+        recipients.push(Box::new(alloc, LabelledRecipient { labels })?)?;
+    }
+    Ok(recipients)
+}
+
+/// Recipients go together where their labels are the same set of names.
+#[test]
+fn recipients_with_equal_labels_go_together(rt: HostRuntime) -> Result<(), Fail> {
+    let alloc = rt.alloc();
+    let limits = Limits::default();
+    let incompatible = |i| Err(Fault::IncompatibleRecipients(i));
+    let lists: [(&str, &[Option<&[&str]>], Result<Done, Fault>); 5] = [
+        (
+            "one set",
+            &[Some(&["a", "b"]), Some(&["b", "a", "a"])],
+            done(0),
+        ),
+        (
+            "third without a name",
+            &[Some(&["a"]), Some(&["a"]), Some(&[])],
+            incompatible(2),
+        ),
+        (
+            "second with a name",
+            &[Some(&[]), Some(&["a"]), Some(&["b"])],
+            incompatible(1),
+        ),
+        ("alone", &[None], done(0)),
+        (
+            "one that stands alone beside another",
+            &[Some(&[]), None],
+            incompatible(1),
+        ),
+    ];
+    for (name, labels, expected) in lists {
+        let (answer, out) = encrypted(alloc, b"", &labelled(alloc, labels)?, &limits);
+        assert!(rt; answer == expected, "{name}");
+        assert!(rt; out.is_empty() == expected.is_err(), "{name}");
+    }
+    Ok(())
+}
+
+/// A file of the usual tool's shape: the passphrase's identity finds nothing of its own.
+#[test]
+fn x25519_file_has_no_match_for_a_passphrase(rt: HostRuntime) -> Result<(), Fail> {
+    let alloc = rt.alloc();
+    let limits = Limits::default();
+    let mut recipients: Recipients = Vec::new(alloc);
+    recipients.push(Box::new(alloc, X25519Shape)?)?;
+    let (answer, file) = encrypted(alloc, b"hello", &recipients, &limits);
+    assert!(rt; answer == done(5));
+    let shape =
+        b"age-encryption.org/v1\n-> X25519 AAAAAAAAAAAAAAAAAAAAAAAAAAAAAAAAAAAAAAAAAAA\nAAAAAAAAAAAAAAAAAAAAAAAAAAAAAAAAAAAAAAAAAAA\n-> abc-grease x\n\n--- ";
+    assert!(rt; file.as_slice().starts_with(shape));
+    let (answer, _) = decrypted(
+        alloc,
+        file.as_slice(),
+        &passphrase_identities(alloc)?,
+        &limits,
+    );
+    assert!(rt; answer == Err(Fault::NoMatch));
+    Ok(())
+}
+
+/// A passphrase stanza beside another is refused before any identity is asked; in place alone each
+/// is asked once.
+#[test]
+fn mixed_passphrase_asks_no_identity(rt: HostRuntime) -> Result<(), Fail> {
+    let alloc = rt.alloc();
+    let limits = Limits::default();
+    let asked = Rc::new(alloc, Cell::new(0u32))?;
+    let mut identities: Identities = Vec::new(alloc);
+    for _ in 0..2 {
+        let counts = CountingIdentity {
+            asked: Rc::clone(&asked)?,
+        };
+        identities.push(Box::new(alloc, counts)?)?;
+    }
+    let alone = [VERSION, PASSPHRASE_STANZA, END].concat(alloc)?;
+    let mixed = [VERSION, PASSPHRASE_STANZA, OTHER_STANZA, END].concat(alloc)?;
+    let (answer, out) = decrypted(alloc, mixed.as_slice(), &identities, &limits);
+    assert!(rt; answer == Err(Fault::MixedPassphrase));
+    assert!(rt; out.is_empty());
+    assert_eq!(rt; asked.get(), 0);
+    let (answer, _) = decrypted(alloc, alone.as_slice(), &identities, &limits);
+    assert!(rt; answer == Err(Fault::NoMatch));
+    assert_eq!(rt; asked.get(), 2);
+    Ok(())
+}

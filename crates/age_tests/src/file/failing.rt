@@ -1,0 +1,284 @@
+//! Devices that fail, each read and each write in turn.
+
+use super::devices::{FailingSink, TakesNothing};
+use super::{
+    FRESH, Identities, Recipients, SALT, encrypted, key_identities, key_recipients,
+    passphrase_identities, passphrase_recipients, sevens,
+};
+use crate::devices::FailingSource;
+use age_file::{
+    Decryptor, Encryptor, Fault, Limits, MemAt, RangeReader, ReadAt, StreamFault, StreamReader,
+    StreamWriter, WriteSink, decrypt, encrypt, open_ranges,
+};
+use age_header::{MemSink, MemSource, Sink};
+use age_recipient::{KeyIdentity, KeyRecipient};
+use std::alloc::Global;
+use std::test::Fail;
+
+/// A sink over a slice of each length: it gets a prefix of the passphrase's file, as much as it has
+/// room for.
+#[test]
+fn failing_sink_gets_a_beginning_of_the_file(rt: HostRuntime) -> Result<(), Fail> {
+    let alloc = rt.alloc();
+    let limits = Limits::default();
+    let recipients = passphrase_recipients(alloc)?;
+    let (_, file) = encrypted(alloc, b"", &recipients, &limits);
+    assert_eq!(rt; file.len(), 182);
+    for len in 0..183 {
+        let mut room = vec![in alloc; 0u8; len]?;
+        let mut sink = WriteSink::new(room.as_mut_slice());
+        let answer = encrypt(
+            alloc,
+            &mut MemSource::new(b""),
+            &mut sink,
+            recipients.as_slice(),
+            &FRESH,
+            &limits,
+        );
+        assert!(rt; answer.is_ok() == (len == 182), "room for {len} bytes");
+        assert!(rt;
+            answer.is_ok() || answer == Err(Fault::Write),
+            "room for {len} bytes"
+        );
+        assert!(rt;
+            file.as_slice().starts_with(room.as_slice()),
+            "room for {len} bytes"
+        );
+    }
+    Ok(())
+}
+
+/// How many reads of at most 1,000 bytes decrypting makes, where the read with this number fails.
+fn reads_until(
+    alloc: Global,
+    file: &[u8],
+    plain: &[u8],
+    failing: u64,
+) -> Result<(u64, bool), Fail> {
+    let mut source = FailingSource::new(file, 1_000, failing);
+    let mut sink = FailingSink::new(Vec::new(alloc), 100_000);
+    let answer = decrypt(
+        alloc,
+        &mut source,
+        &mut sink,
+        passphrase_identities(alloc)?.as_slice(),
+        &Limits::default(),
+    );
+    let whole = answer.is_ok() && sink.bytes.as_slice() == plain;
+    let failed = answer == Err(Fault::Read) && plain.starts_with(sink.bytes.as_slice());
+    Ok((source.reads, if failing == 0 { whole } else { failed }))
+}
+
+/// Decrypting two chunks, with each read failed in turn: a prefix of the plaintext is written, and
+/// nothing more is read.
+#[test]
+fn failing_read_leaves_a_beginning_of_the_plaintext(rt: HostRuntime) -> Result<(), Fail> {
+    let alloc = rt.alloc();
+    let plain = sevens(alloc, 65_537)?;
+    let (_, file) = encrypted(
+        alloc,
+        plain.as_slice(),
+        &passphrase_recipients(alloc)?,
+        &Limits::default(),
+    );
+    let (reads, whole) = reads_until(alloc, file.as_slice(), plain.as_slice(), 0)?;
+    assert!(rt; whole && reads > 150 + 65);
+    for failing in 1..reads {
+        let (met, failed) = reads_until(alloc, file.as_slice(), plain.as_slice(), failing)?;
+        assert!(rt; failed, "read {failing}");
+        assert_eq!(rt; met, failing);
+    }
+    Ok(())
+}
+
+/// A source of a plaintext of two chunks that fails: nothing is written before the first chunk is
+/// full, which 66 reads of at most 1,000 bytes do, and a prefix of the file after that.
+#[test]
+fn failing_plaintext_leaves_a_beginning_of_the_file(rt: HostRuntime) -> Result<(), Fail> {
+    let alloc = rt.alloc();
+    let limits = Limits::default();
+    let recipients = key_recipients(alloc, 3)?;
+    let plain = sevens(alloc, 65_537)?;
+    let (_, whole) = encrypted(alloc, plain.as_slice(), &recipients, &limits);
+    for (failing, len) in [(1, 0), (66, 0), (67, 172), (68, 172 + 65_552)] {
+        let mut source = FailingSource::new(plain.as_slice(), 1_000, failing);
+        let mut sink = FailingSink::new(Vec::new(alloc), 100_000);
+        let answer = encrypt(
+            alloc,
+            &mut source,
+            &mut sink,
+            recipients.as_slice(),
+            &FRESH,
+            &limits,
+        );
+        assert!(rt; answer == Err(Fault::Read), "read {failing}");
+        assert_eq!(rt; sink.bytes.len(), len, "read {failing}");
+        assert!(rt;
+            whole.as_slice().starts_with(sink.bytes.as_slice()),
+            "read {failing}"
+        );
+        assert_eq!(rt; source.reads, failing);
+    }
+    Ok(())
+}
+
+/// A reader's failed read is returned again, and the source isn't asked again.
+#[test]
+fn reader_returns_a_failed_read_again(rt: HostRuntime) -> Result<(), Fail> {
+    let alloc = rt.alloc();
+    let limits = Limits::default();
+    let plain = sevens(alloc, 65_537)?;
+    let (_, file) = encrypted(alloc, plain.as_slice(), &key_recipients(alloc, 3)?, &limits);
+    let failing = 156 + 1 + 10;
+    let mut source = FailingSource::new(file.as_slice(), 1_000, failing);
+    let decryptor = Decryptor::new(alloc, &mut source, &limits)?;
+    let mut reader = decryptor.unlock(alloc, key_identities(alloc, 3)?.as_slice())?;
+    for _ in 0..3 {
+        assert!(rt; matches!(reader.next_chunk(), Err(StreamFault::Read)));
+    }
+    drop(reader);
+    assert_eq!(rt; source.reads, failing);
+    assert_eq!(rt; source.failures, 1);
+    Ok(())
+}
+
+/// A writer that takes nothing of a piece, and devices whose count of failures can't rise any more.
+#[test]
+fn devices_at_their_limits_return_their_fault(rt: HostRuntime) -> Result<(), Fail> {
+    let alloc = rt.alloc();
+    let limits = Limits::default();
+    let recipients = key_recipients(alloc, 3)?;
+    let mut nothing = WriteSink::new(TakesNothing);
+    let answer = encrypt(
+        alloc,
+        &mut MemSource::new(b""),
+        &mut nothing,
+        recipients.as_slice(),
+        &FRESH,
+        &limits,
+    );
+    assert!(rt; answer == Err(Fault::Write));
+    let mut sink = FailingSink::new(Vec::new(alloc), 0);
+    sink.failures = u64::MAX;
+    let answer = encrypt(
+        alloc,
+        &mut MemSource::new(b""),
+        &mut sink,
+        recipients.as_slice(),
+        &FRESH,
+        &limits,
+    );
+    assert!(rt; answer == Err(Fault::Write) && sink.failures == u64::MAX);
+    let mut source = FailingSource::new(b"", 1, 1);
+    source.failures = u64::MAX;
+    let mut sink = FailingSink::new(Vec::new(alloc), 0);
+    let answer = decrypt(
+        alloc,
+        &mut source,
+        &mut sink,
+        key_identities(alloc, 3)?.as_slice(),
+        &limits,
+    );
+    assert!(rt; answer == Err(Fault::Read) && source.failures == u64::MAX);
+    Ok(())
+}
+
+/// The file of the empty plaintext for the key of 32 bytes 3, by tests/reference.py.
+pub(super) const FILE: &[u8] =
+    b"age-encryption.org/v1\n-> example.org/key ICEiIyQlJicoKSorLC0uLw\nV4z9dcExmsj4rOYyl6enYhk5Msw0sZuovpzKf+BEY6Y\n--- vTjtX063xQZt7OcXF0O+SrfCT1OR+JXStLMiFO1M3/E\n\x10\x11\x12\x13\x14\x15\x16\x17\x18\x19\x1a\x1b\x1c\x1d\x1e\x1f\x50\x15\x09\x65\x52\xfe\x30\x35\x66\x48\x70\x85\x54\xcb\x9c\x28";
+
+/// Whether starting a file writes its front, or is out of memory with nothing written. A write
+/// fails where the sink's own allocation was refused.
+fn starts_or_starves(alloc: Global, recipients: &Recipients, limits: &Limits) -> bool {
+    let mut out = MemSink::new(Vec::new(alloc));
+    let started = match Encryptor::new(alloc, recipients.as_slice(), &FRESH, limits) {
+        Ok(encryptor) => match encryptor.start(alloc, &mut out) {
+            Ok(writer) => Ok(writer.abandon()),
+            Err(fault) => Err(fault),
+        },
+        Err(fault) => Err(fault),
+    };
+    let failures = out.failures();
+    let written = out.into_vec();
+    match started {
+        Ok(()) => FILE.starts_with(written.as_slice()) && written.len() == 172,
+        Err(Fault::Write) => failures == 1,
+        Err(fault) => fault == Fault::OutOfMemory && written.is_empty(),
+    }
+}
+
+/// Whether a file is unlocked and its chunk read, or out of memory with no more read than its
+/// header: the payload has 32 bytes.
+fn reads_or_starves(alloc: Global, identities: &Identities, limits: &Limits) -> bool {
+    let mut source = MemSource::new(FILE);
+    let decryptor = match Decryptor::new(alloc, &mut source, limits) {
+        Ok(decryptor) => decryptor,
+        Err(fault) => return fault == Fault::OutOfMemory && source.rest().len() >= 32,
+    };
+    let read = match decryptor.unlock(alloc, identities.as_slice()) {
+        Ok(mut reader) => Ok(matches!(reader.next_chunk(), Ok(Some(&[])))),
+        Err(fault) => Err(fault),
+    };
+    match read {
+        Ok(is_empty) => is_empty,
+        Err(fault) => fault == Fault::OutOfMemory && source.rest().len() == 32,
+    }
+}
+
+/// Whether a file opens for ranges, or is out of memory with no more read than its header.
+fn opens_or_starves(alloc: Global, identities: &Identities, limits: &Limits) -> bool {
+    let mut dev = MemAt::new(FILE);
+    let opened = match open_ranges(alloc, &mut dev, identities.as_slice(), limits) {
+        Ok(reader) => Ok(reader.plain_len()),
+        Err(fault) => Err(fault),
+    };
+    opened == Ok(0) || opened == Err(Fault::OutOfMemory) && dev.given() <= 156
+}
+
+/// Whether each of a payload's constructors succeeds, or is out of memory with nothing written or
+/// read.
+fn payload_or_starves(alloc: Global) -> bool {
+    let (key, nonce, payload) = (&FRESH.file_key, &FRESH.nonce, &FILE[156..]);
+    let mut out = MemSink::new(Vec::new(alloc));
+    let written = match StreamWriter::new(alloc, key, nonce, &mut out, 1) {
+        Ok(writer) => Ok(writer.abandon()),
+        Err(fault) => Err(fault),
+    };
+    let failures = out.failures();
+    let writes = match written {
+        Ok(()) => out.into_vec().as_slice() == nonce.as_slice(),
+        Err(StreamFault::Write) => failures == 1,
+        Err(fault) => fault == StreamFault::Memory && out.into_vec().is_empty(),
+    };
+    let mut source = MemSource::new(payload);
+    let read = StreamReader::new(alloc, key, &mut source, 1).err();
+    let reads = read.is_none() || read == Some(StreamFault::Memory) && source.rest().len() == 32;
+    let mut dev = MemAt::new(payload);
+    let opened = RangeReader::open(alloc, key, &mut dev, 0, 1).err();
+    let opens = opened.is_none() || opened == Some(StreamFault::Memory) && dev.given() == 0;
+    writes && reads && opens
+}
+
+/// The calls in steps are Ok or out of memory, and nothing else; their set-up may be out of memory
+/// too. tests/test_libraries.py refuses each in turn.
+#[test]
+fn whole_or_out_of_memory(rt: HostRuntime) -> Result<(), Fail> {
+    let alloc = rt.alloc();
+    let limits = Limits::default();
+    let mut recipients: Recipients = Vec::new(alloc);
+    let mut identities: Identities = Vec::new(alloc);
+    let Ok(recipient) = Box::new(alloc, KeyRecipient::new([3; 32], SALT)) else {
+        return Ok(());
+    };
+    let Ok(identity) = Box::new(alloc, KeyIdentity::new([3; 32])) else {
+        return Ok(());
+    };
+    if recipients.push(recipient).is_err() || identities.push(identity).is_err() {
+        return Ok(());
+    }
+    assert!(rt; starts_or_starves(alloc, &recipients, &limits));
+    assert!(rt; reads_or_starves(alloc, &identities, &limits));
+    assert!(rt; opens_or_starves(alloc, &identities, &limits));
+    assert!(rt; payload_or_starves(alloc));
+    Ok(())
+}

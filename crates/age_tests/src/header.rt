@@ -1,0 +1,341 @@
+//! Worked headers: what is read, what is written, and that calls which may return out of memory
+//! succeed.
+
+use age_header::{
+    Header, HeaderFault, HeaderReader, MemSink, MemSource, ReadSource, Sink, Source, Stanza,
+    StanzaError, WriteSink, mac_of, signed_text, write_header,
+};
+use std::alloc::Global;
+use std::process::Abort;
+use std::test::Fail;
+
+mod devices;
+
+const VERSION: &[u8] = b"age-encryption.org/v1\n";
+
+const END: &[u8] = b"--- AAAAAAAAAAAAAAAAAAAAAAAAAAAAAAAAAAAAAAAAAAA\n";
+
+const BAD_END: &[u8] = b"--- AAAAAAAAAAAAAAAAAAAAAAAAAAAAAAAAAAAAAAAAAAB\n";
+
+const FULL: &[u8] = b"AAAAAAAAAAAAAAAAAAAAAAAAAAAAAAAAAAAAAAAAAAAAAAAAAAAAAAAAAAAAAAAA";
+
+const SALT: &str = "ICEiIyQlJicoKSorLC0uLw";
+
+const KEY: &str = "example.org/key";
+
+/// These pieces, joined.
+fn joined(alloc: Global, pieces: &[&[u8]]) -> Result<Vec<u8>, Fail> {
+    let mut text = Vec::new(alloc);
+    for piece in pieces {
+        text.extend_from_slice(piece)?;
+    }
+    Ok(text)
+}
+
+/// The version line, `count` times this piece, and the end.
+fn repeated(alloc: Global, piece: &[u8], count: usize, end: &[u8]) -> Result<Vec<u8>, Fail> {
+    let mut text = joined(alloc, &[VERSION])?;
+    for _ in 0..count {
+        text.extend_from_slice(piece)?;
+    }
+    text.extend_from_slice(end)?;
+    Ok(text)
+}
+
+/// How many stanzas are read, and how many bytes are left unread (at most 8 are looked for).
+fn read(alloc: Global, text: &[u8], max: usize) -> Result<(usize, usize), HeaderFault> {
+    let mut input = MemSource::new(text);
+    let header = HeaderReader::new(max).read_from(alloc, &mut input)?;
+    let mut rest = [0u8; 8];
+    let Ok(left) = input.read(&mut rest) else {
+        return Err(HeaderFault::Read);
+    };
+    Ok((header.stanzas().len(), left))
+}
+
+/// Each text has this verdict under the usual limit.
+fn expect_verdicts(
+    rt: &impl Abort,
+    alloc: Global,
+    rows: &[(&str, &[&[u8]], Result<(usize, usize), HeaderFault>)],
+) -> Result<(), Fail> {
+    for (name, pieces, wanted) in rows {
+        let text = joined(alloc, pieces)?;
+        assert!(rt; read(alloc, text.as_slice(), 65536) == *wanted, "{name}");
+    }
+    Ok(())
+}
+
+#[test]
+fn reader_accepts_headers_and_numbers_bad_lines(rt: HostRuntime) -> Result<(), Fail> {
+    let bad = |n| Err(HeaderFault::BadLine(n));
+    expect_verdicts(
+        &rt,
+        rt.alloc(),
+        &[
+            ("one stanza", &[VERSION, b"-> a\n\n", END], Ok((1, 0))),
+            (
+                "bytes after the header",
+                &[VERSION, b"-> a\n\n", END, b"xyz"],
+                Ok((1, 3)),
+            ),
+            (
+                "body of one byte",
+                &[VERSION, b"-> a\nAA\n", END],
+                Ok((1, 0)),
+            ),
+            (
+                "full body line",
+                &[VERSION, b"-> a\n", FULL, b"\n\n", END],
+                Ok((1, 0)),
+            ),
+            (
+                "two scrypt stanzas",
+                &[VERSION, b"-> scrypt A\n\n-> scrypt B\n\n", END],
+                Ok((2, 0)),
+            ),
+            (
+                "trailing bits in a body",
+                &[VERSION, b"-> a\nAB\n", END],
+                bad(3),
+            ),
+            (
+                "one base64 character",
+                &[VERSION, b"-> a\nA\n", END],
+                bad(3),
+            ),
+            ("two spaces", &[VERSION, b"->  a\n\n", END], bad(2)),
+            ("space at the end", &[VERSION, b"-> a \n\n", END], bad(2)),
+            ("no argument", &[VERSION, b"->\n\n", END], bad(2)),
+            ("carriage return", &[VERSION, b"-> a\r\n\n", END], bad(2)),
+            (
+                "body line of 65",
+                &[VERSION, b"-> a\n", FULL, b"A\n", END],
+                bad(3),
+            ),
+            (
+                "no last body line",
+                &[VERSION, b"-> a\n", FULL, b"\n", END],
+                bad(4),
+            ),
+            (
+                "trailing bits in the MAC",
+                &[VERSION, b"-> a\n\n", BAD_END],
+                bad(4),
+            ),
+            ("no stanza", &[VERSION, END], bad(2)),
+            ("empty", &[b""], Err(HeaderFault::Truncated)),
+            (
+                "truncated version line",
+                &[b"age-enc"],
+                Err(HeaderFault::Truncated),
+            ),
+            (
+                "another version",
+                &[b"age-encryption.org/v2\n"],
+                Err(HeaderFault::NotAge),
+            ),
+            (
+                "carriage return in the version line",
+                &[b"age-encryption.org/v1\r\n"],
+                Err(HeaderFault::NotAge),
+            ),
+        ],
+    )
+}
+
+#[test]
+fn reader_keeps_to_the_header_limit(rt: HostRuntime) -> Result<(), Fail> {
+    let alloc = rt.alloc();
+    let cut = Err(HeaderFault::Truncated);
+    let large = Err(HeaderFault::TooLarge);
+    let mut wide = joined(alloc, &[VERSION, b"-> "])?;
+    for _ in 0..949 {
+        wide.push(b'a')?;
+    }
+    let fits = joined(alloc, &[wide.as_slice(), b"\n\n", END])?;
+    assert_eq!(rt; fits.len(), 1024);
+    assert!(rt; read(alloc, fits.as_slice(), 1024) == Ok((1, 0)));
+    let longer = joined(alloc, &[wide.as_slice(), b"a\n\n", END])?;
+    assert!(rt; read(alloc, longer.as_slice(), 1024) == large);
+    let mut line = joined(alloc, &[VERSION, b"-> "])?;
+    for _ in 0..998 {
+        line.push(b'a')?;
+    }
+    assert!(rt; read(alloc, line.as_slice(), 1024) == cut);
+    line.push(b'a')?;
+    assert!(rt; read(alloc, line.as_slice(), 1024) == large);
+    let stanzas = repeated(alloc, b"-> a\n\n", 10_911, END)?;
+    assert_eq!(rt; stanzas.len(), 65536);
+    assert!(rt; read(alloc, stanzas.as_slice(), 65536) == Ok((10_911, 0)));
+    let more = repeated(alloc, b"-> a\n\n", 10_912, END)?;
+    assert!(rt; read(alloc, more.as_slice(), 65536) == large);
+    let one_line = repeated(alloc, b"A", 65_514, b"")?;
+    assert!(rt; read(alloc, one_line.as_slice(), 65536) == large);
+    Ok(())
+}
+
+#[test]
+fn stanza_of_30000_arguments_is_read(rt: HostRuntime) -> Result<(), Fail> {
+    let alloc = rt.alloc();
+    let mut text = joined(alloc, &[VERSION, b"->"])?;
+    for _ in 0..30_000 {
+        text.extend_from_slice(b" a")?;
+    }
+    text.extend_from_slice(b"\n\n")?;
+    text.extend_from_slice(END)?;
+    let mut input = ReadSource::new(text.as_slice());
+    let Ok(header) = HeaderReader::new(65536).read_from(alloc, &mut input) else {
+        assert!(rt; false);
+        return Ok(());
+    };
+    assert_eq!(rt; header.text_len(), 60_074);
+    assert!(rt; header.stanzas().iter().all(|s| s.args().len() == 30_000));
+    Ok(())
+}
+
+/// The header of these stanzas, each its arguments and the number of zero bytes in its body, and a
+/// MAC of zero bytes.
+fn written(rt: &impl Abort, alloc: Global, stanzas: &[(&[&str], usize)]) -> Result<Vec<u8>, Fail> {
+    let mut list = Vec::new(alloc);
+    for (args, len) in stanzas {
+        let body = vec![in alloc; 0u8; *len]?;
+        match Stanza::new(alloc, args, body.as_slice()) {
+            Ok(stanza) => list.push(stanza)?,
+            Err(_) => assert!(rt; false),
+        }
+    }
+    let mut out = MemSink::new(Vec::new(alloc));
+    if let Some(header) = Header::new(list, [0; 32]) {
+        assert!(rt; write_header(&header, &mut out).is_ok());
+        assert_eq!(rt; header.mac_signs(), [b'A'; 43]);
+        assert_eq!(rt; *header.mac(), [0u8; 32]);
+        let text = out.into_vec();
+        assert_eq!(rt; header.text_len(), text.len() as u64);
+        return Ok(text);
+    }
+    Ok(out.into_vec())
+}
+
+/// The header of these stanzas has this size, and is read again.
+fn expect_size(
+    rt: &impl Abort,
+    alloc: Global,
+    stanzas: &[(&[&str], usize)],
+    size: usize,
+) -> Result<(), Fail> {
+    let text = written(rt, alloc, stanzas)?;
+    assert_eq!(rt; text.len(), size, "header of {size} bytes");
+    assert!(rt;
+        read(alloc, text.as_slice(), size) == Ok((stanzas.len(), 0)),
+        "header of {size} bytes"
+    );
+    Ok(())
+}
+
+#[test]
+fn written_headers_are_read_back(rt: HostRuntime) -> Result<(), Fail> {
+    let alloc = rt.alloc();
+    expect_size(&rt, alloc, &[(&["a"], 0)], 76)?;
+    expect_size(&rt, alloc, &[(&["scrypt", SALT, "9"], 32)], 149)?;
+    expect_size(&rt, alloc, &[(&["scrypt", SALT, "18"], 32)], 150)?;
+    expect_size(&rt, alloc, &[(&[KEY, SALT], 32)], 156)?;
+    expect_size(&rt, alloc, &[(&[KEY, SALT], 32), (&[KEY, SALT], 32)], 242)?;
+    expect_size(&rt, alloc, &[(&["plug"], 48), (&[KEY, SALT], 32)], 230)?;
+    let text = written(&rt, alloc, &[(&["plug"], 48)])?;
+    let spelled = joined(alloc, &[VERSION, b"-> plug\n", FULL, b"\n\n", END])?;
+    assert_eq!(rt; text.as_slice(), spelled.as_slice());
+    Ok(())
+}
+
+#[test]
+fn mac_matches_another_implementation(rt: HostRuntime) -> Result<(), Fail> {
+    let alloc = rt.alloc();
+    let mut stanzas = Vec::new(alloc);
+    let Ok(stanza) = Stanza::new(alloc, &["scrypt", "AAAAAAAAAAAAAAAAAAAAAA", "18"], &[0; 32])
+    else {
+        assert!(rt; false);
+        return Ok(());
+    };
+    stanzas.push(stanza)?;
+    let line = b"-> scrypt AAAAAAAAAAAAAAAAAAAAAA 18\n";
+    let body = b"AAAAAAAAAAAAAAAAAAAAAAAAAAAAAAAAAAAAAAAAAAA\n";
+    let text = joined(alloc, &[VERSION, line, body, b"---"])?;
+    assert_eq!(rt; text.len(), 105);
+    assert_eq!(rt;
+        signed_text(alloc, stanzas.as_slice())?.as_slice(),
+        text.as_slice()
+    );
+    // made with Python's hmac and hashlib
+    let mac = [
+        0xaa, 0x95, 0x32, 0x87, 0x80, 0x12, 0x71, 0x33, 0x1d, 0x6d, 0x56, 0x64, 0x08, 0x49, 0xda,
+        0x57, 0xa2, 0xb6, 0x24, 0xd7, 0x7f, 0xd5, 0x3a, 0x52, 0x75, 0xe4, 0xab, 0x4a, 0xfb, 0x95,
+        0x4d, 0x6a,
+    ];
+    assert_eq!(rt; mac_of(alloc, &[7; 16], stanzas.as_slice())?, mac);
+    Ok(())
+}
+
+#[test]
+fn invalid_stanzas_are_refused(rt: HostRuntime) -> Result<(), Fail> {
+    let alloc = rt.alloc();
+    let rows: [(&str, &[&str], StanzaError); 4] = [
+        ("no argument", &[], StanzaError::NoArgs),
+        (
+            "empty argument",
+            &["a", "", "b c"],
+            StanzaError::EmptyArg(1),
+        ),
+        (
+            "space in an argument",
+            &["a", "b c", ""],
+            StanzaError::BadByte(1),
+        ),
+        ("letter beyond ASCII", &["é"], StanzaError::BadByte(0)),
+    ];
+    for (name, args, wanted) in rows {
+        let error = Stanza::new(alloc, args, b"").err();
+        assert!(rt; error == Some(wanted), "{name}");
+    }
+    assert!(rt; Header::new(Vec::new(alloc), [0; 32]).is_none());
+    Ok(())
+}
+
+#[test]
+fn devices_count_their_failures(rt: HostRuntime) -> Result<(), Fail> {
+    let alloc = rt.alloc();
+    let mut room = [0u8; 100];
+    let mut sink = WriteSink::new(room.as_mut_slice());
+    assert_eq!(rt; sink.write(&[7; 60]), Ok(60));
+    assert_eq!(rt; sink.write(&[7; 60]), Ok(40));
+    assert!(rt; sink.write(&[7; 60]).is_err());
+    assert_eq!(rt; sink.failures(), 1);
+    assert_eq!(rt; sink.write(b""), Ok(0));
+    let mut memory = MemSink::new(Vec::new(alloc));
+    assert_eq!(rt; memory.write(b"abc"), Ok(3));
+    assert_eq!(rt; memory.failures(), 0);
+    assert_eq!(rt; memory.into_vec().as_slice(), b"abc".as_slice());
+    let mut source = ReadSource::new(b"abc".as_slice());
+    assert_eq!(rt; source.read(&mut [0; 2]), Ok(2));
+    assert_eq!(rt; source.into_inner(), b"c".as_slice());
+    let mut writer = WriteSink::new(Vec::new(alloc));
+    assert_eq!(rt; writer.write(b"abc"), Ok(3));
+    assert_eq!(rt; writer.into_inner().as_slice(), b"abc".as_slice());
+    let mut reader = HeaderReader::new(1024);
+    let mut empty = MemSource::new(b"");
+    assert!(rt;
+        matches!(
+            reader.read_from(alloc, &mut empty),
+            Err(HeaderFault::Truncated)
+        )
+    );
+    let mut other = MemSource::new(b"x");
+    assert!(rt;
+        matches!(
+            reader.read_from(alloc, &mut other),
+            Err(HeaderFault::Truncated)
+        )
+    );
+    assert_eq!(rt; other.failures(), 0);
+    Ok(())
+}

@@ -1,0 +1,91 @@
+//! A call that failed is counted once and not tried again, though it was interrupted or would have
+//! blocked.
+
+use age_header::{ReadSource, Sink, Source, WriteSink, write_all};
+use std::io;
+use std::io::{ErrorKind, Read, Write};
+use std::test::Fail;
+
+/// The errors after which another call may succeed.
+const PASSING: [ErrorKind; 2] = [ErrorKind::Interrupted, ErrorKind::WouldBlock];
+
+/// Fails at its first call, and then gives its bytes.
+#[derive(Drop)]
+struct LateReader<'a> {
+    error: ErrorKind,
+    rest: &'a [u8],
+    calls: u64,
+}
+
+impl Read for LateReader<'_> {
+    fn read(&mut self, buf: &mut [u8]) -> io::Result<usize> {
+        self.calls = self.calls.saturating_add(1);
+        if self.calls == 1 {
+            return Err(io::Error::from(self.error));
+        }
+        self.rest.read(buf)
+    }
+}
+
+/// Fails at its first call, or takes none of the bytes, and then takes what it is given.
+#[derive(Drop)]
+struct LateWriter {
+    error: Option<ErrorKind>,
+    taken: Vec<u8>,
+    calls: u64,
+}
+
+impl Write for LateWriter {
+    fn write(&mut self, piece: &[u8]) -> io::Result<usize> {
+        self.calls = self.calls.saturating_add(1);
+        if self.calls == 1 {
+            return match self.error {
+                Some(kind) => Err(io::Error::from(kind)),
+                None => Ok(0),
+            };
+        }
+        self.taken.write(piece)
+    }
+
+    fn flush(&mut self) -> io::Result<()> {
+        Ok(())
+    }
+}
+
+#[test]
+fn failed_read_is_not_retried(rt: HostRuntime) -> Result<(), Fail> {
+    for error in PASSING {
+        let mut source = ReadSource::new(LateReader {
+            error,
+            rest: b"abc",
+            calls: 0,
+        });
+        let mut buf = [0; 4];
+        assert!(rt; source.read(&mut buf).is_err());
+        assert_eq!(rt; source.failures(), 1);
+        assert_eq!(rt; source.read(&mut buf), Ok(3));
+        assert_eq!(rt; buf, *b"abc\0");
+        assert_eq!(rt; source.failures(), 1);
+        assert_eq!(rt; source.into_inner().calls, 2);
+    }
+    Ok(())
+}
+
+#[test]
+fn failed_write_is_not_retried(rt: HostRuntime) -> Result<(), Fail> {
+    for error in [Some(PASSING[0]), Some(PASSING[1]), None] {
+        let mut sink = WriteSink::new(LateWriter {
+            error,
+            taken: Vec::new(rt.alloc()),
+            calls: 0,
+        });
+        assert!(rt; write_all(&mut sink, b"abc").is_err());
+        assert_eq!(rt; sink.failures(), 1);
+        assert!(rt; write_all(&mut sink, b"abc").is_ok());
+        assert_eq!(rt; sink.failures(), 1);
+        let writer = sink.into_inner();
+        assert_eq!(rt; writer.calls, 2);
+        assert_eq!(rt; writer.taken.as_slice(), b"abc".as_slice());
+    }
+    Ok(())
+}

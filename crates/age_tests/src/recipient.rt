@@ -1,0 +1,249 @@
+//! Passphrase stanzas with known answers: what is wrapped, what is unwrapped, and what each check
+//! says.
+
+mod keyed;
+mod labels;
+mod unlocking;
+
+use age_header::Stanza;
+use age_recipient::{
+    FileKey, Identity, Matched, PassError, PassIdentity, PassPair, PassRecipient, Recipient,
+    StanzaFault, Unwrapped,
+};
+use std::alloc::Global;
+use std::process::Abort;
+use std::test::Fail;
+
+const SALT: [u8; 16] = [
+    0x20, 0x21, 0x22, 0x23, 0x24, 0x25, 0x26, 0x27, 0x28, 0x29, 0x2a, 0x2b, 0x2c, 0x2d, 0x2e, 0x2f,
+];
+
+const SALT_TEXT: &str = "ICEiIyQlJicoKSorLC0uLw";
+
+const KEY: FileKey = FileKey([0, 1, 2, 3, 4, 5, 6, 7, 8, 9, 10, 11, 12, 13, 14, 15]);
+/// That key under `correct horse`, that salt and work factor 10, made with Python's hashlib and
+/// cryptography.
+const BODY: [u8; 32] = [
+    0x66, 0x41, 0x46, 0x84, 0x5d, 0xc9, 0x4b, 0x63, 0x73, 0x8a, 0x2d, 0x14, 0xb5, 0xe9, 0xb9, 0x42,
+    0x46, 0x5b, 0x55, 0x35, 0xb9, 0xce, 0x33, 0x09, 0xe4, 0xd7, 0x86, 0xc9, 0x24, 0xe3, 0x58, 0xdb,
+];
+
+/// What this passphrase with maximum 22 makes of one stanza.
+fn unwrapped_stanza(
+    rt: &impl Abort,
+    alloc: Global,
+    pass: &[u8],
+    args: &[&str],
+    body: &[u8],
+) -> Result<Unwrapped, Fail> {
+    let mut stanzas = Vec::new(alloc);
+    match Stanza::new(alloc, args, body) {
+        Ok(stanza) => stanzas.push(stanza)?,
+        Err(_) => assert!(rt; false),
+    }
+    let identity = PassIdentity::new(alloc, pass, 22)?;
+    Ok(identity.unwrap(alloc, stanzas.as_slice())?)
+}
+
+/// The checks, in their order: each stanza is wrong in what is named, and often in what is examined
+/// later too.
+#[test]
+fn scrypt_stanza_is_checked_in_order(rt: HostRuntime) -> Result<(), Fail> {
+    let short = &BODY[..31];
+    let padded = "ICEiIyQlJicoKSorLC0uLw==";
+    let cut = "ICEiIyQlJicoKSorLC0uL";
+    let forty = "1000000000000000000000000000000000000000";
+    let malformed: [(&str, &[&str], &[u8], StanzaFault); 14] = [
+        (
+            "two arguments",
+            &["scrypt", cut],
+            &BODY,
+            StanzaFault::ArgCount,
+        ),
+        (
+            "four arguments",
+            &["scrypt", cut, "015", "x"],
+            short,
+            StanzaFault::ArgCount,
+        ),
+        (
+            "salt of 15 bytes and 6 bits",
+            &["scrypt", cut, "015"],
+            short,
+            StanzaFault::Salt,
+        ),
+        (
+            "padded salt",
+            &["scrypt", padded, "10"],
+            &BODY,
+            StanzaFault::Salt,
+        ),
+        (
+            "salt of 15 bytes",
+            &["scrypt", "AAAAAAAAAAAAAAAAAAAA", "10"],
+            &BODY,
+            StanzaFault::Salt,
+        ),
+        (
+            "leading zero",
+            &["scrypt", SALT_TEXT, "015"],
+            short,
+            StanzaFault::WorkFactorText,
+        ),
+        (
+            "zero",
+            &["scrypt", SALT_TEXT, "0"],
+            &BODY,
+            StanzaFault::WorkFactorText,
+        ),
+        (
+            "sign",
+            &["scrypt", SALT_TEXT, "+9"],
+            &BODY,
+            StanzaFault::WorkFactorText,
+        ),
+        (
+            "letter",
+            &["scrypt", SALT_TEXT, "1a"],
+            &BODY,
+            StanzaFault::WorkFactorText,
+        ),
+        (
+            "23",
+            &["scrypt", SALT_TEXT, "23"],
+            short,
+            StanzaFault::WorkFactorTooHigh,
+        ),
+        (
+            "2^8 + 2",
+            &["scrypt", SALT_TEXT, "258"],
+            short,
+            StanzaFault::WorkFactorTooHigh,
+        ),
+        (
+            "2^64 + 2",
+            &["scrypt", SALT_TEXT, "18446744073709551618"],
+            &BODY,
+            StanzaFault::WorkFactorTooHigh,
+        ),
+        (
+            "40 digits",
+            &["scrypt", SALT_TEXT, forty],
+            &BODY,
+            StanzaFault::WorkFactorTooHigh,
+        ),
+        (
+            "short body",
+            &["scrypt", SALT_TEXT, "10"],
+            short,
+            StanzaFault::BodyLength,
+        ),
+    ];
+    for (name, args, body, fault) in malformed {
+        let found = unwrapped_stanza(&rt, rt.alloc(), b"correct horse", args, body)?;
+        assert!(rt; found == Unwrapped::Malformed(fault), "{name}");
+    }
+    Ok(())
+}
+
+#[test]
+fn long_work_factors_are_malformed(rt: HostRuntime) -> Result<(), Fail> {
+    let alloc = rt.alloc();
+    for (first, fault) in [
+        ("1", StanzaFault::WorkFactorTooHigh),
+        ("0", StanzaFault::WorkFactorText),
+    ] {
+        let mut text = String::from_str(alloc, first)?;
+        for _ in 0..60_000 {
+            text.push_str("0")?;
+        }
+        let args = ["scrypt", SALT_TEXT, text.as_str()];
+        let found = unwrapped_stanza(&rt, alloc, b"", &args, &BODY)?;
+        assert!(rt; found == Unwrapped::Malformed(fault), "first digit {first}");
+    }
+    Ok(())
+}
+
+#[test]
+fn passphrase_wraps_and_unwraps_the_known_stanza(rt: HostRuntime) -> Result<(), Fail> {
+    let alloc = rt.alloc();
+    let recipient = PassRecipient::new(alloc, b"correct horse", SALT, 10)?;
+    let stanzas = recipient.wrap(alloc, &KEY)?;
+    assert_eq!(rt; stanzas.len(), 1);
+    let stanza = &stanzas[0];
+    let mut line = String::new(alloc);
+    for arg in stanza.args() {
+        line.push_str(arg.as_str())?;
+        line.push_str(" ")?;
+    }
+    assert_eq!(rt; line.as_str(), "scrypt ICEiIyQlJicoKSorLC0uLw 10 ");
+    assert_eq!(rt; stanza.body(), BODY.as_slice());
+    let args = ["scrypt", SALT_TEXT, "10"];
+    let right = unwrapped_stanza(&rt, alloc, b"correct horse", &args, &BODY)?;
+    assert!(rt; right == Unwrapped::Key(KEY));
+    let wrong = unwrapped_stanza(&rt, alloc, b"correct hors", &args, &BODY)?;
+    assert!(rt; wrong == Unwrapped::Failed);
+    let other = unwrapped_stanza(&rt, alloc, b"correct horse", &["X25519", "x"], &BODY)?;
+    assert!(rt; other == Unwrapped::NotMine);
+    Ok(())
+}
+
+/// A stanza that `age -p` made, with the file key that Python found in it.
+#[test]
+fn passphrase_unwraps_a_stanza_of_age(rt: HostRuntime) -> Result<(), Fail> {
+    let body = [
+        0xfa, 0x87, 0x1f, 0x34, 0xa3, 0x2c, 0x47, 0x83, 0xa0, 0x21, 0xe3, 0x61, 0x4e, 0x6d, 0xdc,
+        0x97, 0xec, 0x05, 0xc0, 0x20, 0xb0, 0xd5, 0x88, 0xaa, 0x4d, 0x0d, 0xb2, 0xd7, 0xa5, 0x43,
+        0x18, 0x96,
+    ];
+    let key = [
+        0x37, 0xb8, 0xcd, 0x1e, 0xa4, 0xc3, 0x88, 0x0f, 0x88, 0x70, 0x82, 0x57, 0xeb, 0xa9, 0x2b,
+        0x40,
+    ];
+    let args = ["scrypt", "loABIY+WayWGShmB4h1/bw", "18"];
+    let found = unwrapped_stanza(&rt, rt.alloc(), b"correct horse", &args, &body)?;
+    assert!(rt; found == Unwrapped::Key(FileKey(key)));
+    Ok(())
+}
+
+/// Whether this pair's identity gives back the key that its recipient wraps.
+fn gives_back<M: Matched>(alloc: Global, pair: &M) -> Result<bool, Fail> {
+    let stanzas = pair.recipient().wrap(alloc, &KEY)?;
+    Ok(pair.identity().unwrap(alloc, stanzas.as_slice())? == Unwrapped::Key(KEY))
+}
+
+#[test]
+fn passphrase_pair_unwraps_what_it_wraps(rt: HostRuntime) -> Result<(), Fail> {
+    let alloc = rt.alloc();
+    let long = vec![in alloc; 7u8; 65_536]?;
+    assert!(rt;
+        gives_back(
+            alloc,
+            &PassPair::new(alloc, b"correct horse", SALT, 10, 10)?
+        )?
+    );
+    assert!(rt; gives_back(alloc, &PassPair::new(alloc, b"", SALT, 1, 22)?)?);
+    assert!(rt; gives_back(alloc, &PassPair::new(alloc, long.as_slice(), SALT, 2, 30)?)?);
+    let refused = Some(PassError::WorkFactor);
+    assert!(rt; PassPair::new(alloc, b"", SALT, 12, 11).err() == refused);
+    assert!(rt; PassRecipient::new(alloc, b"", SALT, 0).err() == refused);
+    assert!(rt; PassRecipient::new(alloc, b"", SALT, 31).err() == refused);
+    assert!(rt; PassIdentity::new(alloc, b"", 0).err() == refused);
+    assert!(rt; PassIdentity::new(alloc, b"", 31).err() == refused);
+    Ok(())
+}
+
+#[test]
+fn each_stanza_fault_has_its_text(rt: HostRuntime) -> Result<(), Fail> {
+    for (fault, text) in [
+        (StanzaFault::ArgCount, "argument count"),
+        (StanzaFault::Salt, "salt"),
+        (StanzaFault::WorkFactorText, "work factor"),
+        (StanzaFault::WorkFactorTooHigh, "work factor is too high"),
+        (StanzaFault::BodyLength, "body length"),
+        (StanzaFault::Other(7), "code 7"),
+    ] {
+        assert_eq!(rt; format!(in rt.alloc(); "{fault}")?.as_str(), text, "{text}");
+    }
+    Ok(())
+}

@@ -1,0 +1,208 @@
+//! Payloads that are written piece by piece, and read chunk by chunk.
+
+mod constructors;
+mod devices;
+mod ranges;
+
+use crate::devices::FailingSource;
+use age_header::{MemSink, MemSource, Sink};
+use age_recipient::FileKey;
+use age_stream::{ChunkBuf, Done, StreamFault, StreamReader, StreamWriter, chunk_nonce};
+use devices::FailingSink;
+use std::alloc::{AllocError, Global};
+use std::test::Fail;
+
+const KEY: FileKey = FileKey([0, 1, 2, 3, 4, 5, 6, 7, 8, 9, 10, 11, 12, 13, 14, 15]);
+
+const NONCE: [u8; 16] = [
+    0x10, 0x11, 0x12, 0x13, 0x14, 0x15, 0x16, 0x17, 0x18, 0x19, 0x1a, 0x1b, 0x1c, 0x1d, 0x1e, 0x1f,
+];
+
+const MOST: u128 = 1 << 88;
+
+/// The payload of the empty plaintext under that key and nonce, and the last chunk of 131,073 bytes
+/// 7, both by tests/reference.py.
+const EMPTY: [u8; 32] = [
+    0x10, 0x11, 0x12, 0x13, 0x14, 0x15, 0x16, 0x17, 0x18, 0x19, 0x1a, 0x1b, 0x1c, 0x1d, 0x1e, 0x1f,
+    0x50, 0x15, 0x09, 0x65, 0x52, 0xfe, 0x30, 0x35, 0x66, 0x48, 0x70, 0x85, 0x54, 0xcb, 0x9c, 0x28,
+];
+
+const THIRD_CHUNK: [u8; 17] = [
+    0xb4, 0xb9, 0x41, 0x07, 0xe3, 0x03, 0x3b, 0x13, 0xda, 0x9e, 0x23, 0x21, 0x65, 0x91, 0x26, 0x19,
+    0x1b,
+];
+
+/// `len` bytes; byte i is i modulo 251.
+fn plain_of(alloc: Global, len: usize) -> Result<Vec<u8>, AllocError> {
+    let mut bytes = Vec::new(alloc);
+    for at in 0..len {
+        bytes.push((at % 251) as u8)?;
+    }
+    Ok(bytes)
+}
+
+/// `len` bytes, each 7.
+fn sevens(alloc: Global, len: usize) -> Result<Vec<u8>, AllocError> {
+    let mut bytes = Vec::new(alloc);
+    bytes.resize(len, 7)?;
+    Ok(bytes)
+}
+
+/// The payload of this plaintext, which is written in pieces of this many bytes.
+fn written(
+    alloc: Global,
+    plain: &[u8],
+    size: usize,
+) -> Result<(Result<Done, StreamFault>, Vec<u8>), Fail> {
+    let mut sink = MemSink::new(Vec::new(alloc));
+    let mut writer = StreamWriter::new(alloc, &KEY, &NONCE, &mut sink, MOST)?;
+    let mut rest = plain;
+    for _ in 0..plain.len() {
+        if rest.is_empty() {
+            break;
+        }
+        let (piece, more) = rest.split_at(size.min(rest.len()));
+        let _ = writer.write_piece(piece);
+        rest = more;
+    }
+    let done = writer.finish();
+    Ok((done, sink.into_vec()))
+}
+
+/// The plaintext of a payload, read from a source that gives this many bytes at a time, and the
+/// number of its chunks.
+fn read(alloc: Global, payload: &[u8], most: usize) -> Result<(Vec<u8>, u64), Fail> {
+    let mut source = FailingSource::new(payload, most, 0);
+    let mut reader = StreamReader::new(alloc, &KEY, &mut source, MOST)?;
+    let mut text = Vec::new(alloc);
+    for chunks in 0..u64::MAX {
+        match reader.next_chunk()? {
+            Some(chunk) => text.extend_from_slice(chunk)?,
+            None => return Ok((text, chunks)),
+        }
+    }
+    Err(Fail::from(StreamFault::TooManyChunks))
+}
+
+/// The nonces of numbers about the ends of 32, 64 and 88 bits.
+#[test]
+fn chunk_nonce_is_the_index_and_the_last_flag(rt: HostRuntime) -> Result<(), Fail> {
+    assert_eq!(rt; chunk_nonce(0, true), [0, 0, 0, 0, 0, 0, 0, 0, 0, 0, 0, 1]);
+    assert_eq!(rt;
+        chunk_nonce(1 << 32, false),
+        [0, 0, 0, 0, 0, 0, 1, 0, 0, 0, 0, 0]
+    );
+    assert_eq!(rt;
+        chunk_nonce(1 << 64, false),
+        [0, 0, 1, 0, 0, 0, 0, 0, 0, 0, 0, 0]
+    );
+    let ff = 0xff;
+    assert_eq!(rt;
+        chunk_nonce(MOST - 1, true),
+        [ff, ff, ff, ff, ff, ff, ff, ff, ff, ff, ff, 1]
+    );
+    Ok(())
+}
+
+/// The empty payload, by both constructors; an empty piece writes nothing.
+#[test]
+fn empty_plaintext_is_one_empty_chunk(rt: HostRuntime) -> Result<(), Fail> {
+    let alloc = rt.alloc();
+    let done = Ok(Done {
+        bytes: 0,
+        chunks: 1,
+    });
+    let (answer, payload) = written(alloc, b"", 1)?;
+    assert!(rt; answer == done);
+    assert_eq!(rt; payload.as_slice(), EMPTY.as_slice());
+    let buf = ChunkBuf::new(alloc)?;
+    let mut sink = MemSink::new(Vec::new(alloc));
+    let mut writer = StreamWriter::with_buf(&KEY, &NONCE, &mut sink, 1, buf)?;
+    let piece = writer.write_piece(b"");
+    let answer = writer.finish();
+    assert!(rt; piece == Ok(()));
+    assert!(rt; answer == done);
+    assert_eq!(rt; sink.into_vec().as_slice(), EMPTY.as_slice());
+    Ok(())
+}
+
+/// A writer that is abandoned after an empty piece has written the nonce alone.
+#[test]
+fn abandoned_writer_has_written_only_the_nonce(rt: HostRuntime) -> Result<(), Fail> {
+    let alloc = rt.alloc();
+    let mut sink = MemSink::new(Vec::new(alloc));
+    let mut writer = StreamWriter::new(alloc, &KEY, &NONCE, &mut sink, MOST)?;
+    let piece = writer.write_piece(b"");
+    writer.abandon();
+    assert!(rt; piece == Ok(()));
+    assert_eq!(rt; sink.into_vec().as_slice(), NONCE.as_slice());
+    Ok(())
+}
+
+/// Of the empty payload one empty chunk is lent, and then none.
+#[test]
+fn empty_payload_has_one_empty_chunk(rt: HostRuntime) -> Result<(), Fail> {
+    let mut source = MemSource::new(&EMPTY);
+    let mut reader = StreamReader::new(rt.alloc(), &KEY, &mut source, 1)?;
+    assert!(rt; reader.next_chunk()?.is_some_and(|chunk| chunk.is_empty()));
+    assert!(rt; reader.next_chunk()?.is_none());
+    assert!(rt; reader.next_chunk()?.is_none());
+    Ok(())
+}
+
+/// A plaintext of three chunks, written in pieces of other sizes, and read back from short reads.
+#[test]
+fn pieces_of_any_size_read_back(rt: HostRuntime) -> Result<(), Fail> {
+    let alloc = rt.alloc();
+    let plain = plain_of(alloc, 131_073)?;
+    for size in [1_000, 65_537] {
+        let (_, payload) = written(alloc, plain.as_slice(), size)?;
+        let (text, chunks) = read(alloc, payload.as_slice(), 65_551)?;
+        assert!(rt; text == plain, "pieces of {size} bytes");
+        assert_eq!(rt; chunks, 3, "pieces of {size} bytes");
+    }
+    Ok(())
+}
+
+/// How many chunks a plaintext has about a chunk's end, and how long its payload is.
+#[test]
+fn chunks_are_counted_at_their_ends(rt: HostRuntime) -> Result<(), Fail> {
+    let alloc = rt.alloc();
+    for (len, chunks) in [
+        (65_535, 1),
+        (65_536, 1),
+        (65_537, 2),
+        (131_072, 2),
+        (131_073, 3),
+    ] {
+        let plain = sevens(alloc, len)?;
+        let (done, payload) = written(alloc, plain.as_slice(), len)?;
+        let bytes = len as u128;
+        assert!(rt; done == Ok(Done { bytes, chunks }), "{len} bytes");
+        assert_eq!(rt;
+            payload.len() as u128,
+            16 + bytes + 16 * chunks,
+            "{len} bytes"
+        );
+        assert!(rt; len < 131_073 || payload.as_slice().ends_with(&THIRD_CHUNK));
+    }
+    Ok(())
+}
+
+/// A failed write is returned again, and the sink, which would take the next, isn't called again.
+#[test]
+fn writer_returns_a_failed_write_again(rt: HostRuntime) -> Result<(), Fail> {
+    let alloc = rt.alloc();
+    let plain = sevens(alloc, 65_537)?;
+    let mut sink = FailingSink::new(2);
+    let mut writer = StreamWriter::new(alloc, &KEY, &NONCE, &mut sink, MOST)?;
+    let first = writer.write_piece(plain.as_slice());
+    let second = writer.write_piece(plain.as_slice());
+    let last = writer.finish();
+    assert!(rt; first == Err(StreamFault::Write));
+    assert!(rt; second == Err(StreamFault::Write));
+    assert!(rt; last == Err(StreamFault::Write));
+    assert_eq!(rt; sink.calls, 2);
+    assert_eq!(rt; sink.failures(), 1);
+    Ok(())
+}

@@ -1,0 +1,163 @@
+//! Devices of a payload that count their calls, or fail once.
+
+use age_header::{DeviceFault, Sink};
+use age_stream::{MemAt, ReadAt};
+use std::cell::Cell;
+use std::io;
+use std::io::{ErrorKind, Read, Seek, SeekFrom};
+
+/// Takes each piece whole, counts its calls, and fails at the call with this number, counted from
+/// 1. Its contents are not known to proofs.
+#[derive(Drop)]
+pub(super) struct FailingSink {
+    failing: u64,
+    pub(super) calls: u64,
+    failures: u64,
+}
+
+impl FailingSink {
+    pub(super) fn new(failing: u64) -> FailingSink {
+        FailingSink {
+            failing,
+            calls: 0,
+            failures: 0,
+        }
+    }
+}
+
+impl Sink for FailingSink {
+    ghost use Rattle.std.specs.Prelude.{None};
+
+    ghost failed = { λ s. s.failures };
+
+    ghost taken = { λ _. None };
+
+    fn write(&mut self, piece: &[u8]) -> Result<usize, DeviceFault> {
+        self.calls = self.calls.wrapping_add(1);
+        if self.calls == self.failing {
+            self.failures = self.failures.saturating_add(1);
+            return Err(DeviceFault);
+        }
+        Ok(piece.len())
+    }
+
+    fn failures(&self) -> u64 {
+        self.failures
+    }
+}
+
+/// Holds these bytes, counts its reads, and fails at the read with this number, counted from 1. Its
+/// contents are not known to proofs.
+#[derive(Drop)]
+pub(super) struct CountingReadAt<'a> {
+    bytes: MemAt<'a>,
+    reads: &'a Cell<u64>,
+    failing: u64,
+    failures: u64,
+}
+
+impl<'a> CountingReadAt<'a> {
+    pub(super) fn new(bytes: &'a [u8], reads: &'a Cell<u64>, failing: u64) -> CountingReadAt<'a> {
+        CountingReadAt {
+            bytes: MemAt::new(bytes),
+            reads,
+            failing,
+            failures: 0,
+        }
+    }
+}
+
+impl<'a> ReadAt for CountingReadAt<'a> {
+    ghost use Rattle.std.specs.Prelude.{None};
+
+    ghost bytes = { λ _. None };
+
+    ghost was_read = { λ s. ⟦<MemAt<'a> as ReadAt>⟧.was_read s.bytes };
+
+    ghost found = { λ s. ⟦<MemAt<'a> as ReadAt>⟧.found s.bytes };
+
+    ghost given = { λ s. ⟦<MemAt<'a> as ReadAt>⟧.given s.bytes };
+
+    ghost failed = { λ s. s.failures };
+
+    fn size(&mut self) -> Result<u64, DeviceFault> {
+        self.bytes.size()
+    }
+
+    fn read_at(&mut self, at: u64, buf: &mut [u8]) -> Result<usize, DeviceFault> {
+        self.reads.set(self.reads.get().wrapping_add(1));
+        if self.reads.get() == self.failing {
+            self.failures = self.failures.saturating_add(1);
+            return Err(DeviceFault);
+        }
+        self.bytes.read_at(at, buf)
+    }
+
+    fn given(&self) -> u64 {
+        self.bytes.given()
+    }
+
+    fn failures(&self) -> u64 {
+        self.failures
+    }
+}
+
+/// Reads at most one byte at a time.
+#[derive(Drop)]
+pub(super) struct SlowFile<F> {
+    file: F,
+}
+
+impl<F> SlowFile<F> {
+    pub(super) fn new(file: F) -> SlowFile<F> {
+        SlowFile { file }
+    }
+}
+
+impl<F: Read> Read for SlowFile<F> {
+    fn read(&mut self, buf: &mut [u8]) -> io::Result<usize> {
+        let (front, _) = buf.split_at_mut(buf.len().min(1));
+        self.file.read(front)
+    }
+}
+
+impl<F: Seek> Seek for SlowFile<F> {
+    fn seek(&mut self, to: SeekFrom) -> io::Result<u64> {
+        self.file.seek(to)
+    }
+}
+
+/// A file whose seek with this number, counted from 1, fails, though it has moved the file.
+#[derive(Drop)]
+pub(super) struct FailingSeek<F> {
+    file: F,
+    seeks: u64,
+    failing: u64,
+}
+
+impl<F> FailingSeek<F> {
+    pub(super) fn new(file: F, failing: u64) -> FailingSeek<F> {
+        FailingSeek {
+            file,
+            seeks: 0,
+            failing,
+        }
+    }
+}
+
+impl<F: Read> Read for FailingSeek<F> {
+    fn read(&mut self, buf: &mut [u8]) -> io::Result<usize> {
+        self.file.read(buf)
+    }
+}
+
+impl<F: Seek> Seek for FailingSeek<F> {
+    fn seek(&mut self, to: SeekFrom) -> io::Result<u64> {
+        self.seeks = self.seeks.saturating_add(1);
+        let moved = self.file.seek(to);
+        if self.seeks == self.failing {
+            return Err(io::Error::from(ErrorKind::Other));
+        }
+        moved
+    }
+}

@@ -1,0 +1,43 @@
+// The allocations of the library under test: counted, and one of them refused. For a program that is
+// linked with --wrap=malloc, --wrap=realloc and --wrap=free.
+#ifndef ALLOCATIONS_H
+#define ALLOCATIONS_H
+#include <stdbool.h>
+#include <stddef.h>
+
+void *__real_malloc(size_t size);
+void *__real_realloc(void *old, size_t size);
+void __real_free(void *old);
+
+// Of this thread: allocations since the call began, the one that is refused, and blocks not freed.
+static __thread long allocations, refused, live;
+static __thread bool is_counting;
+
+static bool is_refused(void)
+{
+    return is_counting && ++allocations == refused;
+}
+
+void *__wrap_malloc(size_t size)
+{
+    if (is_refused())
+        return NULL;
+    live += is_counting;
+    return __real_malloc(size);
+}
+
+void *__wrap_realloc(void *old, size_t size)
+{
+    if (is_refused())
+        return NULL;
+    live += is_counting && old == NULL;
+    return __real_realloc(old, size);
+}
+
+void __wrap_free(void *old)
+{
+    live -= is_counting && old != NULL;
+    __real_free(old);
+}
+
+#endif
