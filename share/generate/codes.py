@@ -212,7 +212,8 @@ def _definitions(root):
         pattern = f"({name}{' _' * len(fields.split(','))})" if fields else name
         equations += f"fault_code {pattern} = {names.get(number, number)}\n"
     variants = f"use Rattle.age_file.specs.declared.fault.Fault.TheVariants.{{{', '.join(numbers)}}}\n"
-    return {"codes of faults": equations, "variants of faults": variants}
+    # rt fmt puts an empty line between the last equation and the comment behind it
+    return {"codes of faults": equations + "\n", "variants of faults": variants}
 
 
 def texts(root):

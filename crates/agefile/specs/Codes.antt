@@ -54,6 +54,7 @@ fault_code OutOfMemory = OUT_OF_MEMORY
 fault_code NoRecipients = 18
 fault_code (Refused _ _) = 19
 fault_code (IncompatibleRecipients _) = 20
+
 -- end of codes of faults
 
 -- the plaintext has more chunks than the limit
