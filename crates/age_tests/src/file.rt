@@ -19,7 +19,7 @@ use age_recipient::{
 use devices::FailingSink;
 use objects::ForeignRecipient;
 use std::alloc::{AllocError, Global};
-use std::test::Fail;
+use std::process::Abort;
 
 const FRESH: Fresh = Fresh {
     file_key: FileKey([0, 1, 2, 3, 4, 5, 6, 7, 8, 9, 10, 11, 12, 13, 14, 15]),
@@ -40,31 +40,47 @@ type Recipients = Vec<Box<dyn Recipient>>;
 type Identities = Vec<Box<dyn Identity>>;
 
 /// The passphrase's recipient, with work factor 10.
-fn passphrase_recipients(alloc: Global) -> Result<Recipients, Fail> {
+fn passphrase_recipients(rt: &impl Abort, alloc: Global) -> Recipients {
     let mut recipients: Recipients = Vec::new(alloc);
-    recipients.push(Box::new(alloc, PassRecipient::new(alloc, PASS, SALT, 10)?)?)?;
-    Ok(recipients)
+    recipients
+        .push(Box::new(
+            alloc,
+            PassRecipient::new(alloc, PASS, SALT, 10).expect(rt, "memory"),
+        )
+        .expect(rt, "memory"))
+        .expect(rt, "memory");
+    recipients
 }
 
 /// The passphrase's identity.
-fn passphrase_identities(alloc: Global) -> Result<Identities, Fail> {
+fn passphrase_identities(rt: &impl Abort, alloc: Global) -> Identities {
     let mut identities: Identities = Vec::new(alloc);
-    identities.push(Box::new(alloc, PassIdentity::new(alloc, PASS, 22)?)?)?;
-    Ok(identities)
+    identities
+        .push(Box::new(
+            alloc,
+            PassIdentity::new(alloc, PASS, 22).expect(rt, "memory"),
+        )
+        .expect(rt, "memory"))
+        .expect(rt, "memory");
+    identities
 }
 
 /// A recipient of the key of 32 such bytes.
-fn key_recipients(alloc: Global, byte: u8) -> Result<Recipients, Fail> {
+fn key_recipients(rt: &impl Abort, alloc: Global, byte: u8) -> Recipients {
     let mut recipients: Recipients = Vec::new(alloc);
-    recipients.push(Box::new(alloc, KeyRecipient::new([byte; 32], SALT))?)?;
-    Ok(recipients)
+    recipients
+        .push(Box::new(alloc, KeyRecipient::new([byte; 32], SALT)).expect(rt, "memory"))
+        .expect(rt, "memory");
+    recipients
 }
 
 /// The identity of the key of 32 such bytes.
-fn key_identities(alloc: Global, byte: u8) -> Result<Identities, Fail> {
+fn key_identities(rt: &impl Abort, alloc: Global, byte: u8) -> Identities {
     let mut identities: Identities = Vec::new(alloc);
-    identities.push(Box::new(alloc, KeyIdentity::new([byte; 32]))?)?;
-    Ok(identities)
+    identities
+        .push(Box::new(alloc, KeyIdentity::new([byte; 32])).expect(rt, "memory"))
+        .expect(rt, "memory");
+    identities
 }
 
 /// What encrypting gives for these recipients, and what was written.
@@ -109,19 +125,19 @@ fn done(bytes: u128) -> Result<Done, Fault> {
     Ok(Done { bytes, chunks: 1 })
 }
 
-fn sevens(alloc: Global, len: usize) -> Result<Vec<u8>, AllocError> {
+fn sevens(rt: &impl Abort, alloc: Global, len: usize) -> Vec<u8> {
     let mut bytes = Vec::new(alloc);
-    bytes.resize(len, 7)?;
-    Ok(bytes)
+    bytes.resize(len, 7).expect(rt, "memory");
+    bytes
 }
 
 /// A byte at a time in both directions, the last chunk being full.
 #[test]
-fn encrypt_and_decrypt_work_byte_by_byte(rt: HostRuntime) -> Result<(), Fail> {
+fn encrypt_and_decrypt_work_byte_by_byte(rt: HostRuntime) {
     let alloc = rt.alloc();
     let limits = Limits::default();
-    let plain = sevens(alloc, 65_536)?;
-    let recipients = passphrase_recipients(alloc)?;
+    let plain = sevens(&rt, alloc, 65_536);
+    let recipients = passphrase_recipients(&rt, alloc);
     let done = done(65_536);
     let (answer, file) = encrypted(alloc, plain.as_slice(), &recipients, &limits);
     assert!(rt; answer == done);
@@ -138,7 +154,7 @@ fn encrypt_and_decrypt_work_byte_by_byte(rt: HostRuntime) -> Result<(), Fail> {
     );
     assert!(rt; answer == done);
     assert!(rt; sink.bytes == file);
-    let identities = passphrase_identities(alloc)?;
+    let identities = passphrase_identities(&rt, alloc);
     let mut source = FailingSource::new(file.as_slice(), 1, 0);
     let mut sink = FailingSink::new(Vec::new(alloc), 100_000);
     let answer = decrypt(
@@ -150,12 +166,11 @@ fn encrypt_and_decrypt_work_byte_by_byte(rt: HostRuntime) -> Result<(), Fail> {
     );
     assert!(rt; answer == done);
     assert!(rt; sink.bytes == plain);
-    Ok(())
 }
 
 /// The numbers of chunks that `Limits` may hold, at the ends of their range.
 #[test]
-fn chunk_limit_is_checked_at_the_ends_of_its_range(rt: HostRuntime) -> Result<(), Fail> {
+fn chunk_limit_is_checked_at_the_ends_of_its_range(rt: HostRuntime) {
     for (max_chunks, is_allowed) in [
         (0, false),
         (1, true),
@@ -165,63 +180,61 @@ fn chunk_limit_is_checked_at_the_ends_of_its_range(rt: HostRuntime) -> Result<()
         let limits = Limits::new(65_536, max_chunks);
         assert_eq!(rt; limits.is_some(), is_allowed, "{max_chunks} chunks");
     }
-    Ok(())
 }
 
 /// More chunks than are allowed, in both directions.
 #[test]
-fn too_many_chunks_are_refused_in_both_directions(rt: HostRuntime) -> Result<(), Fail> {
+fn too_many_chunks_are_refused_in_both_directions(rt: HostRuntime) {
     let alloc = rt.alloc();
     let Some(one) = Limits::new(65_536, 1) else {
         unreachable!();
     };
-    let plain = sevens(alloc, 65_537)?;
-    let recipients = key_recipients(alloc, 3)?;
+    let plain = sevens(&rt, alloc, 65_537);
+    let recipients = key_recipients(&rt, alloc, 3);
     let (answer, begun) = encrypted(alloc, plain.as_slice(), &recipients, &one);
     assert!(rt; answer == Err(Fault::TooManyChunks));
     assert_eq!(rt; begun.len(), 172);
     let (_, file) = encrypted(alloc, plain.as_slice(), &recipients, &Limits::default());
     assert!(rt; file.as_slice().starts_with(begun.as_slice()));
-    let (answer, front) = decrypted(alloc, file.as_slice(), &key_identities(alloc, 3)?, &one);
+    let (answer, front) = decrypted(alloc, file.as_slice(), &key_identities(&rt, alloc, 3), &one);
     assert!(rt; answer == Err(Fault::TooManyChunks));
     assert_eq!(rt; front.len(), 65_536);
-    Ok(())
 }
 
 /// A damaged first chunk: nothing is written, and the source is read no further than one byte into
 /// the second.
 #[test]
-fn damaged_first_chunk_writes_nothing(rt: HostRuntime) -> Result<(), Fail> {
+fn damaged_first_chunk_writes_nothing(rt: HostRuntime) {
     let alloc = rt.alloc();
     let limits = Limits::default();
-    let plain = sevens(alloc, 131_073)?;
+    let plain = sevens(&rt, alloc, 131_073);
     let (_, file) = encrypted(
         alloc,
         plain.as_slice(),
-        &passphrase_recipients(alloc)?,
+        &passphrase_recipients(&rt, alloc),
         &limits,
     );
     assert_eq!(rt; file.len(), 131_287);
     let mut file = file;
     file.as_mut_slice()[166] ^= 1;
-    let identities = passphrase_identities(alloc)?;
+    let identities = passphrase_identities(&rt, alloc);
     let mut source = MemSource::new(file.as_slice());
     let mut out = MemSink::new(Vec::new(alloc));
     let answer = decrypt(alloc, &mut source, &mut out, identities.as_slice(), &limits);
     assert!(rt; answer == Err(Fault::BadChunk(0)));
     assert!(rt; out.into_vec().is_empty());
     assert!(rt; source.rest().len() >= 65_568);
-    Ok(())
 }
 
 /// Several keyed recipients, and identities with and without one of their keys.
 #[test]
-fn each_of_several_recipients_decrypts(rt: HostRuntime) -> Result<(), Fail> {
+fn each_of_several_recipients_decrypts(rt: HostRuntime) {
     let alloc = rt.alloc();
     let limits = Limits::default();
     let done = done(0);
-    let mut two = key_recipients(alloc, 3)?;
-    two.push(Box::new(alloc, KeyRecipient::new([4; 32], SALT))?)?;
+    let mut two = key_recipients(&rt, alloc, 3);
+    two.push(Box::new(alloc, KeyRecipient::new([4; 32], SALT)).expect(&rt, "memory"))
+        .expect(&rt, "memory");
     let (answer, file) = encrypted(alloc, b"", &two, &limits);
     assert!(rt; answer == done);
     assert_eq!(rt; file.len(), 274);
@@ -229,38 +242,50 @@ fn each_of_several_recipients_decrypts(rt: HostRuntime) -> Result<(), Fail> {
         let (answer, _) = decrypted(
             alloc,
             file.as_slice(),
-            &key_identities(alloc, byte)?,
+            &key_identities(&rt, alloc, byte),
             &limits,
         );
         assert!(rt; answer == expected, "key of bytes {byte}");
     }
     let (answer, _) = decrypted(alloc, file.as_slice(), &Vec::new(alloc), &limits);
     assert!(rt; answer == Err(Fault::NoMatch));
-    Ok(())
 }
 
 /// Stanzas of a caller's types go through both directions as they are.
 #[test]
-fn foreign_stanzas_are_written_and_skipped(rt: HostRuntime) -> Result<(), Fail> {
+fn foreign_stanzas_are_written_and_skipped(rt: HostRuntime) {
     let alloc = rt.alloc();
     let limits = Limits::default();
     let done = done(0);
     let mut recipients: Recipients = Vec::new(alloc);
-    recipients.push(Box::new(alloc, ForeignRecipient)?)?;
-    recipients.push(Box::new(alloc, KeyRecipient::new([3; 32], SALT))?)?;
+    recipients
+        .push(Box::new(alloc, ForeignRecipient).expect(&rt, "memory"))
+        .expect(&rt, "memory");
+    recipients
+        .push(Box::new(alloc, KeyRecipient::new([3; 32], SALT)).expect(&rt, "memory"))
+        .expect(&rt, "memory");
     let (answer, file) = encrypted(alloc, b"", &recipients, &limits);
     assert!(rt; answer == done);
     assert_eq!(rt; file.len(), 262);
     let plug =
         b"age-encryption.org/v1\n-> plug\nAAAAAAAAAAAAAAAAAAAAAAAAAAAAAAAAAAAAAAAAAAAAAAAAAAAAAAAAAAAAAAAA\n\n-> ";
     assert!(rt; file.as_slice().starts_with(plug));
-    let (answer, _) = decrypted(alloc, file.as_slice(), &key_identities(alloc, 3)?, &limits);
+    let (answer, _) = decrypted(
+        alloc,
+        file.as_slice(),
+        &key_identities(&rt, alloc, 3),
+        &limits,
+    );
     assert!(rt; answer == done);
     // without the three lines of the first stanza
-    let mut cut = Vec::from_slice(alloc, b"age-encryption.org/v1\n-> ")?;
+    let mut cut = Vec::from_slice(alloc, b"age-encryption.org/v1\n-> ").expect(&rt, "memory");
     let (_, rest) = file.as_slice().split_at(plug.len().min(file.len()));
-    cut.extend_from_slice(rest)?;
-    let (answer, _) = decrypted(alloc, cut.as_slice(), &key_identities(alloc, 3)?, &limits);
+    cut.extend_from_slice(rest).expect(&rt, "memory");
+    let (answer, _) = decrypted(
+        alloc,
+        cut.as_slice(),
+        &key_identities(&rt, alloc, 3),
+        &limits,
+    );
     assert!(rt; answer == Err(Fault::BadMac));
-    Ok(())
 }

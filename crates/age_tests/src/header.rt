@@ -7,7 +7,6 @@ use age_header::{
 };
 use std::alloc::Global;
 use std::process::Abort;
-use std::test::Fail;
 
 mod devices;
 
@@ -24,22 +23,22 @@ const SALT: &str = "ICEiIyQlJicoKSorLC0uLw";
 const KEY: &str = "example.org/key";
 
 /// These pieces, joined.
-fn joined(alloc: Global, pieces: &[&[u8]]) -> Result<Vec<u8>, Fail> {
+fn joined(rt: &impl Abort, alloc: Global, pieces: &[&[u8]]) -> Vec<u8> {
     let mut text = Vec::new(alloc);
     for piece in pieces {
-        text.extend_from_slice(piece)?;
+        text.extend_from_slice(piece).expect(rt, "memory");
     }
-    Ok(text)
+    text
 }
 
 /// The version line, `count` times this piece, and the end.
-fn repeated(alloc: Global, piece: &[u8], count: usize, end: &[u8]) -> Result<Vec<u8>, Fail> {
-    let mut text = joined(alloc, &[VERSION])?;
+fn repeated(rt: &impl Abort, alloc: Global, piece: &[u8], count: usize, end: &[u8]) -> Vec<u8> {
+    let mut text = joined(rt, alloc, &[VERSION]);
     for _ in 0..count {
-        text.extend_from_slice(piece)?;
+        text.extend_from_slice(piece).expect(rt, "memory");
     }
-    text.extend_from_slice(end)?;
-    Ok(text)
+    text.extend_from_slice(end).expect(rt, "memory");
+    text
 }
 
 /// How many stanzas are read, and how many bytes are left unread (at most 8 are looked for).
@@ -58,16 +57,15 @@ fn expect_verdicts(
     rt: &impl Abort,
     alloc: Global,
     rows: &[(&str, &[&[u8]], Result<(usize, usize), HeaderFault>)],
-) -> Result<(), Fail> {
+) {
     for (name, pieces, wanted) in rows {
-        let text = joined(alloc, pieces)?;
+        let text = joined(rt, alloc, pieces);
         assert!(rt; read(alloc, text.as_slice(), 65536) == *wanted, "{name}");
     }
-    Ok(())
 }
 
 #[test]
-fn reader_accepts_headers_and_numbers_bad_lines(rt: HostRuntime) -> Result<(), Fail> {
+fn reader_accepts_headers_and_numbers_bad_lines(rt: HostRuntime) {
     let bad = |n| Err(HeaderFault::BadLine(n));
     expect_verdicts(
         &rt,
@@ -145,125 +143,110 @@ fn reader_accepts_headers_and_numbers_bad_lines(rt: HostRuntime) -> Result<(), F
 }
 
 #[test]
-fn reader_keeps_to_the_header_limit(rt: HostRuntime) -> Result<(), Fail> {
+fn reader_keeps_to_the_header_limit(rt: HostRuntime) {
     let alloc = rt.alloc();
     let cut = Err(HeaderFault::Truncated);
     let large = Err(HeaderFault::TooLarge);
-    let mut wide = joined(alloc, &[VERSION, b"-> "])?;
+    let mut wide = joined(&rt, alloc, &[VERSION, b"-> "]);
     for _ in 0..949 {
-        wide.push(b'a')?;
+        wide.push(b'a').expect(&rt, "memory");
     }
-    let fits = joined(alloc, &[wide.as_slice(), b"\n\n", END])?;
+    let fits = joined(&rt, alloc, &[wide.as_slice(), b"\n\n", END]);
     assert_eq!(rt; fits.len(), 1024);
     assert!(rt; read(alloc, fits.as_slice(), 1024) == Ok((1, 0)));
-    let longer = joined(alloc, &[wide.as_slice(), b"a\n\n", END])?;
+    let longer = joined(&rt, alloc, &[wide.as_slice(), b"a\n\n", END]);
     assert!(rt; read(alloc, longer.as_slice(), 1024) == large);
-    let mut line = joined(alloc, &[VERSION, b"-> "])?;
+    let mut line = joined(&rt, alloc, &[VERSION, b"-> "]);
     for _ in 0..998 {
-        line.push(b'a')?;
+        line.push(b'a').expect(&rt, "memory");
     }
     assert!(rt; read(alloc, line.as_slice(), 1024) == cut);
-    line.push(b'a')?;
+    line.push(b'a').expect(&rt, "memory");
     assert!(rt; read(alloc, line.as_slice(), 1024) == large);
-    let stanzas = repeated(alloc, b"-> a\n\n", 10_911, END)?;
+    let stanzas = repeated(&rt, alloc, b"-> a\n\n", 10_911, END);
     assert_eq!(rt; stanzas.len(), 65536);
     assert!(rt; read(alloc, stanzas.as_slice(), 65536) == Ok((10_911, 0)));
-    let more = repeated(alloc, b"-> a\n\n", 10_912, END)?;
+    let more = repeated(&rt, alloc, b"-> a\n\n", 10_912, END);
     assert!(rt; read(alloc, more.as_slice(), 65536) == large);
-    let one_line = repeated(alloc, b"A", 65_514, b"")?;
+    let one_line = repeated(&rt, alloc, b"A", 65_514, b"");
     assert!(rt; read(alloc, one_line.as_slice(), 65536) == large);
-    Ok(())
 }
 
 #[test]
-fn stanza_of_30000_arguments_is_read(rt: HostRuntime) -> Result<(), Fail> {
+fn stanza_of_30000_arguments_is_read(rt: HostRuntime) {
     let alloc = rt.alloc();
-    let mut text = joined(alloc, &[VERSION, b"->"])?;
+    let mut text = joined(&rt, alloc, &[VERSION, b"->"]);
     for _ in 0..30_000 {
-        text.extend_from_slice(b" a")?;
+        text.extend_from_slice(b" a").expect(&rt, "memory");
     }
-    text.extend_from_slice(b"\n\n")?;
-    text.extend_from_slice(END)?;
+    text.extend_from_slice(b"\n\n").expect(&rt, "memory");
+    text.extend_from_slice(END).expect(&rt, "memory");
     let mut input = ReadSource::new(text.as_slice());
-    let Ok(header) = HeaderReader::new(65536).read_from(alloc, &mut input) else {
-        assert!(rt; false);
-        return Ok(());
-    };
+    let header = HeaderReader::new(65536)
+        .read_from(alloc, &mut input)
+        .expect(&rt, "no fault");
     assert_eq!(rt; header.text_len(), 60_074);
     assert!(rt; header.stanzas().iter().all(|s| s.args().len() == 30_000));
-    Ok(())
 }
 
 /// The header of these stanzas, each its arguments and the number of zero bytes in its body, and a
 /// MAC of zero bytes.
-fn written(rt: &impl Abort, alloc: Global, stanzas: &[(&[&str], usize)]) -> Result<Vec<u8>, Fail> {
+fn written(rt: &impl Abort, alloc: Global, stanzas: &[(&[&str], usize)]) -> Vec<u8> {
     let mut list = Vec::new(alloc);
     for (args, len) in stanzas {
-        let body = vec![in alloc; 0u8; *len]?;
-        match Stanza::new(alloc, args, body.as_slice()) {
-            Ok(stanza) => list.push(stanza)?,
-            Err(_) => assert!(rt; false),
-        }
+        let body = vec![in alloc; 0u8; *len].expect(rt, "memory");
+        let stanza = Stanza::new(alloc, args, body.as_slice()).expect(rt, "no fault");
+        list.push(stanza).expect(rt, "memory");
     }
     let mut out = MemSink::new(Vec::new(alloc));
-    if let Some(header) = Header::new(list, [0; 32]) {
-        assert!(rt; write_header(&header, &mut out).is_ok());
-        assert_eq!(rt; header.mac_signs(), [b'A'; 43]);
-        assert_eq!(rt; *header.mac(), [0u8; 32]);
-        let text = out.into_vec();
-        assert_eq!(rt; header.text_len(), text.len() as u64);
-        return Ok(text);
-    }
-    Ok(out.into_vec())
+    let header = Header::new(list, [0; 32]).expect(rt, "stanzas");
+    assert!(rt; write_header(&header, &mut out).is_ok());
+    assert_eq!(rt; header.mac_signs(), [b'A'; 43]);
+    assert_eq!(rt; *header.mac(), [0u8; 32]);
+    let text = out.into_vec();
+    assert_eq!(rt; header.text_len(), text.len() as u64);
+    text
 }
 
 /// The header of these stanzas has this size, and is read again.
-fn expect_size(
-    rt: &impl Abort,
-    alloc: Global,
-    stanzas: &[(&[&str], usize)],
-    size: usize,
-) -> Result<(), Fail> {
-    let text = written(rt, alloc, stanzas)?;
+fn expect_size(rt: &impl Abort, alloc: Global, stanzas: &[(&[&str], usize)], size: usize) {
+    let text = written(rt, alloc, stanzas);
     assert_eq!(rt; text.len(), size, "header of {size} bytes");
     assert!(rt;
         read(alloc, text.as_slice(), size) == Ok((stanzas.len(), 0)),
         "header of {size} bytes"
     );
-    Ok(())
 }
 
 #[test]
-fn written_headers_are_read_back(rt: HostRuntime) -> Result<(), Fail> {
+fn written_headers_are_read_back(rt: HostRuntime) {
     let alloc = rt.alloc();
-    expect_size(&rt, alloc, &[(&["a"], 0)], 76)?;
-    expect_size(&rt, alloc, &[(&["scrypt", SALT, "9"], 32)], 149)?;
-    expect_size(&rt, alloc, &[(&["scrypt", SALT, "18"], 32)], 150)?;
-    expect_size(&rt, alloc, &[(&[KEY, SALT], 32)], 156)?;
-    expect_size(&rt, alloc, &[(&[KEY, SALT], 32), (&[KEY, SALT], 32)], 242)?;
-    expect_size(&rt, alloc, &[(&["plug"], 48), (&[KEY, SALT], 32)], 230)?;
-    let text = written(&rt, alloc, &[(&["plug"], 48)])?;
-    let spelled = joined(alloc, &[VERSION, b"-> plug\n", FULL, b"\n\n", END])?;
+    expect_size(&rt, alloc, &[(&["a"], 0)], 76);
+    expect_size(&rt, alloc, &[(&["scrypt", SALT, "9"], 32)], 149);
+    expect_size(&rt, alloc, &[(&["scrypt", SALT, "18"], 32)], 150);
+    expect_size(&rt, alloc, &[(&[KEY, SALT], 32)], 156);
+    expect_size(&rt, alloc, &[(&[KEY, SALT], 32), (&[KEY, SALT], 32)], 242);
+    expect_size(&rt, alloc, &[(&["plug"], 48), (&[KEY, SALT], 32)], 230);
+    let text = written(&rt, alloc, &[(&["plug"], 48)]);
+    let spelled = joined(&rt, alloc, &[VERSION, b"-> plug\n", FULL, b"\n\n", END]);
     assert_eq!(rt; text.as_slice(), spelled.as_slice());
-    Ok(())
 }
 
 #[test]
-fn mac_matches_another_implementation(rt: HostRuntime) -> Result<(), Fail> {
+fn mac_matches_another_implementation(rt: HostRuntime) {
     let alloc = rt.alloc();
     let mut stanzas = Vec::new(alloc);
-    let Ok(stanza) = Stanza::new(alloc, &["scrypt", "AAAAAAAAAAAAAAAAAAAAAA", "18"], &[0; 32])
-    else {
-        assert!(rt; false);
-        return Ok(());
-    };
-    stanzas.push(stanza)?;
+    let args = ["scrypt", "AAAAAAAAAAAAAAAAAAAAAA", "18"];
+    let stanza = Stanza::new(alloc, &args, &[0; 32]).expect(&rt, "no fault");
+    stanzas.push(stanza).expect(&rt, "memory");
     let line = b"-> scrypt AAAAAAAAAAAAAAAAAAAAAA 18\n";
     let body = b"AAAAAAAAAAAAAAAAAAAAAAAAAAAAAAAAAAAAAAAAAAA\n";
-    let text = joined(alloc, &[VERSION, line, body, b"---"])?;
+    let text = joined(&rt, alloc, &[VERSION, line, body, b"---"]);
     assert_eq!(rt; text.len(), 105);
     assert_eq!(rt;
-        signed_text(alloc, stanzas.as_slice())?.as_slice(),
+        signed_text(alloc, stanzas.as_slice())
+            .expect(&rt, "no fault")
+            .as_slice(),
         text.as_slice()
     );
     // made with Python's hmac and hashlib
@@ -272,12 +255,14 @@ fn mac_matches_another_implementation(rt: HostRuntime) -> Result<(), Fail> {
         0x57, 0xa2, 0xb6, 0x24, 0xd7, 0x7f, 0xd5, 0x3a, 0x52, 0x75, 0xe4, 0xab, 0x4a, 0xfb, 0x95,
         0x4d, 0x6a,
     ];
-    assert_eq!(rt; mac_of(alloc, &[7; 16], stanzas.as_slice())?, mac);
-    Ok(())
+    assert_eq!(rt;
+        mac_of(alloc, &[7; 16], stanzas.as_slice()).expect(&rt, "no fault"),
+        mac
+    );
 }
 
 #[test]
-fn invalid_stanzas_are_refused(rt: HostRuntime) -> Result<(), Fail> {
+fn invalid_stanzas_are_refused(rt: HostRuntime) {
     let alloc = rt.alloc();
     let rows: [(&str, &[&str], StanzaError); 4] = [
         ("no argument", &[], StanzaError::NoArgs),
@@ -298,11 +283,10 @@ fn invalid_stanzas_are_refused(rt: HostRuntime) -> Result<(), Fail> {
         assert!(rt; error == Some(wanted), "{name}");
     }
     assert!(rt; Header::new(Vec::new(alloc), [0; 32]).is_none());
-    Ok(())
 }
 
 #[test]
-fn devices_count_their_failures(rt: HostRuntime) -> Result<(), Fail> {
+fn devices_count_their_failures(rt: HostRuntime) {
     let alloc = rt.alloc();
     let mut room = [0u8; 100];
     let mut sink = WriteSink::new(room.as_mut_slice());
@@ -337,5 +321,4 @@ fn devices_count_their_failures(rt: HostRuntime) -> Result<(), Fail> {
         )
     );
     assert_eq!(rt; other.failures(), 0);
-    Ok(())
 }

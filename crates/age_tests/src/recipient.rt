@@ -12,7 +12,6 @@ use age_recipient::{
 };
 use std::alloc::Global;
 use std::process::Abort;
-use std::test::Fail;
 
 const SALT: [u8; 16] = [
     0x20, 0x21, 0x22, 0x23, 0x24, 0x25, 0x26, 0x27, 0x28, 0x29, 0x2a, 0x2b, 0x2c, 0x2d, 0x2e, 0x2f,
@@ -35,20 +34,22 @@ fn unwrapped_stanza(
     pass: &[u8],
     args: &[&str],
     body: &[u8],
-) -> Result<Unwrapped, Fail> {
+) -> Unwrapped {
     let mut stanzas = Vec::new(alloc);
     match Stanza::new(alloc, args, body) {
-        Ok(stanza) => stanzas.push(stanza)?,
+        Ok(stanza) => stanzas.push(stanza).expect(rt, "memory"),
         Err(_) => assert!(rt; false),
     }
-    let identity = PassIdentity::new(alloc, pass, 22)?;
-    Ok(identity.unwrap(alloc, stanzas.as_slice())?)
+    let identity = PassIdentity::new(alloc, pass, 22).expect(rt, "memory");
+    identity
+        .unwrap(alloc, stanzas.as_slice())
+        .expect(rt, "no fault")
 }
 
 /// The checks, in their order: each stanza is wrong in what is named, and often in what is examined
 /// later too.
 #[test]
-fn scrypt_stanza_is_checked_in_order(rt: HostRuntime) -> Result<(), Fail> {
+fn scrypt_stanza_is_checked_in_order(rt: HostRuntime) {
     let short = &BODY[..31];
     let padded = "ICEiIyQlJicoKSorLC0uLw==";
     let cut = "ICEiIyQlJicoKSorLC0uL";
@@ -140,57 +141,54 @@ fn scrypt_stanza_is_checked_in_order(rt: HostRuntime) -> Result<(), Fail> {
         ),
     ];
     for (name, args, body, fault) in malformed {
-        let found = unwrapped_stanza(&rt, rt.alloc(), b"correct horse", args, body)?;
+        let found = unwrapped_stanza(&rt, rt.alloc(), b"correct horse", args, body);
         assert!(rt; found == Unwrapped::Malformed(fault), "{name}");
     }
-    Ok(())
 }
 
 #[test]
-fn long_work_factors_are_malformed(rt: HostRuntime) -> Result<(), Fail> {
+fn long_work_factors_are_malformed(rt: HostRuntime) {
     let alloc = rt.alloc();
     for (first, fault) in [
         ("1", StanzaFault::WorkFactorTooHigh),
         ("0", StanzaFault::WorkFactorText),
     ] {
-        let mut text = String::from_str(alloc, first)?;
+        let mut text = String::from_str(alloc, first).expect(&rt, "no fault");
         for _ in 0..60_000 {
-            text.push_str("0")?;
+            text.push_str("0").expect(&rt, "memory");
         }
         let args = ["scrypt", SALT_TEXT, text.as_str()];
-        let found = unwrapped_stanza(&rt, alloc, b"", &args, &BODY)?;
+        let found = unwrapped_stanza(&rt, alloc, b"", &args, &BODY);
         assert!(rt; found == Unwrapped::Malformed(fault), "first digit {first}");
     }
-    Ok(())
 }
 
 #[test]
-fn passphrase_wraps_and_unwraps_the_known_stanza(rt: HostRuntime) -> Result<(), Fail> {
+fn passphrase_wraps_and_unwraps_the_known_stanza(rt: HostRuntime) {
     let alloc = rt.alloc();
-    let recipient = PassRecipient::new(alloc, b"correct horse", SALT, 10)?;
-    let stanzas = recipient.wrap(alloc, &KEY)?;
+    let recipient = PassRecipient::new(alloc, b"correct horse", SALT, 10).expect(&rt, "memory");
+    let stanzas = recipient.wrap(alloc, &KEY).expect(&rt, "no fault");
     assert_eq!(rt; stanzas.len(), 1);
     let stanza = &stanzas[0];
     let mut line = String::new(alloc);
     for arg in stanza.args() {
-        line.push_str(arg.as_str())?;
-        line.push_str(" ")?;
+        line.push_str(arg.as_str()).expect(&rt, "memory");
+        line.push_str(" ").expect(&rt, "memory");
     }
     assert_eq!(rt; line.as_str(), "scrypt ICEiIyQlJicoKSorLC0uLw 10 ");
     assert_eq!(rt; stanza.body(), BODY.as_slice());
     let args = ["scrypt", SALT_TEXT, "10"];
-    let right = unwrapped_stanza(&rt, alloc, b"correct horse", &args, &BODY)?;
+    let right = unwrapped_stanza(&rt, alloc, b"correct horse", &args, &BODY);
     assert!(rt; right == Unwrapped::Key(KEY));
-    let wrong = unwrapped_stanza(&rt, alloc, b"correct hors", &args, &BODY)?;
+    let wrong = unwrapped_stanza(&rt, alloc, b"correct hors", &args, &BODY);
     assert!(rt; wrong == Unwrapped::Failed);
-    let other = unwrapped_stanza(&rt, alloc, b"correct horse", &["X25519", "x"], &BODY)?;
+    let other = unwrapped_stanza(&rt, alloc, b"correct horse", &["X25519", "x"], &BODY);
     assert!(rt; other == Unwrapped::NotMine);
-    Ok(())
 }
 
 /// A stanza that `age -p` made, with the file key that Python found in it.
 #[test]
-fn passphrase_unwraps_a_stanza_of_age(rt: HostRuntime) -> Result<(), Fail> {
+fn passphrase_unwraps_a_stanza_of_age(rt: HostRuntime) {
     let body = [
         0xfa, 0x87, 0x1f, 0x34, 0xa3, 0x2c, 0x47, 0x83, 0xa0, 0x21, 0xe3, 0x61, 0x4e, 0x6d, 0xdc,
         0x97, 0xec, 0x05, 0xc0, 0x20, 0xb0, 0xd5, 0x88, 0xaa, 0x4d, 0x0d, 0xb2, 0xd7, 0xa5, 0x43,
@@ -201,40 +199,54 @@ fn passphrase_unwraps_a_stanza_of_age(rt: HostRuntime) -> Result<(), Fail> {
         0x40,
     ];
     let args = ["scrypt", "loABIY+WayWGShmB4h1/bw", "18"];
-    let found = unwrapped_stanza(&rt, rt.alloc(), b"correct horse", &args, &body)?;
+    let found = unwrapped_stanza(&rt, rt.alloc(), b"correct horse", &args, &body);
     assert!(rt; found == Unwrapped::Key(FileKey(key)));
-    Ok(())
 }
 
 /// Whether this pair's identity gives back the key that its recipient wraps.
-fn gives_back<M: Matched>(alloc: Global, pair: &M) -> Result<bool, Fail> {
-    let stanzas = pair.recipient().wrap(alloc, &KEY)?;
-    Ok(pair.identity().unwrap(alloc, stanzas.as_slice())? == Unwrapped::Key(KEY))
+fn gives_back<M: Matched>(rt: &impl Abort, alloc: Global, pair: &M) -> bool {
+    let stanzas = pair.recipient().wrap(alloc, &KEY).expect(rt, "no fault");
+    pair.identity()
+        .unwrap(alloc, stanzas.as_slice())
+        .expect(rt, "no fault")
+        == Unwrapped::Key(KEY)
 }
 
 #[test]
-fn passphrase_pair_unwraps_what_it_wraps(rt: HostRuntime) -> Result<(), Fail> {
+fn passphrase_pair_unwraps_what_it_wraps(rt: HostRuntime) {
     let alloc = rt.alloc();
-    let long = vec![in alloc; 7u8; 65_536]?;
+    let long = vec![in alloc; 7u8; 65_536].expect(&rt, "memory");
     assert!(rt;
         gives_back(
+            &rt,
             alloc,
-            &PassPair::new(alloc, b"correct horse", SALT, 10, 10)?
-        )?
+            &PassPair::new(alloc, b"correct horse", SALT, 10, 10).expect(&rt, "memory")
+        )
     );
-    assert!(rt; gives_back(alloc, &PassPair::new(alloc, b"", SALT, 1, 22)?)?);
-    assert!(rt; gives_back(alloc, &PassPair::new(alloc, long.as_slice(), SALT, 2, 30)?)?);
+    assert!(rt;
+        gives_back(
+            &rt,
+            alloc,
+            &PassPair::new(alloc, b"", SALT, 1, 22).expect(&rt, "memory")
+        )
+    );
+    assert!(rt;
+        gives_back(
+            &rt,
+            alloc,
+            &PassPair::new(alloc, long.as_slice(), SALT, 2, 30).expect(&rt, "memory")
+        )
+    );
     let refused = Some(PassError::WorkFactor);
     assert!(rt; PassPair::new(alloc, b"", SALT, 12, 11).err() == refused);
     assert!(rt; PassRecipient::new(alloc, b"", SALT, 0).err() == refused);
     assert!(rt; PassRecipient::new(alloc, b"", SALT, 31).err() == refused);
     assert!(rt; PassIdentity::new(alloc, b"", 0).err() == refused);
     assert!(rt; PassIdentity::new(alloc, b"", 31).err() == refused);
-    Ok(())
 }
 
 #[test]
-fn each_stanza_fault_has_its_text(rt: HostRuntime) -> Result<(), Fail> {
+fn each_stanza_fault_has_its_text(rt: HostRuntime) {
     for (fault, text) in [
         (StanzaFault::ArgCount, "argument count"),
         (StanzaFault::Salt, "salt"),
@@ -243,7 +255,12 @@ fn each_stanza_fault_has_its_text(rt: HostRuntime) -> Result<(), Fail> {
         (StanzaFault::BodyLength, "body length"),
         (StanzaFault::Other(7), "code 7"),
     ] {
-        assert_eq!(rt; format!(in rt.alloc(); "{fault}")?.as_str(), text, "{text}");
+        assert_eq!(rt;
+            format!(in rt.alloc(); "{fault}")
+                .expect(&rt, "memory")
+                .as_str(),
+            text,
+            "{text}"
+        );
     }
-    Ok(())
 }

@@ -6,7 +6,6 @@ use round_trip::{
     pass_there_and_back,
 };
 use std::process::Abort;
-use std::test::Fail;
 
 const FRESH: Fresh = Fresh {
     file_key: FileKey([1; 16]),
@@ -21,7 +20,7 @@ fn is_hello(back: &Result<Vec<u8>, Lost>) -> bool {
 }
 
 #[test]
-fn passphrase_round_trip_returns_the_plaintext(rt: HostRuntime) -> Result<(), Fail> {
+fn passphrase_round_trip_returns_the_plaintext(rt: HostRuntime) {
     let limits = Limits::default();
     let back = pass_there_and_back(
         rt.alloc(),
@@ -45,29 +44,26 @@ fn passphrase_round_trip_returns_the_plaintext(rt: HostRuntime) -> Result<(), Fa
         &limits,
     );
     assert!(rt; matches!(&none, Err(Lost::Unpaired(PassError::WorkFactor))));
-    Ok(())
 }
 
 #[test]
-fn key_round_trip_returns_the_plaintext(rt: HostRuntime) -> Result<(), Fail> {
+fn key_round_trip_returns_the_plaintext(rt: HostRuntime) {
     let limits = Limits::default();
     let back = key_there_and_back(rt.alloc(), [4; 32], [3; 16], b"hello", &FRESH, &limits);
     assert!(rt; is_hello(&back));
-    Ok(())
 }
 
 #[test]
-fn file_rewrapped_to_a_key_returns_the_plaintext(rt: HostRuntime) -> Result<(), Fail> {
+fn file_rewrapped_to_a_key_returns_the_plaintext(rt: HostRuntime) {
     let limits = Limits::default();
     let salt = [3; 16];
     let (old, new) = ([4; 32], [5; 32]);
     let back = key_rewrapped_and_back(rt.alloc(), old, new, salt, b"hello", &FRESH, &limits);
     assert!(rt; is_hello(&back));
-    Ok(())
 }
 
 #[test]
-fn ranges_of_a_key_s_file_are_slices(rt: HostRuntime) -> Result<(), Fail> {
+fn ranges_of_a_key_s_file_are_slices(rt: HostRuntime) {
     let limits = Limits::default();
     let ranges = [
         Range { at: 3, len: 9 },
@@ -79,5 +75,4 @@ fn ranges_of_a_key_s_file_are_slices(rt: HostRuntime) -> Result<(), Fail> {
         Ok(text) => assert!(rt; text.as_slice() == b"lohel".as_slice()),
         Err(_) => assert!(rt; false),
     }
-    Ok(())
 }

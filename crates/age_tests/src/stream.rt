@@ -10,7 +10,7 @@ use age_recipient::FileKey;
 use age_stream::{ChunkBuf, Done, StreamFault, StreamReader, StreamWriter, chunk_nonce};
 use devices::FailingSink;
 use std::alloc::{AllocError, Global};
-use std::test::Fail;
+use std::process::Abort;
 
 const KEY: FileKey = FileKey([0, 1, 2, 3, 4, 5, 6, 7, 8, 9, 10, 11, 12, 13, 14, 15]);
 
@@ -33,29 +33,30 @@ const THIRD_CHUNK: [u8; 17] = [
 ];
 
 /// `len` bytes; byte i is i modulo 251.
-fn plain_of(alloc: Global, len: usize) -> Result<Vec<u8>, AllocError> {
+fn plain_of(rt: &impl Abort, alloc: Global, len: usize) -> Vec<u8> {
     let mut bytes = Vec::new(alloc);
     for at in 0..len {
-        bytes.push((at % 251) as u8)?;
+        bytes.push((at % 251) as u8).expect(rt, "memory");
     }
-    Ok(bytes)
+    bytes
 }
 
 /// `len` bytes, each 7.
-fn sevens(alloc: Global, len: usize) -> Result<Vec<u8>, AllocError> {
+fn sevens(rt: &impl Abort, alloc: Global, len: usize) -> Vec<u8> {
     let mut bytes = Vec::new(alloc);
-    bytes.resize(len, 7)?;
-    Ok(bytes)
+    bytes.resize(len, 7).expect(rt, "memory");
+    bytes
 }
 
 /// The payload of this plaintext, which is written in pieces of this many bytes.
 fn written(
+    rt: &impl Abort,
     alloc: Global,
     plain: &[u8],
     size: usize,
-) -> Result<(Result<Done, StreamFault>, Vec<u8>), Fail> {
+) -> (Result<Done, StreamFault>, Vec<u8>) {
     let mut sink = MemSink::new(Vec::new(alloc));
-    let mut writer = StreamWriter::new(alloc, &KEY, &NONCE, &mut sink, MOST)?;
+    let mut writer = StreamWriter::new(alloc, &KEY, &NONCE, &mut sink, MOST).expect(rt, "no fault");
     let mut rest = plain;
     for _ in 0..plain.len() {
         if rest.is_empty() {
@@ -66,27 +67,27 @@ fn written(
         rest = more;
     }
     let done = writer.finish();
-    Ok((done, sink.into_vec()))
+    (done, sink.into_vec())
 }
 
 /// The plaintext of a payload, read from a source that gives this many bytes at a time, and the
 /// number of its chunks.
-fn read(alloc: Global, payload: &[u8], most: usize) -> Result<(Vec<u8>, u64), Fail> {
+fn read(rt: &impl Abort, alloc: Global, payload: &[u8], most: usize) -> (Vec<u8>, u64) {
     let mut source = FailingSource::new(payload, most, 0);
-    let mut reader = StreamReader::new(alloc, &KEY, &mut source, MOST)?;
+    let mut reader = StreamReader::new(alloc, &KEY, &mut source, MOST).expect(rt, "no fault");
     let mut text = Vec::new(alloc);
     for chunks in 0..u64::MAX {
-        match reader.next_chunk()? {
-            Some(chunk) => text.extend_from_slice(chunk)?,
-            None => return Ok((text, chunks)),
+        match reader.next_chunk().expect(rt, "no fault") {
+            Some(chunk) => text.extend_from_slice(chunk).expect(rt, "memory"),
+            None => return (text, chunks),
         }
     }
-    Err(Fail::from(StreamFault::TooManyChunks))
+    panic!(rt; "more than 2^64 chunks")
 }
 
 /// The nonces of numbers about the ends of 32, 64 and 88 bits.
 #[test]
-fn chunk_nonce_is_the_index_and_the_last_flag(rt: HostRuntime) -> Result<(), Fail> {
+fn chunk_nonce_is_the_index_and_the_last_flag(rt: HostRuntime) {
     assert_eq!(rt; chunk_nonce(0, true), [0, 0, 0, 0, 0, 0, 0, 0, 0, 0, 0, 1]);
     assert_eq!(rt;
         chunk_nonce(1 << 32, false),
@@ -101,72 +102,76 @@ fn chunk_nonce_is_the_index_and_the_last_flag(rt: HostRuntime) -> Result<(), Fai
         chunk_nonce(MOST - 1, true),
         [ff, ff, ff, ff, ff, ff, ff, ff, ff, ff, ff, 1]
     );
-    Ok(())
 }
 
 /// The empty payload, by both constructors; an empty piece writes nothing.
 #[test]
-fn empty_plaintext_is_one_empty_chunk(rt: HostRuntime) -> Result<(), Fail> {
+fn empty_plaintext_is_one_empty_chunk(rt: HostRuntime) {
     let alloc = rt.alloc();
     let done = Ok(Done {
         bytes: 0,
         chunks: 1,
     });
-    let (answer, payload) = written(alloc, b"", 1)?;
+    let (answer, payload) = written(&rt, alloc, b"", 1);
     assert!(rt; answer == done);
     assert_eq!(rt; payload.as_slice(), EMPTY.as_slice());
-    let buf = ChunkBuf::new(alloc)?;
+    let buf = ChunkBuf::new(alloc).expect(&rt, "memory");
     let mut sink = MemSink::new(Vec::new(alloc));
-    let mut writer = StreamWriter::with_buf(&KEY, &NONCE, &mut sink, 1, buf)?;
+    let mut writer = StreamWriter::with_buf(&KEY, &NONCE, &mut sink, 1, buf).expect(
+        &rt, "no fault",
+    );
     let piece = writer.write_piece(b"");
     let answer = writer.finish();
     assert!(rt; piece == Ok(()));
     assert!(rt; answer == done);
     assert_eq!(rt; sink.into_vec().as_slice(), EMPTY.as_slice());
-    Ok(())
 }
 
 /// A writer that is abandoned after an empty piece has written the nonce alone.
 #[test]
-fn abandoned_writer_has_written_only_the_nonce(rt: HostRuntime) -> Result<(), Fail> {
+fn abandoned_writer_has_written_only_the_nonce(rt: HostRuntime) {
     let alloc = rt.alloc();
     let mut sink = MemSink::new(Vec::new(alloc));
-    let mut writer = StreamWriter::new(alloc, &KEY, &NONCE, &mut sink, MOST)?;
+    let mut writer = StreamWriter::new(alloc, &KEY, &NONCE, &mut sink, MOST).expect(
+        &rt, "no fault",
+    );
     let piece = writer.write_piece(b"");
     writer.abandon();
     assert!(rt; piece == Ok(()));
     assert_eq!(rt; sink.into_vec().as_slice(), NONCE.as_slice());
-    Ok(())
 }
 
 /// Of the empty payload one empty chunk is lent, and then none.
 #[test]
-fn empty_payload_has_one_empty_chunk(rt: HostRuntime) -> Result<(), Fail> {
+fn empty_payload_has_one_empty_chunk(rt: HostRuntime) {
     let mut source = MemSource::new(&EMPTY);
-    let mut reader = StreamReader::new(rt.alloc(), &KEY, &mut source, 1)?;
-    assert!(rt; reader.next_chunk()?.is_some_and(|chunk| chunk.is_empty()));
-    assert!(rt; reader.next_chunk()?.is_none());
-    assert!(rt; reader.next_chunk()?.is_none());
-    Ok(())
+    let mut reader = StreamReader::new(rt.alloc(), &KEY, &mut source, 1).expect(&rt, "no fault");
+    assert!(rt;
+        reader
+            .next_chunk()
+            .expect(&rt, "no fault")
+            .is_some_and(|chunk| chunk.is_empty())
+    );
+    assert!(rt; reader.next_chunk().expect(&rt, "no fault").is_none());
+    assert!(rt; reader.next_chunk().expect(&rt, "no fault").is_none());
 }
 
 /// A plaintext of three chunks, written in pieces of other sizes, and read back from short reads.
 #[test]
-fn pieces_of_any_size_read_back(rt: HostRuntime) -> Result<(), Fail> {
+fn pieces_of_any_size_read_back(rt: HostRuntime) {
     let alloc = rt.alloc();
-    let plain = plain_of(alloc, 131_073)?;
+    let plain = plain_of(&rt, alloc, 131_073);
     for size in [1_000, 65_537] {
-        let (_, payload) = written(alloc, plain.as_slice(), size)?;
-        let (text, chunks) = read(alloc, payload.as_slice(), 65_551)?;
+        let (_, payload) = written(&rt, alloc, plain.as_slice(), size);
+        let (text, chunks) = read(&rt, alloc, payload.as_slice(), 65_551);
         assert!(rt; text == plain, "pieces of {size} bytes");
         assert_eq!(rt; chunks, 3, "pieces of {size} bytes");
     }
-    Ok(())
 }
 
 /// How many chunks a plaintext has about a chunk's end, and how long its payload is.
 #[test]
-fn chunks_are_counted_at_their_ends(rt: HostRuntime) -> Result<(), Fail> {
+fn chunks_are_counted_at_their_ends(rt: HostRuntime) {
     let alloc = rt.alloc();
     for (len, chunks) in [
         (65_535, 1),
@@ -175,8 +180,8 @@ fn chunks_are_counted_at_their_ends(rt: HostRuntime) -> Result<(), Fail> {
         (131_072, 2),
         (131_073, 3),
     ] {
-        let plain = sevens(alloc, len)?;
-        let (done, payload) = written(alloc, plain.as_slice(), len)?;
+        let plain = sevens(&rt, alloc, len);
+        let (done, payload) = written(&rt, alloc, plain.as_slice(), len);
         let bytes = len as u128;
         assert!(rt; done == Ok(Done { bytes, chunks }), "{len} bytes");
         assert_eq!(rt;
@@ -186,16 +191,17 @@ fn chunks_are_counted_at_their_ends(rt: HostRuntime) -> Result<(), Fail> {
         );
         assert!(rt; len < 131_073 || payload.as_slice().ends_with(&THIRD_CHUNK));
     }
-    Ok(())
 }
 
 /// A failed write is returned again, and the sink, which would take the next, isn't called again.
 #[test]
-fn writer_returns_a_failed_write_again(rt: HostRuntime) -> Result<(), Fail> {
+fn writer_returns_a_failed_write_again(rt: HostRuntime) {
     let alloc = rt.alloc();
-    let plain = sevens(alloc, 65_537)?;
+    let plain = sevens(&rt, alloc, 65_537);
     let mut sink = FailingSink::new(2);
-    let mut writer = StreamWriter::new(alloc, &KEY, &NONCE, &mut sink, MOST)?;
+    let mut writer = StreamWriter::new(alloc, &KEY, &NONCE, &mut sink, MOST).expect(
+        &rt, "no fault",
+    );
     let first = writer.write_piece(plain.as_slice());
     let second = writer.write_piece(plain.as_slice());
     let last = writer.finish();
@@ -204,5 +210,4 @@ fn writer_returns_a_failed_write_again(rt: HostRuntime) -> Result<(), Fail> {
     assert!(rt; last == Err(StreamFault::Write));
     assert_eq!(rt; sink.calls, 2);
     assert_eq!(rt; sink.failures(), 1);
-    Ok(())
 }

@@ -15,8 +15,8 @@ use age_recipient::{
 use age_stream::Done;
 use std::alloc::Global;
 use std::cell::Cell;
+use std::process::Abort;
 use std::rc::Rc;
-use std::test::Fail;
 
 pub(super) const VERSION: &[u8] = b"age-encryption.org/v1\n";
 
@@ -30,10 +30,10 @@ pub(super) const END: &[u8] = b"--- AAAAAAAAAAAAAAAAAAAAAAAAAAAAAAAAAAAAAAAAAAA\
 /// What a caller's identity makes of the stanzas, with the right identity after it: what decrypting
 /// returns, and what it writes.
 #[test]
-fn callers_identity_decides_before_the_next(rt: HostRuntime) -> Result<(), Fail> {
+fn callers_identity_decides_before_the_next(rt: HostRuntime) {
     let alloc = rt.alloc();
     let limits = Limits::default();
-    let (_, file) = encrypted(alloc, b"abc", &passphrase_recipients(alloc)?, &limits);
+    let (_, file) = encrypted(alloc, b"abc", &passphrase_recipients(&rt, alloc), &limits);
     let seven = StanzaFault::Other(7);
     for (name, answer, expected) in [
         (
@@ -51,8 +51,16 @@ fn callers_identity_decides_before_the_next(rt: HostRuntime) -> Result<(), Fail>
         ("no own stanza", Unwrapped::NotMine, done(3)),
     ] {
         let mut identities: Identities = Vec::new(alloc);
-        identities.push(Box::new(alloc, FixedIdentity { answer })?)?;
-        identities.push(Box::new(alloc, PassIdentity::new(alloc, PASS, 22)?)?)?;
+        identities
+            .push(Box::new(alloc, FixedIdentity { answer }).expect(&rt, "memory"))
+            .expect(&rt, "memory");
+        identities
+            .push(Box::new(
+                alloc,
+                PassIdentity::new(alloc, PASS, 22).expect(&rt, "memory"),
+            )
+            .expect(&rt, "memory"))
+            .expect(&rt, "memory");
         let (met, plain) = decrypted(alloc, file.as_slice(), &identities, &limits);
         assert!(rt; met == expected, "{name}");
         let written = if expected.is_ok() {
@@ -63,42 +71,58 @@ fn callers_identity_decides_before_the_next(rt: HostRuntime) -> Result<(), Fail>
         assert!(rt; plain.as_slice() == written, "{name}");
     }
     let mut starved: Identities = Vec::new(alloc);
-    starved.push(Box::new(alloc, OutOfMemoryIdentity)?)?;
+    starved
+        .push(Box::new(alloc, OutOfMemoryIdentity).expect(&rt, "memory"))
+        .expect(&rt, "memory");
     let (met, plain) = decrypted(alloc, file.as_slice(), &starved, &limits);
     assert!(rt; met == Err(Fault::OutOfMemory));
     assert!(rt; plain.is_empty());
-    Ok(())
 }
 
 /// A recipient whose stanza has one argument of so many letters.
-fn recipients_of_length(alloc: Global, count: usize) -> Result<Recipients, Fail> {
+fn recipients_of_length(rt: &impl Abort, alloc: Global, count: usize) -> Recipients {
     let mut text = String::new(alloc);
     for _ in 0..count {
-        text.push('a')?;
+        text.push('a').expect(rt, "memory");
     }
     let mut recipients: Recipients = Vec::new(alloc);
-    recipients.push(Box::new(alloc, LongRecipient { text })?)?;
-    Ok(recipients)
+    recipients
+        .push(Box::new(alloc, LongRecipient { text }).expect(rt, "memory"))
+        .expect(rt, "memory");
+    recipients
 }
 
 /// What is refused before the first byte, and the greatest header.
 #[test]
-fn refused_recipients_write_nothing(rt: HostRuntime) -> Result<(), Fail> {
+fn refused_recipients_write_nothing(rt: HostRuntime) {
     let alloc = rt.alloc();
     let Some(limits) = Limits::new(1_024, 1) else {
         unreachable!();
     };
     let none: Recipients = Vec::new(alloc);
-    let mut mixed = passphrase_recipients(alloc)?;
-    mixed.push(Box::new(alloc, KeyRecipient::new([3; 32], SALT))?)?;
-    let mut refuses = key_recipients(alloc, 3)?;
-    refuses.push(Box::new(alloc, RefusingRecipient { code: 7 })?)?;
+    let mut mixed = passphrase_recipients(&rt, alloc);
+    mixed
+        .push(Box::new(alloc, KeyRecipient::new([3; 32], SALT)).expect(&rt, "memory"))
+        .expect(&rt, "memory");
+    let mut refuses = key_recipients(&rt, alloc, 3);
+    refuses
+        .push(Box::new(alloc, RefusingRecipient { code: 7 }).expect(&rt, "memory"))
+        .expect(&rt, "memory");
     let mut silent: Recipients = Vec::new(alloc);
-    silent.push(Box::new(alloc, NoStanza)?)?;
+    silent
+        .push(Box::new(alloc, NoStanza).expect(&rt, "memory"))
+        .expect(&rt, "memory");
     let mut pair: Recipients = Vec::new(alloc);
-    pair.push(Box::new(alloc, ScryptBesideAnother)?)?;
-    let mut two_passphrases = passphrase_recipients(alloc)?;
-    two_passphrases.push(Box::new(alloc, PassRecipient::new(alloc, PASS, SALT, 10)?)?)?;
+    pair.push(Box::new(alloc, ScryptBesideAnother).expect(&rt, "memory"))
+        .expect(&rt, "memory");
+    let mut two_passphrases = passphrase_recipients(&rt, alloc);
+    two_passphrases
+        .push(Box::new(
+            alloc,
+            PassRecipient::new(alloc, PASS, SALT, 10).expect(&rt, "memory"),
+        )
+        .expect(&rt, "memory"))
+        .expect(&rt, "memory");
     for (name, recipients, fault) in [
         ("no recipient", &none, Fault::NoRecipients),
         ("recipient without a stanza", &silent, Fault::NoRecipients),
@@ -120,7 +144,7 @@ fn refused_recipients_write_nothing(rt: HostRuntime) -> Result<(), Fail> {
         ("refusing recipient", &refuses, Fault::Refused(1, 7)),
         (
             "header over the limit",
-            &recipients_of_length(alloc, 950)?,
+            &recipients_of_length(&rt, alloc, 950),
             Fault::HeaderTooLarge,
         ),
     ] {
@@ -128,32 +152,35 @@ fn refused_recipients_write_nothing(rt: HostRuntime) -> Result<(), Fail> {
         assert!(rt; answer == Err(fault), "{name}");
         assert!(rt; out.is_empty(), "{name}");
     }
-    let (answer, out) = encrypted(alloc, b"", &recipients_of_length(alloc, 949)?, &limits);
+    let (answer, out) = encrypted(alloc, b"", &recipients_of_length(&rt, alloc, 949), &limits);
     assert!(rt; answer == done(0));
     assert_eq!(rt; out.len(), 1_024 + 32);
-    silent.push(Box::new(alloc, KeyRecipient::new([3; 32], SALT))?)?;
+    silent
+        .push(Box::new(alloc, KeyRecipient::new([3; 32], SALT)).expect(&rt, "memory"))
+        .expect(&rt, "memory");
     let (answer, out) = encrypted(alloc, b"", &silent, &limits);
     assert!(rt; answer == done(0));
     assert_eq!(rt; out.len(), 188);
-    Ok(())
 }
 
 /// Recipients with these labels; None stands for one that must stand alone.
-fn labelled(alloc: Global, all: &[Option<&[&str]>]) -> Result<Recipients, Fail> {
+fn labelled(rt: &impl Abort, alloc: Global, all: &[Option<&[&str]>]) -> Recipients {
     let mut recipients: Recipients = Vec::new(alloc);
     for names in all {
         let labels = match names {
-            Some(names) => Labels::Names(LabelSet::new(alloc, names)?),
+            Some(names) => Labels::Names(LabelSet::new(alloc, names).expect(rt, "memory")),
             None => Labels::Alone,
         };
-        recipients.push(Box::new(alloc, LabelledRecipient { labels })?)?;
+        recipients
+            .push(Box::new(alloc, LabelledRecipient { labels }).expect(rt, "memory"))
+            .expect(rt, "memory");
     }
-    Ok(recipients)
+    recipients
 }
 
 /// Recipients go together where their labels are the same set of names.
 #[test]
-fn recipients_with_equal_labels_go_together(rt: HostRuntime) -> Result<(), Fail> {
+fn recipients_with_equal_labels_go_together(rt: HostRuntime) {
     let alloc = rt.alloc();
     let limits = Limits::default();
     let incompatible = |i| Err(Fault::IncompatibleRecipients(i));
@@ -181,20 +208,21 @@ fn recipients_with_equal_labels_go_together(rt: HostRuntime) -> Result<(), Fail>
         ),
     ];
     for (name, labels, expected) in lists {
-        let (answer, out) = encrypted(alloc, b"", &labelled(alloc, labels)?, &limits);
+        let (answer, out) = encrypted(alloc, b"", &labelled(&rt, alloc, labels), &limits);
         assert!(rt; answer == expected, "{name}");
         assert!(rt; out.is_empty() == expected.is_err(), "{name}");
     }
-    Ok(())
 }
 
 /// A file of the usual tool's shape: the passphrase's identity finds nothing of its own.
 #[test]
-fn x25519_file_has_no_match_for_a_passphrase(rt: HostRuntime) -> Result<(), Fail> {
+fn x25519_file_has_no_match_for_a_passphrase(rt: HostRuntime) {
     let alloc = rt.alloc();
     let limits = Limits::default();
     let mut recipients: Recipients = Vec::new(alloc);
-    recipients.push(Box::new(alloc, X25519Shape)?)?;
+    recipients
+        .push(Box::new(alloc, X25519Shape).expect(&rt, "memory"))
+        .expect(&rt, "memory");
     let (answer, file) = encrypted(alloc, b"hello", &recipients, &limits);
     assert!(rt; answer == done(5));
     let shape =
@@ -203,29 +231,34 @@ fn x25519_file_has_no_match_for_a_passphrase(rt: HostRuntime) -> Result<(), Fail
     let (answer, _) = decrypted(
         alloc,
         file.as_slice(),
-        &passphrase_identities(alloc)?,
+        &passphrase_identities(&rt, alloc),
         &limits,
     );
     assert!(rt; answer == Err(Fault::NoMatch));
-    Ok(())
 }
 
 /// A passphrase stanza beside another is refused before any identity is asked; in place alone each
 /// is asked once.
 #[test]
-fn mixed_passphrase_asks_no_identity(rt: HostRuntime) -> Result<(), Fail> {
+fn mixed_passphrase_asks_no_identity(rt: HostRuntime) {
     let alloc = rt.alloc();
     let limits = Limits::default();
-    let asked = Rc::new(alloc, Cell::new(0u32))?;
+    let asked = Rc::new(alloc, Cell::new(0u32)).expect(&rt, "no fault");
     let mut identities: Identities = Vec::new(alloc);
     for _ in 0..2 {
         let counts = CountingIdentity {
-            asked: Rc::clone(&asked)?,
+            asked: Rc::clone(&asked).expect(&rt, "no fault"),
         };
-        identities.push(Box::new(alloc, counts)?)?;
+        identities
+            .push(Box::new(alloc, counts).expect(&rt, "memory"))
+            .expect(&rt, "memory");
     }
-    let alone = [VERSION, PASSPHRASE_STANZA, END].concat(alloc)?;
-    let mixed = [VERSION, PASSPHRASE_STANZA, OTHER_STANZA, END].concat(alloc)?;
+    let alone = [VERSION, PASSPHRASE_STANZA, END]
+        .concat(alloc)
+        .expect(&rt, "no fault");
+    let mixed = [VERSION, PASSPHRASE_STANZA, OTHER_STANZA, END]
+        .concat(alloc)
+        .expect(&rt, "no fault");
     let (answer, out) = decrypted(alloc, mixed.as_slice(), &identities, &limits);
     assert!(rt; answer == Err(Fault::MixedPassphrase));
     assert!(rt; out.is_empty());
@@ -233,5 +266,4 @@ fn mixed_passphrase_asks_no_identity(rt: HostRuntime) -> Result<(), Fail> {
     let (answer, _) = decrypted(alloc, alone.as_slice(), &identities, &limits);
     assert!(rt; answer == Err(Fault::NoMatch));
     assert_eq!(rt; asked.get(), 2);
-    Ok(())
 }

@@ -10,16 +10,20 @@ use age_file::{Decryptor, Encryptor, Fault, Limits, MemAt, ReadAt, StanzaFault, 
 use age_header::{MemSource, Source};
 use std::alloc::Global;
 use std::process::Abort;
-use std::test::Fail;
 
 /// The header and the nonce have 172 bytes. Each write failed in turn: the failed write is the
 /// last, and is counted once.
 #[test]
-fn failed_write_of_the_front_is_the_last(rt: HostRuntime) -> Result<(), Fail> {
+fn failed_write_of_the_front_is_the_last(rt: HostRuntime) {
     let alloc = rt.alloc();
-    let recipients = key_recipients(alloc, 3)?;
+    let recipients = key_recipients(&rt, alloc, 3);
     for most in 0..172 {
-        let encryptor = Encryptor::new(alloc, recipients.as_slice(), &FRESH, &Limits::default())?;
+        let encryptor = Encryptor::new(
+            alloc,
+            recipients.as_slice(),
+            &FRESH,
+            &Limits::default(),
+        ).expect(&rt, "no fault");
         let mut sink = FailingSink::new(Vec::new(alloc), most);
         match encryptor.start(alloc, &mut sink) {
             Ok(writer) => {
@@ -32,7 +36,6 @@ fn failed_write_of_the_front_is_the_last(rt: HostRuntime) -> Result<(), Fail> {
         assert_eq!(rt; sink.calls, most + 1);
         assert_eq!(rt; sink.failures, 1, "{most} bytes");
     }
-    Ok(())
 }
 
 /// The fault of reading a file in steps, up to its nonce.
@@ -46,9 +49,9 @@ fn read_fault<S: Source>(alloc: Global, source: &mut S, identities: &Identities)
 /// The header is read byte by byte, and the nonce at once. Each read failed in turn: the failed
 /// read is the last, and is counted once.
 #[test]
-fn failed_read_of_the_front_is_the_last(rt: HostRuntime) -> Result<(), Fail> {
+fn failed_read_of_the_front_is_the_last(rt: HostRuntime) {
     let alloc = rt.alloc();
-    let identities = key_identities(alloc, 3)?;
+    let identities = key_identities(&rt, alloc, 3);
     for failing in 1..159 {
         let mut source = FailingSource::new(FILE, 16, failing);
         let met = read_fault(alloc, &mut source, &identities);
@@ -72,7 +75,6 @@ fn failed_read_of_the_front_is_the_last(rt: HostRuntime) -> Result<(), Fail> {
         assert_eq!(rt; dev.reads, failing);
         assert_eq!(rt; dev.failures(), 1, "read {failing}");
     }
-    Ok(())
 }
 
 /// Refuses a file in steps and for ranges with this fault, so many of its bytes not being read.
@@ -97,11 +99,13 @@ fn refused<T: Abort>(
 /// What is refused after the header, and before the nonce, has read the header alone, and leaves
 /// the payload, 32 bytes.
 #[test]
-fn refused_file_is_read_no_further(rt: HostRuntime) -> Result<(), Fail> {
+fn refused_file_is_read_no_further(rt: HostRuntime) {
     let alloc = rt.alloc();
-    let right = key_identities(alloc, 3)?;
+    let right = key_identities(&rt, alloc, 3);
     let payload = &FILE[156..];
-    let mixed = [VERSION, PASSPHRASE_STANZA, OTHER_STANZA, END, payload].concat(alloc)?;
+    let mixed = [VERSION, PASSPHRASE_STANZA, OTHER_STANZA, END, payload]
+        .concat(alloc)
+        .expect(&rt, "no fault");
     refused(
         &rt,
         alloc,
@@ -114,7 +118,7 @@ fn refused_file_is_read_no_further(rt: HostRuntime) -> Result<(), Fail> {
         &rt,
         alloc,
         FILE,
-        &key_identities(alloc, 4)?,
+        &key_identities(&rt, alloc, 4),
         (Fault::WrongKey, 32),
     );
     // the last character of the stanza's salt, and the first of the MAC
@@ -122,12 +126,11 @@ fn refused_file_is_read_no_further(rt: HostRuntime) -> Result<(), Fail> {
         (62, Fault::Malformed(StanzaFault::Salt)),
         (112, Fault::BadMac),
     ] {
-        let mut changed = Vec::from_slice(alloc, FILE)?;
+        let mut changed = Vec::from_slice(alloc, FILE).expect(&rt, "memory");
         if let Some(byte) = changed.as_mut_slice().get_mut(at) {
             *byte ^= 1;
         }
         refused(&rt, alloc, changed.as_slice(), &right, (fault, 32));
     }
     refused(&rt, alloc, &FILE[..171], &right, (Fault::NonceTruncated, 0));
-    Ok(())
 }

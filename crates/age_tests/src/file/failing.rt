@@ -13,19 +13,19 @@ use age_file::{
 use age_header::{MemSink, MemSource, Sink};
 use age_recipient::{KeyIdentity, KeyRecipient};
 use std::alloc::Global;
-use std::test::Fail;
+use std::process::Abort;
 
 /// A sink over a slice of each length: it gets a prefix of the passphrase's file, as much as it has
 /// room for.
 #[test]
-fn failing_sink_gets_a_beginning_of_the_file(rt: HostRuntime) -> Result<(), Fail> {
+fn failing_sink_gets_a_beginning_of_the_file(rt: HostRuntime) {
     let alloc = rt.alloc();
     let limits = Limits::default();
-    let recipients = passphrase_recipients(alloc)?;
+    let recipients = passphrase_recipients(&rt, alloc);
     let (_, file) = encrypted(alloc, b"", &recipients, &limits);
     assert_eq!(rt; file.len(), 182);
     for len in 0..183 {
-        let mut room = vec![in alloc; 0u8; len]?;
+        let mut room = vec![in alloc; 0u8; len].expect(&rt, "memory");
         let mut sink = WriteSink::new(room.as_mut_slice());
         let answer = encrypt(
             alloc,
@@ -45,60 +45,59 @@ fn failing_sink_gets_a_beginning_of_the_file(rt: HostRuntime) -> Result<(), Fail
             "room for {len} bytes"
         );
     }
-    Ok(())
 }
 
 /// How many reads of at most 1,000 bytes decrypting makes, where the read with this number fails.
 fn reads_until(
+    rt: &impl Abort,
     alloc: Global,
     file: &[u8],
     plain: &[u8],
     failing: u64,
-) -> Result<(u64, bool), Fail> {
+) -> (u64, bool) {
     let mut source = FailingSource::new(file, 1_000, failing);
     let mut sink = FailingSink::new(Vec::new(alloc), 100_000);
     let answer = decrypt(
         alloc,
         &mut source,
         &mut sink,
-        passphrase_identities(alloc)?.as_slice(),
+        passphrase_identities(rt, alloc).as_slice(),
         &Limits::default(),
     );
     let whole = answer.is_ok() && sink.bytes.as_slice() == plain;
     let failed = answer == Err(Fault::Read) && plain.starts_with(sink.bytes.as_slice());
-    Ok((source.reads, if failing == 0 { whole } else { failed }))
+    (source.reads, if failing == 0 { whole } else { failed })
 }
 
 /// Decrypting two chunks, with each read failed in turn: a prefix of the plaintext is written, and
 /// nothing more is read.
 #[test]
-fn failing_read_leaves_a_beginning_of_the_plaintext(rt: HostRuntime) -> Result<(), Fail> {
+fn failing_read_leaves_a_beginning_of_the_plaintext(rt: HostRuntime) {
     let alloc = rt.alloc();
-    let plain = sevens(alloc, 65_537)?;
+    let plain = sevens(&rt, alloc, 65_537);
     let (_, file) = encrypted(
         alloc,
         plain.as_slice(),
-        &passphrase_recipients(alloc)?,
+        &passphrase_recipients(&rt, alloc),
         &Limits::default(),
     );
-    let (reads, whole) = reads_until(alloc, file.as_slice(), plain.as_slice(), 0)?;
+    let (reads, whole) = reads_until(&rt, alloc, file.as_slice(), plain.as_slice(), 0);
     assert!(rt; whole && reads > 150 + 65);
     for failing in 1..reads {
-        let (met, failed) = reads_until(alloc, file.as_slice(), plain.as_slice(), failing)?;
+        let (met, failed) = reads_until(&rt, alloc, file.as_slice(), plain.as_slice(), failing);
         assert!(rt; failed, "read {failing}");
         assert_eq!(rt; met, failing);
     }
-    Ok(())
 }
 
 /// A source of a plaintext of two chunks that fails: nothing is written before the first chunk is
 /// full, which 66 reads of at most 1,000 bytes do, and a prefix of the file after that.
 #[test]
-fn failing_plaintext_leaves_a_beginning_of_the_file(rt: HostRuntime) -> Result<(), Fail> {
+fn failing_plaintext_leaves_a_beginning_of_the_file(rt: HostRuntime) {
     let alloc = rt.alloc();
     let limits = Limits::default();
-    let recipients = key_recipients(alloc, 3)?;
-    let plain = sevens(alloc, 65_537)?;
+    let recipients = key_recipients(&rt, alloc, 3);
+    let plain = sevens(&rt, alloc, 65_537);
     let (_, whole) = encrypted(alloc, plain.as_slice(), &recipients, &limits);
     for (failing, len) in [(1, 0), (66, 0), (67, 172), (68, 172 + 65_552)] {
         let mut source = FailingSource::new(plain.as_slice(), 1_000, failing);
@@ -119,35 +118,40 @@ fn failing_plaintext_leaves_a_beginning_of_the_file(rt: HostRuntime) -> Result<(
         );
         assert_eq!(rt; source.reads, failing);
     }
-    Ok(())
 }
 
 /// A reader's failed read is returned again, and the source isn't asked again.
 #[test]
-fn reader_returns_a_failed_read_again(rt: HostRuntime) -> Result<(), Fail> {
+fn reader_returns_a_failed_read_again(rt: HostRuntime) {
     let alloc = rt.alloc();
     let limits = Limits::default();
-    let plain = sevens(alloc, 65_537)?;
-    let (_, file) = encrypted(alloc, plain.as_slice(), &key_recipients(alloc, 3)?, &limits);
+    let plain = sevens(&rt, alloc, 65_537);
+    let (_, file) = encrypted(
+        alloc,
+        plain.as_slice(),
+        &key_recipients(&rt, alloc, 3),
+        &limits,
+    );
     let failing = 156 + 1 + 10;
     let mut source = FailingSource::new(file.as_slice(), 1_000, failing);
-    let decryptor = Decryptor::new(alloc, &mut source, &limits)?;
-    let mut reader = decryptor.unlock(alloc, key_identities(alloc, 3)?.as_slice())?;
+    let decryptor = Decryptor::new(alloc, &mut source, &limits).expect(&rt, "no fault");
+    let mut reader = decryptor
+        .unlock(alloc, key_identities(&rt, alloc, 3).as_slice())
+        .expect(&rt, "no fault");
     for _ in 0..3 {
         assert!(rt; matches!(reader.next_chunk(), Err(StreamFault::Read)));
     }
     drop(reader);
     assert_eq!(rt; source.reads, failing);
     assert_eq!(rt; source.failures, 1);
-    Ok(())
 }
 
 /// A writer that takes nothing of a piece, and devices whose count of failures can't rise any more.
 #[test]
-fn devices_at_their_limits_return_their_fault(rt: HostRuntime) -> Result<(), Fail> {
+fn devices_at_their_limits_return_their_fault(rt: HostRuntime) {
     let alloc = rt.alloc();
     let limits = Limits::default();
-    let recipients = key_recipients(alloc, 3)?;
+    let recipients = key_recipients(&rt, alloc, 3);
     let mut nothing = WriteSink::new(TakesNothing);
     let answer = encrypt(
         alloc,
@@ -176,11 +180,10 @@ fn devices_at_their_limits_return_their_fault(rt: HostRuntime) -> Result<(), Fai
         alloc,
         &mut source,
         &mut sink,
-        key_identities(alloc, 3)?.as_slice(),
+        key_identities(&rt, alloc, 3).as_slice(),
         &limits,
     );
     assert!(rt; answer == Err(Fault::Read) && source.failures == u64::MAX);
-    Ok(())
 }
 
 /// The file of the empty plaintext for the key of 32 bytes 3, by tests/reference.py.
@@ -262,23 +265,22 @@ fn payload_or_starves(alloc: Global) -> bool {
 /// The calls in steps are Ok or out of memory, and nothing else; their set-up may be out of memory
 /// too. tests/test_libraries.py refuses each in turn.
 #[test]
-fn whole_or_out_of_memory(rt: HostRuntime) -> Result<(), Fail> {
+fn whole_or_out_of_memory(rt: HostRuntime) {
     let alloc = rt.alloc();
     let limits = Limits::default();
     let mut recipients: Recipients = Vec::new(alloc);
     let mut identities: Identities = Vec::new(alloc);
     let Ok(recipient) = Box::new(alloc, KeyRecipient::new([3; 32], SALT)) else {
-        return Ok(());
+        return;
     };
     let Ok(identity) = Box::new(alloc, KeyIdentity::new([3; 32])) else {
-        return Ok(());
+        return;
     };
     if recipients.push(recipient).is_err() || identities.push(identity).is_err() {
-        return Ok(());
+        return;
     }
     assert!(rt; starts_or_starves(alloc, &recipients, &limits));
     assert!(rt; reads_or_starves(alloc, &identities, &limits));
     assert!(rt; opens_or_starves(alloc, &identities, &limits));
     assert!(rt; payload_or_starves(alloc));
-    Ok(())
 }

@@ -4,17 +4,16 @@ use super::{Identities, encrypted, key_identities, passphrase_identities, passph
 use age_file::{Fault, Limits, MemAt, RangeReader, ReadAt, StreamFault, open_ranges};
 use std::alloc::Global;
 use std::process::Abort;
-use std::test::Fail;
 
 /// A file of this many bytes, each its place modulo 251, for the passphrase.
-fn file_of(alloc: Global, len: usize) -> Result<Vec<u8>, Fail> {
+fn file_of(rt: &impl Abort, alloc: Global, len: usize) -> Vec<u8> {
     let mut plain = Vec::new(alloc);
     for at in 0..len {
-        plain.push((at % 251) as u8)?;
+        plain.push((at % 251) as u8).expect(rt, "memory");
     }
-    let recipients = passphrase_recipients(alloc)?;
+    let recipients = passphrase_recipients(rt, alloc);
     let (_, file) = encrypted(alloc, plain.as_slice(), &recipients, &Limits::default());
-    Ok(file)
+    file
 }
 
 /// Reads a range into a buffer of bytes 255: what is returned, and how many bytes of the plaintext
@@ -26,8 +25,8 @@ fn range<T: Abort>(
     (at, len): (u64, usize),
     answer: Result<usize, StreamFault>,
     filled: usize,
-) -> Result<(), Fail> {
-    let mut buf = vec![in alloc; 255u8; len]?;
+) {
+    let mut buf = vec![in alloc; 255u8; len].expect(rt, "memory");
     assert_eq!(rt;
         reader.read_range(at, buf.as_mut_slice()),
         answer,
@@ -41,28 +40,28 @@ fn range<T: Abort>(
         };
         assert_eq!(rt; buf[i], byte, "byte {i} of {len} at {at}");
     }
-    Ok(())
 }
 
 /// Three chunks, of which the middle one is damaged.
 #[test]
-fn damaged_middle_chunk_leaves_the_others_readable(rt: HostRuntime) -> Result<(), Fail> {
+fn damaged_middle_chunk_leaves_the_others_readable(rt: HostRuntime) {
     let alloc = rt.alloc();
-    let mut file = file_of(alloc, 140_000)?;
+    let mut file = file_of(&rt, alloc, 140_000);
     assert_eq!(rt; file.len(), 140_214);
     file.as_mut_slice()[65_718] ^= 1;
-    let identities = passphrase_identities(alloc)?;
+    let identities = passphrase_identities(&rt, alloc);
     let mut dev = MemAt::new(file.as_slice());
-    let mut reader = open_ranges(alloc, &mut dev, identities.as_slice(), &Limits::default())?;
+    let mut reader = open_ranges(alloc, &mut dev, identities.as_slice(), &Limits::default()).expect(
+        &rt, "no fault",
+    );
     assert_eq!(rt; reader.plain_len(), 140_000);
-    range(&rt, alloc, &mut reader, (0, 65_536), Ok(65_536), 65_536)?;
+    range(&rt, alloc, &mut reader, (0, 65_536), Ok(65_536), 65_536);
     let answer = Err(StreamFault::BadChunk(1));
-    range(&rt, alloc, &mut reader, (65_530, 10), answer, 6)?;
-    range(&rt, alloc, &mut reader, (131_072, 8_928), Ok(8_928), 8_928)?;
+    range(&rt, alloc, &mut reader, (65_530, 10), answer, 6);
+    range(&rt, alloc, &mut reader, (131_072, 8_928), Ok(8_928), 8_928);
     drop(reader);
     let opened = 8_944 + 65_552 + 65_552 + 8_944;
     assert_eq!(rt; dev.given(), 150 + 16 + opened);
-    Ok(())
 }
 
 /// What opening returns for the front of a file, under these identities and limits.
@@ -83,11 +82,11 @@ fn refused<T: Abort>(
 
 /// Files that don't open, with the first fault that applies.
 #[test]
-fn open_ranges_returns_the_first_fault(rt: HostRuntime) -> Result<(), Fail> {
+fn open_ranges_returns_the_first_fault(rt: HostRuntime) {
     let alloc = rt.alloc();
-    let file = file_of(alloc, 65_537)?;
+    let file = file_of(&rt, alloc, 65_537);
     assert_eq!(rt; file.len(), 65_735);
-    let identities = passphrase_identities(alloc)?;
+    let identities = passphrase_identities(&rt, alloc);
     let limits = Limits::default();
     for (len, fault) in [
         (149, Fault::HeaderTruncated),
@@ -100,7 +99,7 @@ fn open_ranges_returns_the_first_fault(rt: HostRuntime) -> Result<(), Fail> {
         let front = &file.as_slice()[..len];
         refused(&rt, alloc, front, &identities, &limits, fault);
     }
-    let other = key_identities(alloc, 3)?;
+    let other = key_identities(&rt, alloc, 3);
     refused(&rt, alloc, file.as_slice(), &other, &limits, Fault::NoMatch);
     let mut damaged = file;
     damaged.as_mut_slice()[65_734] ^= 1;
@@ -109,5 +108,4 @@ fn open_ranges_returns_the_first_fault(rt: HostRuntime) -> Result<(), Fail> {
     if let Some(one) = Limits::new(65_536, 1) {
         refused(&rt, alloc, bytes, &identities, &one, Fault::TooManyChunks);
     }
-    Ok(())
 }

@@ -10,7 +10,7 @@ use age_file::{Fault, Limits, rewrap};
 use age_header::{MemSink, MemSource};
 use age_recipient::{PassIdentity, PassRecipient};
 use std::alloc::Global;
-use std::test::Fail;
+use std::process::Abort;
 
 /// What rewrapping returns, and what was written.
 fn rewrapped(
@@ -33,109 +33,151 @@ fn rewrapped(
 
 /// From one passphrase to another, with another work factor.
 #[test]
-fn rewrapped_file_needs_the_new_passphrase(rt: HostRuntime) -> Result<(), Fail> {
+fn rewrapped_file_needs_the_new_passphrase(rt: HostRuntime) {
     let alloc = rt.alloc();
     let limits = Limits::default();
-    let (_, file) = encrypted(alloc, b"", &passphrase_recipients(alloc)?, &limits);
+    let (_, file) = encrypted(alloc, b"", &passphrase_recipients(&rt, alloc), &limits);
     let mut recipients: Recipients = Vec::new(alloc);
-    recipients.push(Box::new(alloc, PassRecipient::new(alloc, b"p2", [9; 16], 12)?)?)?;
+    recipients
+        .push(Box::new(
+            alloc,
+            PassRecipient::new(alloc, b"p2", [9; 16], 12).expect(&rt, "memory"),
+        )
+        .expect(&rt, "memory"))
+        .expect(&rt, "memory");
     let (answer, new) = rewrapped(
         alloc,
         file.as_slice(),
-        &passphrase_identities(alloc)?,
+        &passphrase_identities(&rt, alloc),
         &recipients,
     );
     assert!(rt; answer == Ok(()));
     assert_eq!(rt; new.len(), 182);
     let mut identities: Identities = Vec::new(alloc);
-    identities.push(Box::new(alloc, PassIdentity::new(alloc, b"p2", 12)?)?)?;
+    identities
+        .push(Box::new(
+            alloc,
+            PassIdentity::new(alloc, b"p2", 12).expect(&rt, "memory"),
+        )
+        .expect(&rt, "memory"))
+        .expect(&rt, "memory");
     let (answer, _) = decrypted(alloc, new.as_slice(), &identities, &limits);
     assert!(rt; answer.is_ok());
     let (answer, _) = decrypted(
         alloc,
         new.as_slice(),
-        &passphrase_identities(alloc)?,
+        &passphrase_identities(&rt, alloc),
         &limits,
     );
     assert!(rt; answer == Err(Fault::WrongKey));
-    Ok(())
 }
 
 /// Whether a file of the passphrase, rewrapped to a key, has this length, and both decrypt with
 /// this fault.
-fn is_kept(alloc: Global, file: &[u8], len: usize, fault: Option<Fault>) -> Result<bool, Fail> {
+fn is_kept(rt: &impl Abort, alloc: Global, file: &[u8], len: usize, fault: Option<Fault>) -> bool {
     let limits = Limits::default();
     let (answer, new) = rewrapped(
         alloc,
         file,
-        &passphrase_identities(alloc)?,
-        &key_recipients(alloc, 3)?,
+        &passphrase_identities(rt, alloc),
+        &key_recipients(rt, alloc, 3),
     );
-    let (before, _) = decrypted(alloc, file, &passphrase_identities(alloc)?, &limits);
-    let (after, _) = decrypted(alloc, new.as_slice(), &key_identities(alloc, 3)?, &limits);
-    Ok(answer == Ok(()) && new.len() == len && before.err() == fault && after.err() == fault)
+    let (before, _) = decrypted(alloc, file, &passphrase_identities(rt, alloc), &limits);
+    let (after, _) = decrypted(
+        alloc,
+        new.as_slice(),
+        &key_identities(rt, alloc, 3),
+        &limits,
+    );
+    answer == Ok(()) && new.len() == len && before.err() == fault && after.err() == fault
 }
 
 /// To a key: a file, a file whose last chunk is cut away, and one that ends in its nonce.
 #[test]
-fn rewrap_to_a_key_keeps_the_verdict(rt: HostRuntime) -> Result<(), Fail> {
+fn rewrap_to_a_key_keeps_the_verdict(rt: HostRuntime) {
     let alloc = rt.alloc();
     let limits = Limits::default();
-    let recipients = passphrase_recipients(alloc)?;
+    let recipients = passphrase_recipients(&rt, alloc);
     let (_, mut file) = encrypted(alloc, b"", &recipients, &limits);
-    assert!(rt; is_kept(alloc, file.as_slice(), 188, None)?);
+    assert!(rt; is_kept(&rt, alloc, file.as_slice(), 188, None));
     file.truncate(155);
-    assert!(rt; is_kept(alloc, file.as_slice(), 161, Some(Fault::NonceTruncated))?);
-    let plain = sevens(alloc, 65_537)?;
+    assert!(rt;
+        is_kept(
+            &rt,
+            alloc,
+            file.as_slice(),
+            161,
+            Some(Fault::NonceTruncated)
+        )
+    );
+    let plain = sevens(&rt, alloc, 65_537);
     let (_, mut file) = encrypted(alloc, plain.as_slice(), &recipients, &limits);
     file.truncate(65_718);
-    assert!(rt; is_kept(alloc, file.as_slice(), 65_724, Some(Fault::BadChunk(0)))?);
-    Ok(())
+    assert!(rt;
+        is_kept(
+            &rt,
+            alloc,
+            file.as_slice(),
+            65_724,
+            Some(Fault::BadChunk(0))
+        )
+    );
 }
 
 /// Whether rewrapping with the identity of this key is refused so, with nothing written.
 fn is_refused(
+    rt: &impl Abort,
     alloc: Global,
     file: &[u8],
     key: u8,
     recipients: &Recipients,
     fault: Fault,
-) -> Result<bool, Fail> {
-    let (answer, new) = rewrapped(alloc, file, &key_identities(alloc, key)?, recipients);
-    Ok(answer == Err(fault) && new.is_empty())
+) -> bool {
+    let (answer, new) = rewrapped(alloc, file, &key_identities(rt, alloc, key), recipients);
+    answer == Err(fault) && new.is_empty()
 }
 
 /// What is refused before the first byte: by the old header, then by the new one.
 #[test]
-fn refused_rewrap_writes_nothing(rt: HostRuntime) -> Result<(), Fail> {
+fn refused_rewrap_writes_nothing(rt: HostRuntime) {
     let alloc = rt.alloc();
     let (_, file) = encrypted(
         alloc,
         b"abc",
-        &key_recipients(alloc, 1)?,
+        &key_recipients(&rt, alloc, 1),
         &Limits::default(),
     );
     let file = file.as_slice();
     let none: Recipients = Vec::new(alloc);
-    let mut mixed = passphrase_recipients(alloc)?;
-    mixed.append(&mut key_recipients(alloc, 3)?)?;
-    assert!(rt; is_refused(alloc, file, 2, &none, Fault::WrongKey)?);
-    assert!(rt; is_refused(alloc, file, 1, &none, Fault::NoRecipients)?);
-    assert!(rt; is_refused(alloc, file, 1, &mixed, Fault::IncompatibleRecipients(1))?);
-    Ok(())
+    let mut mixed = passphrase_recipients(&rt, alloc);
+    mixed
+        .append(&mut key_recipients(&rt, alloc, 3))
+        .expect(&rt, "memory");
+    assert!(rt; is_refused(&rt, alloc, file, 2, &none, Fault::WrongKey));
+    assert!(rt; is_refused(&rt, alloc, file, 1, &none, Fault::NoRecipients));
+    assert!(rt;
+        is_refused(
+            &rt,
+            alloc,
+            file,
+            1,
+            &mixed,
+            Fault::IncompatibleRecipients(1)
+        )
+    );
 }
 
 /// Each read and each write fails in turn: what was written is a prefix of the new file.
 #[test]
-fn failing_devices_leave_a_beginning_of_the_rewrapped_file(rt: HostRuntime) -> Result<(), Fail> {
+fn failing_devices_leave_a_beginning_of_the_rewrapped_file(rt: HostRuntime) {
     let alloc = rt.alloc();
     let (_, file) = encrypted(
         alloc,
         b"abc",
-        &key_recipients(alloc, 1)?,
+        &key_recipients(&rt, alloc, 1),
         &Limits::default(),
     );
-    let (identities, recipients) = (key_identities(alloc, 1)?, key_recipients(alloc, 3)?);
+    let (identities, recipients) = (key_identities(&rt, alloc, 1), key_recipients(&rt, alloc, 3));
     let (_, whole) = rewrapped(alloc, file.as_slice(), &identities, &recipients);
     assert_eq!(rt; whole.len(), 191);
     for failing in 1..200 {
@@ -180,5 +222,4 @@ fn failing_devices_leave_a_beginning_of_the_rewrapped_file(rt: HostRuntime) -> R
             "room for {most} bytes"
         );
     }
-    Ok(())
 }

@@ -3,37 +3,39 @@
 use super::{FRESH, encrypted, key_identities, key_recipients, sevens};
 use age_file::{Decryptor, Encryptor, Fault, Limits};
 use age_header::{MemSink, MemSource};
-use std::test::Fail;
 
 /// The file that `encrypt` writes, and its plaintext again.
 #[test]
-fn steps_write_and_read_the_same_file(rt: HostRuntime) -> Result<(), Fail> {
+fn steps_write_and_read_the_same_file(rt: HostRuntime) {
     let alloc = rt.alloc();
     let limits = Limits::default();
-    let recipients = key_recipients(alloc, 3)?;
-    let plain = sevens(alloc, 65_537)?;
+    let recipients = key_recipients(&rt, alloc, 3);
+    let plain = sevens(&rt, alloc, 65_537);
     let (_, file) = encrypted(alloc, plain.as_slice(), &recipients, &limits);
-    let encryptor = Encryptor::new(alloc, recipients.as_slice(), &FRESH, &limits)?;
+    let encryptor = Encryptor::new(alloc, recipients.as_slice(), &FRESH, &limits).expect(
+        &rt, "no fault",
+    );
     let mut sink = MemSink::new(Vec::new(alloc));
-    let mut writer = encryptor.start(alloc, &mut sink)?;
+    let mut writer = encryptor.start(alloc, &mut sink).expect(&rt, "no fault");
     let piece = writer.write_piece(plain.as_slice());
     let done = writer.finish();
     assert!(rt; piece.is_ok() && done.is_ok_and(|done| done.chunks == 2));
     assert!(rt; sink.into_vec() == file);
     let mut source = MemSource::new(file.as_slice());
-    let decryptor = Decryptor::new(alloc, &mut source, &limits)?;
+    let decryptor = Decryptor::new(alloc, &mut source, &limits).expect(&rt, "no fault");
     assert_eq!(rt; decryptor.stanzas().len(), 1);
-    let mut reader = decryptor.unlock(alloc, key_identities(alloc, 3)?.as_slice())?;
+    let mut reader = decryptor
+        .unlock(alloc, key_identities(&rt, alloc, 3).as_slice())
+        .expect(&rt, "no fault");
     let mut text = Vec::new(alloc);
     for _ in 0..3 {
-        if let Some(chunk) = reader.next_chunk()? {
-            text.extend_from_slice(chunk)?;
+        if let Some(chunk) = reader.next_chunk().expect(&rt, "no fault") {
+            text.extend_from_slice(chunk).expect(&rt, "memory");
         }
     }
     assert!(rt; text == plain);
     let mut source = MemSource::new(file.as_slice());
-    let decryptor = Decryptor::new(alloc, &mut source, &limits)?;
-    let other = decryptor.unlock(alloc, key_identities(alloc, 4)?.as_slice());
+    let decryptor = Decryptor::new(alloc, &mut source, &limits).expect(&rt, "no fault");
+    let other = decryptor.unlock(alloc, key_identities(&rt, alloc, 4).as_slice());
     assert!(rt; matches!(&other, Err(Fault::WrongKey)));
-    Ok(())
 }

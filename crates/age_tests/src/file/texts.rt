@@ -2,10 +2,9 @@
 
 use age_file::Fault;
 use age_recipient::StanzaFault;
-use std::test::Fail;
 
 #[test]
-fn each_fault_has_its_text(rt: HostRuntime) -> Result<(), Fail> {
+fn each_fault_has_its_text(rt: HostRuntime) {
     for (fault, text) in [
         (Fault::NotAge, "not an age file"),
         (Fault::BadLine(2), "bad header line 2"),
@@ -64,8 +63,7 @@ fn each_fault_has_its_text(rt: HostRuntime) -> Result<(), Fail> {
             "recipient 2 does not go with recipient 0",
         ),
     ] {
-        let said = format!(in rt.alloc(); "{fault}")?;
+        let said = format!(in rt.alloc(); "{fault}").expect(&rt, "memory");
         assert_eq!(rt; said.as_str(), text, "{text}");
     }
-    Ok(())
 }

@@ -4,7 +4,6 @@
 use age_header::{ReadSource, Sink, Source, WriteSink, write_all};
 use std::io;
 use std::io::{ErrorKind, Read, Write};
-use std::test::Fail;
 
 /// The errors after which another call may succeed.
 const PASSING: [ErrorKind; 2] = [ErrorKind::Interrupted, ErrorKind::WouldBlock];
@@ -53,7 +52,7 @@ impl Write for LateWriter {
 }
 
 #[test]
-fn failed_read_is_not_retried(rt: HostRuntime) -> Result<(), Fail> {
+fn failed_read_is_not_retried(rt: HostRuntime) {
     for error in PASSING {
         let mut source = ReadSource::new(LateReader {
             error,
@@ -68,11 +67,10 @@ fn failed_read_is_not_retried(rt: HostRuntime) -> Result<(), Fail> {
         assert_eq!(rt; source.failures(), 1);
         assert_eq!(rt; source.into_inner().calls, 2);
     }
-    Ok(())
 }
 
 #[test]
-fn failed_write_is_not_retried(rt: HostRuntime) -> Result<(), Fail> {
+fn failed_write_is_not_retried(rt: HostRuntime) {
     for error in [Some(PASSING[0]), Some(PASSING[1]), None] {
         let mut sink = WriteSink::new(LateWriter {
             error,
@@ -87,5 +85,4 @@ fn failed_write_is_not_retried(rt: HostRuntime) -> Result<(), Fail> {
         assert_eq!(rt; writer.calls, 2);
         assert_eq!(rt; writer.taken.as_slice(), b"abc".as_slice());
     }
-    Ok(())
 }

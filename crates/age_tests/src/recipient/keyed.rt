@@ -8,7 +8,6 @@ use age_recipient::{
 };
 use std::alloc::Global;
 use std::process::Abort;
-use std::test::Fail;
 
 const SECRET: [u8; 32] = [
     0x00, 0x01, 0x02, 0x03, 0x04, 0x05, 0x06, 0x07, 0x08, 0x09, 0x0a, 0x0b, 0x0c, 0x0d, 0x0e, 0x0f,
@@ -27,34 +26,37 @@ fn unwrapped_stanzas(
     alloc: Global,
     secret: [u8; 32],
     stanzas: &[(&[&str], &[u8])],
-) -> Result<Unwrapped, Fail> {
+) -> Unwrapped {
     let mut made = Vec::new(alloc);
     for (args, body) in stanzas {
         match Stanza::new(alloc, args, body) {
-            Ok(stanza) => made.push(stanza)?,
+            Ok(stanza) => made.push(stanza).expect(rt, "memory"),
             Err(_) => assert!(rt; false),
         }
     }
-    Ok(KeyIdentity::new(secret).unwrap(alloc, made.as_slice())?)
+    KeyIdentity::new(secret)
+        .unwrap(alloc, made.as_slice())
+        .expect(rt, "no fault")
 }
 
 #[test]
-fn key_pair_unwraps_what_it_wraps(rt: HostRuntime) -> Result<(), Fail> {
+fn key_pair_unwraps_what_it_wraps(rt: HostRuntime) {
     let alloc = rt.alloc();
-    let stanzas = KeyRecipient::new(SECRET, SALT).wrap(alloc, &KEY)?;
+    let stanzas = KeyRecipient::new(SECRET, SALT)
+        .wrap(alloc, &KEY)
+        .expect(&rt, "no fault");
     assert_eq!(rt; stanzas.len(), 1);
     let stanza = &stanzas[0];
     assert_eq!(rt; stanza.args().len(), 2);
     assert_eq!(rt; stanza.args()[0].as_str(), "example.org/key");
     assert_eq!(rt; stanza.args()[1].as_str(), SALT_TEXT);
     assert_eq!(rt; stanza.body(), BODY.as_slice());
-    assert!(rt; gives_back(alloc, &KeyPair::new(SECRET, SALT))?);
-    assert!(rt; gives_back(alloc, &KeyPair::new([0xff; 32], [0; 16]))?);
-    Ok(())
+    assert!(rt; gives_back(&rt, alloc, &KeyPair::new(SECRET, SALT)));
+    assert!(rt; gives_back(&rt, alloc, &KeyPair::new([0xff; 32], [0; 16])));
 }
 
 #[test]
-fn keyed_stanza_is_checked_in_order(rt: HostRuntime) -> Result<(), Fail> {
+fn keyed_stanza_is_checked_in_order(rt: HostRuntime) {
     let own: &[&str] = &["example.org/key", SALT_TEXT];
     let cut: &[&str] = &["example.org/key", "ICEiIyQlJicoKSorLC0uL"];
     let three: &[&str] = &["example.org/key", "ICEiIyQlJicoKSorLC0uL", "x"];
@@ -95,26 +97,36 @@ fn keyed_stanza_is_checked_in_order(rt: HostRuntime) -> Result<(), Fail> {
     ];
     for (name, stanzas, expected) in found {
         assert!(rt;
-            unwrapped_stanzas(&rt, rt.alloc(), SECRET, stanzas)? == expected,
+            unwrapped_stanzas(&rt, rt.alloc(), SECRET, stanzas) == expected,
             "{name}"
         );
     }
-    Ok(())
 }
 
 #[test]
-fn each_of_several_identities_is_tried(rt: HostRuntime) -> Result<(), Fail> {
+fn each_of_several_identities_is_tried(rt: HostRuntime) {
     let alloc = rt.alloc();
-    let stanzas = KeyRecipient::new(SECRET, SALT).wrap(alloc, &KEY)?;
+    let stanzas = KeyRecipient::new(SECRET, SALT)
+        .wrap(alloc, &KEY)
+        .expect(&rt, "no fault");
     let mut identities: Vec<Box<dyn Identity>> = Vec::new(alloc);
-    identities.push(Box::new(alloc, PassIdentity::new(alloc, b"", 22)?)?)?;
+    identities
+        .push(Box::new(
+            alloc,
+            PassIdentity::new(alloc, b"", 22).expect(&rt, "memory"),
+        )
+        .expect(&rt, "memory"))
+        .expect(&rt, "memory");
     let found = unlock(alloc, identities.as_slice(), stanzas.as_slice());
     assert!(rt; found == Err(UnlockFault::NoMatch));
-    identities.push(Box::new(alloc, KeyIdentity::new([0; 32]))?)?;
+    identities
+        .push(Box::new(alloc, KeyIdentity::new([0; 32])).expect(&rt, "memory"))
+        .expect(&rt, "memory");
     let found = unlock(alloc, identities.as_slice(), stanzas.as_slice());
     assert!(rt; found == Err(UnlockFault::WrongKey));
-    identities.push(Box::new(alloc, KeyIdentity::new(SECRET))?)?;
+    identities
+        .push(Box::new(alloc, KeyIdentity::new(SECRET)).expect(&rt, "memory"))
+        .expect(&rt, "memory");
     let found = unlock(alloc, identities.as_slice(), stanzas.as_slice());
     assert!(rt; found == Ok(KEY));
-    Ok(())
 }

@@ -3,7 +3,7 @@
 use age_header::Stanza;
 use age_recipient::{FileKey, Identity, StanzaFault, UnlockFault, Unwrapped, unlock};
 use std::alloc::{AllocError, Global};
-use std::test::Fail;
+use std::process::Abort;
 
 const KEY: FileKey = FileKey([9; 16]);
 
@@ -27,23 +27,26 @@ impl Identity for FixedIdentity {
 
 /// What identities with these answers come to; None stands for one that is out of memory.
 fn choice_of(
+    rt: &impl Abort,
     alloc: Global,
     answers: &[Option<Unwrapped>],
-) -> Result<Result<FileKey, UnlockFault>, Fail> {
+) -> Result<FileKey, UnlockFault> {
     let mut identities: Vec<Box<dyn Identity>> = Vec::new(alloc);
     for answer in answers {
         let fixed = FixedIdentity {
             answer: answer.unwrap_or(Unwrapped::NotMine),
             is_out_of_memory: answer.is_none(),
         };
-        identities.push(Box::new(alloc, fixed)?)?;
+        identities
+            .push(Box::new(alloc, fixed).expect(rt, "memory"))
+            .expect(rt, "memory");
     }
-    Ok(unlock(alloc, identities.as_slice(), &[]))
+    unlock(alloc, identities.as_slice(), &[])
 }
 
 /// The last identities of some lists are out of memory, which shows that they are not asked.
 #[test]
-fn first_deciding_identity_ends_the_search(rt: HostRuntime) -> Result<(), Fail> {
+fn first_deciding_identity_ends_the_search(rt: HostRuntime) {
     let not_mine = Some(Unwrapped::NotMine);
     let failed = Some(Unwrapped::Failed);
     let key = Some(Unwrapped::Key(KEY));
@@ -68,7 +71,6 @@ fn first_deciding_identity_ends_the_search(rt: HostRuntime) -> Result<(), Fail> 
         ("out of memory", &[None], memory),
     ];
     for (name, answers, expected) in lists {
-        assert!(rt; choice_of(rt.alloc(), answers)? == expected, "{name}");
+        assert!(rt; choice_of(&rt, rt.alloc(), answers) == expected, "{name}");
     }
-    Ok(())
 }

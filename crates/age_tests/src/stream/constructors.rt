@@ -8,16 +8,15 @@ use crate::devices::FailingSource;
 use age_header::{Sink, Source};
 use age_stream::{ChunkBuf, RangeReader, ReadAt, StreamFault, StreamReader, StreamWriter};
 use std::cell::Cell;
-use std::test::Fail;
 
 /// A failed write of the nonce is the sink's only call, and is counted once.
 #[test]
-fn failed_nonce_is_not_written_again(rt: HostRuntime) -> Result<(), Fail> {
+fn failed_nonce_is_not_written_again(rt: HostRuntime) {
     let alloc = rt.alloc();
     for with_buf in [false, true] {
         let mut sink = FailingSink::new(1);
         let writer = if with_buf {
-            let buf = ChunkBuf::new(alloc)?;
+            let buf = ChunkBuf::new(alloc).expect(&rt, "memory");
             StreamWriter::with_buf(&KEY, &NONCE, &mut sink, MOST, buf)
         } else {
             StreamWriter::new(alloc, &KEY, &NONCE, &mut sink, MOST)
@@ -32,13 +31,12 @@ fn failed_nonce_is_not_written_again(rt: HostRuntime) -> Result<(), Fail> {
         assert_eq!(rt; sink.calls, 1, "with_buf: {with_buf}");
         assert_eq!(rt; sink.failures(), 1, "with_buf: {with_buf}");
     }
-    Ok(())
 }
 
 /// A nonce that is read 4 bytes at a time, each read failed in turn: the failed read is the last,
 /// and is counted once. Of 15 bytes all are read, and no read failed.
 #[test]
-fn failed_read_of_the_nonce_is_the_last(rt: HostRuntime) -> Result<(), Fail> {
+fn failed_read_of_the_nonce_is_the_last(rt: HostRuntime) {
     let alloc = rt.alloc();
     for failing in 1..5 {
         let mut source = FailingSource::new(&EMPTY, 4, failing);
@@ -52,15 +50,14 @@ fn failed_read_of_the_nonce_is_the_last(rt: HostRuntime) -> Result<(), Fail> {
     assert!(rt; met == Some(StreamFault::NonceTruncated));
     assert!(rt; source.rest.is_empty());
     assert_eq!(rt; source.failures(), 0);
-    Ok(())
 }
 
 /// A failed read is the last, and is counted once. What is refused without one has read no more
 /// than the nonce and the last piece, of which the rows have the length.
 #[test]
-fn refused_ranges_read_no_further(rt: HostRuntime) -> Result<(), Fail> {
+fn refused_ranges_read_no_further(rt: HostRuntime) {
     let alloc = rt.alloc();
-    let bytes = payload_of(alloc, 65_537)?;
+    let bytes = payload_of(&rt, alloc, 65_537);
     for (len, max, failing, fault, most) in [
         (65_594, 2, 1, StreamFault::Read, 0),
         (65_594, 2, 2, StreamFault::Read, 16),
@@ -80,5 +77,4 @@ fn refused_ranges_read_no_further(rt: HostRuntime) -> Result<(), Fail> {
         assert!(rt; failing == 0 || reads.get() == failing, "read {failing}");
         assert_eq!(rt; dev.failures(), failing.min(1), "{fault:?} of {len} bytes");
     }
-    Ok(())
 }

@@ -9,15 +9,16 @@ use std::cell::Cell;
 use std::fs;
 use std::fs::File;
 use std::process::Abort;
-use std::test::Fail;
 
 /// Nine other bytes, and then the payload of `len` bytes; byte i of these is i modulo 251.
-pub(super) fn payload_of(alloc: Global, len: usize) -> Result<Vec<u8>, Fail> {
-    let plain = plain_of(alloc, len)?;
-    let (_, payload) = written(alloc, plain.as_slice(), len)?;
-    let mut bytes = Vec::from_slice(alloc, b"ninebytes")?;
-    bytes.extend_from_slice(payload.as_slice())?;
-    Ok(bytes)
+pub(super) fn payload_of(rt: &impl Abort, alloc: Global, len: usize) -> Vec<u8> {
+    let plain = plain_of(rt, alloc, len);
+    let (_, payload) = written(rt, alloc, plain.as_slice(), len);
+    let mut bytes = Vec::from_slice(alloc, b"ninebytes").expect(rt, "memory");
+    bytes
+        .extend_from_slice(payload.as_slice())
+        .expect(rt, "memory");
+    bytes
 }
 
 /// Reads this many bytes from offset `at` on into a buffer of bytes 255: what is returned, and how
@@ -29,8 +30,8 @@ fn range<T: Abort, D: ReadAt>(
     (at, len): (u64, usize),
     answer: Result<usize, StreamFault>,
     filled: usize,
-) -> Result<(), Fail> {
-    let mut buf = vec![in alloc; 255u8; len]?;
+) {
+    let mut buf = vec![in alloc; 255u8; len].expect(rt, "memory");
     assert_eq!(rt;
         reader.read_range(at, buf.as_mut_slice()),
         answer,
@@ -44,7 +45,6 @@ fn range<T: Abort, D: ReadAt>(
         };
         assert_eq!(rt; buf[i], byte, "byte {i} of {len} at {at}");
     }
-    Ok(())
 }
 
 /// Ranges of 140,000 bytes, one after another: offset and length, what is returned, and how many
@@ -61,64 +61,62 @@ const ROWS: [((u64, usize), usize, u64); 8] = [
 ];
 
 /// Those ranges of the payload after the first nine bytes.
-fn rows<T: Abort, D: ReadAt>(rt: &T, alloc: Global, dev: &mut D) -> Result<(), Fail> {
-    let mut reader = RangeReader::open(alloc, &KEY, dev, 9, 3)?;
+fn rows<T: Abort, D: ReadAt>(rt: &T, alloc: Global, dev: &mut D) {
+    let mut reader = RangeReader::open(alloc, &KEY, dev, 9, 3).expect(rt, "no fault");
     assert_eq!(rt; reader.plain_len(), 140_000);
     assert_eq!(rt; reader.opened(), 1);
     for (place, n, opened) in ROWS {
-        range(rt, alloc, &mut reader, place, Ok(n), n)?;
+        range(rt, alloc, &mut reader, place, Ok(n), n);
         let (at, len) = place;
         assert_eq!(rt; reader.opened(), opened, "{len} bytes at {at}");
     }
-    Ok(())
 }
 
 #[test]
-fn ranges_of_memory_are_slices(rt: HostRuntime) -> Result<(), Fail> {
-    let bytes = payload_of(rt.alloc(), 140_000)?;
+fn ranges_of_memory_are_slices(rt: HostRuntime) {
+    let bytes = payload_of(&rt, rt.alloc(), 140_000);
     let mut dev = MemAt::new(bytes.as_slice());
-    rows(&rt, rt.alloc(), &mut dev)?;
+    rows(&rt, rt.alloc(), &mut dev);
     assert_eq!(rt; dev.given(), 16 + 8_944 + 65_552 + 65_552 + 8_944);
-    Ok(())
 }
 
 /// A file, and a file that is read one byte at a time.
 #[test]
-fn ranges_of_a_file_are_slices(rt: HostRuntime) -> Result<(), Fail> {
-    let bytes = payload_of(rt.alloc(), 140_000)?;
-    fs::write(&rt, "ranges.tmp", bytes.as_slice())?;
-    let mut whole = FileAt::new(File::open(&rt, "ranges.tmp")?);
-    rows(&rt, rt.alloc(), &mut whole)?;
-    let mut slow = FileAt::new(SlowFile::new(File::open(&rt, "ranges.tmp")?));
-    rows(&rt, rt.alloc(), &mut slow)?;
-    fs::remove_file(&rt, "ranges.tmp")?;
+fn ranges_of_a_file_are_slices(rt: HostRuntime) {
+    let bytes = payload_of(&rt, rt.alloc(), 140_000);
+    fs::write(&rt, "ranges.tmp", bytes.as_slice()).expect(&rt, "no fault");
+    let mut whole = FileAt::new(File::open(&rt, "ranges.tmp").expect(&rt, "no fault"));
+    rows(&rt, rt.alloc(), &mut whole);
+    let mut slow = FileAt::new(SlowFile::new(File::open(&rt, "ranges.tmp").expect(
+        &rt, "no fault",
+    )));
+    rows(&rt, rt.alloc(), &mut slow);
+    fs::remove_file(&rt, "ranges.tmp").expect(&rt, "no fault");
     assert_eq!(rt; whole.given(), slow.given());
-    Ok(())
 }
 
 /// Each chunk that is opened costs one read of a source that gives all it is asked for, and the
 /// nonce one.
 #[test]
-fn each_opened_chunk_costs_one_read(rt: HostRuntime) -> Result<(), Fail> {
+fn each_opened_chunk_costs_one_read(rt: HostRuntime) {
     let alloc = rt.alloc();
-    let bytes = payload_of(alloc, 140_000)?;
+    let bytes = payload_of(&rt, alloc, 140_000);
     let reads = Cell::new(0);
     let mut dev = CountingReadAt::new(bytes.as_slice(), &reads, 0);
-    let mut reader = RangeReader::open(alloc, &KEY, &mut dev, 9, 3)?;
+    let mut reader = RangeReader::open(alloc, &KEY, &mut dev, 9, 3).expect(&rt, "no fault");
     for (place, n, opened) in ROWS {
-        range(&rt, alloc, &mut reader, place, Ok(n), n)?;
+        range(&rt, alloc, &mut reader, place, Ok(n), n);
         let (at, len) = place;
         assert_eq!(rt; reads.get(), opened + 1, "{len} bytes at {at}");
     }
-    Ok(())
 }
 
 /// Each read failed in turn: a failed read leaves the bytes of the chunks before it, and the same
 /// call again works.
 #[test]
-fn failed_read_leaves_the_chunks_before_it(rt: HostRuntime) -> Result<(), Fail> {
+fn failed_read_leaves_the_chunks_before_it(rt: HostRuntime) {
     let alloc = rt.alloc();
-    let bytes = payload_of(alloc, 140_000)?;
+    let bytes = payload_of(&rt, alloc, 140_000);
     for failing in 1..6 {
         let reads = Cell::new(0);
         let mut dev = CountingReadAt::new(bytes.as_slice(), &reads, failing);
@@ -137,27 +135,26 @@ fn failed_read_leaves_the_chunks_before_it(rt: HostRuntime) -> Result<(), Fail> 
                     whole,
                     Err(StreamFault::Read),
                     filled,
-                )?;
-                range(&rt, alloc, &mut reader, whole, Ok(140_000), 140_000)?;
+                );
+                range(&rt, alloc, &mut reader, whole, Ok(140_000), 140_000);
             }
             Err(fault) => assert!(rt; failing < 3 && fault == StreamFault::Read, "read {failing}"),
         }
         assert_eq!(rt; dev.failures(), 1, "read {failing}");
     }
-    Ok(())
 }
 
 /// Each chunk damaged in turn, by its first byte: the ranges that do not touch it are right, also
 /// after a call that met it.
 #[test]
-fn damaged_chunk_leaves_the_others_readable(rt: HostRuntime) -> Result<(), Fail> {
+fn damaged_chunk_leaves_the_others_readable(rt: HostRuntime) {
     let alloc = rt.alloc();
     for (damaged, place, touching, other) in [
         (0, 25, (0, 10), (65_536, 65_536)),
         (1, 65_577, (65_536, 10), (0, 65_536)),
         (2, 131_129, (0, 0), (0, 0)),
     ] {
-        let mut bytes = payload_of(alloc, 140_000)?;
+        let mut bytes = payload_of(&rt, alloc, 140_000);
         if let Some(byte) = bytes.as_mut_slice().get_mut(place) {
             *byte ^= 1;
         }
@@ -167,30 +164,29 @@ fn damaged_chunk_leaves_the_others_readable(rt: HostRuntime) -> Result<(), Fail>
             Ok(mut reader) => {
                 assert!(rt; damaged < 2, "chunk {damaged}");
                 for _ in 0..2 {
-                    range(&rt, alloc, &mut reader, touching, Err(fault), 0)?;
-                    range(&rt, alloc, &mut reader, other, Ok(65_536), 65_536)?;
-                    range(&rt, alloc, &mut reader, (131_072, 8_928), Ok(8_928), 8_928)?;
+                    range(&rt, alloc, &mut reader, touching, Err(fault), 0);
+                    range(&rt, alloc, &mut reader, other, Ok(65_536), 65_536);
+                    range(&rt, alloc, &mut reader, (131_072, 8_928), Ok(8_928), 8_928);
                 }
             }
             Err(met) => assert!(rt; damaged == 2 && met == fault, "chunk {damaged}"),
         }
     }
-    Ok(())
 }
 
 /// A file that was cut after it was opened: a range that needs a lost byte is a failed read. The
 /// kept chunk can still be read.
 #[test]
-fn truncated_file_is_a_failed_read(rt: HostRuntime) -> Result<(), Fail> {
+fn truncated_file_is_a_failed_read(rt: HostRuntime) {
     let alloc = rt.alloc();
-    let bytes = payload_of(alloc, 140_000)?;
-    fs::write(&rt, "cut.tmp", bytes.as_slice())?;
-    let mut dev = FileAt::new(File::open(&rt, "cut.tmp")?);
-    let mut reader = RangeReader::open(alloc, &KEY, &mut dev, 9, 3)?;
+    let bytes = payload_of(&rt, alloc, 140_000);
+    fs::write(&rt, "cut.tmp", bytes.as_slice()).expect(&rt, "no fault");
+    let mut dev = FileAt::new(File::open(&rt, "cut.tmp").expect(&rt, "no fault"));
+    let mut reader = RangeReader::open(alloc, &KEY, &mut dev, 9, 3).expect(&rt, "no fault");
     let front = bytes.as_slice().get(..65_677);
-    fs::write(&rt, "cut.tmp", front.unwrap_or(b""))?;
-    range(&rt, alloc, &mut reader, (131_072, 8_928), Ok(8_928), 8_928)?;
-    range(&rt, alloc, &mut reader, (0, 65_536), Ok(65_536), 65_536)?;
+    fs::write(&rt, "cut.tmp", front.unwrap_or(b"")).expect(&rt, "no fault");
+    range(&rt, alloc, &mut reader, (131_072, 8_928), Ok(8_928), 8_928);
+    range(&rt, alloc, &mut reader, (0, 65_536), Ok(65_536), 65_536);
     range(
         &rt,
         alloc,
@@ -198,7 +194,7 @@ fn truncated_file_is_a_failed_read(rt: HostRuntime) -> Result<(), Fail> {
         (0, 65_537),
         Err(StreamFault::Read),
         65_536,
-    )?;
+    );
     range(
         &rt,
         alloc,
@@ -206,7 +202,7 @@ fn truncated_file_is_a_failed_read(rt: HostRuntime) -> Result<(), Fail> {
         (65_536, 10),
         Err(StreamFault::Read),
         0,
-    )?;
+    );
     range(
         &rt,
         alloc,
@@ -214,10 +210,9 @@ fn truncated_file_is_a_failed_read(rt: HostRuntime) -> Result<(), Fail> {
         (131_072, 10),
         Err(StreamFault::Read),
         0,
-    )?;
-    range(&rt, alloc, &mut reader, (0, 10), Ok(10), 10)?;
-    fs::remove_file(&rt, "cut.tmp")?;
-    Ok(())
+    );
+    range(&rt, alloc, &mut reader, (0, 10), Ok(10), 10);
+    fs::remove_file(&rt, "cut.tmp").expect(&rt, "no fault");
 }
 
 /// Reads at this offset into three bytes 255: what is returned, and what the buffer has then.
@@ -235,51 +230,54 @@ fn read_at<T: Abort, D: ReadAt>(
 
 /// A failed seek is a failed read, and the next read seeks again, where the file was moved too.
 #[test]
-fn failed_seek_is_a_failed_read(rt: HostRuntime) -> Result<(), Fail> {
-    fs::write(&rt, "seek.tmp", b"0123456789")?;
-    let mut dev = FileAt::new(FailingSeek::new(File::open(&rt, "seek.tmp")?, 2));
+fn failed_seek_is_a_failed_read(rt: HostRuntime) {
+    fs::write(&rt, "seek.tmp", b"0123456789").expect(&rt, "no fault");
+    let mut dev = FileAt::new(FailingSeek::new(
+        File::open(&rt, "seek.tmp").expect(&rt, "no fault"),
+        2,
+    ));
     read_at(&rt, &mut dev, 0, Ok(3), b"012");
     read_at(&rt, &mut dev, 6, Err(DeviceFault), &[255; 3]);
     assert_eq!(rt; dev.failures(), 1);
     assert_eq!(rt; dev.given(), 3);
     read_at(&rt, &mut dev, 3, Ok(3), b"345");
-    let mut dev = FileAt::new(FailingSeek::new(File::open(&rt, "seek.tmp")?, 1));
+    let mut dev = FileAt::new(FailingSeek::new(
+        File::open(&rt, "seek.tmp").expect(&rt, "no fault"),
+        1,
+    ));
     assert_eq!(rt; dev.size(), Err(DeviceFault));
     assert_eq!(rt; dev.failures(), 1);
     assert_eq!(rt; dev.size(), Ok(10));
-    fs::remove_file(&rt, "seek.tmp")?;
-    Ok(())
+    fs::remove_file(&rt, "seek.tmp").expect(&rt, "no fault");
 }
 
 /// After a short read the file is where the bytes that were read end, and not where the buffer
 /// would have ended.
 #[test]
-fn short_read_moves_by_what_it_read(rt: HostRuntime) -> Result<(), Fail> {
-    fs::write(&rt, "short.tmp", b"0123456789")?;
-    let mut dev = FileAt::new(SlowFile::new(File::open(&rt, "short.tmp")?));
+fn short_read_moves_by_what_it_read(rt: HostRuntime) {
+    fs::write(&rt, "short.tmp", b"0123456789").expect(&rt, "no fault");
+    let mut dev = FileAt::new(SlowFile::new(File::open(&rt, "short.tmp").expect(&rt, "no fault")));
     read_at(&rt, &mut dev, 0, Ok(1), &[b'0', 255, 255]);
     read_at(&rt, &mut dev, 3, Ok(1), &[b'3', 255, 255]);
     read_at(&rt, &mut dev, 4, Ok(1), &[b'4', 255, 255]);
-    fs::remove_file(&rt, "short.tmp")?;
-    Ok(())
+    fs::remove_file(&rt, "short.tmp").expect(&rt, "no fault");
 }
 
 #[test]
-fn ranges_of_an_empty_plaintext_are_empty(rt: HostRuntime) -> Result<(), Fail> {
+fn ranges_of_an_empty_plaintext_are_empty(rt: HostRuntime) {
     let mut dev = MemAt::new(&EMPTY);
-    let mut reader = RangeReader::open(rt.alloc(), &KEY, &mut dev, 0, 1)?;
+    let mut reader = RangeReader::open(rt.alloc(), &KEY, &mut dev, 0, 1).expect(&rt, "no fault");
     assert_eq!(rt; reader.plain_len(), 0);
     for place in [(0, 0), (0, 5), (7, 5)] {
-        range(&rt, rt.alloc(), &mut reader, place, Ok(0), 0)?;
+        range(&rt, rt.alloc(), &mut reader, place, Ok(0), 0);
         assert_eq!(rt; reader.opened(), 1);
     }
-    Ok(())
 }
 
 #[test]
-fn open_returns_the_first_fault(rt: HostRuntime) -> Result<(), Fail> {
+fn open_returns_the_first_fault(rt: HostRuntime) {
     let alloc = rt.alloc();
-    let mut bytes = payload_of(alloc, 131_073)?;
+    let mut bytes = payload_of(&rt, alloc, 131_073);
     if let Some(last) = bytes.as_mut_slice().last_mut() {
         *last ^= 1;
     }
@@ -295,5 +293,4 @@ fn open_returns_the_first_fault(rt: HostRuntime) -> Result<(), Fail> {
             Err(met) => assert_eq!(rt; met, fault, "{max} chunks from {from} on"),
         }
     }
-    Ok(())
 }
