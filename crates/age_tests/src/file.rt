@@ -11,6 +11,7 @@ mod steps;
 mod texts;
 
 use crate::devices::FailingSource;
+use crate::plaintexts::sevens;
 use age_file::{Done, Fault, Fresh, Limits, decrypt, encrypt};
 use age_header::{MemSink, MemSource};
 use age_recipient::{
@@ -123,12 +124,6 @@ fn decrypted(
 /// The `Done` of this many bytes in one chunk.
 fn done(bytes: u128) -> Result<Done, Fault> {
     Ok(Done { bytes, chunks: 1 })
-}
-
-fn sevens(rt: &impl Abort, alloc: Global, len: usize) -> Vec<u8> {
-    let mut bytes = Vec::new(alloc);
-    bytes.resize(len, 7).expect(rt, "memory");
-    bytes
 }
 
 /// A byte at a time in both directions, the last chunk being full.

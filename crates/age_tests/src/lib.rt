@@ -10,6 +10,8 @@ mod file;
 #[cfg(test)]
 mod header;
 #[cfg(test)]
+mod plaintexts;
+#[cfg(test)]
 mod recipient;
 #[cfg(test)]
 mod round_trips;

@@ -5,6 +5,7 @@ mod devices;
 mod ranges;
 
 use crate::devices::FailingSource;
+use crate::plaintexts::{plain_of, sevens};
 use age_header::{MemSink, MemSource, Sink};
 use age_recipient::FileKey;
 use age_stream::{ChunkBuf, Done, StreamFault, StreamReader, StreamWriter, chunk_nonce};
@@ -31,22 +32,6 @@ const THIRD_CHUNK: [u8; 17] = [
     0xb4, 0xb9, 0x41, 0x07, 0xe3, 0x03, 0x3b, 0x13, 0xda, 0x9e, 0x23, 0x21, 0x65, 0x91, 0x26, 0x19,
     0x1b,
 ];
-
-/// `len` bytes; byte i is i modulo 251.
-fn plain_of(rt: &impl Abort, alloc: Global, len: usize) -> Vec<u8> {
-    let mut bytes = Vec::new(alloc);
-    for at in 0..len {
-        bytes.push((at % 251) as u8).expect(rt, "memory");
-    }
-    bytes
-}
-
-/// `len` bytes, each 7.
-fn sevens(rt: &impl Abort, alloc: Global, len: usize) -> Vec<u8> {
-    let mut bytes = Vec::new(alloc);
-    bytes.resize(len, 7).expect(rt, "memory");
-    bytes
-}
 
 /// The payload of this plaintext, which is written in pieces of this many bytes.
 fn written(

@@ -2,13 +2,14 @@
 //! refused without a failed call.
 
 use super::callers::{END, OTHER_STANZA, PASSPHRASE_STANZA, VERSION};
-use super::devices::{FailingAt, FailingSink};
+use super::devices::FailingSink;
 use super::failing::FILE;
 use super::{FRESH, Identities, key_identities, key_recipients};
-use crate::devices::FailingSource;
+use crate::devices::{CountingReadAt, FailingSource};
 use age_file::{Decryptor, Encryptor, Fault, Limits, MemAt, ReadAt, StanzaFault, open_ranges};
 use age_header::{MemSource, Source};
 use std::alloc::Global;
+use std::cell::Cell;
 use std::process::Abort;
 
 /// The header and the nonce have 172 bytes. Each write failed in turn: the failed write is the
@@ -69,10 +70,11 @@ fn failed_read_of_the_front_is_the_last(rt: HostRuntime) {
             if failing < 158 { 1 } else { 0 },
             "read {failing}"
         );
-        let mut dev = FailingAt::new(FILE, failing);
+        let reads = Cell::new(0);
+        let mut dev = CountingReadAt::new(FILE, &reads, failing);
         let met = open_ranges(alloc, &mut dev, identities.as_slice(), &Limits::default()).err();
         assert!(rt; met == Some(Fault::Read), "read {failing}");
-        assert_eq!(rt; dev.reads, failing);
+        assert_eq!(rt; reads.get(), failing);
         assert_eq!(rt; dev.failures(), 1, "read {failing}");
     }
 }

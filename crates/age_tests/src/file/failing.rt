@@ -3,9 +3,10 @@
 use super::devices::{FailingSink, TakesNothing};
 use super::{
     FRESH, Identities, Recipients, SALT, encrypted, key_identities, key_recipients,
-    passphrase_identities, passphrase_recipients, sevens,
+    passphrase_identities, passphrase_recipients,
 };
 use crate::devices::FailingSource;
+use crate::plaintexts::sevens;
 use age_file::{
     Decryptor, Encryptor, Fault, Limits, MemAt, RangeReader, ReadAt, StreamFault, StreamReader,
     StreamWriter, WriteSink, decrypt, encrypt, open_ranges,

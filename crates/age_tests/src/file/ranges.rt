@@ -1,45 +1,17 @@
 //! Ranges of a file's plaintext.
 
 use super::{Identities, encrypted, key_identities, passphrase_identities, passphrase_recipients};
-use age_file::{Fault, Limits, MemAt, RangeReader, ReadAt, StreamFault, open_ranges};
+use crate::plaintexts::{expect_range, plain_of};
+use age_file::{Fault, Limits, MemAt, ReadAt, StreamFault, open_ranges};
 use std::alloc::Global;
 use std::process::Abort;
 
 /// A file of this many bytes, each its place modulo 251, for the passphrase.
 fn file_of(rt: &impl Abort, alloc: Global, len: usize) -> Vec<u8> {
-    let mut plain = Vec::new(alloc);
-    for at in 0..len {
-        plain.push((at % 251) as u8).expect(rt, "memory");
-    }
+    let plain = plain_of(rt, alloc, len);
     let recipients = passphrase_recipients(rt, alloc);
     let (_, file) = encrypted(alloc, plain.as_slice(), &recipients, &Limits::default());
     file
-}
-
-/// Reads a range into a buffer of bytes 255: what is returned, and how many bytes of the plaintext
-/// are at the buffer's front; the others are still 255.
-fn range<T: Abort>(
-    rt: &T,
-    alloc: Global,
-    reader: &mut RangeReader<'_, MemAt<'_>>,
-    (at, len): (u64, usize),
-    answer: Result<usize, StreamFault>,
-    filled: usize,
-) {
-    let mut buf = vec![in alloc; 255u8; len].expect(rt, "memory");
-    assert_eq!(rt;
-        reader.read_range(at, buf.as_mut_slice()),
-        answer,
-        "{len} bytes at {at}"
-    );
-    for i in 0..buf.len() {
-        let byte = if i < filled {
-            (at.wrapping_add(i as u64) % 251) as u8
-        } else {
-            255
-        };
-        assert_eq!(rt; buf[i], byte, "byte {i} of {len} at {at}");
-    }
 }
 
 /// Three chunks, of which the middle one is damaged.
@@ -55,10 +27,10 @@ fn damaged_middle_chunk_leaves_the_others_readable(rt: HostRuntime) {
         &rt, "no fault",
     );
     assert_eq!(rt; reader.plain_len(), 140_000);
-    range(&rt, alloc, &mut reader, (0, 65_536), Ok(65_536), 65_536);
+    expect_range(&rt, alloc, &mut reader, (0, 65_536), Ok(65_536), 65_536);
     let answer = Err(StreamFault::BadChunk(1));
-    range(&rt, alloc, &mut reader, (65_530, 10), answer, 6);
-    range(&rt, alloc, &mut reader, (131_072, 8_928), Ok(8_928), 8_928);
+    expect_range(&rt, alloc, &mut reader, (65_530, 10), answer, 6);
+    expect_range(&rt, alloc, &mut reader, (131_072, 8_928), Ok(8_928), 8_928);
     drop(reader);
     let opened = 8_944 + 65_552 + 65_552 + 8_944;
     assert_eq!(rt; dev.given(), 150 + 16 + opened);

@@ -3,9 +3,10 @@
 use super::devices::FailingSink;
 use super::{
     Identities, Recipients, decrypted, encrypted, key_identities, key_recipients,
-    passphrase_identities, passphrase_recipients, sevens,
+    passphrase_identities, passphrase_recipients,
 };
 use crate::devices::FailingSource;
+use crate::plaintexts::sevens;
 use age_file::{Fault, Limits, rewrap};
 use age_header::{MemSink, MemSource};
 use age_recipient::{PassIdentity, PassRecipient};

@@ -1,6 +1,7 @@
 //! Files that are written and read in steps.
 
-use super::{FRESH, encrypted, key_identities, key_recipients, sevens};
+use super::{FRESH, encrypted, key_identities, key_recipients};
+use crate::plaintexts::sevens;
 use age_file::{Decryptor, Encryptor, Fault, Limits};
 use age_header::{MemSink, MemSource};
 

@@ -1,10 +1,10 @@
 //! What a device holds after a constructor has failed: each call of it failed in turn, and what is
 //! refused without a failed call.
 
-use super::devices::{CountingReadAt, FailingSink};
+use super::devices::FailingSink;
 use super::ranges::payload_of;
 use super::{EMPTY, KEY, MOST, NONCE};
-use crate::devices::FailingSource;
+use crate::devices::{CountingReadAt, FailingSource};
 use age_header::{Sink, Source};
 use age_stream::{ChunkBuf, RangeReader, ReadAt, StreamFault, StreamReader, StreamWriter};
 use std::cell::Cell;

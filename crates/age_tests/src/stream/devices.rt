@@ -1,8 +1,6 @@
 //! Devices of a payload that count their calls, or fail once.
 
 use age_header::{DeviceFault, Sink};
-use age_stream::{MemAt, ReadAt};
-use std::cell::Cell;
 use std::io;
 use std::io::{ErrorKind, Read, Seek, SeekFrom};
 
@@ -39,62 +37,6 @@ impl Sink for FailingSink {
             return Err(DeviceFault);
         }
         Ok(piece.len())
-    }
-
-    fn failures(&self) -> u64 {
-        self.failures
-    }
-}
-
-/// Holds these bytes, counts its reads, and fails at the read with this number, counted from 1. Its
-/// contents are not known to proofs.
-#[derive(Drop)]
-pub(super) struct CountingReadAt<'a> {
-    bytes: MemAt<'a>,
-    reads: &'a Cell<u64>,
-    failing: u64,
-    failures: u64,
-}
-
-impl<'a> CountingReadAt<'a> {
-    pub(super) fn new(bytes: &'a [u8], reads: &'a Cell<u64>, failing: u64) -> CountingReadAt<'a> {
-        CountingReadAt {
-            bytes: MemAt::new(bytes),
-            reads,
-            failing,
-            failures: 0,
-        }
-    }
-}
-
-impl<'a> ReadAt for CountingReadAt<'a> {
-    ghost use Rattle.std.specs.Prelude.{None};
-
-    ghost bytes = { λ _. None };
-
-    ghost was_read = { λ s. ⟦<MemAt<'a> as ReadAt>⟧.was_read s.bytes };
-
-    ghost found = { λ s. ⟦<MemAt<'a> as ReadAt>⟧.found s.bytes };
-
-    ghost given = { λ s. ⟦<MemAt<'a> as ReadAt>⟧.given s.bytes };
-
-    ghost failed = { λ s. s.failures };
-
-    fn size(&mut self) -> Result<u64, DeviceFault> {
-        self.bytes.size()
-    }
-
-    fn read_at(&mut self, at: u64, buf: &mut [u8]) -> Result<usize, DeviceFault> {
-        self.reads.set(self.reads.get().wrapping_add(1));
-        if self.reads.get() == self.failing {
-            self.failures = self.failures.saturating_add(1);
-            return Err(DeviceFault);
-        }
-        self.bytes.read_at(at, buf)
-    }
-
-    fn given(&self) -> u64 {
-        self.bytes.given()
     }
 
     fn failures(&self) -> u64 {

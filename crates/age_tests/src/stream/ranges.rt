@@ -1,7 +1,9 @@
 //! Ranges of a plaintext, over memory, over a file, and over sources that are slow or fail.
 
-use super::devices::{CountingReadAt, FailingSeek, SlowFile};
-use super::{EMPTY, KEY, plain_of, written};
+use super::devices::{FailingSeek, SlowFile};
+use super::{EMPTY, KEY, written};
+use crate::devices::CountingReadAt;
+use crate::plaintexts::{expect_range, plain_of};
 use age_header::DeviceFault;
 use age_stream::{FileAt, MemAt, RangeReader, ReadAt, StreamFault};
 use std::alloc::Global;
@@ -19,32 +21,6 @@ pub(super) fn payload_of(rt: &impl Abort, alloc: Global, len: usize) -> Vec<u8> 
         .extend_from_slice(payload.as_slice())
         .expect(rt, "memory");
     bytes
-}
-
-/// Reads this many bytes from offset `at` on into a buffer of bytes 255: what is returned, and how
-/// many bytes of the plaintext are at the buffer's front; the others are still 255.
-fn range<T: Abort, D: ReadAt>(
-    rt: &T,
-    alloc: Global,
-    reader: &mut RangeReader<'_, D>,
-    (at, len): (u64, usize),
-    answer: Result<usize, StreamFault>,
-    filled: usize,
-) {
-    let mut buf = vec![in alloc; 255u8; len].expect(rt, "memory");
-    assert_eq!(rt;
-        reader.read_range(at, buf.as_mut_slice()),
-        answer,
-        "{len} bytes at {at}"
-    );
-    for i in 0..buf.len() {
-        let byte = if i < filled {
-            (at.wrapping_add(i as u64) % 251) as u8
-        } else {
-            255
-        };
-        assert_eq!(rt; buf[i], byte, "byte {i} of {len} at {at}");
-    }
 }
 
 /// Ranges of 140,000 bytes, one after another: offset and length, what is returned, and how many
@@ -66,7 +42,7 @@ fn rows<T: Abort, D: ReadAt>(rt: &T, alloc: Global, dev: &mut D) {
     assert_eq!(rt; reader.plain_len(), 140_000);
     assert_eq!(rt; reader.opened(), 1);
     for (place, n, opened) in ROWS {
-        range(rt, alloc, &mut reader, place, Ok(n), n);
+        expect_range(rt, alloc, &mut reader, place, Ok(n), n);
         let (at, len) = place;
         assert_eq!(rt; reader.opened(), opened, "{len} bytes at {at}");
     }
@@ -105,7 +81,7 @@ fn each_opened_chunk_costs_one_read(rt: HostRuntime) {
     let mut dev = CountingReadAt::new(bytes.as_slice(), &reads, 0);
     let mut reader = RangeReader::open(alloc, &KEY, &mut dev, 9, 3).expect(&rt, "no fault");
     for (place, n, opened) in ROWS {
-        range(&rt, alloc, &mut reader, place, Ok(n), n);
+        expect_range(&rt, alloc, &mut reader, place, Ok(n), n);
         let (at, len) = place;
         assert_eq!(rt; reads.get(), opened + 1, "{len} bytes at {at}");
     }
@@ -128,7 +104,7 @@ fn failed_read_leaves_the_chunks_before_it(rt: HostRuntime) {
                     _ => 131_072,
                 };
                 let whole = (0, 140_000);
-                range(
+                expect_range(
                     &rt,
                     alloc,
                     &mut reader,
@@ -136,7 +112,7 @@ fn failed_read_leaves_the_chunks_before_it(rt: HostRuntime) {
                     Err(StreamFault::Read),
                     filled,
                 );
-                range(&rt, alloc, &mut reader, whole, Ok(140_000), 140_000);
+                expect_range(&rt, alloc, &mut reader, whole, Ok(140_000), 140_000);
             }
             Err(fault) => assert!(rt; failing < 3 && fault == StreamFault::Read, "read {failing}"),
         }
@@ -164,9 +140,9 @@ fn damaged_chunk_leaves_the_others_readable(rt: HostRuntime) {
             Ok(mut reader) => {
                 assert!(rt; damaged < 2, "chunk {damaged}");
                 for _ in 0..2 {
-                    range(&rt, alloc, &mut reader, touching, Err(fault), 0);
-                    range(&rt, alloc, &mut reader, other, Ok(65_536), 65_536);
-                    range(&rt, alloc, &mut reader, (131_072, 8_928), Ok(8_928), 8_928);
+                    expect_range(&rt, alloc, &mut reader, touching, Err(fault), 0);
+                    expect_range(&rt, alloc, &mut reader, other, Ok(65_536), 65_536);
+                    expect_range(&rt, alloc, &mut reader, (131_072, 8_928), Ok(8_928), 8_928);
                 }
             }
             Err(met) => assert!(rt; damaged == 2 && met == fault, "chunk {damaged}"),
@@ -185,9 +161,9 @@ fn truncated_file_is_a_failed_read(rt: HostRuntime) {
     let mut reader = RangeReader::open(alloc, &KEY, &mut dev, 9, 3).expect(&rt, "no fault");
     let front = bytes.as_slice().get(..65_677);
     fs::write(&rt, "cut.tmp", front.unwrap_or(b"")).expect(&rt, "no fault");
-    range(&rt, alloc, &mut reader, (131_072, 8_928), Ok(8_928), 8_928);
-    range(&rt, alloc, &mut reader, (0, 65_536), Ok(65_536), 65_536);
-    range(
+    expect_range(&rt, alloc, &mut reader, (131_072, 8_928), Ok(8_928), 8_928);
+    expect_range(&rt, alloc, &mut reader, (0, 65_536), Ok(65_536), 65_536);
+    expect_range(
         &rt,
         alloc,
         &mut reader,
@@ -195,7 +171,7 @@ fn truncated_file_is_a_failed_read(rt: HostRuntime) {
         Err(StreamFault::Read),
         65_536,
     );
-    range(
+    expect_range(
         &rt,
         alloc,
         &mut reader,
@@ -203,7 +179,7 @@ fn truncated_file_is_a_failed_read(rt: HostRuntime) {
         Err(StreamFault::Read),
         0,
     );
-    range(
+    expect_range(
         &rt,
         alloc,
         &mut reader,
@@ -211,7 +187,7 @@ fn truncated_file_is_a_failed_read(rt: HostRuntime) {
         Err(StreamFault::Read),
         0,
     );
-    range(&rt, alloc, &mut reader, (0, 10), Ok(10), 10);
+    expect_range(&rt, alloc, &mut reader, (0, 10), Ok(10), 10);
     fs::remove_file(&rt, "cut.tmp").expect(&rt, "no fault");
 }
 
@@ -269,7 +245,7 @@ fn ranges_of_an_empty_plaintext_are_empty(rt: HostRuntime) {
     let mut reader = RangeReader::open(rt.alloc(), &KEY, &mut dev, 0, 1).expect(&rt, "no fault");
     assert_eq!(rt; reader.plain_len(), 0);
     for place in [(0, 0), (0, 5), (7, 5)] {
-        range(&rt, rt.alloc(), &mut reader, place, Ok(0), 0);
+        expect_range(&rt, rt.alloc(), &mut reader, place, Ok(0), 0);
         assert_eq!(rt; reader.opened(), 1);
     }
 }
