@@ -26,6 +26,11 @@ def message(name, *words):
     return TEXTS[name, len(words)].format(*(TEXTS.get((word, 0), word) for word in words))
 
 
+def pattern(name, *words):
+    """The regular expression that matches just this message."""
+    return f"^{re.escape(message(name, *words))}$"
+
+
 def filled(line):
     """A line of a transcript. Where it is `agep: <NAME>` or `agep: <NAME: WORD, WORD>` it is the
     message's; the last word may have commas."""

@@ -15,6 +15,7 @@ from pathlib import Path
 sys.path.append(str(Path(__file__).resolve().parent.parent / "share/generate"))
 import codes
 
+from messages import message
 from program import AGEP, version
 
 
@@ -496,19 +497,19 @@ class WithTheProgram(unittest.TestCase):
         """Files that were cut or damaged, or are for another: as with agep."""
         made = self.agep("encrypt", "-k", "key", "-s", "seed", input=os.urandom(200000), status=0).stdout
         rows = [
-            (0, "header is cut short"), (100, "header is cut short"), (160, "payload nonce is cut short"), (180, "chunk 0 is cut short"),
-            (65724, "chunk 0 is damaged"), (65730, "chunk 1 is cut short"), (200000, "chunk 3 is damaged"), (200235, "chunk 3 is damaged"),
+            (0, message("HeaderTruncated")), (100, message("HeaderTruncated")), (160, message("NonceTruncated")), (180, message("ChunkShort", 0)),
+            (65724, message("BadChunk", 0)), (65730, message("ChunkShort", 1)), (200000, message("BadChunk", 3)), (200235, message("BadChunk", 3)),
         ]
         for length, line in rows:
             with self.subTest(f"cut to {length} bytes"):
                 self.agrees(made[:length], line)
-        self.agrees(made[:70000] + bytes(byte ^ 255 for byte in made[70000:70002]) + made[70002:], "chunk 1 is damaged")
-        self.agrees((ROOT / "tests/data/one_recipient.age").read_bytes(), "no key fits this file")
+        self.agrees(made[:70000] + bytes(byte ^ 255 for byte in made[70000:70002]) + made[70002:], message("BadChunk", 1))
+        self.agrees((ROOT / "tests/data/one_recipient.age").read_bytes(), message("NoMatch"))
         (work() / "key.other").write_bytes(os.urandom(32))
         other = self.agep("encrypt", "-k", "key.other", input=b"text", status=0).stdout
-        self.agrees(other, "wrong passphrase or key")
+        self.agrees(other, message("WrongKey"))
         done = run(built("stream", *sanitizers(), source=EXAMPLES / "stream.c"), work() / "key", input=other, status=1)
-        self.assertEqual((done.stdout, done.stderr), (b"", b"stream: wrong passphrase or key (0)\n"))
+        self.assertEqual((done.stdout, done.stderr), (b"", f"stream: {message('WrongKey')} (0)\n".encode()))
 
     def test_inputs_that_fail(self):
         """The example makes no file of an input that fails midway, nor of a folder."""
@@ -569,7 +570,7 @@ class Document(unittest.TestCase):
                 words = ("./program", "correct horse")
                 self.assertEqual(run(*words, input=file, cwd=work(), env=environment, status=0).stdout, b"some text\n")
                 done = run(*words, input=file[:150], cwd=work(), env=environment, status=1)
-                self.assertEqual((done.stdout, done.stderr), (b"", b"payload nonce is cut short\n"))
+                self.assertEqual((done.stdout, done.stderr), (b"", f"{message('NonceTruncated')}\n".encode()))
 
 
 if __name__ == "__main__":

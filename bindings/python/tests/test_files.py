@@ -20,6 +20,9 @@ import warnings
 import agefile
 from agefile import AgeError, Code, Key, Passphrase
 
+sys.path.append(os.path.join(os.path.dirname(os.path.abspath(__file__)), "../../../tests"))
+from messages import message, pattern
+
 KEY = Key(bytes(range(32)))
 
 
@@ -129,7 +132,7 @@ class Reading(InFolder):
         for size in (1000, 65536, 100000, 1000000):
             with agefile.open(name, identities=KEY) as file:
                 found = b""
-                with self.assertRaisesRegex(AgeError, "^chunk 3 is damaged$"):
+                with self.assertRaisesRegex(AgeError, pattern("BadChunk", 3)):
                     while True:
                         piece = file.read(size)
                         self.assertNotEqual(piece, b"")
@@ -142,7 +145,7 @@ class Reading(InFolder):
             self.assertRaises(AgeError, file.read)
         with agefile.open(name, "r", identities=KEY, encoding="latin-1", newline="") as file:
             found = ""
-            with self.assertRaisesRegex(AgeError, "^chunk 3 is damaged$"):
+            with self.assertRaisesRegex(AgeError, pattern("BadChunk", 3)):
                 while True:
                     piece = file.read(10000)
                     self.assertNotEqual(piece, "")
@@ -153,8 +156,9 @@ class Reading(InFolder):
         with agefile.open(self.made(text(500000)), identities=KEY) as file:
             os.truncate("a.age", 300000)
             file.seek(400000)
-            with self.assertRaisesRegex(agefile.AgeChangedError, "^the file was cut while it was open: chunk 6 is cut short$"):
+            with self.assertRaises(agefile.AgeChangedError) as caught:
                 file.read(1)
+            self.assertEqual(str(caught.exception), f"the file was cut while it was open: {message('ChunkShort', 6)}")
             file.seek(0)
             self.assertEqual(file.read(100000), text(100000))
 
