@@ -2,7 +2,12 @@
 
 import re
 import sys
+from pathlib import Path
 from typing import NamedTuple
+
+sys.path.append(str(Path(__file__).resolve().parent.parent.parent / "tests"))
+
+import messages  # noqa: E402
 
 
 class Token(NamedTuple):
@@ -37,6 +42,18 @@ class Fault(NamedTuple):
     def message(self):
         """The text without its numbers."""
         return re.sub(r" ?\{\d\}:?| ?: ?\{\d\}", "", self.text).removesuffix(":").strip()
+
+
+class Part(NamedTuple):
+    """A part of a stanza: its name in StanzaFault, and its text."""
+
+    name: str
+    text: str
+
+    @property
+    def rust(self):
+        """Its name in the crate for Rust."""
+        return {"ArgCount": "ArgumentCount", "WorkFactorText": "WorkFactor"}.get(self.name, self.name)
 
 
 def _texts(path, enum):
@@ -80,47 +97,49 @@ def _arms(path, function):
     return found, constants
 
 
-# What the library itself returns, which is no fault of a file: in code.rt they are constants.
-OWN = {
-    "OK": "no fault",
-    "TOO_SMALL": "buffer is too small",
-    "WORK_FACTOR": "work factor is not 1 to 30",
-    "OUT_OF_ORDER": "no such stanza or offset, or a call out of order",
-    "NULL_POINTER": "null pointer with a length",
-    "BAD_ARGUMENTS": "stanza arguments are not words",
-}
-# The header's functions return this one; the library's own never do.
-NULL_POINTER = 24
+# What the header's functions return; the library's own never do.
+NULL_POINTER = Fault(24, "NullPointer", "null pointer with a length")
 
 
 def _camel(constant):
     return "".join(word.capitalize() for word in constant.split("_"))
 
 
+def own(root):
+    """The codes that the library itself returns, and that are no fault of a file. Those of code.rt are
+    constants whose comments begin with their texts."""
+    path = "crates/agefile/src/code.rt"
+    of_faults = _arms(root / path, "fault_code")[0].values()
+    found = [NULL_POINTER]
+    pattern = r"((?:///.*\n)+)pub\(crate\) const (\w+): u32 = (\d+);"
+    for comment, constant, number in re.findall(pattern, (root / path).read_text()):
+        if int(number) in of_faults:
+            continue
+        text = re.match(r"/// `([^`]+)`", comment)
+        if text is None:
+            sys.exit(f"{path}: the comment of {constant} does not begin with its text in backquotes")
+        found.append(Fault(int(number), _camel(constant), text[1]))
+    return found
+
+
 def faults(root):
     """All codes in order, those of files and those of the library."""
     texts = _texts(root / "crates/age_file/src/fault.rt", "Fault")
-    numbers, constants = _arms(root / "crates/agefile/src/code.rt", "fault_code")
-    without_text = sorted(name for name, number in constants.items() if name not in OWN and number not in numbers.values())
-    if without_text:
-        sys.exit(f"share/generate/codes.py: OWN has no text of {', '.join(without_text)} in crates/agefile/src/code.rt")
-    found = [Fault(numbers[name], name, text) for name, text in texts.items()]
-    constants = constants | {"NULL_POINTER": NULL_POINTER}
-    found += [Fault(constants[name], _camel(name), text) for name, text in OWN.items() if name in constants]
-    return sorted(found)
+    numbers, _ = _arms(root / "crates/agefile/src/code.rt", "fault_code")
+    return sorted([Fault(numbers[name], name, text) for name, text in texts.items()] + own(root))
 
 
 def parts(root):
     """The parts of a stanza that may be malformed, by the detail of a report."""
     texts = _texts(root / "crates/age_recipient/src/unwrapped.rt", "StanzaFault")
     numbers, _ = _arms(root / "crates/agefile/src/code.rt", "fault_detail")
-    return {number: texts[name] for name, number in numbers.items() if number}
+    return {number: Part(name, texts[name]) for name, number in numbers.items() if number}
 
 
 def _c(all_codes, details):
     enum = ",\n".join(f"    AGEFILE_{fault.constant} = {fault.code}" for fault in all_codes)
     cases = "".join(f'    case AGEFILE_{f.constant}: return "{f.message}";\n' for f in all_codes)
-    named = "".join(f'    case {number}: return "{text}";\n' for number, text in details.items())
+    named = "".join(f'    case {number}: return "{part.text}";\n' for number, part in details.items())
     return {
         "codes": f"enum agefile_code {{\n{enum}\n}};\n",
         "messages": f'    switch (code) {{\n{cases}    default: return "unknown code";\n    }}\n',
@@ -128,10 +147,18 @@ def _c(all_codes, details):
     }
 
 
+# What takes the place of the number in a message.
+WORDS = {"BadLine": "line", "ChunkShort": "chunk", "EmptyFinal": "chunk", "BadChunk": "chunk", "Malformed": "part"}
+
+
 def _python(all_codes, details):
-    members = "".join(f"    {fault.constant} = {fault.code}\n" for fault in all_codes)
-    messages = "".join(f'    Code.{fault.constant}: "{fault.message}",\n' for fault in all_codes)
-    named = "".join(f'    {number}: "{text}",\n' for number, text in details.items())
+    members, messages = "", ""
+    for fault in all_codes:
+        word = WORDS.get(fault.name)
+        text = fault.text.replace("{0}", "{part}" if word == "part" else "{place}") if word else fault.message
+        members += f"    {fault.constant} = {fault.code}\n"
+        messages += f'    Code.{fault.constant}: "{text}",\n'
+    named = "".join(f'    {number}: "{part.text}",\n' for number, part in details.items())
     return {
         "code members": members,
         "code messages": f"_MESSAGES = {{\n{messages}}}\n",
@@ -139,27 +166,48 @@ def _python(all_codes, details):
     }
 
 
-# The codes that no call of the crate for Rust returns as a fault of its own.
-NOT_IN_RUST = {"OK", "READ", "WRITE", "REFUSED", "INCOMPATIBLE_RECIPIENTS", "TOO_SMALL", "OUT_OF_ORDER", "NULL_POINTER"}
+# The faults of files that no call of the crate for Rust returns as a fault of its own.
+NOT_IN_RUST = {"READ", "WRITE", "REFUSED", "INCOMPATIBLE_RECIPIENTS"}
 
 
-def _rust(all_codes):
+def _in_rust(root, all_codes):
+    """The codes that are variants of the crate's enum: of the library's own those that it has."""
+    enum = re.search(r"pub enum Error \{(.*?)^\}", (root / "bindings/rust/src/error.rs").read_text(), re.S | re.M)[1]
+    variants = re.findall(r"^    (\w+)", enum, re.M)
+    others = {fault.name for fault in own(root)} - set(variants)
+    return [fault for fault in all_codes if fault.constant not in NOT_IN_RUST and fault.name not in others]
+
+
+def _rust(root, all_codes, details):
     """Which code is which variant of the crate's enum, and its text."""
-    of, shown = "", ""
-    for fault in all_codes:
-        if fault.constant in NOT_IN_RUST:
+    of, shown, expected, own_codes = "", "", "", own(root)
+    for fault in _in_rust(root, all_codes):
+        name, word = f"Error::{fault.name}", WORDS.get(fault.name)
+        held = {"part": "(Part::of(report.detail))", None: ""}.get(word, "(place)")
+        of += f"            {fault.code} => {name}{held},\n"
+        text = fault.text.replace("{0}", f"{{{word}}}")
+        shown += f'            {name}{f"({word})" if word else ""} => write!(f, "{text}"),\n'
+    for fault in _in_rust(root, all_codes):
+        if fault in own_codes:
             continue
-        held = {"Malformed": "Part::of(report.detail)"}.get(fault.name, "place" if "{0}" in fault.text else None)
-        name = f"Error::{fault.name}"
-        of += f"            {fault.code} => {name + f'({held})' if held else name},\n"
-        word = {"Malformed": "part", "BadLine": "line"}.get(fault.name, "chunk")
-        bound = f"{name}({word})" if held else name
-        shown += f'            {bound} => write!(f, "{fault.text.replace("{0}", "{" + word + "}")}"),\n'
-    return {"codes of errors": of, "texts of errors": shown}
+        if fault.name == "Malformed":
+            examples = [(f"(Part::{part.rust})", [part.name]) for part in details.values()]
+        else:
+            examples = [("(1)", ["1"]) if fault.name in WORDS else ("", [])]
+        for held, words in examples:
+            expected += f'        (Error::{fault.name}{held}, "{_by_hand(fault.name, *words)}"),\n'
+    return {
+        "codes of errors": of,
+        "texts of errors": shown,
+        "details of parts": "".join(f"            {number} => Part::{part.rust},\n" for number, part in details.items()),
+        "texts of parts": "".join(f'            Part::{part.rust} => "{part.text}",\n' for part in details.values()),
+        "expected texts of errors": expected,
+    }
 
 
 # What a fault is called in docs/FORMAT.md, where that is not its text.
 TERMS = {
+    "NotAge": "not an age file",
     "BadLine": "bad line",
     "HeaderTruncated": "cut short (the header)",
     "HeaderTooLarge": "too large",
@@ -172,6 +220,7 @@ TERMS = {
     "ChunkShort": "cut short (a piece)",
     "EmptyFinal": "empty",
     "BadChunk": "damaged",
+    "TooManyChunks": "too many chunks",
     "Read": "a failed read",
     "Write": "a failed write",
     "OutOfMemory": "a refused allocation",
@@ -187,17 +236,17 @@ def _printed(fault):
     return fault.text.format(*words)
 
 
-def _table(all_codes):
+def _table(all_codes, own_codes):
     rows = [
         f"| {f.code} | `{f.name}` | {TERMS.get(f.name, f.text)} | `{_printed(f)}` |\n"
         for f in all_codes
-        if f.constant not in OWN
+        if f not in own_codes
     ]
     return "| Code in C | `Fault` | In this document | What `agep` prints |\n|---|---|---|---|\n" + "".join(rows)
 
 
-def _own_table(all_codes):
-    rows = [f"| {f.code} | {f.text} |\n" for f in all_codes if f.constant in OWN and f.code]
+def _own_table(own_codes):
+    rows = [f"| {f.code} | {f.text} |\n" for f in sorted(own_codes) if f.code]
     return "| Code in C | What it stands for |\n|---|---|\n" + "".join(rows)
 
 
@@ -215,8 +264,63 @@ def _definitions(root):
     return {"codes of faults": equations, "variants of faults": variants}
 
 
+def _by_hand(name, *words):
+    """The text that tests/messages.txt has for a fault."""
+    try:
+        return messages.message(name, *words)
+    except KeyError as error:
+        sys.exit(error.args[0])
+
+
+# Numbers of faults in tests, as the code has them; of the others it is 1, and 7 for a second one.
+NUMBERS = {"BadChunk": {"4_294_967_295": 2**32 - 1, "(1 << 88) - 1": 2**88 - 1}}
+
+
+def _expected(root):
+    """What tests compare with the texts of the faults, by tests/messages.txt."""
+    lines = []
+    for name in _texts(root / "crates/age_file/src/fault.rt", "Fault"):
+        if name == "Malformed":
+            parts = _texts(root / "crates/age_recipient/src/unwrapped.rt", "StanzaFault")
+            words = {f"StanzaFault::{part}": part for part in parts if part != "Other"}
+            words["StanzaFault::Other(7)"] = _by_hand("Other", "7")
+            rows = [(held, [word]) for held, word in words.items()]
+        elif name in NUMBERS:
+            rows = [(held, [number]) for held, number in NUMBERS[name].items()]
+        else:
+            count = max((count for known, count in messages.TEXTS if known == name), default=0)
+            rows = [(", ".join("17"[:count]), "17"[:count])]
+        for held, words in rows:
+            fault, text = f"Fault::{name}({held})" if held else f"Fault::{name}", _by_hand(name, *words)
+            line = f'({fault}, "{text}")'
+            # as rt fmt breaks a tuple
+            lines += [line + ","] if len(line) <= 60 else ["(", f"    {fault},", f'    "{text}",', "),"]
+    return "".join(f"        {line}\n" for line in lines)
+
+
+def _part_sentence(details):
+    *first, last = [f"`{part.text}`" for part in details.values()]
+    return f"PART is one of {', '.join(first)} and {last}.\n"
+
+
 def texts(root):
     """Each generated text by its name."""
-    all_codes, details = faults(root), parts(root)
-    generated = _c(all_codes, details) | _python(all_codes, details) | _rust(all_codes) | _definitions(root)
-    return generated | {"faults": _table(all_codes), "codes of the library": _own_table(all_codes)}
+    all_codes, own_codes, details = faults(root), own(root), parts(root)
+    generated = _c(all_codes, details) | _python(all_codes, details) | _rust(root, all_codes, details)
+    return generated | _definitions(root) | {
+        "faults": _table(all_codes, own_codes),
+        "codes of the library": _own_table(own_codes),
+        "parts of stanzas": _part_sentence(details),
+        "expected texts": _expected(root),
+    }
+
+
+def promised(root, layout):
+    """share/debian/libagefile.layout with a line for each code that has none. A line that is there
+    stays, so that a number that changed fails a test."""
+    lines = layout.splitlines(keepends=True)
+    names = [line.split(" ")[0] for line in lines]
+    rows = {f"AGEFILE_{fault.constant}": fault.code for fault in faults(root)}
+    last = max(at for at, name in enumerate(names) if name in rows)
+    new = [f"{name} {code}\n" for name, code in rows.items() if name not in names]
+    return "".join(lines[: last + 1] + new + lines[last + 1 :])

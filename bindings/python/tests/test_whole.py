@@ -143,7 +143,7 @@ class Wrong(unittest.TestCase):
         length = agefile.inspect(file).length
         damaged = bytearray(file)
         damaged[length + 16 + 65552] ^= 1
-        for data, secret, code, place, message in (
+        for data, secret, code, place, line in (
             (b"hello", KEY, Code.NOT_AGE, 0, message("NotAge")),
             (b"age-encryption.org/v1\nbad\n", KEY, Code.BAD_LINE, 2, message("BadLine", 2)),
             (file[:30], KEY, Code.HEADER_TRUNCATED, 0, message("HeaderTruncated")),
@@ -160,7 +160,7 @@ class Wrong(unittest.TestCase):
                 with self.assertRaises(AgeError) as caught:
                     agefile.decrypt(data, identities=secret, threads=threads)
                 error = caught.exception
-                self.assertEqual((error.code, error.place, str(error)), (code, place, message))
+                self.assertEqual((error.code, error.place, str(error)), (code, place, line))
                 self.assertIsInstance(error, ValueError)
 
     def test_cut_files(self):

@@ -115,11 +115,13 @@ impl Error {
 impl Part {
     fn of(detail: u64) -> Part {
         match detail {
+            // generated: details of parts
             1 => Part::ArgumentCount,
             2 => Part::Salt,
             3 => Part::WorkFactor,
             4 => Part::WorkFactorTooHigh,
             5 => Part::BodyLength,
+            // end of details of parts
             _ => Part::Other,
         }
     }
@@ -128,11 +130,13 @@ impl Part {
 impl fmt::Display for Part {
     fn fmt(&self, f: &mut fmt::Formatter<'_>) -> fmt::Result {
         f.write_str(match self {
+            // generated: texts of parts
             Part::ArgumentCount => "argument count",
             Part::Salt => "salt",
             Part::WorkFactor => "work factor",
             Part::WorkFactorTooHigh => "work factor is too high",
             Part::BodyLength => "body length",
+            // end of texts of parts
             Part::Other => "other",
         })
     }
