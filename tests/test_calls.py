@@ -216,8 +216,9 @@ class FailingCalls(CallCase):
         job = self.jobs[3]
 
         def judge(ran, job, form):
-            opens = ran.err.startswith(b"agep: cannot")
-            self.has_failed(message("CannotOpen", "key.age") if opens else message("Read"))(ran, job, form)
+            cannot_open = message("CannotOpen", "key.age")
+            opens = ran.err == fault(cannot_open).encode()
+            self.has_failed(cannot_open if opens else message("Read"))(ran, job, form)
 
         for form in job.forms():
             self.each_call("lseek", IO_ERROR, job, form, judge)

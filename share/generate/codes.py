@@ -277,14 +277,14 @@ NUMBERS = {"BadChunk": {"4_294_967_295": 2**32 - 1, "(1 << 88) - 1": 2**88 - 1}}
 
 
 def _expected(root):
-    """What tests compare with the texts of the faults, by tests/messages.txt."""
-    lines = []
+    """What tests compare with the texts of the faults and of the parts, by tests/messages.txt."""
+    lines, parts = [], {}
+    for name in _texts(root / "crates/age_recipient/src/unwrapped.rt", "StanzaFault"):
+        held, words = ("(7)", ["7"]) if name == "Other" else ("", [])
+        parts[f"StanzaFault::{name}{held}"] = _by_hand(name, *words)
     for name in _texts(root / "crates/age_file/src/fault.rt", "Fault"):
         if name == "Malformed":
-            parts = _texts(root / "crates/age_recipient/src/unwrapped.rt", "StanzaFault")
-            words = {f"StanzaFault::{part}": part for part in parts if part != "Other"}
-            words["StanzaFault::Other(7)"] = _by_hand("Other", "7")
-            rows = [(held, [word]) for held, word in words.items()]
+            rows = [(held, [text]) for held, text in parts.items()]
         elif name in NUMBERS:
             rows = [(held, [number]) for held, number in NUMBERS[name].items()]
         else:
@@ -295,7 +295,10 @@ def _expected(root):
             line = f'({fault}, "{text}")'
             # as rt fmt breaks a tuple
             lines += [line + ","] if len(line) <= 60 else ["(", f"    {fault},", f'    "{text}",', "),"]
-    return "".join(f"        {line}\n" for line in lines)
+    return {
+        "expected texts": "".join(f"        {line}\n" for line in lines),
+        "expected texts of parts": "".join(f'        ({part}, "{text}"),\n' for part, text in parts.items()),
+    }
 
 
 def _part_sentence(details):
@@ -307,11 +310,10 @@ def texts(root):
     """Each generated text by its name."""
     all_codes, own_codes, details = faults(root), own(root), parts(root)
     generated = _c(all_codes, details) | _python(all_codes, details) | _rust(root, all_codes, details)
-    return generated | _definitions(root) | {
+    return generated | _definitions(root) | _expected(root) | {
         "faults": _table(all_codes, own_codes),
         "codes of the library": _own_table(own_codes),
         "parts of stanzas": _part_sentence(details),
-        "expected texts": _expected(root),
     }
 
 
