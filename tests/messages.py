@@ -1,17 +1,34 @@
-"""The messages of agep, by the names of their faults, as tests/messages.txt has them."""
+"""The messages of agep, by the names of their faults, as documents have them that are written by hand:
+those of files in docs/FORMAT.md, those of the program in tests/messages.txt."""
 
+import itertools
 import os
 import re
 
-NAME = "tests/messages.txt"
+ROOT = os.path.dirname(os.path.dirname(os.path.abspath(__file__)))
+NAMES = "docs/FORMAT.md and tests/messages.txt"
+
+
+def read_lines(name):
+    with open(os.path.join(ROOT, name), encoding="utf-8") as file:
+        return file.read().split("\n")
+
+
+def numbers():
+    """The faults and parts in the tables of docs/FORMAT.md: the number in C of each, its name, and its
+    text, whose words are numbered."""
+    for line in read_lines("docs/FORMAT.md"):
+        found = re.fullmatch(r"\| (\d+) \| `(\w+)` \|(?: [^|]* \|)? `([^`]*)` \|", line)
+        if found:
+            count = itertools.count()
+            text = re.sub(r"\b(?:N|CODE|PART)\b", lambda _: f"{{{next(count)}}}", found[3])
+            yield int(found[1]), found[2], text
 
 
 def rows():
-    """The rows of the table: the name of each, and its text."""
-    folder = os.path.dirname(os.path.abspath(__file__))
-    with open(os.path.join(folder, "messages.txt"), encoding="utf-8") as file:
-        lines = [line for line in file.read().split("\n") if line and not line.startswith("#")]
-    return [tuple(line.split(": ", 1)) for line in lines]
+    """The name of each message, and its text."""
+    own = [line for line in read_lines("tests/messages.txt") if line and not line.startswith("#")]
+    return [(name, text) for _, name, text in numbers()] + [tuple(line.split(": ", 1)) for line in own]
 
 
 # Each text by its name and the number of its words.
@@ -19,10 +36,10 @@ TEXTS = {(name, len(set(re.findall(r"\{\d\}", text)))): text for name, text in r
 
 
 def message(name, *words):
-    """The message of a fault about these words. A word that is a name of the table stands for its
+    """The message of a fault about these words. A word that is the name of a message stands for its
     text."""
     if (name, len(words)) not in TEXTS:
-        raise KeyError(f"{NAME} has no {name} with {len(words)} words")
+        raise KeyError(f"{name} with {len(words)} words is not in {NAMES}")
     return TEXTS[name, len(words)].format(*(TEXTS.get((word, 0), word) for word in words))
 
 

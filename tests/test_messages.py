@@ -1,13 +1,18 @@
-"""Compares tests/messages.txt, which is written by hand, with the texts of the code, and with what
-repeats a message and is not run."""
+"""Compares the messages in docs/FORMAT.md and tests/messages.txt, which are written by hand, with the
+texts of the code, and with what repeats a message and is not run."""
 
 import glob
 import itertools
 import os
 import re
+import sys
 import unittest
+from pathlib import Path
 
-from messages import NAME, TEXTS, rows
+sys.path.append(str(Path(__file__).resolve().parent.parent / "share/generate"))
+import codes
+
+from messages import NAMES, TEXTS, numbers, rows
 from program import ROOT, TESTS, read
 
 VERBOSE = TESTS + "/cli/verbose.console"
@@ -43,12 +48,19 @@ def without_example(line):
 
 
 class Code(unittest.TestCase):
-    def test_rows(self):
+    def test_texts(self):
         """Each text of the code has a row, and each row is a text of the code."""
         code, table = set(texts_of_code()), set(rows())
         self.assertGreater(len(code), 40)
-        self.assertEqual(code - table, set(), f"these have no row in {NAME}")
-        self.assertEqual(table - code, set(), f"these rows of {NAME} stand nowhere in the code")
+        self.assertEqual(code - table, set(), f"these have no row in {NAMES}")
+        self.assertEqual(table - code, set(), f"these rows of {NAMES} stand nowhere in the code")
+
+    def test_numbers(self):
+        """The rows of docs/FORMAT.md have the numbers of the library for C."""
+        root = Path(ROOT)
+        faults = {(fault.code, fault.name) for fault in set(codes.faults(root)) - set(codes.own(root))}
+        parts = {(number, part.name) for number, part in codes.parts(root).items()}
+        self.assertEqual({(number, name) for number, name, _ in numbers()}, faults | parts | {(0, "Other")})
 
 
 class Manual(unittest.TestCase):

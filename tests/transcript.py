@@ -8,8 +8,8 @@ A transcript is text with blocks that begin with ```console and end with ```. In
 begins with `$ ` is a command for bash; where it ends with &&, | or \\ the next line goes on with it.
 Below it stand the lines of its standard output, those of its standard error, each after `2> `, and
 [status N] where it does not end with 0. [no line end] follows a last line of output without one.
-`agep: <NAME>` and `agep: <NAME: WORD>` are the messages that tests/messages.txt has for a fault;
-below a command that fails their texts are shown.
+`agep: <NAME>` and `agep: <NAME: WORD>` are the messages that docs/FORMAT.md and tests/messages.txt
+have for a fault; below a command that fails their texts are shown.
 
 The commands of a transcript run one after another in one shell with `pipefail`, in a copy of the
 folder that fixture.py makes, with nothing on standard input. ROOT is the repository's folder.
@@ -53,7 +53,7 @@ class Command:
     def expect(self, line):
         self.expected.append(messages.filled(line))
         if self.expected[-1] != line:
-            self.source = f"expected, by {messages.NAME}"
+            self.source = f"expected, by {messages.NAMES}"
 
 
 def read_text(name):

@@ -179,8 +179,15 @@ def _in_rust(root, all_codes):
 
 
 def _rust(root, all_codes, details):
-    """Which code is which variant of the crate's enum, and its text."""
+    """The variants of the crate's enum, which code is which of them, and its text."""
     of, shown, expected, own_codes = "", "", "", own(root)
+    pattern = r'((?:    ///.*\n)+)    #\[error\(.*\)\]\n    (\w+)(.*),'
+    declared = {name: (doc, held) for doc, name, held in re.findall(pattern, (root / "crates/age_file/src/fault.rt").read_text())}
+    variants = ""
+    for fault in all_codes:
+        if fault not in own_codes and fault.constant not in NOT_IN_RUST:
+            doc, held = declared[fault.name]
+            variants += f"{doc}    {fault.name}{held.replace('u128', 'u64').replace('StanzaFault', 'Part')},\n"
     for fault in _in_rust(root, all_codes):
         name, word = f"Error::{fault.name}", WORDS.get(fault.name)
         held = {"part": "(Part::of(report.detail))", None: ""}.get(word, "(place)")
@@ -197,52 +204,13 @@ def _rust(root, all_codes, details):
         for held, words in examples:
             expected += f'        (Error::{fault.name}{held}, "{_by_hand(fault.name, *words)}"),\n'
     return {
+        "variants of errors": variants,
         "codes of errors": of,
         "texts of errors": shown,
         "details of parts": "".join(f"            {number} => Part::{part.rust},\n" for number, part in details.items()),
         "texts of parts": "".join(f'            Part::{part.rust} => "{part.text}",\n' for part in details.values()),
         "expected texts of errors": expected,
     }
-
-
-# What a fault is called in docs/FORMAT.md, where that is not its text.
-TERMS = {
-    "NotAge": "not an age file",
-    "BadLine": "bad line",
-    "HeaderTruncated": "cut short (the header)",
-    "HeaderTooLarge": "too large",
-    "MixedPassphrase": "a `scrypt` stanza is not alone",
-    "NoMatch": "no match",
-    "WrongKey": "wrong key",
-    "Malformed": "malformed",
-    "BadMac": "the header's MAC is not the one of its stanzas",
-    "NonceTruncated": "fewer than 16 bytes follow the header",
-    "ChunkShort": "cut short (a piece)",
-    "EmptyFinal": "empty",
-    "BadChunk": "damaged",
-    "TooManyChunks": "too many chunks",
-    "Read": "a failed read",
-    "Write": "a failed write",
-    "OutOfMemory": "a refused allocation",
-    "NoRecipients": "there is no stanza",
-    "Refused": "a recipient refused",
-    "IncompatibleRecipients": "a recipient does not go together with recipient 0",
-}
-
-
-def _printed(fault):
-    """What agep prints: N stands for a number, PART for a part of a stanza, CODE for a code."""
-    words = {"Malformed": ["PART"], "Refused": ["N", "CODE"]}.get(fault.name, ["N"])
-    return fault.text.format(*words)
-
-
-def _table(all_codes, own_codes):
-    rows = [
-        f"| {f.code} | `{f.name}` | {TERMS.get(f.name, f.text)} | `{_printed(f)}` |\n"
-        for f in all_codes
-        if f not in own_codes
-    ]
-    return "| Code in C | `Fault` | In this document | What `agep` prints |\n|---|---|---|---|\n" + "".join(rows)
 
 
 def _own_table(own_codes):
@@ -265,7 +233,7 @@ def _definitions(root):
 
 
 def _by_hand(name, *words):
-    """The text that tests/messages.txt has for a fault."""
+    """The text that docs/FORMAT.md has for a fault."""
     try:
         return messages.message(name, *words)
     except KeyError as error:
@@ -277,7 +245,7 @@ NUMBERS = {"BadChunk": {"4_294_967_295": 2**32 - 1, "(1 << 88) - 1": 2**88 - 1}}
 
 
 def _expected(root):
-    """What tests compare with the texts of the faults and of the parts, by tests/messages.txt."""
+    """What tests compare with the texts of the faults and of the parts, by docs/FORMAT.md."""
     lines, parts = [], {}
     for name in _texts(root / "crates/age_recipient/src/unwrapped.rt", "StanzaFault"):
         held, words = ("(7)", ["7"]) if name == "Other" else ("", [])
@@ -301,20 +269,11 @@ def _expected(root):
     }
 
 
-def _part_sentence(details):
-    *first, last = [f"`{part.text}`" for part in details.values()]
-    return f"PART is one of {', '.join(first)} and {last}.\n"
-
-
 def texts(root):
     """Each generated text by its name."""
     all_codes, own_codes, details = faults(root), own(root), parts(root)
     generated = _c(all_codes, details) | _python(all_codes, details) | _rust(root, all_codes, details)
-    return generated | _definitions(root) | _expected(root) | {
-        "faults": _table(all_codes, own_codes),
-        "codes of the library": _own_table(own_codes),
-        "parts of stanzas": _part_sentence(details),
-    }
+    return generated | _definitions(root) | _expected(root) | {"codes of the library": _own_table(own_codes)}
 
 
 def promised(root, layout):
