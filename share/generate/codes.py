@@ -27,12 +27,13 @@ def tokens_of(path):
 
 
 class Fault(NamedTuple):
-    """A code: its number, its name in CamelCase, and the text of the program for it, in which a
-    number is {0}."""
+    """A code: its number, its name in CamelCase, the text of the program for it, in which a number is
+    {0}, and what {0} is where a report tells it: a line, a chunk or a part of a stanza."""
 
     code: int
     name: str
     text: str
+    word: str = ""
 
     @property
     def constant(self):
@@ -105,6 +106,17 @@ def _camel(constant):
     return "".join(word.capitalize() for word in constant.split("_"))
 
 
+# What a fault holds that a report tells, by its type.
+WORDS = {"u64": "line", "u128": "chunk", "StanzaFault": "part"}
+
+
+def _variants(root):
+    """The comment of each variant of Fault, its text, and the types of what it holds."""
+    pattern = r'((?:    ///.*\n)+)    #\[error\("(.*)"\)\]\n    (\w+)(?:\((.*)\))?,'
+    found = re.findall(pattern, (root / "crates/age_file/src/fault.rt").read_text())
+    return {name: (comment, text, held) for comment, text, name, held in found}
+
+
 def own(root):
     """The codes that the library itself returns, and that are no fault of a file. Those of code.rt are
     constants whose comments begin with their texts."""
@@ -124,9 +136,13 @@ def own(root):
 
 def faults(root):
     """All codes in order, those of files and those of the library."""
-    texts = _texts(root / "crates/age_file/src/fault.rt", "Fault")
     numbers, _ = _arms(root / "crates/agefile/src/code.rt", "fault_code")
-    return sorted([Fault(numbers[name], name, text) for name, text in texts.items()] + own(root))
+    found = []
+    for name, (_, text, held) in _variants(root).items():
+        if name not in numbers:
+            sys.exit(f"crates/agefile/src/code.rt: fault_code has no number of {name}")
+        found.append(Fault(numbers[name], name, text, WORDS.get(held, "")))
+    return sorted(found + own(root))
 
 
 def parts(root):
@@ -147,15 +163,11 @@ def _c(all_codes, details):
     }
 
 
-# What takes the place of the number in a message.
-WORDS = {"BadLine": "line", "ChunkShort": "chunk", "EmptyFinal": "chunk", "BadChunk": "chunk", "Malformed": "part"}
-
-
 def _python(all_codes, details):
     members, messages = "", ""
     for fault in all_codes:
-        word = WORDS.get(fault.name)
-        text = fault.text.replace("{0}", "{part}" if word == "part" else "{place}") if word else fault.message
+        word = "{part}" if fault.word == "part" else "{place}"
+        text = fault.text.replace("{0}", word) if fault.word else fault.message
         members += f"    {fault.constant} = {fault.code}\n"
         messages += f'    Code.{fault.constant}: "{text}",\n'
     named = "".join(f'    {number}: "{part.text}",\n' for number, part in details.items())
@@ -181,16 +193,14 @@ def _in_rust(root, all_codes):
 def _rust(root, all_codes, details):
     """The variants of the crate's enum, which code is which of them, and its text."""
     of, shown, expected, own_codes = "", "", "", own(root)
-    pattern = r'((?:    ///.*\n)+)    #\[error\(.*\)\]\n    (\w+)(.*),'
-    declared = {name: (doc, held) for doc, name, held in re.findall(pattern, (root / "crates/age_file/src/fault.rt").read_text())}
-    variants = ""
-    for fault in all_codes:
-        if fault not in own_codes and fault.constant not in NOT_IN_RUST:
-            doc, held = declared[fault.name]
-            variants += f"{doc}    {fault.name}{held.replace('u128', 'u64').replace('StanzaFault', 'Part')},\n"
+    variants, types = "", {"": "", "part": "(Part)"}
+    for name, (comment, _, _) in _variants(root).items():
+        fault = next(fault for fault in all_codes if fault.name == name)
+        if fault.constant not in NOT_IN_RUST:
+            variants += f"{comment}    {name}{types.get(fault.word, '(u64)')},\n"
     for fault in _in_rust(root, all_codes):
-        name, word = f"Error::{fault.name}", WORDS.get(fault.name)
-        held = {"part": "(Part::of(report.detail))", None: ""}.get(word, "(place)")
+        name, word = f"Error::{fault.name}", fault.word
+        held = {"part": "(Part::of(report.detail))", "": ""}.get(word, "(place)")
         of += f"            {fault.code} => {name}{held},\n"
         text = fault.text.replace("{0}", f"{{{word}}}")
         shown += f'            {name}{f"({word})" if word else ""} => write!(f, "{text}"),\n'
@@ -200,7 +210,7 @@ def _rust(root, all_codes, details):
         if fault.name == "Malformed":
             examples = [(f"(Part::{part.rust})", [part.name]) for part in details.values()]
         else:
-            examples = [("(1)", ["1"]) if fault.name in WORDS else ("", [])]
+            examples = [("(1)", ["1"]) if fault.word else ("", [])]
         for held, words in examples:
             expected += f'        (Error::{fault.name}{held}, "{_by_hand(fault.name, *words)}"),\n'
     return {
@@ -250,7 +260,7 @@ def _expected(root):
     for name in _texts(root / "crates/age_recipient/src/unwrapped.rt", "StanzaFault"):
         held, words = ("(7)", ["7"]) if name == "Other" else ("", [])
         parts[f"StanzaFault::{name}{held}"] = _by_hand(name, *words)
-    for name in _texts(root / "crates/age_file/src/fault.rt", "Fault"):
+    for name in _variants(root):
         if name == "Malformed":
             rows = [(held, [text]) for held, text in parts.items()]
         elif name in NUMBERS:
