@@ -18,9 +18,8 @@ try:
 except ImportError as error:
     raise unittest.SkipTest(str(error)) from error
 
-sys.path.append(os.path.join(os.path.dirname(os.path.abspath(__file__)), "../../../tests"))
 from agefile import _reader
-from messages import message
+from support import message
 
 SECRET = agefile.Passphrase("correct horse", work=10)
 ROWS = int(os.environ.get("AGEFILE_DASK_ROWS", 400_000))

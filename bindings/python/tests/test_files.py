@@ -10,25 +10,14 @@ import os
 import pickle
 import random
 import shutil
-import sys
 import tempfile
-import threading
 import traceback
 import unittest
 import warnings
 
 import agefile
 from agefile import AgeError, Code, Key, Passphrase
-
-sys.path.append(os.path.join(os.path.dirname(os.path.abspath(__file__)), "../../../tests"))
-from messages import message, pattern
-
-KEY = Key(bytes(range(32)))
-
-
-@functools.lru_cache
-def text(length):
-    return bytes(i * 7 + i // 251 & 255 for i in range(length))
+from support import KEY, in_threads, message, pattern, text
 
 
 class InFolder(unittest.TestCase):
@@ -286,11 +275,7 @@ class Reading(InFolder):
                     if piece and piece not in plain:
                         wrong.append(piece)
 
-            threads = [threading.Thread(target=work) for _ in range(4)]
-            for thread in threads:
-                thread.start()
-            for thread in threads:
-                thread.join()
+            in_threads(work)
         self.assertEqual(wrong, [])
 
     def test_fork(self):

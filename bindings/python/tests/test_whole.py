@@ -3,7 +3,6 @@
 import array
 import contextlib
 import copy
-import functools
 import gc
 import io
 import itertools
@@ -21,19 +20,11 @@ import unittest
 
 import agefile
 from agefile import AgeError, Code, Key, Passphrase, Stanza
+from support import KEY, in_threads, message, pattern, text
 
-sys.path.append(os.path.join(os.path.dirname(os.path.abspath(__file__)), "../../../tests"))
-from messages import message, pattern
-
-KEY = Key(bytes(range(32)))
 # around the edges of chunks, and of what one thread takes at a time
 SIZES = (0, 1, 65535, 65536, 65537, 131072, 200000, 16 * 65536, 16 * 65536 + 1, 50 * 65536 + 7)
 DATA = os.path.join(os.path.dirname(__file__), "../../../tests/data")
-
-
-@functools.lru_cache
-def text(length):
-    return bytes(i * 7 + i // 251 & 255 for i in range(length))
 
 
 def of_age(name):
@@ -307,11 +298,7 @@ class Processes(unittest.TestCase):
                 if agefile.decrypt(agefile.encrypt(text(1000), recipients=secret), identities=secret) != text(1000):
                     wrong.append(True)
 
-        threads = [threading.Thread(target=work) for _ in range(4)]
-        for thread in threads:
-            thread.start()
-        for thread in threads:
-            thread.join()
+        in_threads(work)
         self.assertEqual(wrong, [])
 
     def test_the_library_that_is_taken(self):
