@@ -9,6 +9,7 @@ import reference
 from fixture import KEY, PLAIN, SALT, SEED
 from messages import message
 from program import INTERRUPTED, IO_ERROR, NO_SPACE, ProgramCase, fault, preload, read, write
+from test_headers import table
 
 # More than one piece, when it is read.
 LONG_PASSPHRASE = b"".join(b"%d\n" % i for i in range(1, 1001))
@@ -40,16 +41,12 @@ def jobs():
     # one LF at the end of its file is no part of it
     pass_age = reference.age_file(SEED, [reference.passphrase_stanza(LONG_PASSPHRASE[:-1], 4, SALT)], LONG_PLAIN)
     header = key_age[:156]
-    _, stanza, _, mac, _ = header.decode().split("\n")
-    table = (
-        f"version age-encryption.org/v1\nstanzas 1\n   0       32 {stanza[3:]}\nmac {mac[4:]}\nheader 156 bytes\ncheck good\n"
-    )
     return [
         Job("encrypt -p pass -w 4 -s seed", "plain", pass_age, 8, 3),
         Job("decrypt -k other.key -k key", "key.age", LONG_PLAIN, 7, 3),
         Job("rewrap -k key -P pass -w 4 -s seed", "key.age", pass_age, 8, 3),
         Job("range -k key 65530 65550", "key.age", PART, 5, 2),
-        Job("inspect -f file.key", "key.age", table.encode(), 3, 1),
+        Job("inspect -f file.key", "key.age", table(header, True), 3, 1),
         Job("inspect -r", "key.age", header, 1, 1),
     ]
 

@@ -18,8 +18,8 @@ def header_in(file):
     return file[: file.index(b"\n", file.index(b"\n--- ") + 1) + 1]
 
 
-def table(header, check="none"):
-    """The table of a header, worked out from its lines."""
+def table(header, is_right=None):
+    """The table of a header, worked out from its lines; with a file key, whether its MAC is right."""
     version, *lines, mac, _ = header.decode().split("\n")
     stanzas = []
     for line in lines:
@@ -28,6 +28,7 @@ def table(header, check="none"):
         else:
             stanzas[-1][1] += len(line)
     rows = [f"{i:4} {size * 3 // 4:8} {arguments}" for i, (arguments, size) in enumerate(stanzas)]
+    check = {None: "none", True: "good", False: "bad"}[is_right]
     end = [f"mac {mac[4:]}", f"header {len(header)} bytes", f"check {check}", ""]
     return "\n".join([f"version {version}", f"stanzas {len(stanzas)}", *rows, *end]).encode()
 
@@ -59,10 +60,10 @@ class Tables(ProgramCase):
                 self.writes(header, "inspect", "-r", file)
                 self.writes(table(header), "inspect", input=read(file))
         header = header_in(read("data/passphrase.age"))
-        self.writes(table(header, "good"), "inspect", "-f", "data/passphrase.key", "data/passphrase.age")
+        self.writes(table(header, True), "inspect", "-f", "data/passphrase.key", "data/passphrase.age")
         write("other", PLAIN[:16])
         ran = self.run_agep("inspect", "-f", "other", "data/passphrase.age")
-        self.assert_ended(ran, 1, fault(message("BadMac")), table(header, "bad"))
+        self.assert_ended(ran, 1, fault(message("BadMac")), table(header, False))
 
     def test_great_headers(self):
         """Headers of many lines and of many arguments, up to the limit and beyond it."""

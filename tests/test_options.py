@@ -10,7 +10,7 @@ import reference
 from fixture import HELLO, KEY, OTHER_KEY, PLAIN, SALT, SEED
 from messages import message
 from program import AGEP, ProgramCase, preload, read, write
-from test_headers import ZERO_MAC, ZERO_SALT, header_in, header_of
+from test_headers import ZERO_MAC, ZERO_SALT, header_in, header_of, table
 
 # Less than scrypt takes at the work factor 18: a work factor that is accepted is out of memory.
 LITTLE_MEMORY = 100000 * 1024
@@ -121,9 +121,9 @@ class MaxHeader(ProgramCase):
                     elif words == "inspect -r":
                         self.writes(header_in(read(f"sized.{size}")), *run)
                     elif words.startswith("inspect"):
-                        ran = self.run_agep(*run)
-                        self.assert_ended(ran, 0, "", None)
-                        self.assertIn(f"\nheader {size} bytes\ncheck good\n".encode(), ran.out)
+                        header = header_in(read(f"sized.{size}"))
+                        self.assertEqual(len(header), size)
+                        self.writes(table(header, True), *run)
                     else:
                         self.writes(read("key.age") if words.startswith("rewrap") else HELLO, *run)
 

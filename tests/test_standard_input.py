@@ -3,6 +3,7 @@
 from fixture import HELLO
 from messages import message
 from program import ProgramCase, read
+from test_headers import header_in, table
 
 NAMES = ["/dev/stdin", "/dev/fd/0", "/proc/self/fd/0"]
 
@@ -51,9 +52,8 @@ class StandardInput(ProgramCase):
         """The file key is standard input."""
         for name in NAMES:
             with self.subTest(name), open("file.key", "rb") as stdin:
-                ran = self.run_agep("inspect", "-f", name, "key.age", input=stdin)
-                self.assert_ended(ran, 0, "", None)
-                self.assertEqual(ran.out.splitlines()[-1], b"check good")
+                expected = table(header_in(read("key.age")), True)
+                self.writes(expected, "inspect", "-f", name, "key.age", input=stdin)
 
     def test_device(self):
         """A character device is standard input by its names alone, and refused as two files."""
