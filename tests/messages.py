@@ -1,5 +1,5 @@
-"""The messages of agep, by the names of their faults, as documents have them that are written by hand:
-those of files in docs/FORMAT.md, those of the program in tests/messages.txt."""
+"""The messages of agep by the names of their faults, from what is written by hand: those of files
+from docs/FORMAT.md, those of the program from tests/messages.txt."""
 
 import itertools
 import os
@@ -15,8 +15,8 @@ def read_lines(name):
 
 
 def numbers():
-    """The faults and parts in the tables of docs/FORMAT.md: the number in C of each, its name, and its
-    text, whose words are numbered."""
+    """The faults and parts in the tables of docs/FORMAT.md: the number in C of each, its name, and
+    its text, whose words are numbered."""
     for line in read_lines("docs/FORMAT.md"):
         found = re.fullmatch(r"\| (\d+) \| `(\w+)` \|(?: [^|]* \|)? `([^`]*)` \|", line)
         if found:
@@ -28,7 +28,8 @@ def numbers():
 def rows():
     """The name of each message, and its text."""
     own = [line for line in read_lines("tests/messages.txt") if line and not line.startswith("#")]
-    return [(name, text) for _, name, text in numbers()] + [tuple(line.split(": ", 1)) for line in own]
+    of_files = [(name, text) for _, name, text in numbers()]
+    return of_files + [tuple(line.split(": ", 1)) for line in own]
 
 
 # Each text by its name and the number of its words.
@@ -56,4 +57,4 @@ def filled(line):
         return line
     start, name, words = found.groups()
     most = max((count for known, count in TEXTS if known == name), default=0)
-    return start + message(name, *(words.split(", ", max(most - 1, 0)) if words is not None else ()))
+    return start + message(name, *([] if words is None else words.split(", ", max(most - 1, 0))))

@@ -1,5 +1,5 @@
-"""Compares the messages in docs/FORMAT.md and tests/messages.txt, which are written by hand, with the
-texts of the code, and with what repeats a message and is not run."""
+"""Compares the messages in docs/FORMAT.md and tests/messages.txt, which are written by hand, with
+the texts of the code, and with what repeats a message and is not run."""
 
 import glob
 import itertools
@@ -30,14 +30,17 @@ def numbered(text):
 
 def texts_of_code():
     """The names and texts of the faults, their parts and the roles of files."""
+    crates = ROOT + "/crates"
     for source in ("age_file/src/fault.rt", "age_recipient/src/unwrapped.rt"):
-        for text, name in re.findall(r'#\[error\("(.*)"\)\]\s+(\w+)', text_of(f"{ROOT}/crates/{source}")):
+        code = text_of(f"{crates}/{source}")
+        for text, name in re.findall(r'#\[error\("(.*)"\)\]\s+(\w+)', code):
             yield name, text
-    shown = text_of(ROOT + "/crates/age_cli/src/fault.rt").split("impl fmt::Display for Fault")[1]
+    shown = text_of(crates + "/age_cli/src/fault.rt").split("impl fmt::Display for Fault")[1]
     for name, text in re.findall(r'Fault::(\w+)[^"]*"(.*)"', shown):
         if name != "AgeFile":
             yield name, numbered(text)
-    for name, text in re.findall(r'Role::(\w+) => "(.*)"', text_of(ROOT + "/crates/age_cli/src/file_names.rt")):
+    roles = text_of(crates + "/age_cli/src/file_names.rt")
+    for name, text in re.findall(r'Role::(\w+) => "(.*)"', roles):
         yield name, text if name == "Input" else f"the {text}"
 
 
@@ -58,19 +61,22 @@ class Code(unittest.TestCase):
     def test_numbers(self):
         """The rows of docs/FORMAT.md have the numbers of the library for C."""
         root = Path(ROOT)
-        faults = {(fault.code, fault.name) for fault in set(codes.faults(root)) - set(codes.own(root))}
-        parts = {(number, part.name) for number, part in codes.parts(root).items()}
-        self.assertEqual({(number, name) for number, name, _ in numbers()}, faults | parts | {(0, "Other")})
+        of_files = set(codes.faults(root)) - set(codes.own(root))
+        expected = {(fault.code, fault.name) for fault in of_files} | {(0, "Other")}
+        expected |= {(number, part.name) for number, part in codes.parts(root).items()}
+        self.assertEqual({(number, name) for number, name, _ in numbers()}, expected)
 
 
 class Manual(unittest.TestCase):
     """DIAGNOSTICS of the manual page: some first lines, and examples of second lines."""
 
     def setUp(self):
-        page = text_of(ROOT + "/share/man/agep.1").split("\n.SH DIAGNOSTICS\n")[1].split("\n.SH ")[0]
+        page = text_of(ROOT + "/share/man/agep.1").split("\n.SH DIAGNOSTICS\n")[1]
+        page = page.split("\n.SH ")[0]
         entries = re.findall(r"^\.TP\n\.B (.*)\n((?:[^.].*\n)+)", page, re.MULTILINE)
         self.assertGreater(len(entries), 6)
-        self.first = [part for head, _ in entries for part in head.split(r"\fR, and other")[0].split(r"\fR, \fB")]
+        heads = [head.split(r"\fR, and other")[0] for head, _ in entries]
+        self.first = [part for head in heads for part in head.split(r"\fR, \fB")]
         self.first += re.findall(r'^There is no second line for\n\.BR "(.*)"', page, re.MULTILINE)
         self.second = [example for _, example in entries]
 
@@ -81,7 +87,8 @@ class Manual(unittest.TestCase):
 
     def test_second_lines(self):
         """Each second line stands in a transcript, for another file."""
-        shown = {without_example(line) for line in text_of(VERBOSE).split("\n") if line.startswith("2> ")}
+        lines = [line for line in text_of(VERBOSE).split("\n") if line.startswith("2> ")]
+        shown = {without_example(line) for line in lines}
         self.assertEqual([line for line in self.second if without_example(line) not in shown], [])
 
 
@@ -91,4 +98,5 @@ class Transcripts(unittest.TestCase):
         texts = "|".join(re.sub(r"\\\{\d\\\}", ".*", re.escape(text)) for text in TEXTS.values())
         for name in sorted(glob.glob(TESTS + "/cli/*.console")):
             with self.subTest(os.path.basename(name)):
-                self.assertEqual(re.findall(rf"^(?:2> )?agep: (?:{texts})$", text_of(name), re.MULTILINE), [])
+                literal = re.findall(rf"^(?:2> )?agep: (?:{texts})$", text_of(name), re.MULTILINE)
+                self.assertEqual(literal, [])

@@ -16,19 +16,19 @@ class Token(NamedTuple):
 
 
 PATTERN = re.compile(
-    r"(?P<doc>///[^\n]*)|(?P<comment>//[^\n]*)|(?P<string>\"(?:[^\"\\]|\\.)*\")|(?P<word>\w+)|(?P<mark>=>|::|[^\s\w])"
+    r"(?P<comment>//[^\n]*)|(?P<string>\"(?:[^\"\\]|\\.)*\")|(?P<word>\w+)|(?P<mark>=>|::|[^\s\w])"
 )
 
 
 def tokens_of(path):
-    """The tokens of a source file, without its comments but for those of documentation."""
+    """The tokens of a source file, without its comments."""
     found = [Token(m.lastgroup, m.group()) for m in PATTERN.finditer(path.read_text())]
     return [token for token in found if token.kind != "comment"]
 
 
 class Fault(NamedTuple):
-    """A code: its number, its name in CamelCase, the text of the program for it, in which a number is
-    {0}, and what {0} is where a report tells it: a line, a chunk or a part of a stanza."""
+    """A code: its number, its name in CamelCase, the text of the program for it, in which a number
+    is {0}, and what {0} is where a report tells it: a line, a chunk or a part of a stanza."""
 
     code: int
     name: str
@@ -54,26 +54,8 @@ class Part(NamedTuple):
     @property
     def rust(self):
         """Its name in the crate for Rust."""
-        return {"ArgCount": "ArgumentCount", "WorkFactorText": "WorkFactor"}.get(self.name, self.name)
-
-
-def _texts(path, enum):
-    """The text of each variant of an enum, which is in its attribute `error`."""
-    found, text, tokens = {}, None, iter(tokens_of(path))
-    for token in tokens:
-        if token.text == "enum" and next(tokens).text == enum:
-            break
-    depth = 0
-    for token in tokens:
-        depth += (token.text in "{([") - (token.text in "})]") if token.kind == "mark" else 0
-        if depth == 0:
-            return found
-        if token.kind == "string":
-            text = token.text[1:-1]
-        elif token.kind == "word" and depth == 1 and text is not None:
-            found[token.text] = text
-            text = None
-    return found
+        others = {"ArgCount": "ArgumentCount", "WorkFactorText": "WorkFactor"}
+        return others.get(self.name, self.name)
 
 
 def _arms(path, function):
@@ -110,16 +92,22 @@ def _camel(constant):
 WORDS = {"u64": "line", "u128": "chunk", "StanzaFault": "part"}
 
 
-def _variants(root):
-    """The comment of each variant of Fault, its text, and the types of what it holds."""
-    pattern = r'((?:    ///.*\n)+)    #\[error\("(.*)"\)\]\n    (\w+)(?:\((.*)\))?,'
-    found = re.findall(pattern, (root / "crates/age_file/src/fault.rt").read_text())
+def _variants(root, source="age_file/src/fault.rt"):
+    """The comment of each variant of an enum of faults, its text, and the types of what it holds."""
+    pattern = r'((?:    ///.*\n)*)    #\[error\("(.*)"\)\]\n    (\w+)(?:\((.*)\))?,'
+    found = re.findall(pattern, (root / "crates" / source).read_text())
     return {name: (comment, text, held) for comment, text, name, held in found}
 
 
+def _part_texts(root):
+    """The text of each variant of StanzaFault."""
+    variants = _variants(root, "age_recipient/src/unwrapped.rt")
+    return {name: text for name, (_, text, _) in variants.items()}
+
+
 def own(root):
-    """The codes that the library itself returns, and that are no fault of a file. Those of code.rt are
-    constants whose comments begin with their texts."""
+    """The codes that the library itself returns, and that are no fault of a file. Those of code.rt
+    are constants whose comments begin with their texts."""
     path = "crates/agefile/src/code.rt"
     of_faults = _arms(root / path, "fault_code")[0].values()
     found = [NULL_POINTER]
@@ -129,7 +117,7 @@ def own(root):
             continue
         text = re.match(r"/// `([^`]+)`", comment)
         if text is None:
-            sys.exit(f"{path}: the comment of {constant} does not begin with its text in backquotes")
+            sys.exit(f"{path}: the comment of {constant} begins without a text in backquotes")
         found.append(Fault(int(number), _camel(constant), text[1]))
     return found
 
@@ -137,17 +125,17 @@ def own(root):
 def faults(root):
     """All codes in order, those of files and those of the library."""
     numbers, _ = _arms(root / "crates/agefile/src/code.rt", "fault_code")
-    found = []
-    for name, (_, text, held) in _variants(root).items():
-        if name not in numbers:
-            sys.exit(f"crates/agefile/src/code.rt: fault_code has no number of {name}")
+    found, variants = [], _variants(root)
+    if other := set(numbers) ^ set(variants):
+        sys.exit(f"fault.rt and fault_code in code.rt: {', '.join(sorted(other))} stands in one alone")
+    for name, (_, text, held) in variants.items():
         found.append(Fault(numbers[name], name, text, WORDS.get(held, "")))
     return sorted(found + own(root))
 
 
 def parts(root):
     """The parts of a stanza that may be malformed, by the detail of a report."""
-    texts = _texts(root / "crates/age_recipient/src/unwrapped.rt", "StanzaFault")
+    texts = _part_texts(root)
     numbers, _ = _arms(root / "crates/agefile/src/code.rt", "fault_detail")
     return {number: Part(name, texts[name]) for name, number in numbers.items() if number}
 
@@ -155,7 +143,7 @@ def parts(root):
 def _c(all_codes, details):
     enum = ",\n".join(f"    AGEFILE_{fault.constant} = {fault.code}" for fault in all_codes)
     cases = "".join(f'    case AGEFILE_{f.constant}: return "{f.message}";\n' for f in all_codes)
-    named = "".join(f'    case {number}: return "{part.text}";\n' for number, part in details.items())
+    named = "".join(f'    case {n}: return "{part.text}";\n' for n, part in details.items())
     return {
         "codes": f"enum agefile_code {{\n{enum}\n}};\n",
         "messages": f'    switch (code) {{\n{cases}    default: return "unknown code";\n    }}\n',
@@ -184,10 +172,11 @@ NOT_IN_RUST = {"READ", "WRITE", "REFUSED", "INCOMPATIBLE_RECIPIENTS"}
 
 def _in_rust(root, all_codes):
     """The codes that are variants of the crate's enum: of the library's own those that it has."""
-    enum = re.search(r"pub enum Error \{(.*?)^\}", (root / "bindings/rust/src/error.rs").read_text(), re.S | re.M)[1]
+    error_rs = (root / "bindings/rust/src/error.rs").read_text()
+    enum = re.search(r"pub enum Error \{(.*?)^\}", error_rs, re.S | re.M)[1]
     variants = re.findall(r"^    (\w+)", enum, re.M)
     others = {fault.name for fault in own(root)} - set(variants)
-    return [fault for fault in all_codes if fault.constant not in NOT_IN_RUST and fault.name not in others]
+    return [f for f in all_codes if f.constant not in NOT_IN_RUST and f.name not in others]
 
 
 def _rust(root, all_codes, details):
@@ -213,12 +202,16 @@ def _rust(root, all_codes, details):
             examples = [("(1)", ["1"]) if fault.word else ("", [])]
         for held, words in examples:
             expected += f'        (Error::{fault.name}{held}, "{_by_hand(fault.name, *words)}"),\n'
+    numbers, names = "", ""
+    for number, part in details.items():
+        numbers += f"            {number} => Part::{part.rust},\n"
+        names += f'            Part::{part.rust} => "{part.text}",\n'
     return {
         "variants of errors": variants,
         "codes of errors": of,
         "texts of errors": shown,
-        "details of parts": "".join(f"            {number} => Part::{part.rust},\n" for number, part in details.items()),
-        "texts of parts": "".join(f'            Part::{part.rust} => "{part.text}",\n' for part in details.values()),
+        "details of parts": numbers,
+        "texts of parts": names,
         "expected texts of errors": expected,
     }
 
@@ -257,7 +250,7 @@ NUMBERS = {"BadChunk": {"4_294_967_295": 2**32 - 1, "(1 << 88) - 1": 2**88 - 1}}
 def _expected(root):
     """What tests compare with the texts of the faults and of the parts, by docs/FORMAT.md."""
     lines, parts = [], {}
-    for name in _texts(root / "crates/age_recipient/src/unwrapped.rt", "StanzaFault"):
+    for name in _part_texts(root):
         held, words = ("(7)", ["7"]) if name == "Other" else ("", [])
         parts[f"StanzaFault::{name}{held}"] = _by_hand(name, *words)
     for name in _variants(root):
@@ -269,21 +262,24 @@ def _expected(root):
             count = max((count for known, count in messages.TEXTS if known == name), default=0)
             rows = [(", ".join("17"[:count]), "17"[:count])]
         for held, words in rows:
-            fault, text = f"Fault::{name}({held})" if held else f"Fault::{name}", _by_hand(name, *words)
-            line = f'({fault}, "{text}")'
+            fault = f"Fault::{name}({held})" if held else f"Fault::{name}"
+            text = f'"{_by_hand(name, *words)}"'
+            line = f"({fault}, {text}),"
             # as rt fmt breaks a tuple
-            lines += [line + ","] if len(line) <= 60 else ["(", f"    {fault},", f'    "{text}",', "),"]
+            lines += [line] if len(line) <= 61 else ["(", f"    {fault},", f"    {text},", "),"]
+    of_parts = [f'({part}, "{text}"),' for part, text in parts.items()]
     return {
         "expected texts": "".join(f"        {line}\n" for line in lines),
-        "expected texts of parts": "".join(f'        ({part}, "{text}"),\n' for part, text in parts.items()),
+        "expected texts of parts": "".join(f"        {line}\n" for line in of_parts),
     }
 
 
 def texts(root):
     """Each generated text by its name."""
     all_codes, own_codes, details = faults(root), own(root), parts(root)
-    generated = _c(all_codes, details) | _python(all_codes, details) | _rust(root, all_codes, details)
-    return generated | _definitions(root) | _expected(root) | {"codes of the library": _own_table(own_codes)}
+    generated = _c(all_codes, details) | _python(all_codes, details)
+    generated |= _rust(root, all_codes, details) | _definitions(root) | _expected(root)
+    return generated | {"codes of the library": _own_table(own_codes)}
 
 
 def promised(root, layout):
