@@ -7,7 +7,9 @@ import os
 import fixture
 import reference
 from fixture import KEY, PLAIN, SALT, SEED
+from messages import message
 from program import INTERRUPTED, IO_ERROR, NO_SPACE, ProgramCase, fault, preload, read, write
+from test_headers import table
 
 # More than one piece, when it is read.
 LONG_PASSPHRASE = b"".join(b"%d\n" % i for i in range(1, 1001))
@@ -39,16 +41,12 @@ def jobs():
     # one LF at the end of its file is no part of it
     pass_age = reference.age_file(SEED, [reference.passphrase_stanza(LONG_PASSPHRASE[:-1], 4, SALT)], LONG_PLAIN)
     header = key_age[:156]
-    _, stanza, _, mac, _ = header.decode().split("\n")
-    table = (
-        f"version age-encryption.org/v1\nstanzas 1\n   0       32 {stanza[3:]}\nmac {mac[4:]}\nheader 156 bytes\ncheck good\n"
-    )
     return [
         Job("encrypt -p pass -w 4 -s seed", "plain", pass_age, 8, 3),
         Job("decrypt -k other.key -k key", "key.age", LONG_PLAIN, 7, 3),
         Job("rewrap -k key -P pass -w 4 -s seed", "key.age", pass_age, 8, 3),
         Job("range -k key 65530 65550", "key.age", PART, 5, 2),
-        Job("inspect -f file.key", "key.age", table.encode(), 3, 1),
+        Job("inspect -f file.key", "key.age", table(header, True), 3, 1),
         Job("inspect -r", "key.age", header, 1, 1),
     ]
 
@@ -136,7 +134,7 @@ class Order(CallCase):
         self.is_whole(self.run_job(job, "-o"), job, "-o")
         self.assertEqual([kind for kind, _ in self.calls()], ["ftruncate", "fsync"])
         job = Job("decrypt -k other.key", "key.age", b"", 4, 0)
-        self.assert_ended(self.run_job(job, "-o"), 1, fault("wrong passphrase or key"))
+        self.assert_ended(self.run_job(job, "-o"), 1, fault(message("WrongKey")))
         self.assertEqual((self.calls(), self.made), ([], YESTERDAY))
 
 
@@ -168,8 +166,8 @@ class ShortCalls(CallCase):
 
         for job in self.jobs:
             for form in job.forms():
-                self.each_call("read", INTERRUPTED, job, form, whole_or("read failed"))
-                self.each_call("write", INTERRUPTED, job, form, whole_or("write failed"))
+                self.each_call("read", INTERRUPTED, job, form, whole_or(message("Read")))
+                self.each_call("write", INTERRUPTED, job, form, whole_or(message("Write")))
             if job.words[:2] != ["inspect", "-r"]:
                 with self.subTest(f"{job}, the first read, of a small file, is tried again"):
                     self.is_whole(self.run_job(job, "", call="read", number=1, do=INTERRUPTED), job, "")
@@ -180,7 +178,7 @@ class FailingCalls(CallCase):
     def test_reads(self):
         """A read that fails is no end of a file, and no OUT that was there is emptied for nothing."""
         def judge(ran, job, form):
-            self.has_failed("read failed")(ran, job, form)
+            self.has_failed(message("Read"))(ran, job, form)
             self.assertTrue(form != "-o" or self.made, "OUT is empty")
 
         for job in self.jobs:
@@ -192,16 +190,16 @@ class FailingCalls(CallCase):
         for job in self.jobs:
             for form in job.forms():
                 for what in (IO_ERROR, NO_SPACE, "none"):
-                    self.each_call("write", what, job, form, self.has_failed("write failed"))
+                    self.each_call("write", what, job, form, self.has_failed(message("Write")))
 
     def test_files(self):
         """An OUT that can't be truncated stays as it was. One that can't be synced is no success."""
         def is_untouched(ran, job, form):
-            self.assert_ended(ran, 1, fault("write failed"))
+            self.assert_ended(ran, 1, fault(message("Write")))
             self.assert_bytes(self.made, YESTERDAY, "OUT")
 
         def is_unsynced(ran, job, form):
-            self.assert_ended(ran, 1, fault("write failed"))
+            self.assert_ended(ran, 1, fault(message("Write")))
             self.assert_bytes(self.made, job.expected, "OUT")
 
         for job in self.jobs:
@@ -215,14 +213,15 @@ class FailingCalls(CallCase):
         job = self.jobs[3]
 
         def judge(ran, job, form):
-            opens = ran.err.startswith(b"agep: cannot")
-            self.has_failed("cannot open key.age" if opens else "read failed")(ran, job, form)
+            cannot_open = message("CannotOpen", "key.age")
+            opens = ran.err == fault(cannot_open).encode()
+            self.has_failed(cannot_open if opens else message("Read"))(ran, job, form)
 
         for form in job.forms():
             self.each_call("lseek", IO_ERROR, job, form, judge)
             with self.subTest(f"the first seek shows whether IN can be read at offsets {form}"):
                 ran = self.run_job(job, form, call="lseek", number=1, do=IO_ERROR)
-                self.assert_ended(ran, 1, fault("cannot open key.age"), None)
+                self.assert_ended(ran, 1, fault(message("CannotOpen", "key.age")), None)
 
     def test_explained(self):
         """With -v the second line says which file can't be synced, truncated or read."""
@@ -233,7 +232,7 @@ class FailingCalls(CallCase):
             with self.subTest(more):
                 write("made", YESTERDAY)
                 env = {"LD_PRELOAD": preload("calls"), "CALL": kind, "NUMBER": "1", "DO": IO_ERROR}
-                self.says("write failed", "decrypt", "-v", "-k", "key", "-o", "made", name, more=f"{more}: Input/output error", env=env)
+                self.says(message("Write"), "decrypt", "-v", "-k", "key", "-o", "made", name, more=f"{more}: Input/output error", env=env)
 
 
 class Messages(CallCase):
@@ -277,7 +276,7 @@ class Devices(ProgramCase):
             for room in (0, 1, size // 2, size - 1, size):
                 with self.subTest(f"{words}: room for {room} of {size} bytes"), open(name, "rb") as stdin:
                     ran = self.run_agep(*words.split(), input=stdin, env={"ROOM": str(room), "LD_PRELOAD": preload("devices")})
-                    self.assert_ended(ran, int(room < size), fault("write failed") if room < size else "", None)
+                    self.assert_ended(ran, int(room < size), fault(message("Write")) if room < size else "", None)
                     self.assertEqual(len(ran.out), room)
 
     def test_breaks(self):
@@ -287,23 +286,23 @@ class Devices(ProgramCase):
             with self.subTest(words):
                 write("start", read("key.age")[:50])
                 with open("start", "rb") as stdin:
-                    self.says("read failed", *words.split(), input=stdin, env=env)
+                    self.says(message("Read"), *words.split(), input=stdin, env=env)
                 command, *rest = words.split()
                 with open("start", "rb") as stdin:
                     more = "reading standard input: Input/output error"
-                    self.says("read failed", command, "-v", *rest, more=more, input=stdin, env=env)
+                    self.says(message("Read"), command, "-v", *rest, more=more, input=stdin, env=env)
         for size in (0, 65535):
             with self.subTest(f"an OUT that was there stays, after {size} bytes"):
                 write("start", PLAIN[:size])
                 write("made", YESTERDAY)
                 os.utime("made", (10**9, 10**9))
                 with open("start", "rb") as stdin:
-                    self.says("read failed", "encrypt", "-k", "key", "-o", "made", input=stdin, env=env)
+                    self.says(message("Read"), "encrypt", "-k", "key", "-o", "made", input=stdin, env=env)
                 self.assertEqual((read("made"), os.stat("made").st_mtime), (YESTERDAY, 10**9))
         with self.subTest("after a chunk OUT holds the start of the new file"):
             write("made", YESTERDAY)
             with open("two_chunks", "rb") as stdin:
-                self.says("read failed", "encrypt", "-k", "key", "-s", "seed", "-o", "made", input=stdin, env=env)
+                self.says(message("Read"), "encrypt", "-k", "key", "-s", "seed", "-o", "made", input=stdin, env=env)
             made = read("made")
             self.assertTrue(made)
             self.assert_bytes(made, read("two.age")[: len(made)], "OUT")
@@ -333,7 +332,7 @@ class Syncs(ProgramCase):
                 self.assert_ended(ran, 0)
                 self.assertEqual(count, 1)
                 ran, _ = self.counted(*words.split(), "-o", "made", fails=True)
-                self.assert_ended(ran, 1, fault("write failed"))
+                self.assert_ended(ran, 1, fault(message("Write")))
             for title, options in ("a device", ("-o", "/dev/null")), ("standard output", ()):
                 with self.subTest(f"{words}, {title}"):
                     ran, count = self.counted(*words.split(), *options, fails=True)
@@ -341,5 +340,5 @@ class Syncs(ProgramCase):
                     self.assertEqual(count, 0)
         with self.subTest("not after a fault"):
             ran, count = self.counted("decrypt", "-k", "key", "-o", "made", "damaged.age")
-            self.assert_ended(ran, 1, fault("chunk 0 is damaged"))
+            self.assert_ended(ran, 1, fault(message("BadChunk", 0)))
             self.assertEqual(count, 0)

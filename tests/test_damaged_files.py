@@ -6,29 +6,30 @@ written, since the damage is before the end of the only chunk."""
 import fixture
 import reference
 from fixture import KEY, PASSPHRASE, SALT, SEED
+from messages import message
 from program import ProgramCase, fault
 
 VERSION = b"age-encryption.org/v1\n"
 ZERO_MAC = b"A" * 43
 CHUNK = 65536
 
-CUT_HEADER = "header is cut short"
-CUT_NONCE = "payload nonce is cut short"
-CUT_CHUNK = "chunk 0 is cut short"
-NOT_AGE = "not an age file"
-NO_MATCH = "no key fits this file"
-WRONG_KEY = "wrong passphrase or key"
-BAD_MAC = "header check failed"
-BAD_CHUNK = "chunk 0 is damaged"
-TOO_LARGE = "header is too large"
+CUT_HEADER = message("HeaderTruncated")
+CUT_NONCE = message("NonceTruncated")
+CUT_CHUNK = message("ChunkShort", 0)
+NOT_AGE = message("NotAge")
+NO_MATCH = message("NoMatch")
+WRONG_KEY = message("WrongKey")
+BAD_MAC = message("BadMac")
+BAD_CHUNK = message("BadChunk", 0)
+TOO_LARGE = message("HeaderTooLarge")
 
 
 def bad_line(number):
-    return f"bad header line {number}"
+    return message("BadLine", number)
 
 
 def malformed(why):
-    return f"malformed stanza: {why}"
+    return message("Malformed", why)
 
 
 def with_another_stanza():
@@ -58,7 +59,7 @@ def keyed_rows(file, end, shift, line):
     later than usual."""
     return [
         (22 + shift, 24 + shift, bad_line(2 + line)), (25 + shift, 40 + shift, NO_MATCH), (41 + shift, 61 + shift, WRONG_KEY),
-        (62 + shift, 62 + shift, malformed("salt")), (63 + shift, 63 + shift, bad_line(2 + line)), (64 + shift, 106 + shift, WRONG_KEY),
+        (62 + shift, 62 + shift, malformed("Salt")), (63 + shift, 63 + shift, bad_line(2 + line)), (64 + shift, 106 + shift, WRONG_KEY),
         (107 + shift, 107 + shift, bad_line(3 + line)), (108 + shift, 111 + shift, bad_line(4 + line)),
         (112 + shift, 154 + shift, BAD_MAC), (end, end, after_last_line(file, end, 4 + line)), (156 + shift, 187 + shift, BAD_CHUNK),
     ]
@@ -102,8 +103,8 @@ class DamagedFiles(ProgramCase):
         """A passphrase's file changed at an offset."""
         file = fixture.for_passphrase(b"", PASSPHRASE, 10)
         rows = [
-            (0, 21, NOT_AGE), (22, 24, bad_line(2)), (25, 31, NO_MATCH), (32, 52, WRONG_KEY), (53, 53, malformed("salt")),
-            (54, 54, malformed("argument count")), (55, 55, malformed("work factor")), (56, 56, WRONG_KEY), (57, 57, bad_line(2)),
+            (0, 21, NOT_AGE), (22, 24, bad_line(2)), (25, 31, NO_MATCH), (32, 52, WRONG_KEY), (53, 53, malformed("Salt")),
+            (54, 54, malformed("ArgCount")), (55, 55, malformed("WorkFactorText")), (56, 56, WRONG_KEY), (57, 57, bad_line(2)),
             (58, 100, WRONG_KEY), (101, 101, bad_line(3)), (102, 105, bad_line(4)), (106, 148, BAD_MAC),
             (149, 149, after_last_line(file, 149, 4)), (150, 181, BAD_CHUNK),
         ]
@@ -133,8 +134,8 @@ class DamagedFiles(ProgramCase):
         file = fixture.for_passphrase(plain)
         self.assertEqual(len(file), 65735)
         for size, line, written in [
-            (182, BAD_CHUNK, 0), (65717, BAD_CHUNK, 0), (65718, BAD_CHUNK, 0), (65719, "chunk 1 is cut short", CHUNK),
-            (65733, "chunk 1 is cut short", CHUNK), (65734, "chunk 1 is empty", CHUNK),
+            (182, BAD_CHUNK, 0), (65717, BAD_CHUNK, 0), (65718, BAD_CHUNK, 0), (65719, message("ChunkShort", 1), CHUNK),
+            (65733, message("ChunkShort", 1), CHUNK), (65734, message("EmptyFinal", 1), CHUNK),
         ]:
             with self.subTest(f"{size} bytes: {line}"):
                 self.says(line, "decrypt", "-p", "pass", input=file[:size], out=plain[:written])
@@ -161,7 +162,7 @@ class GreatHeaders(ProgramCase):
 
     def test_work_factors(self):
         """A work factor of 60,001 digits."""
-        for factor, why in [(b"1" + b"0" * 60000, "work factor is too high"), (b"0" * 60000, "work factor")]:
+        for factor, why in [(b"1" + b"0" * 60000, "WorkFactorTooHigh"), (b"0" * 60000, "WorkFactorText")]:
             with self.subTest(why):
                 text = VERSION + b"-> scrypt " + reference.signs(SALT) + b" " + factor + b"\n" + ZERO_MAC + b"\n" + self.END
                 self.says(malformed(why), "decrypt", "-p", "pass", input=text)

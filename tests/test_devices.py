@@ -10,6 +10,7 @@ import unittest
 
 import fixture
 from fixture import HELLO, KEY
+from messages import message
 from program import AGEP, ProgramCase, fault, read, write
 
 
@@ -32,7 +33,7 @@ class Terminals(ProgramCase):
 
     def test_refused(self):
         """Nobody wants an encrypted file on the screen."""
-        line = "agep: standard output is a terminal\n"
+        line = fault(message("OutputIsTerminal"))
         for words in (
             "encrypt -k key hello", "rewrap -k key -K other.key key.age", "encrypt -k absent -s absent nowhere",
             "rewrap -p absent -P absent nowhere",
@@ -61,7 +62,7 @@ class ClosedPipes(ProgramCase):
                     os.close(reader)
                     ran = self.run_agep(command, *options, *rest, stdout=writer)
                     os.close(writer)
-                    self.assert_ended(ran, 1, fault("write failed", more))
+                    self.assert_ended(ran, 1, fault(message("Write"), more))
 
 
 class Interrupted(ProgramCase):
@@ -105,7 +106,7 @@ class DefaultSeed(ProgramCase):
             self.skipTest("it takes rights to mount")
         for words in ("encrypt -k key hello", "rewrap -k key -K other.key key.age"):
             with self.subTest(words):
-                self.assertEqual(self.with_device("seed", *words.split()), (1, "agep: cannot open /dev/urandom\n", False))
+                self.assertEqual(self.with_device("seed", *words.split()), (1, fault(message("CannotOpen", "/dev/urandom")), False))
                 self.assertEqual(self.with_device("/dev/zero", *words.split()), (0, "", True))
                 self.assertEqual(self.with_device("seed", *words.split(), "-s", "seed"), (0, "", True))
 
@@ -137,7 +138,7 @@ class SameInode(ProgramCase):
         os.link("hello", "first")
         write("second", b"")
         status, out, err = self.mounted('mount --bind first second && "$1" encrypt -k key -o second first')
-        self.assertEqual((status, out, err), (1, "", fault("OUT is also IN: second")))
+        self.assertEqual((status, out, err), (1, "", fault(message("OutputIsRead", "Input", "second"))))
         self.assert_file("first", HELLO)
 
 

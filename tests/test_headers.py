@@ -2,6 +2,7 @@
 
 
 from fixture import PLAIN
+from messages import message
 from program import ProgramCase, fault, read, write
 
 ZERO_SALT, ZERO_MAC = "A" * 22, "A" * 43
@@ -17,8 +18,8 @@ def header_in(file):
     return file[: file.index(b"\n", file.index(b"\n--- ") + 1) + 1]
 
 
-def table(header, check="none"):
-    """The table of a header, worked out from its lines."""
+def table(header, is_right=None):
+    """The table of a header, worked out from its lines; with a file key, whether its MAC is right."""
     version, *lines, mac, _ = header.decode().split("\n")
     stanzas = []
     for line in lines:
@@ -27,6 +28,7 @@ def table(header, check="none"):
         else:
             stanzas[-1][1] += len(line)
     rows = [f"{i:4} {size * 3 // 4:8} {arguments}" for i, (arguments, size) in enumerate(stanzas)]
+    check = {None: "none", True: "good", False: "bad"}[is_right]
     end = [f"mac {mac[4:]}", f"header {len(header)} bytes", f"check {check}", ""]
     return "\n".join([f"version {version}", f"stanzas {len(stanzas)}", *rows, *end]).encode()
 
@@ -58,16 +60,16 @@ class Tables(ProgramCase):
                 self.writes(header, "inspect", "-r", file)
                 self.writes(table(header), "inspect", input=read(file))
         header = header_in(read("data/passphrase.age"))
-        self.writes(table(header, "good"), "inspect", "-f", "data/passphrase.key", "data/passphrase.age")
+        self.writes(table(header, True), "inspect", "-f", "data/passphrase.key", "data/passphrase.age")
         write("other", PLAIN[:16])
         ran = self.run_agep("inspect", "-f", "other", "data/passphrase.age")
-        self.assert_ended(ran, 1, fault("header check failed"), table(header, "bad"))
+        self.assert_ended(ran, 1, fault(message("BadMac")), table(header, False))
 
     def test_great_headers(self):
         """Headers of many lines and of many arguments, up to the limit and beyond it."""
         rows = [
             ("65,536 bytes in 21,822 lines", header_of("-> a\n\n" * 10911), 65536, None),
-            ("65,537 bytes", header_of("-> a\n\n" * 10910 + "-> aa\n\n"), 65537, "header is too large"),
+            ("65,537 bytes", header_of("-> a\n\n" * 10910 + "-> aa\n\n"), 65537, message("HeaderTooLarge")),
             ("30,000 arguments", header_of("->" + " a" * 30000 + "\n\n"), 60074, None),
         ]
         for title, header, size, line in rows:
@@ -84,7 +86,7 @@ class Tables(ProgramCase):
         ran = self.run_agep("inspect", "-H", "16777216", "great")
         self.assert_ended(ran, 0, "", None)
         self.assertIn(b"\nstanzas 699000\n", ran.out)
-        self.says("out of memory", "inspect", "-H", "16777216", "great", memory=8 << 20)
+        self.says(message("OutOfMemory"), "inspect", "-H", "16777216", "great", memory=8 << 20)
 
 
 class Refused(ProgramCase):
@@ -97,7 +99,7 @@ class Refused(ProgramCase):
         for number, stanzas in rows:
             for option in ("-H65536", "--raw"):
                 with self.subTest(f"{option}, {stanzas[:20]!r}"):
-                    self.says(f"bad header line {number}", "inspect", option, input=header_of(stanzas))
+                    self.says(message("BadLine", number), "inspect", option, input=header_of(stanzas))
 
     def test_cut_headers(self):
         """A header that ends early, and one that is longer than -H says."""
@@ -106,9 +108,9 @@ class Refused(ProgramCase):
         self.assertEqual((len(exact), len(longer)), (1024, 1025))
         self.writes(exact, "inspect", "-r", "-H", "1024", input=exact)
         rows = [
-            ("header is too large", longer), ("header is cut short", start + b"a" * 998), ("header is too large", start + b"a" * 999),
-            ("header is cut short", b""), ("header is cut short", b"age-enc"), ("not an age file", b"age-encryption.org/v2\n"),
-            ("bad header line 2", b"age-encryption.org/v1\n->\n"), ("bad header line 2", header_of("")),
+            (message("HeaderTooLarge"), longer), (message("HeaderTruncated"), start + b"a" * 998), (message("HeaderTooLarge"), start + b"a" * 999),
+            (message("HeaderTruncated"), b""), (message("HeaderTruncated"), b"age-enc"), (message("NotAge"), b"age-encryption.org/v2\n"),
+            (message("BadLine", 2), b"age-encryption.org/v1\n->\n"), (message("BadLine", 2), header_of("")),
         ]
         for line, text in rows:
             for words in (("inspect",), ("decrypt", "-k", "key")):
@@ -118,23 +120,23 @@ class Refused(ProgramCase):
     def test_malformed_stanzas(self):
         """Stanzas for the program whose arguments or bodies have another form."""
         rows = [
-            ("argument count", f"scrypt {ZERO_SALT}", ZERO_MAC), ("salt", f"scrypt {ZERO_SALT[1:]} 10", ZERO_MAC),
-            ("salt", f"scrypt {ZERO_SALT}== 10", ZERO_MAC), ("work factor", f"scrypt {ZERO_SALT} 015", ZERO_MAC),
-            ("work factor", f"scrypt {ZERO_SALT} 0", ZERO_MAC), ("work factor", f"scrypt {ZERO_SALT} +9", ZERO_MAC),
-            ("work factor is too high", f"scrypt {ZERO_SALT} 23", ZERO_MAC),
-            ("work factor is too high", f"scrypt {ZERO_SALT} 1{'0' * 39}", ZERO_MAC),
-            ("body length", f"scrypt {ZERO_SALT} 10", ZERO_MAC[1:]), ("argument count", "example.org/key", ZERO_MAC),
-            ("salt", f"example.org/key {ZERO_SALT[1:]}", ZERO_MAC),
-            ("body length", f"example.org/key {ZERO_SALT}", ZERO_MAC[1:]),
+            ("ArgCount", f"scrypt {ZERO_SALT}", ZERO_MAC), ("Salt", f"scrypt {ZERO_SALT[1:]} 10", ZERO_MAC),
+            ("Salt", f"scrypt {ZERO_SALT}== 10", ZERO_MAC), ("WorkFactorText", f"scrypt {ZERO_SALT} 015", ZERO_MAC),
+            ("WorkFactorText", f"scrypt {ZERO_SALT} 0", ZERO_MAC), ("WorkFactorText", f"scrypt {ZERO_SALT} +9", ZERO_MAC),
+            ("WorkFactorTooHigh", f"scrypt {ZERO_SALT} 23", ZERO_MAC),
+            ("WorkFactorTooHigh", f"scrypt {ZERO_SALT} 1{'0' * 39}", ZERO_MAC),
+            ("BodyLength", f"scrypt {ZERO_SALT} 10", ZERO_MAC[1:]), ("ArgCount", "example.org/key", ZERO_MAC),
+            ("Salt", f"example.org/key {ZERO_SALT[1:]}", ZERO_MAC),
+            ("BodyLength", f"example.org/key {ZERO_SALT}", ZERO_MAC[1:]),
         ]
         for why, arguments, body in rows:
             with self.subTest(f"{why}: {arguments}"):
                 secret = ("-p", "pass") if arguments.startswith("scrypt") else ("-k", "key")
-                self.says(f"malformed stanza: {why}", "decrypt", *secret, input=header_of(f"-> {arguments}\n{body}\n"))
+                self.says(message("Malformed", why), "decrypt", *secret, input=header_of(f"-> {arguments}\n{body}\n"))
 
     def test_passphrase_beside_another(self):
         """A passphrase's stanza stands alone."""
         passphrase = f"-> scrypt {ZERO_SALT} 10\n{ZERO_MAC}\n"
         for stanzas in (passphrase * 2, "-> x-grease\n\n" + passphrase, passphrase + "-> x-grease\n\n"):
             with self.subTest(stanzas[:16]):
-                self.says("a passphrase stanza must stand alone", "decrypt", "-p", "pass", input=header_of(stanzas))
+                self.says(message("MixedPassphrase"), "decrypt", "-p", "pass", input=header_of(stanzas))

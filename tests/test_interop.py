@@ -6,6 +6,7 @@ import subprocess
 import sys
 import unittest
 
+from messages import message
 from program import TESTS, ProgramCase, write
 
 SIZES = [1, 65536, 65537, 200000]
@@ -83,7 +84,7 @@ class Age(ProgramCase):
                 self.writes(plain, "decrypt", "-p", "secret", "made")
         write("other", prefix + b"y")
         with self.subTest("another last byte of 65, from age"):
-            self.says("wrong passphrase or key", "decrypt", "-p", "other", "made")
+            self.says(message("WrongKey"), "decrypt", "-p", "other", "made")
         with self.subTest("another last byte of 65, to age"):
             os.remove("made")
             self.writes(b"", "encrypt", "-p", "other", "-w", "10", "-o", "made", "plain")

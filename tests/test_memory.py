@@ -3,6 +3,7 @@ nothing, or got on with less and answers as ever; so does the last run, which me
 
 import os
 
+from messages import message
 from program import ProgramCase, fault, preload
 
 COMMANDS = [
@@ -36,7 +37,7 @@ class Allocations(ProgramCase):
                 *refused, last = self.refusals(*words.split())
                 out_of_memory = 0
                 for ran in refused:
-                    if (ran.status, ran.err, ran.out) == (1, fault("out of memory").encode(), b""):
+                    if (ran.status, ran.err, ran.out) == (1, fault(message("OutOfMemory")).encode(), b""):
                         out_of_memory += 1
                     else:
                         self.assert_ended(ran, usual.status, usual.err, usual.out)
@@ -45,9 +46,9 @@ class Allocations(ProgramCase):
 
     def test_explained(self):
         """With -v memory is out, or the second line says less, or all is as ever."""
-        line = "no key fits this file"
+        line = message("NoMatch")
         full = fault(line, "pass.age: its stanzas are of type scrypt; -p opens it").encode()
-        said = [fault("out of memory").encode(), fault(line, "reading pass.age").encode(), full]
+        said = [fault(message("OutOfMemory")).encode(), fault(line, "reading pass.age").encode(), full]
         *refused, last = self.refusals("decrypt", "-v", "-k", "key", "pass.age")
         self.assertTrue(refused)
         for ran in refused:

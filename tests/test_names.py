@@ -6,6 +6,7 @@ import re
 
 import fixture
 from fixture import HELLO
+from messages import message
 from program import ProgramCase, read, write
 
 CONTROLS = [*range(1, 32), 127, *range(128, 160)]
@@ -35,41 +36,41 @@ class Names(ProgramCase):
         rows.append(("".join(map(chr, plain)),) * 2)
         for name, shown in rows:
             with self.subTest(ascii(shown)):
-                self.says(f"cannot open {shown}", "inspect", name)
+                self.says(message("CannotOpen", shown), "inspect", name)
 
     def test_opening(self):
         """All of them in a name that can't be opened or created."""
         for words in ("decrypt -k key", "encrypt -k key", "rewrap -k key -K key", "range -k key 0 1"):
             with self.subTest(words):
-                self.says(f"cannot open {SHOWN}", *words.split(), "-v", NAME, more=f"opening {SHOWN}: {ABSENT}")
+                self.says(message("CannotOpen", SHOWN), *words.split(), "-v", NAME, more=f"opening {SHOWN}: {ABSENT}")
         for words in (
             "encrypt -k", "encrypt -p", "encrypt -k key -s", "decrypt -k", "decrypt -p", "inspect -f", "rewrap -k key -K", "rewrap -k key -P",
         ):
             with self.subTest(words):
-                self.says(f"cannot open {SHOWN}", *words.split(), NAME, "-v", "hello", more=f"opening {SHOWN}: {ABSENT}")
+                self.says(message("CannotOpen", SHOWN), *words.split(), NAME, "-v", "hello", more=f"opening {SHOWN}: {ABSENT}")
         for words in ("encrypt -k key hello", "decrypt -k key key.age", "rewrap -k key -K key key.age", "range -k key 0 1 key.age"):
             command, *rest = words.split()
             with self.subTest(f"{words} -o"):
-                line, more = f"cannot create nowhere/{SHOWN}", f"creating nowhere/{SHOWN}: {ABSENT}"
+                line, more = message("CannotCreate", f"nowhere/{SHOWN}"), f"creating nowhere/{SHOWN}: {ABSENT}"
                 self.says(line, command, "-v", "-o", f"nowhere/{NAME}", *rest, more=more)
 
     def test_small_files(self):
         """All of them in the name of a secret or seed of a wrong size."""
         write(NAME, HELLO)
         with self.subTest("OUT is IN"):
-            self.says(f"OUT is also IN: {SHOWN}", "encrypt", "-k", "key", "-o", NAME, NAME)
+            self.says(message("OutputIsRead", "Input", SHOWN), "encrypt", "-k", "key", "-o", NAME, NAME)
         rows = [
-            ("encrypt -k", "key file must hold 32 bytes", "key file", "6 bytes; a key file holds 32 raw bytes, no hexadecimal"),
-            ("decrypt -k", "key file must hold 32 bytes", "key file", "6 bytes; a key file holds 32 raw bytes, no hexadecimal"),
-            ("rewrap -k key -K", "key file must hold 32 bytes", "new key file", "6 bytes; a key file holds 32 raw bytes, no hexadecimal"),
-            ("encrypt -k key -s", "seed file must hold 48 bytes", "seed file", "6 bytes; a seed file holds at least 48 bytes"),
-            ("inspect -f", "file key file must hold 16 bytes", "file key file", "6 bytes; a file key file holds 16 raw bytes, no hexadecimal"),
+            ("encrypt -k", message("KeyLength"), "key file", "6 bytes; a key file holds 32 raw bytes, no hexadecimal"),
+            ("decrypt -k", message("KeyLength"), "key file", "6 bytes; a key file holds 32 raw bytes, no hexadecimal"),
+            ("rewrap -k key -K", message("KeyLength"), "new key file", "6 bytes; a key file holds 32 raw bytes, no hexadecimal"),
+            ("encrypt -k key -s", message("SeedLength"), "seed file", "6 bytes; a seed file holds at least 48 bytes"),
+            ("inspect -f", message("FileKeyLength"), "file key file", "6 bytes; a file key file holds 16 raw bytes, no hexadecimal"),
         ]
         for words, line, role, why in rows:
             with self.subTest(words):
                 self.says(line, *words.split(), NAME, "-v", "hello", more=f"{role} {SHOWN}: {why}")
         for text, line, why in (
-            (bytes(65537), "passphrase file is too long", "more than 65536 bytes"), (b"", "passphrase file is empty", "no byte, or one LF alone"),
+            (bytes(65537), message("PassphraseLength"), "more than 65536 bytes"), (b"", message("NoPassphrase"), "no byte, or one LF alone"),
         ):
             with self.subTest(line):
                 write(NAME, text)
@@ -79,9 +80,9 @@ class Names(ProgramCase):
         """All of them in the name of IN."""
         end = "chunk 0 holds the plaintext from byte 0 to 5; it is the last chunk, so the file may be cut short"
         rows = [
-            (b"", "key", "header is cut short", f"{SHOWN}: the file is empty"),
-            (fixture.changed(read("key.age"), -1), "key", "chunk 0 is damaged", f"{SHOWN}: {end}"),
-            (read("key.age"), "other.key", "wrong passphrase or key", f"reading {SHOWN}"),
+            (b"", "key", message("HeaderTruncated"), f"{SHOWN}: the file is empty"),
+            (fixture.changed(read("key.age"), -1), "key", message("BadChunk", 0), f"{SHOWN}: {end}"),
+            (read("key.age"), "other.key", message("WrongKey"), f"reading {SHOWN}"),
         ]
         for text, key, line, more in rows:
             with self.subTest(line):
@@ -91,15 +92,15 @@ class Names(ProgramCase):
     def test_folder(self):
         """All of them in the name of a folder."""
         os.mkdir(NAME)
-        self.says("read failed", "decrypt", "-k", "key", "-v", NAME, more=f"reading {SHOWN}: Is a directory")
+        self.says(message("Read"), "decrypt", "-k", "key", "-v", NAME, more=f"reading {SHOWN}: Is a directory")
         more = f"creating {SHOWN}: Is a directory"
-        self.says(f"cannot create {SHOWN}", "decrypt", "-k", "key", "-v", "-o", NAME, "key.age", more=more)
+        self.says(message("CannotCreate", SHOWN), "decrypt", "-k", "key", "-v", "-o", NAME, "key.age", more=more)
 
     def test_device(self):
         """All of them in the name of a full device."""
         os.symlink("/dev/full", NAME)
         more = f"writing {SHOWN}: No space left on device"
-        self.says("write failed", "decrypt", "-k", "key", "-v", "-o", NAME, "key.age", more=more)
+        self.says(message("Write"), "decrypt", "-k", "key", "-v", "-o", NAME, "key.age", more=more)
 
     def test_words(self):
         """No control character but LF is in what is said of a refused word."""

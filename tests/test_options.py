@@ -8,8 +8,9 @@ import unittest
 import fixture
 import reference
 from fixture import HELLO, KEY, OTHER_KEY, PLAIN, SALT, SEED
+from messages import message
 from program import AGEP, ProgramCase, preload, read, write
-from test_headers import ZERO_MAC, ZERO_SALT, header_in, header_of
+from test_headers import ZERO_MAC, ZERO_SALT, header_in, header_of, table
 
 # Less than scrypt takes at the work factor 18: a work factor that is accepted is out of memory.
 LITTLE_MEMORY = 100000 * 1024
@@ -50,7 +51,7 @@ class WorkFactors(ProgramCase):
         if os.path.exists("refused"):
             os.remove("refused")
         env = {"LARGE": "1000000000", "LD_PRELOAD": preload("refuse")}
-        self.says("out of memory", *words, env=env, **how)
+        self.says(message("OutOfMemory"), *words, env=env, **how)
         size = int(read("refused"))
         self.assertTrue(0 <= size - (1024 << factor) < 65536, f"a table of {size} bytes")
 
@@ -74,7 +75,7 @@ class WorkFactors(ProgramCase):
 class MaxWork(ProgramCase):
     def test_limits(self):
         """Without -m a work factor up to 22 is accepted, and with it up to the one that it says."""
-        high, good = "malformed stanza: work factor is too high", "out of memory"
+        high, good = message("Malformed", "WorkFactorTooHigh"), message("OutOfMemory")
         rows = [
             (21, None, good), (22, None, good), (23, None, high), (30, None, high), (18, 18, good), (18, 17, high), (21, 21, good),
             (22, 21, high), (22, 22, good), (23, 22, high), (23, 23, good), (24, 23, high), (30, 29, high), (30, 30, good), (31, 30, high),
@@ -95,7 +96,7 @@ class MaxWork(ProgramCase):
         ):
             with self.subTest(words):
                 self.writes(out, *words.split(), "-m", "5", "five.age")
-                self.says("malformed stanza: work factor is too high", *words.split(), "-m", "4", "five.age")
+                self.says(message("Malformed", "WorkFactorTooHigh"), *words.split(), "-m", "4", "five.age")
 
 
 class MaxHeader(ProgramCase):
@@ -116,20 +117,20 @@ class MaxHeader(ProgramCase):
                 run = [*words.split(), *options, f"sized.{size}"]
                 with self.subTest(f"{words} {' '.join(options)}, a header of {size} bytes"):
                     if is_large:
-                        self.says("header is too large", *run)
+                        self.says(message("HeaderTooLarge"), *run)
                     elif words == "inspect -r":
                         self.writes(header_in(read(f"sized.{size}")), *run)
                     elif words.startswith("inspect"):
-                        ran = self.run_agep(*run)
-                        self.assert_ended(ran, 0, "", None)
-                        self.assertIn(f"\nheader {size} bytes\ncheck good\n".encode(), ran.out)
+                        header = header_in(read(f"sized.{size}"))
+                        self.assertEqual(len(header), size)
+                        self.writes(table(header, True), *run)
                     else:
                         self.writes(read("key.age") if words.startswith("rewrap") else HELLO, *run)
 
     def test_rewrapped(self):
         """rewrap leaves the stanzas out that fit no key: -H is for the old header here."""
         file = with_header(1025)
-        self.says("header is too large", "rewrap", "-k", "key", "-K", "new.key", "-H", "1024", input=file)
+        self.says(message("HeaderTooLarge"), "rewrap", "-k", "key", "-K", "new.key", "-H", "1024", input=file)
         ran = self.run_agep("rewrap", "-k", "key", "-K", "new.key", "-H", "1025", input=file)
         self.assert_ended(ran, 0, "", None)
         self.assert_bytes(ran.out[156:], file[1025:], "the payload")
@@ -141,7 +142,7 @@ class MaxHeader(ProgramCase):
         for i in range(1, 763):
             write(f"key.{i}", b"%032d" % i)
             keys.append(f"key.{i}")
-        large = "header is too large"
+        large = message("HeaderTooLarge")
         rows = [
             (11, None, None), (12, 1024, large), (12, 1101, large), (12, 1102, None), (761, None, None), (762, None, large),
             (762, 65601, large), (762, 65602, None),
@@ -219,10 +220,10 @@ class Offsets(ProgramCase):
         """The hole is damaged, and the range before it is written."""
         for at in (0, CHUNK - 1, 2**32 - CHUNK - 1, 2**32 + CHUNK, 2**33 - CHUNK - 1):
             with self.subTest(f"byte {at}"):
-                self.says(f"chunk {at // CHUNK} is damaged", "range", "-k", "key", str(at), "1", "great.age")
+                self.says(message("BadChunk", at // CHUNK), "range", "-k", "key", str(at), "1", "great.age")
         with self.subTest("into the hole"):
             out = self.texts[2**32 // CHUNK]
-            self.says("chunk 65537 is damaged", "range", "-k", "key", str(2**32), str(CHUNK + 1), "great.age", out=out)
+            self.says(message("BadChunk", 65537), "range", "-k", "key", str(2**32), str(CHUNK + 1), "great.age", out=out)
 
 
 class FiveGib(ProgramCase):
@@ -235,7 +236,7 @@ class FiveGib(ProgramCase):
         skip_unless_holes("great.age")
         self.writes(plain[10:30], "range", "-k", "key", "10", "20", "great.age")
         self.writes(plain[65626:], "range", "-k", "key", str(CHUNK * (hole + 1) + 90), "20", "great.age")
-        self.says("chunk 1 is damaged", "range", "-k", "key", "65530", "10", "great.age", out=plain[65530:65536])
+        self.says(message("BadChunk", 1), "range", "-k", "key", "65530", "10", "great.age", out=plain[65530:65536])
 
 
 class GreatPlaintext(ProgramCase):

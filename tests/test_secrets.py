@@ -11,6 +11,7 @@ import fixture
 import parts
 import reference
 from fixture import HELLO, KEY, OTHER_KEY, PLAIN, SALT, SEED
+from messages import message
 from program import ProgramCase, fault, preload, read, write
 
 # How many files are made anew, to see that none of their parts is like another one.
@@ -50,7 +51,7 @@ class FreshParts(ProgramCase):
                 with self.subTest(f"{words[0]}: under the bytes from {at} of the seed the header is {check}"):
                     write("part", runs[-1][at : at + 16])
                     ran = self.run_agep("inspect", "-f", "part", "made")
-                    self.assert_ended(ran, int(at > 0), fault("header check failed") if at else "", None)
+                    self.assert_ended(ran, int(at > 0), fault(message("BadMac")) if at else "", None)
                     self.assertEqual(ran.out.splitlines()[-1], b"check " + check.encode())
             with self.subTest(f"{words[0]}: the file key is in the file in no form"):
                 key, made = runs[-1][:16], read("made")
@@ -97,7 +98,7 @@ class FreshParts(ProgramCase):
         with self.subTest("a device that ends after 47 bytes"):
             write("random", seed[:47])
             env = {"LD_PRELOAD": preload("calls"), "URANDOM": os.path.abspath("random")}
-            self.says("seed file must hold 48 bytes", "encrypt", "-k", "key", "hello", env=env)
+            self.says(message("SeedLength"), "encrypt", "-k", "key", "hello", env=env)
 
 
 class Passphrases(ProgramCase):
@@ -140,11 +141,11 @@ class Passphrases(ProgramCase):
         write("made", fixture.for_passphrase(HELLO, self.TEXTS["nfc"], 4))
         write("secret", self.TEXTS["nfd"])
         with self.subTest("a letter and its accent apart"):
-            self.says("wrong passphrase or key", "decrypt", "-p", "secret", "made")
+            self.says(message("WrongKey"), "decrypt", "-p", "secret", "made")
         for name in ("nuls before", "line ends before", "cr after", "spaces around", "mark", "upper"):
             with self.subTest(name):
                 write("secret", self.TEXTS[name])
-                self.says("wrong passphrase or key", "decrypt", "-p", "secret", "pass.age")
+                self.says(message("WrongKey"), "decrypt", "-p", "secret", "pass.age")
 
     def test_lengths(self):
         """Each byte counts, the last one too: a block of the hash has 64 bytes."""
@@ -159,13 +160,13 @@ class Passphrases(ProgramCase):
                 self.writes(expected, "encrypt", "-p", "this", "-w", "2", "-s", "seed", "hello")
                 self.writes(HELLO, "decrypt", "-p", "this", input=expected)
             with self.subTest(f"{size} bytes, and the last one differs"):
-                self.says("wrong passphrase or key", "decrypt", "-p", "that", input=expected)
+                self.says(message("WrongKey"), "decrypt", "-p", "that", input=expected)
                 ran = self.run_agep("encrypt", "-p", "that", "-w", "2", "-s", "seed", "hello")
                 self.assert_ended(ran, 0, "", None)
                 self.assertNotEqual(ran.out, expected)
             if size > 1:
                 with self.subTest(f"{size} bytes, and the last one is missing"):
-                    self.says("wrong passphrase or key", "decrypt", "-p", "prefix", input=expected)
+                    self.says(message("WrongKey"), "decrypt", "-p", "prefix", input=expected)
 
     def test_equal(self):
         """By RFC 2104 more than 64 bytes count as their hash, and fewer as if NULs followed them."""
@@ -185,7 +186,7 @@ class Passphrases(ProgramCase):
                 if fits:
                     self.writes(HELLO, "decrypt", "-p", "secret", name)
                 else:
-                    self.says("wrong passphrase or key", "decrypt", "-p", "secret", name)
+                    self.says(message("WrongKey"), "decrypt", "-p", "secret", name)
 
 
 class KeyFiles(ProgramCase):
@@ -204,11 +205,11 @@ class KeyFiles(ProgramCase):
             write(name, text)
             for words in commands:
                 with self.subTest(words.replace("NAME", name)):
-                    self.says("key file must hold 32 bytes", *words.replace("NAME", name).split())
+                    self.says(message("KeyLength"), *words.replace("NAME", name).split())
         for name, text in {"file.lf": SEED[:16] + b"\n", "file.hex": SEED[:16].hex().encode(), "key": KEY}.items():
             write(name, text)
             with self.subTest(f"inspect -f {name}"):
-                self.says("file key file must hold 16 bytes", "inspect", "-f", name, "key.age")
+                self.says(message("FileKeyLength"), "inspect", "-f", name, "key.age")
 
     def test_line_ends(self):
         """A line end that is one of the 32 bytes belongs to the key."""
@@ -224,7 +225,7 @@ class KeyFiles(ProgramCase):
         for at in (0, 1, 15, 16, 30, 31):
             with self.subTest(f"byte {at}"):
                 write("near", fixture.changed(KEY, at))
-                self.says("wrong passphrase or key", "decrypt", "-k", "near", "key.age")
+                self.says(message("WrongKey"), "decrypt", "-k", "near", "key.age")
 
 
 class Seeds(ProgramCase):

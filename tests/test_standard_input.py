@@ -1,7 +1,9 @@
 """Standard input by each of its names, from a file and from a pipe."""
 
 from fixture import HELLO
+from messages import message
 from program import ProgramCase, read
+from test_headers import header_in, table
 
 NAMES = ["/dev/stdin", "/dev/fd/0", "/proc/self/fd/0"]
 
@@ -30,7 +32,7 @@ class StandardInput(ProgramCase):
             with self.subTest(f"a file: {name}"), open("key.age", "rb") as stdin:
                 self.writes(b"ell", "range", "-k", "key", "1", "3", name, input=stdin)
             with self.subTest(f"a pipe: {name}"):
-                self.says(f"cannot open {name}", "range", "-k", "key", "1", "3", name, input=read("key.age"))
+                self.says(message("CannotOpen", name), "range", "-k", "key", "1", "3", name, input=read("key.age"))
 
     def test_secrets(self):
         """A secret is standard input, and IN is named."""
@@ -50,16 +52,14 @@ class StandardInput(ProgramCase):
         """The file key is standard input."""
         for name in NAMES:
             with self.subTest(name), open("file.key", "rb") as stdin:
-                ran = self.run_agep("inspect", "-f", name, "key.age", input=stdin)
-                self.assert_ended(ran, 0, "", None)
-                self.assertEqual(ran.out.splitlines()[-1], b"check good")
+                expected = table(header_in(read("key.age")), True)
+                self.writes(expected, "inspect", "-f", name, "key.age", input=stdin)
 
     def test_device(self):
         """A character device is standard input by its names alone, and refused as two files."""
-        refused = "standard input cannot be both IN and the"
         for name in NAMES:
-            for words, role in (("decrypt -k", "key file"), ("encrypt -k key -s", "seed file")):
+            for words, role in (("decrypt -k", "Key"), ("encrypt -k key -s", "Seed")):
                 with self.subTest(f"{words} {name}"), open("/dev/zero", "rb") as stdin:
-                    self.says(f"{refused} {role}", *words.split(), name, input=stdin)
+                    self.says(message("StandardInputTwice", "Input", role), *words.split(), name, input=stdin)
         with self.subTest("another name of the device"), open("/dev/zero", "rb") as stdin:
-            self.says("key file must hold 32 bytes", "decrypt", "-k", "/dev/zero", input=stdin)
+            self.says(message("KeyLength"), "decrypt", "-k", "/dev/zero", input=stdin)

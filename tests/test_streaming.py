@@ -7,6 +7,7 @@ import sys
 import fixture
 import reference
 from fixture import KEY, NEW_KEY, SALT, SEED
+from messages import message
 from program import AGEP, TESTS, ProgramCase, fault, write
 from test_options import skip_unless_holes
 
@@ -58,7 +59,7 @@ class Lockstep(FeedCase):
         for name, words in (("many.age", "decrypt -k key"), ("many", "encrypt -k key -s seed")):
             with self.subTest(words):
                 done = self.feed("leave", 100000, name, AGEP, *words.split())
-                self.assertEqual((done.returncode, done.stderr), (1, fault("write failed").encode()))
+                self.assertEqual((done.returncode, done.stderr), (1, fault(message("Write")).encode()))
 
 
 class Memory(FeedCase):
@@ -98,6 +99,6 @@ class DamagedFile(ProgramCase):
         file = fixture.changed(fixture.for_passphrase(fixture.PLAIN[:131073]), 166)
         write("damaged", file)
         with open("damaged", "rb") as stdin:
-            self.says("chunk 0 is damaged", "decrypt", "-p", "pass", input=stdin)
+            self.says(message("BadChunk", 0), "decrypt", "-p", "pass", input=stdin)
             at = os.lseek(stdin.fileno(), 0, os.SEEK_CUR)
         self.assertGreaterEqual(len(file) - at, 65568)

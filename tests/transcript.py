@@ -8,6 +8,8 @@ A transcript is text with blocks that begin with ```console and end with ```. In
 begins with `$ ` is a command for bash; where it ends with &&, | or \\ the next line goes on with it.
 Below it stand the lines of its standard output, those of its standard error, each after `2> `, and
 [status N] where it does not end with 0. [no line end] follows a last line of output without one.
+`agep: <NAME>` and `agep: <NAME: WORD>` are the messages that docs/FORMAT.md and tests/messages.txt
+have for a fault; below a command that fails their texts are shown.
 
 The commands of a transcript run one after another in one shell with `pipefail`, in a copy of the
 folder that fixture.py makes, with nothing on standard input. ROOT is the repository's folder.
@@ -28,6 +30,7 @@ import sys
 
 sys.dont_write_bytecode = True
 
+import messages
 import program
 
 CLI = program.TESTS + "/cli"
@@ -42,9 +45,15 @@ class Command:
         self.where = where
         self.lines = [line]
         self.expected = []
+        self.source = "expected"
 
     def goes_on(self):
         return self.lines[-1].endswith(GOES_ON) and not self.expected
+
+    def expect(self, line):
+        self.expected.append(messages.filled(line))
+        if self.expected[-1] != line:
+            self.source = f"expected, by {messages.NAMES}"
 
 
 def read_text(name):
@@ -65,7 +74,10 @@ def commands_of(name):
         elif inside and commands[-1].goes_on():
             commands[-1].lines.append(line)
         elif inside:
-            commands[-1].expected.append(line)
+            try:
+                commands[-1].expect(line)
+            except KeyError as error:
+                sys.exit(f"{name}:{number}: {error.args[0]}")
     return commands
 
 
@@ -119,7 +131,7 @@ def compare(command, printed):
     passes = command.expected == printed
     lines = [f"{'ok' if passes else 'FAILED'}: {title}"]
     if not passes:
-        lines += difflib.unified_diff(command.expected, printed, "expected", "printed", lineterm="", n=100)
+        lines += difflib.unified_diff(command.expected, printed, command.source, "printed", lineterm="", n=100)
     print("\n".join(lines).encode("utf-8", "backslashreplace").decode(), flush=True)
     return passes
 

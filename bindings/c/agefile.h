@@ -134,7 +134,7 @@ static inline const char *agefile_message(uint32_t code)
 }
 
 /* The part of a stanza that is malformed, by the detail of a report on AGEFILE_MALFORMED: the text
- * that `agep` prints after "malformed stanza: ". */
+ * that `agep` prints for it. */
 static inline const char *agefile_detail(uint64_t detail)
 {
     /* generated: details */

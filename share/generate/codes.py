@@ -2,7 +2,12 @@
 
 import re
 import sys
+from pathlib import Path
 from typing import NamedTuple
+
+sys.path.append(str(Path(__file__).resolve().parent.parent.parent / "tests"))
+
+import messages  # noqa: E402
 
 
 class Token(NamedTuple):
@@ -11,23 +16,24 @@ class Token(NamedTuple):
 
 
 PATTERN = re.compile(
-    r"(?P<doc>///[^\n]*)|(?P<comment>//[^\n]*)|(?P<string>\"(?:[^\"\\]|\\.)*\")|(?P<word>\w+)|(?P<mark>=>|::|[^\s\w])"
+    r"(?P<comment>//[^\n]*)|(?P<string>\"(?:[^\"\\]|\\.)*\")|(?P<word>\w+)|(?P<mark>=>|::|[^\s\w])"
 )
 
 
 def tokens_of(path):
-    """The tokens of a source file, without its comments but for those of documentation."""
+    """The tokens of a source file, without its comments."""
     found = [Token(m.lastgroup, m.group()) for m in PATTERN.finditer(path.read_text())]
     return [token for token in found if token.kind != "comment"]
 
 
 class Fault(NamedTuple):
-    """A code: its number, its name in CamelCase, and the text of the program for it, in which a
-    number is {0}."""
+    """A code: its number, its name in CamelCase, the text of the program for it, in which a number
+    is {0}, and what {0} is where a report tells it: a line, a chunk or a part of a stanza."""
 
     code: int
     name: str
     text: str
+    word: str = ""
 
     @property
     def constant(self):
@@ -39,23 +45,17 @@ class Fault(NamedTuple):
         return re.sub(r" ?\{\d\}:?| ?: ?\{\d\}", "", self.text).removesuffix(":").strip()
 
 
-def _texts(path, enum):
-    """The text of each variant of an enum, which is in its attribute `error`."""
-    found, text, tokens = {}, None, iter(tokens_of(path))
-    for token in tokens:
-        if token.text == "enum" and next(tokens).text == enum:
-            break
-    depth = 0
-    for token in tokens:
-        depth += (token.text in "{([") - (token.text in "})]") if token.kind == "mark" else 0
-        if depth == 0:
-            return found
-        if token.kind == "string":
-            text = token.text[1:-1]
-        elif token.kind == "word" and depth == 1 and text is not None:
-            found[token.text] = text
-            text = None
-    return found
+class Part(NamedTuple):
+    """A part of a stanza: its name in StanzaFault, and its text."""
+
+    name: str
+    text: str
+
+    @property
+    def rust(self):
+        """Its name in the crate for Rust."""
+        others = {"ArgCount": "ArgumentCount", "WorkFactorText": "WorkFactor"}
+        return others.get(self.name, self.name)
 
 
 def _arms(path, function):
@@ -80,47 +80,70 @@ def _arms(path, function):
     return found, constants
 
 
-# What the library itself returns, which is no fault of a file: in code.rt they are constants.
-OWN = {
-    "OK": "no fault",
-    "TOO_SMALL": "buffer is too small",
-    "WORK_FACTOR": "work factor is not 1 to 30",
-    "OUT_OF_ORDER": "no such stanza or offset, or a call out of order",
-    "NULL_POINTER": "null pointer with a length",
-    "BAD_ARGUMENTS": "stanza arguments are not words",
-}
-# The header's functions return this one; the library's own never do.
-NULL_POINTER = 24
+# What the header's functions return; the library's own never do.
+NULL_POINTER = Fault(24, "NullPointer", "null pointer with a length")
 
 
 def _camel(constant):
     return "".join(word.capitalize() for word in constant.split("_"))
 
 
+# What a fault holds that a report tells, by its type.
+WORDS = {"u64": "line", "u128": "chunk", "StanzaFault": "part"}
+
+
+def _variants(root, source="age_file/src/fault.rt"):
+    """The comment of each variant of an enum of faults, its text, and the types of what it holds."""
+    pattern = r'((?:    ///.*\n)*)    #\[error\("(.*)"\)\]\n    (\w+)(?:\((.*)\))?,'
+    found = re.findall(pattern, (root / "crates" / source).read_text())
+    return {name: (comment, text, held) for comment, text, name, held in found}
+
+
+def _part_texts(root):
+    """The text of each variant of StanzaFault."""
+    variants = _variants(root, "age_recipient/src/unwrapped.rt")
+    return {name: text for name, (_, text, _) in variants.items()}
+
+
+def own(root):
+    """The codes that the library itself returns, and that are no fault of a file. Those of code.rt
+    are constants whose comments begin with their texts."""
+    path = "crates/agefile/src/code.rt"
+    of_faults = _arms(root / path, "fault_code")[0].values()
+    found = [NULL_POINTER]
+    pattern = r"((?:///.*\n)+)pub\(crate\) const (\w+): u32 = (\d+);"
+    for comment, constant, number in re.findall(pattern, (root / path).read_text()):
+        if int(number) in of_faults:
+            continue
+        text = re.match(r"/// `([^`]+)`", comment)
+        if text is None:
+            sys.exit(f"{path}: the comment of {constant} begins without a text in backquotes")
+        found.append(Fault(int(number), _camel(constant), text[1]))
+    return found
+
+
 def faults(root):
     """All codes in order, those of files and those of the library."""
-    texts = _texts(root / "crates/age_file/src/fault.rt", "Fault")
-    numbers, constants = _arms(root / "crates/agefile/src/code.rt", "fault_code")
-    without_text = sorted(name for name, number in constants.items() if name not in OWN and number not in numbers.values())
-    if without_text:
-        sys.exit(f"share/generate/codes.py: OWN has no text of {', '.join(without_text)} in crates/agefile/src/code.rt")
-    found = [Fault(numbers[name], name, text) for name, text in texts.items()]
-    constants = constants | {"NULL_POINTER": NULL_POINTER}
-    found += [Fault(constants[name], _camel(name), text) for name, text in OWN.items() if name in constants]
-    return sorted(found)
+    numbers, _ = _arms(root / "crates/agefile/src/code.rt", "fault_code")
+    found, variants = [], _variants(root)
+    if other := set(numbers) ^ set(variants):
+        sys.exit(f"fault.rt and fault_code in code.rt: {', '.join(sorted(other))} stands in one alone")
+    for name, (_, text, held) in variants.items():
+        found.append(Fault(numbers[name], name, text, WORDS.get(held, "")))
+    return sorted(found + own(root))
 
 
 def parts(root):
     """The parts of a stanza that may be malformed, by the detail of a report."""
-    texts = _texts(root / "crates/age_recipient/src/unwrapped.rt", "StanzaFault")
+    texts = _part_texts(root)
     numbers, _ = _arms(root / "crates/agefile/src/code.rt", "fault_detail")
-    return {number: texts[name] for name, number in numbers.items() if number}
+    return {number: Part(name, texts[name]) for name, number in numbers.items() if number}
 
 
 def _c(all_codes, details):
     enum = ",\n".join(f"    AGEFILE_{fault.constant} = {fault.code}" for fault in all_codes)
     cases = "".join(f'    case AGEFILE_{f.constant}: return "{f.message}";\n' for f in all_codes)
-    named = "".join(f'    case {number}: return "{text}";\n' for number, text in details.items())
+    named = "".join(f'    case {n}: return "{part.text}";\n' for n, part in details.items())
     return {
         "codes": f"enum agefile_code {{\n{enum}\n}};\n",
         "messages": f'    switch (code) {{\n{cases}    default: return "unknown code";\n    }}\n',
@@ -129,9 +152,13 @@ def _c(all_codes, details):
 
 
 def _python(all_codes, details):
-    members = "".join(f"    {fault.constant} = {fault.code}\n" for fault in all_codes)
-    messages = "".join(f'    Code.{fault.constant}: "{fault.message}",\n' for fault in all_codes)
-    named = "".join(f'    {number}: "{text}",\n' for number, text in details.items())
+    members, messages = "", ""
+    for fault in all_codes:
+        word = "{part}" if fault.word == "part" else "{place}"
+        text = fault.text.replace("{0}", word) if fault.word else fault.message
+        members += f"    {fault.constant} = {fault.code}\n"
+        messages += f'    Code.{fault.constant}: "{text}",\n'
+    named = "".join(f'    {number}: "{part.text}",\n' for number, part in details.items())
     return {
         "code members": members,
         "code messages": f"_MESSAGES = {{\n{messages}}}\n",
@@ -139,65 +166,58 @@ def _python(all_codes, details):
     }
 
 
-# The codes that no call of the crate for Rust returns as a fault of its own.
-NOT_IN_RUST = {"OK", "READ", "WRITE", "REFUSED", "INCOMPATIBLE_RECIPIENTS", "TOO_SMALL", "OUT_OF_ORDER", "NULL_POINTER"}
+# The faults of files that no call of the crate for Rust returns as a fault of its own.
+NOT_IN_RUST = {"READ", "WRITE", "REFUSED", "INCOMPATIBLE_RECIPIENTS"}
 
 
-def _rust(all_codes):
-    """Which code is which variant of the crate's enum, and its text."""
-    of, shown = "", ""
-    for fault in all_codes:
-        if fault.constant in NOT_IN_RUST:
+def _in_rust(root, all_codes):
+    """The codes that are variants of the crate's enum: of the library's own those that it has."""
+    error_rs = (root / "bindings/rust/src/error.rs").read_text()
+    enum = re.search(r"pub enum Error \{(.*?)^\}", error_rs, re.S | re.M)[1]
+    variants = re.findall(r"^    (\w+)", enum, re.M)
+    others = {fault.name for fault in own(root)} - set(variants)
+    return [f for f in all_codes if f.constant not in NOT_IN_RUST and f.name not in others]
+
+
+def _rust(root, all_codes, details):
+    """The variants of the crate's enum, which code is which of them, and its text."""
+    of, shown, expected, own_codes = "", "", "", own(root)
+    variants, types = "", {"": "", "part": "(Part)"}
+    for name, (comment, _, _) in _variants(root).items():
+        fault = next(fault for fault in all_codes if fault.name == name)
+        if fault.constant not in NOT_IN_RUST:
+            variants += f"{comment}    {name}{types.get(fault.word, '(u64)')},\n"
+    for fault in _in_rust(root, all_codes):
+        name, word = f"Error::{fault.name}", fault.word
+        held = {"part": "(Part::of(report.detail))", "": ""}.get(word, "(place)")
+        of += f"            {fault.code} => {name}{held},\n"
+        text = fault.text.replace("{0}", f"{{{word}}}")
+        shown += f'            {name}{f"({word})" if word else ""} => write!(f, "{text}"),\n'
+    for fault in _in_rust(root, all_codes):
+        if fault in own_codes:
             continue
-        held = {"Malformed": "Part::of(report.detail)"}.get(fault.name, "place" if "{0}" in fault.text else None)
-        name = f"Error::{fault.name}"
-        of += f"            {fault.code} => {name + f'({held})' if held else name},\n"
-        word = {"Malformed": "part", "BadLine": "line"}.get(fault.name, "chunk")
-        bound = f"{name}({word})" if held else name
-        shown += f'            {bound} => write!(f, "{fault.text.replace("{0}", "{" + word + "}")}"),\n'
-    return {"codes of errors": of, "texts of errors": shown}
+        if fault.name == "Malformed":
+            examples = [(f"(Part::{part.rust})", [part.name]) for part in details.values()]
+        else:
+            examples = [("(1)", ["1"]) if fault.word else ("", [])]
+        for held, words in examples:
+            expected += f'        (Error::{fault.name}{held}, "{_by_hand(fault.name, *words)}"),\n'
+    numbers, names = "", ""
+    for number, part in details.items():
+        numbers += f"            {number} => Part::{part.rust},\n"
+        names += f'            Part::{part.rust} => "{part.text}",\n'
+    return {
+        "variants of errors": variants,
+        "codes of errors": of,
+        "texts of errors": shown,
+        "details of parts": numbers,
+        "texts of parts": names,
+        "expected texts of errors": expected,
+    }
 
 
-# What a fault is called in docs/FORMAT.md, where that is not its text.
-TERMS = {
-    "BadLine": "bad line",
-    "HeaderTruncated": "cut short (the header)",
-    "HeaderTooLarge": "too large",
-    "MixedPassphrase": "a `scrypt` stanza is not alone",
-    "NoMatch": "no match",
-    "WrongKey": "wrong key",
-    "Malformed": "malformed",
-    "BadMac": "the header's MAC is not the one of its stanzas",
-    "NonceTruncated": "fewer than 16 bytes follow the header",
-    "ChunkShort": "cut short (a piece)",
-    "EmptyFinal": "empty",
-    "BadChunk": "damaged",
-    "Read": "a failed read",
-    "Write": "a failed write",
-    "OutOfMemory": "a refused allocation",
-    "NoRecipients": "there is no stanza",
-    "Refused": "a recipient refused",
-    "IncompatibleRecipients": "a recipient does not go together with recipient 0",
-}
-
-
-def _printed(fault):
-    """What agep prints: N stands for a number, PART for a part of a stanza, CODE for a code."""
-    words = {"Malformed": ["PART"], "Refused": ["N", "CODE"]}.get(fault.name, ["N"])
-    return fault.text.format(*words)
-
-
-def _table(all_codes):
-    rows = [
-        f"| {f.code} | `{f.name}` | {TERMS.get(f.name, f.text)} | `{_printed(f)}` |\n"
-        for f in all_codes
-        if f.constant not in OWN
-    ]
-    return "| Code in C | `Fault` | In this document | What `agep` prints |\n|---|---|---|---|\n" + "".join(rows)
-
-
-def _own_table(all_codes):
-    rows = [f"| {f.code} | {f.text} |\n" for f in all_codes if f.constant in OWN and f.code]
+def _own_table(own_codes):
+    rows = [f"| {f.code} | {f.text} |\n" for f in sorted(own_codes) if f.code]
     return "| Code in C | What it stands for |\n|---|---|\n" + "".join(rows)
 
 
@@ -216,8 +236,59 @@ def _definitions(root):
     return {"codes of faults": equations + "\n", "variants of faults": variants}
 
 
+def _by_hand(name, *words):
+    """The text that docs/FORMAT.md has for a fault."""
+    try:
+        return messages.message(name, *words)
+    except KeyError as error:
+        sys.exit(error.args[0])
+
+
+# Numbers of faults in tests, as the code has them; of the others it is 1, and 7 for a second one.
+NUMBERS = {"BadChunk": {"4_294_967_295": 2**32 - 1, "(1 << 88) - 1": 2**88 - 1}}
+
+
+def _expected(root):
+    """What tests compare with the texts of the faults and of the parts, by docs/FORMAT.md."""
+    lines, parts = [], {}
+    for name in _part_texts(root):
+        held, words = ("(7)", ["7"]) if name == "Other" else ("", [])
+        parts[f"StanzaFault::{name}{held}"] = _by_hand(name, *words)
+    for name in _variants(root):
+        if name == "Malformed":
+            rows = [(held, [text]) for held, text in parts.items()]
+        elif name in NUMBERS:
+            rows = [(held, [number]) for held, number in NUMBERS[name].items()]
+        else:
+            count = max((count for known, count in messages.TEXTS if known == name), default=0)
+            rows = [(", ".join("17"[:count]), "17"[:count])]
+        for held, words in rows:
+            fault = f"Fault::{name}({held})" if held else f"Fault::{name}"
+            text = f'"{_by_hand(name, *words)}"'
+            line = f"({fault}, {text}),"
+            # as rt fmt breaks a tuple
+            lines += [line] if len(line) <= 61 else ["(", f"    {fault},", f"    {text},", "),"]
+    of_parts = [f'({part}, "{text}"),' for part, text in parts.items()]
+    return {
+        "expected texts": "".join(f"        {line}\n" for line in lines),
+        "expected texts of parts": "".join(f"        {line}\n" for line in of_parts),
+    }
+
+
 def texts(root):
     """Each generated text by its name."""
-    all_codes, details = faults(root), parts(root)
-    generated = _c(all_codes, details) | _python(all_codes, details) | _rust(all_codes) | _definitions(root)
-    return generated | {"faults": _table(all_codes), "codes of the library": _own_table(all_codes)}
+    all_codes, own_codes, details = faults(root), own(root), parts(root)
+    generated = _c(all_codes, details) | _python(all_codes, details)
+    generated |= _rust(root, all_codes, details) | _definitions(root) | _expected(root)
+    return generated | {"codes of the library": _own_table(own_codes)}
+
+
+def promised(root, layout):
+    """share/debian/libagefile.layout with a line for each code that has none. A line that is there
+    stays, so that a number that changed fails a test."""
+    lines = layout.splitlines(keepends=True)
+    names = [line.split(" ")[0] for line in lines]
+    rows = {f"AGEFILE_{fault.constant}": fault.code for fault in faults(root)}
+    last = max(at for at, name in enumerate(names) if name in rows)
+    new = [f"{name} {code}\n" for name, code in rows.items() if name not in names]
+    return "".join(lines[: last + 1] + new + lines[last + 1 :])

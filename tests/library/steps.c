@@ -82,41 +82,40 @@ static void the_same_files(void)
     }
 }
 
-// The same code as that of the whole buffer, after the same text.
-static void damage(void)
+// Steps end on these bytes with the code of the whole buffer, after the same text, of at most so many
+// bytes.
+static void ends_alike(const uint8_t *bytes, size_t len, size_t most)
 {
-    size_t len = 140000, back_len;
-    made_file file = made(len);
-    uint8_t *back = room(len), *whole = room(len);
+    uint8_t *back = room(most), *whole = room(most);
+    size_t back_len;
     agefile_report report;
-    for (size_t at = 0; at < file.len; at += at < file.front + 20 ? 1 : 1021) {
-        file.bytes[at] ^= 1;
-        uint32_t code = agefile_decrypt_key(file.bytes, file.len, key, whole, len, &report);
-        CHECK(read_back(file.bytes, file.len, back, &back_len) == code && code != AGEFILE_OK);
-        CHECK(back_len == report.len && are_equal(back, whole, back_len));
-        file.bytes[at] ^= 1;
-    }
-    release(file.bytes);
+    uint32_t code = agefile_decrypt_key(bytes, len, key, whole, most, &report);
+    CHECK(read_back(bytes, len, back, &back_len) == code && code != AGEFILE_OK);
+    CHECK(back_len == report.len && are_equal(back, whole, back_len));
     release(back);
     release(whole);
 }
 
+static void damage(void)
+{
+    made_file file = made(140000);
+    for (size_t at = 0; at < file.len; at += at < file.front + 20 ? 1 : 1021) {
+        file.bytes[at] ^= 1;
+        ends_alike(file.bytes, file.len, 140000);
+        file.bytes[at] ^= 1;
+    }
+    release(file.bytes);
+}
+
 static void truncation(void)
 {
-    size_t len = 131072, back_len;
-    made_file file = made(len);
-    uint8_t *back = room(len), *whole = room(len);
-    agefile_report report;
+    made_file file = made(131072);
     for (size_t cut = 0; cut < file.len; cut += cut < file.front + 40 ? 1 : 509) {
         uint8_t *part = copy_of(file.bytes, cut);
-        uint32_t code = agefile_decrypt_key(part, cut, key, whole, len, &report);
-        CHECK(read_back(part, cut, back, &back_len) == code && code != AGEFILE_OK);
-        CHECK(back_len == report.len && are_equal(back, whole, back_len));
+        ends_alike(part, cut, 131072);
         release(part);
     }
     release(file.bytes);
-    release(back);
-    release(whole);
 }
 
 // Whether this call is refused as out of order, with payload and chunk as they were.

@@ -43,18 +43,18 @@ class Code(enum.IntEnum):
 _MESSAGES = {
     Code.OK: "no fault",
     Code.NOT_AGE: "not an age file",
-    Code.BAD_LINE: "bad header line",
+    Code.BAD_LINE: "bad header line {place}",
     Code.HEADER_TRUNCATED: "header is cut short",
     Code.HEADER_TOO_LARGE: "header is too large",
     Code.MIXED_PASSPHRASE: "a passphrase stanza must stand alone",
     Code.NO_MATCH: "no key fits this file",
     Code.WRONG_KEY: "wrong passphrase or key",
-    Code.MALFORMED: "malformed stanza",
+    Code.MALFORMED: "malformed stanza: {part}",
     Code.BAD_MAC: "header check failed",
     Code.NONCE_TRUNCATED: "payload nonce is cut short",
-    Code.CHUNK_SHORT: "chunk is cut short",
-    Code.EMPTY_FINAL: "chunk is empty",
-    Code.BAD_CHUNK: "chunk is damaged",
+    Code.CHUNK_SHORT: "chunk {place} is cut short",
+    Code.EMPTY_FINAL: "chunk {place} is empty",
+    Code.BAD_CHUNK: "chunk {place} is damaged",
     Code.TOO_MANY_CHUNKS: "too many chunks",
     Code.READ: "read failed",
     Code.WRITE: "write failed",
@@ -80,19 +80,9 @@ _DETAILS = {
 }
 # end of code details
 
-_LINES = {Code.BAD_LINE}
-_CHUNKS = {Code.CHUNK_SHORT, Code.EMPTY_FINAL, Code.BAD_CHUNK}
-
 
 def _text(code: int, place: int, detail: int) -> str:
-    message = _MESSAGES.get(Code(code), "unknown code")
-    if code in _LINES:
-        return f"{message} {place}"
-    if code in _CHUNKS:
-        return f"chunk {place}{message.removeprefix('chunk')}"
-    if code == Code.MALFORMED:
-        return f"{message}: {_DETAILS.get(detail, 'other')}"
-    return message
+    return _MESSAGES[Code(code)].format(place=place, part=_DETAILS.get(detail, "other"))
 
 
 class AgeError(ValueError):

@@ -6,7 +6,6 @@ import contextlib
 import io
 import os
 import threading
-from types import TracebackType
 from typing import Any
 
 from . import _library as lib
@@ -105,12 +104,7 @@ class Writer(io.BufferedIOBase):
             if self._owned:
                 self._sink.close()
 
-    def __exit__(
-        self,
-        kind: type[BaseException] | None,
-        error: BaseException | None,
-        trace: TracebackType | None,
-    ) -> None:
+    def __exit__(self, kind: type[BaseException] | None, *rest: Any) -> None:
         self.close() if kind is None else self.abort()
 
     def __del__(self) -> None:
@@ -122,12 +116,7 @@ class Writer(io.BufferedIOBase):
 class TextWriter(io.TextIOWrapper):
     """A text file over a writer, which is whole under the same conditions."""
 
-    def __exit__(
-        self,
-        kind: type[BaseException] | None,
-        error: BaseException | None,
-        trace: TracebackType | None,
-    ) -> None:
+    def __exit__(self, kind: type[BaseException] | None, *rest: Any) -> None:
         self.close() if kind is None else self._abort()
 
     def _abort(self) -> None:

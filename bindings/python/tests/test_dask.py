@@ -19,6 +19,7 @@ except ImportError as error:
     raise unittest.SkipTest(str(error)) from error
 
 from agefile import _reader
+from support import message
 
 SECRET = agefile.Passphrase("correct horse", work=10)
 ROWS = int(os.environ.get("AGEFILE_DASK_ROWS", 400_000))
@@ -110,7 +111,7 @@ class Tables(unittest.TestCase):
         blocks = dask_sum.table(damaged, SECRET, BLOCK).to_delayed()
         failures = {index: failure_of(block) for index, block in enumerate(blocks[:8])}
         # A block of 1 MiB has 16 chunks: chunk 40 is in block 2.
-        self.assertEqual({index: text for index, text in failures.items() if text}, {2: "chunk 40 is damaged"})
+        self.assertEqual({index: text for index, text in failures.items() if text}, {2: message("BadChunk", 40)})
 
 
 if __name__ == "__main__":

@@ -10,22 +10,14 @@ import os
 import pickle
 import random
 import shutil
-import sys
 import tempfile
-import threading
 import traceback
 import unittest
 import warnings
 
 import agefile
 from agefile import AgeError, Code, Key, Passphrase
-
-KEY = Key(bytes(range(32)))
-
-
-@functools.lru_cache
-def text(length):
-    return bytes(i * 7 + i // 251 & 255 for i in range(length))
+from support import KEY, in_threads, message, pattern, text
 
 
 class InFolder(unittest.TestCase):
@@ -129,7 +121,7 @@ class Reading(InFolder):
         for size in (1000, 65536, 100000, 1000000):
             with agefile.open(name, identities=KEY) as file:
                 found = b""
-                with self.assertRaisesRegex(AgeError, "^chunk 3 is damaged$"):
+                with self.assertRaisesRegex(AgeError, pattern("BadChunk", 3)):
                     while True:
                         piece = file.read(size)
                         self.assertNotEqual(piece, b"")
@@ -142,7 +134,7 @@ class Reading(InFolder):
             self.assertRaises(AgeError, file.read)
         with agefile.open(name, "r", identities=KEY, encoding="latin-1", newline="") as file:
             found = ""
-            with self.assertRaisesRegex(AgeError, "^chunk 3 is damaged$"):
+            with self.assertRaisesRegex(AgeError, pattern("BadChunk", 3)):
                 while True:
                     piece = file.read(10000)
                     self.assertNotEqual(piece, "")
@@ -153,8 +145,9 @@ class Reading(InFolder):
         with agefile.open(self.made(text(500000)), identities=KEY) as file:
             os.truncate("a.age", 300000)
             file.seek(400000)
-            with self.assertRaisesRegex(agefile.AgeChangedError, "^the file was cut while it was open: chunk 6 is cut short$"):
+            with self.assertRaises(agefile.AgeChangedError) as caught:
                 file.read(1)
+            self.assertEqual(str(caught.exception), f"the file was cut while it was open: {message('ChunkShort', 6)}")
             file.seek(0)
             self.assertEqual(file.read(100000), text(100000))
 
@@ -282,11 +275,7 @@ class Reading(InFolder):
                     if piece and piece not in plain:
                         wrong.append(piece)
 
-            threads = [threading.Thread(target=work) for _ in range(4)]
-            for thread in threads:
-                thread.start()
-            for thread in threads:
-                thread.join()
+            in_threads(work)
         self.assertEqual(wrong, [])
 
     def test_fork(self):

@@ -3,7 +3,6 @@
 import array
 import contextlib
 import copy
-import functools
 import gc
 import io
 import itertools
@@ -21,16 +20,11 @@ import unittest
 
 import agefile
 from agefile import AgeError, Code, Key, Passphrase, Stanza
+from support import KEY, in_threads, message, pattern, text
 
-KEY = Key(bytes(range(32)))
 # around the edges of chunks, and of what one thread takes at a time
 SIZES = (0, 1, 65535, 65536, 65537, 131072, 200000, 16 * 65536, 16 * 65536 + 1, 50 * 65536 + 7)
 DATA = os.path.join(os.path.dirname(__file__), "../../../tests/data")
-
-
-@functools.lru_cache
-def text(length):
-    return bytes(i * 7 + i // 251 & 255 for i in range(length))
 
 
 def of_age(name):
@@ -87,7 +81,7 @@ class Round(unittest.TestCase):
         new = agefile.rewrap(file, identities=other, recipients=[KEY, Key(bytes(32))])
         self.assertEqual(agefile.decrypt(new, identities=Key(bytes(32))), plain)
         self.assertEqual(new[agefile.inspect(new).length :], file[agefile.inspect(file).length :])
-        with self.assertRaisesRegex(AgeError, "^wrong passphrase or key$"):
+        with self.assertRaisesRegex(AgeError, pattern("WrongKey")):
             agefile.rewrap(file, identities=Passphrase("y"), recipients=KEY)
 
     def test_what_is_bytes_like(self):
@@ -140,24 +134,24 @@ class Wrong(unittest.TestCase):
         length = agefile.inspect(file).length
         damaged = bytearray(file)
         damaged[length + 16 + 65552] ^= 1
-        for data, secret, code, place, message in (
-            (b"hello", KEY, Code.NOT_AGE, 0, "not an age file"),
-            (b"age-encryption.org/v1\nbad\n", KEY, Code.BAD_LINE, 2, "bad header line 2"),
-            (file[:30], KEY, Code.HEADER_TRUNCATED, 0, "header is cut short"),
-            (file, Key(bytes(32)), Code.WRONG_KEY, 0, "wrong passphrase or key"),
-            (file, Passphrase("x"), Code.NO_MATCH, 0, "no key fits this file"),
-            (file, [], Code.NO_MATCH, 0, "no key fits this file"),
-            (file[: length + 15], KEY, Code.NONCE_TRUNCATED, 0, "payload nonce is cut short"),
-            (file[: length + 16], KEY, Code.CHUNK_SHORT, 0, "chunk 0 is cut short"),
-            (file[: length + 16 + 65552], KEY, Code.BAD_CHUNK, 0, "chunk 0 is damaged"),
-            (file[:-1], KEY, Code.BAD_CHUNK, 3, "chunk 3 is damaged"),
-            (bytes(damaged), KEY, Code.BAD_CHUNK, 1, "chunk 1 is damaged"),
+        for data, secret, code, place, line in (
+            (b"hello", KEY, Code.NOT_AGE, 0, message("NotAge")),
+            (b"age-encryption.org/v1\nbad\n", KEY, Code.BAD_LINE, 2, message("BadLine", 2)),
+            (file[:30], KEY, Code.HEADER_TRUNCATED, 0, message("HeaderTruncated")),
+            (file, Key(bytes(32)), Code.WRONG_KEY, 0, message("WrongKey")),
+            (file, Passphrase("x"), Code.NO_MATCH, 0, message("NoMatch")),
+            (file, [], Code.NO_MATCH, 0, message("NoMatch")),
+            (file[: length + 15], KEY, Code.NONCE_TRUNCATED, 0, message("NonceTruncated")),
+            (file[: length + 16], KEY, Code.CHUNK_SHORT, 0, message("ChunkShort", 0)),
+            (file[: length + 16 + 65552], KEY, Code.BAD_CHUNK, 0, message("BadChunk", 0)),
+            (file[:-1], KEY, Code.BAD_CHUNK, 3, message("BadChunk", 3)),
+            (bytes(damaged), KEY, Code.BAD_CHUNK, 1, message("BadChunk", 1)),
         ):
             for threads in (1, 2):
                 with self.assertRaises(AgeError) as caught:
                     agefile.decrypt(data, identities=secret, threads=threads)
                 error = caught.exception
-                self.assertEqual((error.code, error.place, str(error)), (code, place, message))
+                self.assertEqual((error.code, error.place, str(error)), (code, place, line))
                 self.assertIsInstance(error, ValueError)
 
     def test_cut_files(self):
@@ -184,13 +178,13 @@ class Wrong(unittest.TestCase):
         file[agefile.inspect(file).length + 16 + 37 * 65552] ^= 1
         for threads in (1, 2, 4):
             out = io.BytesIO()
-            with self.assertRaisesRegex(AgeError, "^chunk 37 is damaged$"):
+            with self.assertRaisesRegex(AgeError, pattern("BadChunk", 37)):
                 agefile.copy(io.BytesIO(file), out, identities=KEY, threads=threads)
             self.assertEqual(out.getvalue(), plain[: 37 * 65536])
 
     def test_a_malformed_stanza(self):
         file = agefile.encrypt(b"", recipients=Passphrase("x", work=3))
-        with self.assertRaisesRegex(AgeError, "^malformed stanza: work factor is too high$") as caught:
+        with self.assertRaisesRegex(AgeError, pattern("Malformed", "WorkFactorTooHigh")) as caught:
             agefile.decrypt(file, identities=Passphrase("x", max_work=2))
         self.assertEqual((caught.exception.code, caught.exception.detail), (Code.MALFORMED, 4))
 
@@ -304,11 +298,7 @@ class Processes(unittest.TestCase):
                 if agefile.decrypt(agefile.encrypt(text(1000), recipients=secret), identities=secret) != text(1000):
                     wrong.append(True)
 
-        threads = [threading.Thread(target=work) for _ in range(4)]
-        for thread in threads:
-            thread.start()
-        for thread in threads:
-            thread.join()
+        in_threads(work)
         self.assertEqual(wrong, [])
 
     def test_the_library_that_is_taken(self):
@@ -331,12 +321,12 @@ class Processes(unittest.TestCase):
             "except MemoryError as error: print(repr(error.code), error)\n"
         )
         done = subprocess.run([sys.executable, "-c", code], capture_output=True, text=True)
-        self.assertEqual((done.stdout, done.stderr), ("<Code.OUT_OF_MEMORY: 17> out of memory\n", ""))
+        self.assertEqual((done.stdout, done.stderr), (f"<Code.OUT_OF_MEMORY: 17> {message('OutOfMemory')}\n", ""))
 
     def test_errors_of_workers(self):
         with multiprocessing.get_context("fork").Pool(2) as pool:
             waiting = pool.map_async(fails, range(4))
-            with self.assertRaisesRegex(AgeError, "^not an age file$"):
+            with self.assertRaisesRegex(AgeError, pattern("NotAge")):
                 waiting.get(timeout=20)
 
 

@@ -5,42 +5,46 @@ use std::io;
 
 use crate::ffi::Report;
 
-/// Why a file or a call is refused.
+/// Why a file or a call is refused. Chunks are counted from 0, header lines from 1.
 #[derive(Clone, Copy, Debug, PartialEq, Eq)]
 #[non_exhaustive]
 pub enum Error {
-    /// The bytes do not begin as an age file.
+    // generated: variants of errors
+    /// The first bytes are not a prefix of the version line.
     NotAge,
-    /// A line of the header is wrong; lines are counted from 1.
+    /// From this line on the text cannot be a header. The version line is line 1.
     BadLine(u64),
-    /// The header ends too early.
+    /// The input ends within its header.
     HeaderTruncated,
-    /// The header has more than 65,536 bytes.
+    /// The header, read or to be written, is larger than the limit.
     HeaderTooLarge,
-    /// A passphrase stanza stands beside another.
+    /// A stanza of type `scrypt` is not the only stanza (C2SP `age.md`, "The scrypt recipient
+    /// type").
     MixedPassphrase,
-    /// No stanza is for one of the identities.
+    /// No stanza is of the type of any identity.
     NoMatch,
-    /// A stanza is for one of the identities, and the passphrase or key is wrong.
+    /// There are stanzas of an identity's type, and none of them opens: the passphrase or key is
+    /// wrong.
     WrongKey,
-    /// A stanza for one of the identities is malformed in this part.
+    /// A stanza of an identity's type is malformed.
     Malformed(Part),
-    /// The header's MAC is not the one under its file key.
+    /// The header's MAC is not the one of its stanzas under the file key.
     BadMac,
-    /// The payload's nonce ends too early.
+    /// Fewer bytes than the payload's nonce, 16, follow the header.
     NonceTruncated,
-    /// This chunk ends too early; chunks are counted from 0.
+    /// This sealed chunk, the last, has fewer bytes than a tag, 16.
     ChunkShort(u64),
-    /// This chunk is the last, is empty, and is not the only one.
+    /// This chunk, the last and not the first, has an empty plaintext.
     EmptyFinal(u64),
-    /// The tag of this chunk is wrong.
+    /// No plaintext seals to this chunk at its number: its tag is wrong.
     BadChunk(u64),
-    /// The payload has more chunks than a file may have.
+    /// The payload, read or to be written, has more chunks than the limit.
     TooManyChunks,
-    /// An allocation was refused.
+    /// An allocation was refused, or a caller's recipient or identity returned out of memory.
     OutOfMemory,
-    /// A new file has no stanza.
+    /// The recipients returned no stanza.
     NoRecipients,
+    // end of variants of errors
     /// A work factor is not 1 to 30.
     WorkFactor,
     /// An argument of a stanza is empty, or is not made of the characters `!` to `~`.
@@ -115,11 +119,13 @@ impl Error {
 impl Part {
     fn of(detail: u64) -> Part {
         match detail {
+            // generated: details of parts
             1 => Part::ArgumentCount,
             2 => Part::Salt,
             3 => Part::WorkFactor,
             4 => Part::WorkFactorTooHigh,
             5 => Part::BodyLength,
+            // end of details of parts
             _ => Part::Other,
         }
     }
@@ -128,11 +134,13 @@ impl Part {
 impl fmt::Display for Part {
     fn fmt(&self, f: &mut fmt::Formatter<'_>) -> fmt::Result {
         f.write_str(match self {
+            // generated: texts of parts
             Part::ArgumentCount => "argument count",
             Part::Salt => "salt",
             Part::WorkFactor => "work factor",
             Part::WorkFactorTooHigh => "work factor is too high",
             Part::BodyLength => "body length",
+            // end of texts of parts
             Part::Other => "other",
         })
     }

@@ -195,26 +195,56 @@ fn damage_in_another_chunk_is_not_noticed_by_ranges() {
 }
 
 #[test]
+fn each_fault_of_a_file_has_its_text() {
+    for (error, text) in [
+        // generated: expected texts of errors
+        (Error::NotAge, "not an age file"),
+        (Error::BadLine(1), "bad header line 1"),
+        (Error::HeaderTruncated, "header is cut short"),
+        (Error::HeaderTooLarge, "header is too large"),
+        (Error::MixedPassphrase, "a passphrase stanza must stand alone"),
+        (Error::NoMatch, "no key fits this file"),
+        (Error::WrongKey, "wrong passphrase or key"),
+        (Error::Malformed(Part::ArgumentCount), "malformed stanza: argument count"),
+        (Error::Malformed(Part::Salt), "malformed stanza: salt"),
+        (Error::Malformed(Part::WorkFactor), "malformed stanza: work factor"),
+        (Error::Malformed(Part::WorkFactorTooHigh), "malformed stanza: work factor is too high"),
+        (Error::Malformed(Part::BodyLength), "malformed stanza: body length"),
+        (Error::BadMac, "header check failed"),
+        (Error::NonceTruncated, "payload nonce is cut short"),
+        (Error::ChunkShort(1), "chunk 1 is cut short"),
+        (Error::EmptyFinal(1), "chunk 1 is empty"),
+        (Error::BadChunk(1), "chunk 1 is damaged"),
+        (Error::TooManyChunks, "too many chunks"),
+        (Error::OutOfMemory, "out of memory"),
+        (Error::NoRecipients, "no recipients"),
+        // end of expected texts of errors
+    ] {
+        assert_eq!(error.to_string(), text);
+    }
+}
+
+#[test]
 fn faults_have_their_place_and_their_kind() {
     let file = encrypt(&text(200000), &[&key()]).unwrap();
     let front = inspect(&file).unwrap().text().len() + 16;
     let other = Key::new([8; 32]);
-    type Case<'a> = (&'a [u8], &'a dyn Identity, Error, ErrorKind, &'a str);
+    type Case<'a> = (&'a [u8], &'a dyn Identity, Error, ErrorKind);
     let cases: [Case; 8] = [
-        (b"hello", &key(), Error::NotAge, ErrorKind::InvalidData, "not an age file"),
-        (b"age-encryption.org/v1\nbad\n", &key(), Error::BadLine(2), ErrorKind::InvalidData, "bad header line 2"),
-        (&file[..30], &key(), Error::HeaderTruncated, ErrorKind::UnexpectedEof, "header is cut short"),
-        (&file, &other, Error::WrongKey, ErrorKind::PermissionDenied, "wrong passphrase or key"),
-        (&file, &passphrase(), Error::NoMatch, ErrorKind::PermissionDenied, "no key fits this file"),
-        (&file[..front - 1], &key(), Error::NonceTruncated, ErrorKind::UnexpectedEof, "payload nonce is cut short"),
-        (&file[..front], &key(), Error::ChunkShort(0), ErrorKind::UnexpectedEof, "chunk 0 is cut short"),
-        (&file[..file.len() - 1], &key(), Error::BadChunk(3), ErrorKind::InvalidData, "chunk 3 is damaged"),
+        (b"hello", &key(), Error::NotAge, ErrorKind::InvalidData),
+        (b"age-encryption.org/v1\nbad\n", &key(), Error::BadLine(2), ErrorKind::InvalidData),
+        (&file[..30], &key(), Error::HeaderTruncated, ErrorKind::UnexpectedEof),
+        (&file, &other, Error::WrongKey, ErrorKind::PermissionDenied),
+        (&file, &passphrase(), Error::NoMatch, ErrorKind::PermissionDenied),
+        (&file[..front - 1], &key(), Error::NonceTruncated, ErrorKind::UnexpectedEof),
+        (&file[..front], &key(), Error::ChunkShort(0), ErrorKind::UnexpectedEof),
+        (&file[..file.len() - 1], &key(), Error::BadChunk(3), ErrorKind::InvalidData),
     ];
-    for (bytes, identity, error, kind, message) in cases {
+    for (bytes, identity, error, kind) in cases {
         assert_eq!(decrypt(bytes, &[identity]).unwrap_err(), error);
         let failed =
             Reader::new(bytes, &[identity]).and_then(|mut reader| reader.read_to_end(&mut Vec::new())).unwrap_err();
-        assert_eq!((failed.kind(), failed.to_string().as_str()), (kind, message));
+        assert_eq!((failed.kind(), failed.to_string()), (kind, error.to_string()));
         assert_eq!(fault(failed), error);
     }
     let file = encrypt(b"", &[&passphrase()]).unwrap();

@@ -1,26 +1,26 @@
-//! The codes of `agefile.h`.
+//! The codes of `agefile.h`. The comment of a code that is no fault of a file begins with its text.
 
 ghost use Rattle.std.specs.Prelude.{◌≡◌, ◌-◌, ◌^◌, min};
 ghost use Rattle.agefile.specs.Codes.{fault_code, fault_detail, fault_place};
 
 use age_file::{Fault, StanzaFault};
 
-/// No fault.
+/// `no fault`.
 pub(crate) const OK: u32 = 0;
 
 /// An allocation was refused.
 pub(crate) const OUT_OF_MEMORY: u32 = 17;
 
-/// The buffer is too small for the output.
+/// `buffer is too small` for the output.
 pub(crate) const TOO_SMALL: u32 = 21;
 
-/// A work factor, or its maximum, is not 1 to 30.
+/// `work factor is not 1 to 30`, or its maximum is not.
 pub(crate) const WORK_FACTOR: u32 = 22;
 
-/// There is no such stanza or offset, or the call does not fit the state.
+/// `no such stanza or offset, or a call out of order`, which does not fit the state.
 pub(crate) const OUT_OF_ORDER: u32 = 23;
 
-/// The arguments of a stanza are not words of visible characters, joined by single spaces.
+/// `stanza arguments are not words` of visible characters, joined by single spaces.
 pub(crate) const BAD_ARGUMENTS: u32 = 25;
 
 /// The code of a fault.

@@ -6,8 +6,9 @@ use age_recipient::StanzaFault;
 #[test]
 fn each_fault_has_its_text(rt: HostRuntime) {
     for (fault, text) in [
+        // generated: expected texts
         (Fault::NotAge, "not an age file"),
-        (Fault::BadLine(2), "bad header line 2"),
+        (Fault::BadLine(1), "bad header line 1"),
         (Fault::HeaderTruncated, "header is cut short"),
         (Fault::HeaderTooLarge, "header is too large"),
         (
@@ -42,7 +43,7 @@ fn each_fault_has_its_text(rt: HostRuntime) {
         ),
         (Fault::BadMac, "header check failed"),
         (Fault::NonceTruncated, "payload nonce is cut short"),
-        (Fault::ChunkShort(0), "chunk 0 is cut short"),
+        (Fault::ChunkShort(1), "chunk 1 is cut short"),
         (Fault::EmptyFinal(1), "chunk 1 is empty"),
         (
             Fault::BadChunk(4_294_967_295),
@@ -59,9 +60,10 @@ fn each_fault_has_its_text(rt: HostRuntime) {
         (Fault::NoRecipients, "no recipients"),
         (Fault::Refused(1, 7), "recipient 1 refused: 7"),
         (
-            Fault::IncompatibleRecipients(2),
-            "recipient 2 does not go with recipient 0",
+            Fault::IncompatibleRecipients(1),
+            "recipient 1 does not go with recipient 0",
         ),
+        // end of expected texts
     ] {
         let said = format!(in rt.alloc(); "{fault}").expect(&rt, "memory");
         assert_eq!(rt; said.as_str(), text, "{text}");

@@ -1,0 +1,102 @@
+"""Compares the messages in docs/FORMAT.md and tests/messages.txt, which are written by hand, with
+the texts of the code, and with what repeats a message and is not run."""
+
+import glob
+import itertools
+import os
+import re
+import sys
+import unittest
+from pathlib import Path
+
+sys.path.append(str(Path(__file__).resolve().parent.parent / "share/generate"))
+import codes
+
+from messages import NAMES, TEXTS, numbers, rows
+from program import ROOT, TESTS, read
+
+VERBOSE = TESTS + "/cli/verbose.console"
+
+
+def text_of(name):
+    return read(name).decode("utf-8", "surrogateescape")
+
+
+def numbered(text):
+    """A text of the code whose words are numbered, as those of a row are."""
+    count = itertools.count()
+    return re.sub(r"\{\w+\}", lambda _: f"{{{next(count)}}}", text)
+
+
+def texts_of_code():
+    """The names and texts of the faults, their parts and the roles of files."""
+    crates = ROOT + "/crates"
+    for source in ("age_file/src/fault.rt", "age_recipient/src/unwrapped.rt"):
+        code = text_of(f"{crates}/{source}")
+        for text, name in re.findall(r'#\[error\("(.*)"\)\]\s+(\w+)', code):
+            yield name, text
+    shown = text_of(crates + "/age_cli/src/fault.rt").split("impl fmt::Display for Fault")[1]
+    for name, text in re.findall(r'Fault::(\w+)[^"]*"(.*)"', shown):
+        if name != "AgeFile":
+            yield name, numbered(text)
+    roles = text_of(crates + "/age_cli/src/file_names.rt")
+    for name, text in re.findall(r'Role::(\w+) => "(.*)"', roles):
+        yield name, text if name == "Input" else f"the {text}"
+
+
+def without_example(line):
+    """A second line of an error without the name of a file, and with N for each number."""
+    line = re.sub("^2> agep: ", "", line).replace("\\-", "-").replace("\n", " ").strip()
+    return re.sub(r"\d+", "N", re.sub("^([a-z ]+ )?[^ ]+: ", "", line))
+
+
+class Code(unittest.TestCase):
+    def test_texts(self):
+        """Each text of the code has a row, and each row is a text of the code."""
+        code, table = set(texts_of_code()), set(rows())
+        self.assertGreater(len(code), 40)
+        self.assertEqual(code - table, set(), f"these have no row in {NAMES}")
+        self.assertEqual(table - code, set(), f"these rows of {NAMES} stand nowhere in the code")
+
+    def test_numbers(self):
+        """The rows of docs/FORMAT.md have the numbers of the library for C."""
+        root = Path(ROOT)
+        of_files = set(codes.faults(root)) - set(codes.own(root))
+        expected = {(fault.code, fault.name) for fault in of_files} | {(0, "Other")}
+        expected |= {(number, part.name) for number, part in codes.parts(root).items()}
+        self.assertEqual({(number, name) for number, name, _ in numbers()}, expected)
+
+
+class Manual(unittest.TestCase):
+    """DIAGNOSTICS of the manual page: some first lines, and examples of second lines."""
+
+    def setUp(self):
+        page = text_of(ROOT + "/share/man/agep.1").split("\n.SH DIAGNOSTICS\n")[1]
+        page = page.split("\n.SH ")[0]
+        entries = re.findall(r"^\.TP\n\.B (.*)\n((?:[^.].*\n)+)", page, re.MULTILINE)
+        self.assertGreater(len(entries), 6)
+        heads = [head.split(r"\fR, and other")[0] for head, _ in entries]
+        self.first = [part for head in heads for part in head.split(r"\fR, \fB")]
+        self.first += re.findall(r'^There is no second line for\n\.BR "(.*)"', page, re.MULTILINE)
+        self.second = [example for _, example in entries]
+
+    def test_first_lines(self):
+        """Each first line is a message, up to the name of a file, or a part of a stanza."""
+        known = {re.sub(r" \{0\}$", "", text).replace("{0}", "3") for text in TEXTS.values()}
+        self.assertEqual([line for line in self.first if line not in known], [])
+
+    def test_second_lines(self):
+        """Each second line stands in a transcript, for another file."""
+        lines = [line for line in text_of(VERBOSE).split("\n") if line.startswith("2> ")]
+        shown = {without_example(line) for line in lines}
+        self.assertEqual([line for line in self.second if without_example(line) not in shown], [])
+
+
+class Transcripts(unittest.TestCase):
+    def test_names(self):
+        """Transcripts have the names of messages, and not their texts."""
+        texts = "|".join(re.sub(r"\\\{\d\\\}", ".*", re.escape(text)) for text in TEXTS.values())
+        for name in sorted(glob.glob(TESTS + "/cli/*.console")):
+            with self.subTest(os.path.basename(name)):
+                literal = re.findall(rf"^(?:2> )?agep: (?:{texts})$", text_of(name), re.MULTILINE)
+                self.assertEqual(literal, [])
