@@ -60,10 +60,7 @@ pub(crate) fn inspect<S: Source, W: Sink>(
     let Ok(check) = check_of(alloc, &header, file_key) else {
         return Err(Fault::OutOfMemory);
     };
-    match show(alloc, job.raw, &header, check, out) {
-        Ok(()) => {}
-        Err(fault) => return Err(fault),
-    }
+    show(alloc, job.raw, &header, check, out)?;
     match check {
         Check::Bad => Err(Fault::BadMac),
         Check::None | Check::Good => Ok(()),

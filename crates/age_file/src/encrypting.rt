@@ -64,10 +64,9 @@ pub fn encrypt<S: Source, W: Sink>(
         Ok(is_open) => is_open,
         Err(_) => return Err(Fault::Read),
     };
-    match write_front(&header, &fresh.nonce, out) {
-        Ok(()) => {}
-        Err(_) => return Err(Fault::Write),
-    }
+    let Ok(()) = write_front(&header, &fresh.nonce, out) else {
+        return Err(Fault::Write);
+    };
     match seal_rest(sealer, is_open, plain, out) {
         Ok(done) => Ok(done),
         Err(fault) => Err(stream_fault(fault)),

@@ -57,10 +57,9 @@ pub fn rewrap<S: Source, W: Sink>(
     let Ok(buf) = vec![in alloc; 0u8; BUFFER_SIZE] else {
         return Err(Fault::OutOfMemory);
     };
-    match write_header(&new, out) {
-        Ok(()) => {}
-        Err(_) => return Err(Fault::Write),
-    }
+    let Ok(()) = write_header(&new, out) else {
+        return Err(Fault::Write);
+    };
     let mut buf = buf;
     // So that with a buffered sink of this size each write but the last begins and ends at a
     // multiple of it.
