@@ -2,7 +2,7 @@
 use Rattle.std.proofs.Common.{◌≡◌, ◌∙◌, ◌++◌, ap, inl, inr, subst, List, None, Some, Result, Ok, Err}
 use Rattle.std.specs.Prelude.{⊤, ◌↔◌}
 use Rattle.std.specs.Io.KnownBytes.{Appends, Keeps}
-use Rattle.age_header.specs.Device.{Bytes, Known}
+use Rattle.age_header.specs.Device.{Bytes, Known, moved}
 use Rattle.age_header.specs.Header.{StanzaParts}
 use Rattle.age_header.proofs.DeviceLemmas.{may-known}
 use Rattle.age_recipient.specs.declared.key.FileKey.{FileKey}
@@ -42,7 +42,7 @@ Gained limits b xs new = (stanzas : List StanzaParts) × (k : FileKey) × (plain
 
 decrypted_whole : OkIsAgeFile → (limits : Bounds) (answers : Answering) (b xs : Bytes) (taken new : Known)
     (counts : Done)
-    → DecryptsText limits answers b (Some xs) taken (Ok counts) → Keeps taken new → Gained limits b xs new
+    → DecryptsText limits answers b (moved (Some xs) taken) (Ok counts) → Keeps taken new → Gained limits b xs new
 decrypted_whole law limits answers b xs taken new counts (verdict, judged, (none, bytes, n), appends) keeps =
     let is_whole = subst (λ f. IsVerdict limits answers b (record { front = verdict.front; fault = f })) none judged in
     let found = (law limits answers b verdict.front).0 is_whole in
@@ -50,17 +50,17 @@ decrypted_whole law limits answers b xs taken new counts (verdict, judged, (none
 
 decrypted : OkIsAgeFile → (limits : Bounds) (answers : Answering) (b xs : Bytes) (taken new : Known)
     (done : Result Done Fault) (work : Result ⊤ Fault)
-    → work ≡ without_counts done → Decrypts limits answers (Some b) (Some xs) taken done
+    → work ≡ without_counts done → Decrypts limits answers (Some b) (moved (Some xs) taken) done
     → Ends (Some xs) taken new work (Ok tt) → Gained limits b xs new
 decrypted law limits answers b xs taken new (Err fault) work is d (inl (ended, keeps)) = absurd (cc)
 decrypted law limits answers b xs taken new (Err fault) work is d (inr (failed, rest)) = absurd (cc)
 decrypted law limits answers b xs taken new (Ok counts) work is d (inl (ended, keeps)) =
     decrypted_whole law limits answers b xs taken new counts
-    (may-known (λ x. DecryptsText limits answers x (Some xs) taken (Ok counts)) b d) keeps
+    (may-known (λ x. DecryptsText limits answers x (moved (Some xs) taken) (Ok counts)) b d) keeps
 decrypted law limits answers b xs taken new (Ok counts) work is d (inr (failed, rest)) = absurd (cc)
 
 decrypt_done : OkIsAgeFile → (job : Job) (b xs : Bytes) (new : Known) (task : Task) → IsTaskOf command.Decrypt task
-    → Works job task (Some b) (Some xs) new (Ok tt) → Gained (limits_of job) b xs new
+    → Works job task (Some b) (moved (Some xs) new) (Ok tt) → Gained (limits_of job) b xs new
 decrypt_done law job b xs new (task.Decrypt secret) is (taken, work, (done, same, d), quiet, ends) =
     decrypted law (limits_of job) (answers_of secret job.max_work) b xs taken new done work same d ends
 decrypt_done law job b xs new (task.Encrypt secret seed) is w = absurd is
@@ -68,7 +68,7 @@ decrypt_done law job b xs new (task.Rewrap old other salt) is w = absurd is
 decrypt_done law job b xs new (task.Inspect key) is w = absurd is
 
 pub done_decrypt : OkIsAgeFile → (job : Job) (b xs : Bytes) (new : Known) → job.command ≡ command.Decrypt
-    → Finishes job (Some b) (Some xs) new → Gained (limits_of job) b xs new
+    → Finishes job (Some b) (moved (Some xs) new) → Gained (limits_of job) b xs new
 done_decrypt law job b xs new one (task, is, w) =
     decrypt_done law job b xs new task (subst (λ (x : Command). IsTaskOf x task) one is) w
 
@@ -79,23 +79,24 @@ Made limits plain xs new = (stanzas : List StanzaParts) × (k : FileKey) × (b :
 
 encrypted_whole : (limits : Bounds) (fresh : Fresh) (gathered : Gathering) (plain xs : Bytes) (taken new : Known)
     (counts : Done)
-    → EncryptsText limits fresh gathered plain (Some xs) taken (Ok counts) → Keeps taken new → Made limits plain xs new
+    → EncryptsText limits fresh gathered plain (moved (Some xs) taken) (Ok counts) → Keeps taken new
+    → Made limits plain xs new
 encrypted_whole limits fresh gathered plain xs taken new counts (gained, file, appends, bytes, n) keeps =
     (file.stanzas, fresh.file_key, gained, file.file, grown xs gained taken new appends keeps)
 
 encrypted : (limits : Bounds) (fresh : Fresh) (gathered : Gathering) (plain xs : Bytes) (taken new : Known)
     (done : Result Done Fault) (work : Result ⊤ Fault)
-    → work ≡ without_counts done → Encrypting limits fresh gathered (Some plain) (Some xs) taken done
+    → work ≡ without_counts done → Encrypting limits fresh gathered (Some plain) (moved (Some xs) taken) done
     → Ends (Some xs) taken new work (Ok tt) → Made limits plain xs new
 encrypted limits fresh gathered plain xs taken new (Err fault) work is e (inl (ended, keeps)) = absurd (cc)
 encrypted limits fresh gathered plain xs taken new (Err fault) work is e (inr (failed, rest)) = absurd (cc)
 encrypted limits fresh gathered plain xs taken new (Ok counts) work is e (inl (ended, keeps)) =
     encrypted_whole limits fresh gathered plain xs taken new counts
-    (may-known (λ x. EncryptsText limits fresh gathered x (Some xs) taken (Ok counts)) plain e.0) keeps
+    (may-known (λ x. EncryptsText limits fresh gathered x (moved (Some xs) taken) (Ok counts)) plain e.0) keeps
 encrypted limits fresh gathered plain xs taken new (Ok counts) work is e (inr (failed, rest)) = absurd (cc)
 
 encrypt_done : (job : Job) (plain xs : Bytes) (new : Known) (task : Task) → IsTaskOf command.Encrypt task
-    → Works job task (Some plain) (Some xs) new (Ok tt) → Made (limits_of job) plain xs new
+    → Works job task (Some plain) (moved (Some xs) new) (Ok tt) → Made (limits_of job) plain xs new
 encrypt_done job plain xs new (task.Encrypt secret seed) is (taken, work, (done, same, e), quiet, ends) =
     encrypted (limits_of job) seed.fresh _ plain xs taken new done work same e ends
 encrypt_done job plain xs new (task.Decrypt secret) is w = absurd is
@@ -103,6 +104,6 @@ encrypt_done job plain xs new (task.Rewrap old other salt) is w = absurd is
 encrypt_done job plain xs new (task.Inspect key) is w = absurd is
 
 pub done_encrypt : (job : Job) (plain xs : Bytes) (new : Known) → job.command ≡ command.Encrypt
-    → Finishes job (Some plain) (Some xs) new → Made (limits_of job) plain xs new
+    → Finishes job (Some plain) (moved (Some xs) new) → Made (limits_of job) plain xs new
 done_encrypt job plain xs new one (task, is, w) =
     encrypt_done job plain xs new task (subst (λ (x : Command). IsTaskOf x task) one is) w

@@ -3,7 +3,7 @@ use Rattle.std.proofs.Common.{◌≡◌, ◌∙◌, ◌++◌, None, Some, [], ap
 use Rattle.std.proofs.lemmas.List.{append-nil}
 use Rattle.std.specs.Io.KnownBytes.{append_known}
 use Rattle.std.specs.Prelude.{⊤}
-use Rattle.age_header.specs.Device.{Bytes, Known}
+use Rattle.age_header.specs.Device.{Bytes, Known, moved}
 use Rattle.age_file.specs.declared.fault.Fault.{Fault}
 use Rattle.age_file.specs.Device.{IsQuiet}
 use Rattle.age_words.specs.declared.job.Job.{Job}
@@ -34,18 +34,19 @@ held_none (Some xs) held none = ap Some (ap (λ ys. xs ++ ys) none ∙ append-ni
 
 pub works : (job : Job) (task : Task) (from begun start old taken now new : Known) (work r s : Result ⊤ Fault)
     → begun ≡ old → start ≡ old → now ≡ new → r ≡ s
-    → Performs job task from start taken work → PerformsQuietly task start taken work → Ends begun taken now work r
-    → Works job task from old new s
+    → Performs job task from (moved start taken) work → PerformsQuietly task start taken work
+    → Ends begun taken now work r
+    → Works job task from (moved old new) s
 works job task from begun start old taken now new work r s eb es en er p q e = (
   taken,
   work,
-  subst (λ k. Performs job task from k taken work) es p,
+  subst (λ k. Performs job task from (moved k taken) work) es p,
   subst (λ k. PerformsQuietly task k taken work) es q,
   subst (λ x. Ends old taken new work x) er
       (subst (λ k. Ends old taken k work r) en (subst (λ k. Ends k taken now work r) eb e)),
 )
 
 pub works_on : (job : Job) (task : Task) (from old now new : Known) (r s : Result ⊤ Fault) → now ≡ new → r ≡ s
-    → Works job task from old now r → Works job task from old new s
+    → Works job task from (moved old now) r → Works job task from (moved old new) s
 works_on job task from old now new r s en er h =
-    subst (λ x. Works job task from old new x) er (subst (λ k. Works job task from old k r) en h)
+    subst (λ x. Works job task from (moved old new) x) er (subst (λ k. Works job task from (moved old k) r) en h)

@@ -1,7 +1,7 @@
 -- What the output of a command takes: first a buffer, then the writer behind it.
 use Rattle.std.specs.Prelude.{◌≡◌, ◌⊎◌, ◌++◌, ℕ, ⊤, None, Some, Result, Err}
-use Rattle.std.specs.Io.KnownBytes.{Appends, Keeps, append_known}
-use Rattle.age_header.specs.Device.{Bytes, Known}
+use Rattle.std.specs.Io.KnownBytes.{Keeps, append_known}
+use Rattle.age_header.specs.Device.{Bytes, Known, Moved, moved, Took}
 use Rattle.age_file.specs.declared.fault.Fault.{Fault}
 use Rattle.age_file.specs.declared.fault.Fault.TheVariants.{Write}
 
@@ -17,8 +17,8 @@ abbrev pub taken_by : Buffered → Known
 taken_by s = append_known s.written s.held
 
 -- known bytes stay at the start
-abbrev pub Grows : (old new : Known) → Type 0
-Grows old new = (more : Bytes) × Appends old new more
+abbrev pub Grows : (sink : Moved) → Type 0
+Grows sink = (more : Bytes) × Took sink more
 
 -- the output has a prefix of the known bytes of the whole
 abbrev pub HasPrefix : (whole new : Known) → Type 0
@@ -32,4 +32,4 @@ HasPrefix (Some xs) (Some ys) = (rest : Bytes) × (xs ≡ ys ++ rest)
 abbrev pub Ends : (old taken new : Known) (work result : Result ⊤ Fault) → Type 0
 Ends old taken new work result =
     ((result ≡ work) × Keeps taken new)
-    ⊎ ((result ≡ Err Write) × (Grows old new × HasPrefix taken new))
+    ⊎ ((result ≡ Err Write) × (Grows (moved old new) × HasPrefix taken new))

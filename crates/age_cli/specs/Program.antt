@@ -1,7 +1,6 @@
 -- What a job comes to, from its input to its output.
 use Rattle.std.specs.Prelude.{◌≡◌, ◌⊎◌, ⊤, Result, Ok, Err}
-use Rattle.std.specs.Io.KnownBytes.{Keeps}
-use Rattle.age_header.specs.Device.{Known}
+use Rattle.age_header.specs.Device.{Known, Moved, moved, Stays}
 use Rattle.age_file.specs.declared.fault.Fault.{Fault as FileFault}
 use Rattle.age_file.specs.declared.fault.Fault.TheVariants.{OutOfMemory}
 use Rattle.age_words.specs.declared.job.Command.{Command}
@@ -24,33 +23,35 @@ IsTaskOf _ _ = ⊥
 
 -- The work of a task, where the input gives `from`: a buffer before the output takes what the
 -- library writes, and the output ends with what the buffer took.
-abbrev pub Works : (job : Job) (task : Task) (from old new : Known)
+abbrev pub Works : (job : Job) (task : Task) (from : Known) (sink : Moved)
     (result : Result ⊤ FileFault) → Type 0
-Works job task from old new result =
-    (taken : Known) × (work : Result ⊤ FileFault) × Performs job task from old taken work
-    × PerformsQuietly task old taken work × Ends old taken new work result
+Works job task from sink result =
+    (taken : Known) × (work : Result ⊤ FileFault)
+    × Performs job task from (moved sink.before taken) work
+    × PerformsQuietly task sink.before taken work × Ends sink.before taken sink.after work result
 
 -- the same with what a failure names as its fault; memory may be refused before
-abbrev pub PerformsTo : (job : Job) (task : Task) (from old new : Known)
+abbrev pub PerformsTo : (job : Job) (task : Task) (from : Known) (sink : Moved)
     (result : Result ⊤ Failure) → Type 0
-PerformsTo job task from old new (Ok _) = Works job task from old new (Ok tt)
-PerformsTo job task from old new (Err failure) =
+PerformsTo job task from sink (Ok _) = Works job task from sink (Ok tt)
+PerformsTo job task from sink (Err failure) =
     (fault : FileFault) × (failure.fault ≡ AgeFile fault)
-    × (((fault ≡ OutOfMemory) × Keeps old new) ⊎ Works job task from old new (Err fault))
+    × (((fault ≡ OutOfMemory) × Stays sink) ⊎ Works job task from sink (Err fault))
 
 -- a task of the job's command is done
-abbrev pub Finishes : (job : Job) (from old new : Known) → Type 0
-Finishes job from old new =
-    (task : Task) × IsTaskOf job.command task × Works job task from old new (Ok tt)
+abbrev pub Finishes : (job : Job) (from : Known) (sink : Moved) → Type 0
+Finishes job from sink =
+    (task : Task) × IsTaskOf job.command task × Works job task from sink (Ok tt)
 
 -- nothing was written, or a task of the job's command ended with a fault
-abbrev pub Begins : (job : Job) (from old new : Known) → Type 0
-Begins job from old new =
-    Keeps old new
+abbrev pub Begins : (job : Job) (from : Known) (sink : Moved) → Type 0
+Begins job from sink =
+    Stays sink
     ⊎ ((task : Task) × IsTaskOf job.command task × (fault : FileFault)
-    × Works job task from old new (Err fault))
+    × Works job task from sink (Err fault))
 
 -- what the job's work comes to
-abbrev pub Completes : (job : Job) (from old new : Known) (result : Result ⊤ Failure) → Type 0
-Completes job from old new (Ok _) = Finishes job from old new
-Completes job from old new (Err failure) = Begins job from old new
+abbrev pub Completes : (job : Job) (from : Known) (sink : Moved) (result : Result ⊤ Failure)
+    → Type 0
+Completes job from sink (Ok _) = Finishes job from sink
+Completes job from sink (Err failure) = Begins job from sink

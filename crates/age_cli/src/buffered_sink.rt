@@ -1,7 +1,7 @@
 //! The sink of a command's output: a buffer before the writer.
 ghost use Rattle.std.specs.Prelude.{◌≡◌, ◌≤◌, [], length, take, IfOk, OnOk, OnErr};
 ghost use Rattle.std.specs.Io.KnownBytes.{Appends, Keeps, append_known};
-ghost use Rattle.age_header.specs.Device.{Takes};
+ghost use Rattle.age_header.specs.Device.{Takes, moved, moved_by};
 ghost use Rattle.age_cli.specs.Output.{Buffered, Ends, Grows, HasPrefix, taken_by};
 
 use age_file::{BUFFER_SIZE, DeviceFault, Fault, Sink};
@@ -55,6 +55,7 @@ pub(crate) struct Finished<'a, W> {
 
 impl<'a, W: Write, K: Start> Model for BufferedSink<'a, W, K> {
     ghost use Rattle.std.specs.Prelude.{◌≡◌};
+    ghost use Rattle.age_header.specs.Device.{moved};
     ghost use Rattle.age_cli.specs.Output.{Buffered, Grows};
 
     ghost Value = { Buffered };
@@ -63,7 +64,7 @@ impl<'a, W: Write, K: Start> Model for BufferedSink<'a, W, K> {
         record { written = W.contents s.out.now; held = s.held.items; failed = s.failures } };
 
     ghost invariant = { λ s. (s.out.ghost_name ≡ K.writer)
-        × Grows K.contents (W.contents s.out.now) };
+        × Grows (moved K.contents (W.contents s.out.now)) };
 }
 
 /// The memory of a sink's buffer.
@@ -155,9 +156,9 @@ impl<'a, W: Write, K: Start> Sink for BufferedSink<'a, W, K> {
 /// buffer to the writer. `Err` has the reason of a failed write, if there is one.
 fn put<W: Write>(out: &mut W, held: &mut Vec<u8>, piece: &[u8]) -> Result<usize, Option<io::Error>>
     ensures bound { IfOk result (λ n. n ≤ length piece.now) }
-    ensures bytes { Takes (append_known (W.contents out.old) held.old.items)
-        (append_known (W.contents out.new) held.new.items) result piece.now }
-    ensures grows { Grows (W.contents out.old) (W.contents out.new) }
+    ensures bytes { Takes (moved (append_known (W.contents out.old) held.old.items)
+        (append_known (W.contents out.new) held.new.items)) result piece.now }
+    ensures grows { Grows (moved_by W.contents out.old out.new) }
 {
     if piece.len() > BUFFER_SIZE.saturating_sub(held.len()) {
         write_held(out, held)?;
@@ -177,7 +178,7 @@ fn flush<W: Write>(out: &mut W, held: &mut Vec<u8>) -> Result<(), Option<io::Err
         (Keeps (append_known (W.contents out.old) held.old.items) (W.contents out.new)) }
     ensures part { OnErr result
         (HasPrefix (append_known (W.contents out.old) held.old.items) (W.contents out.new)) }
-    ensures grows { Grows (W.contents out.old) (W.contents out.new) }
+    ensures grows { Grows (moved_by W.contents out.old out.new) }
 {
     write_held(out, held)?;
     match out.flush() {
@@ -190,7 +191,7 @@ fn flush<W: Write>(out: &mut W, held: &mut Vec<u8>) -> Result<(), Option<io::Err
 fn write_held<W: Write>(out: &mut W, held: &mut Vec<u8>) -> Result<(), Option<io::Error>>
     ensures bytes { Keeps (append_known (W.contents out.old) held.old.items)
         (append_known (W.contents out.new) held.new.items) }
-    ensures grows { Grows (W.contents out.old) (W.contents out.new) }
+    ensures grows { Grows (moved_by W.contents out.old out.new) }
     ensures empty { OnOk result (held.new.items ≡ []) }
 {
     let (written, result) = write_out(out, held.as_slice());
@@ -219,8 +220,8 @@ fn write_out<W: Write>(out: &mut W, bytes: &[u8]) -> (usize, Result<(), Option<i
 /// Writes a prefix of this piece, at least one byte if it has one.
 fn write_some<W: Write>(out: &mut W, piece: &[u8]) -> Result<usize, Option<io::Error>>
     ensures bound { IfOk result (λ n. n ≤ length piece.now) }
-    ensures bytes { Takes (W.contents out.old) (W.contents out.new) result piece.now }
-    ensures grows { Grows (W.contents out.old) (W.contents out.new) }
+    ensures bytes { Takes (moved_by W.contents out.old out.new) result piece.now }
+    ensures grows { Grows (moved_by W.contents out.old out.new) }
 {
     match out.write(piece) {
         Ok(n) if n > 0 || piece.is_empty() => Ok(n),

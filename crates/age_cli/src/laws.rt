@@ -2,7 +2,7 @@
 //! contract.
 
 ghost use Rattle.std.specs.Prelude.{◌≡◌, ◌++◌, List, Some};
-ghost use Rattle.age_header.specs.Device.{Bytes, Known};
+ghost use Rattle.age_header.specs.Device.{Bytes, Known, moved};
 ghost use Rattle.age_header.specs.Header.{StanzaParts};
 ghost use Rattle.age_recipient.specs.declared.key.FileKey.{FileKey};
 ghost use Rattle.age_file.specs.AgeFile.{AgeFile};
@@ -18,11 +18,11 @@ use age_words::Command;
 /// `encrypt` means that the output gained an age file of the input, and nothing else.
 pub fn done_jobs()
     ensures decrypt { (job : Job) (b xs : Bytes) (new : Known) → job.command ≡ Command.Decrypt
-        → Finishes job (Some b) (Some xs) new
+        → Finishes job (Some b) (moved (Some xs) new)
         → (stanzas : List StanzaParts) × (k : FileKey) × (plain : Bytes)
         × AgeFile (limits_of job) k stanzas plain b × (new ≡ Some (xs ++ plain)) }
     ensures encrypt { (job : Job) (plain xs : Bytes) (new : Known) → job.command ≡ Command.Encrypt
-        → Finishes job (Some plain) (Some xs) new
+        → Finishes job (Some plain) (moved (Some xs) new)
         → (stanzas : List StanzaParts) × (k : FileKey) × (b : Bytes)
         × AgeFile (limits_of job) k stanzas plain b × (new ≡ Some (xs ++ b)) }
 {

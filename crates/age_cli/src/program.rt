@@ -2,6 +2,7 @@
 ghost use Rattle.std.specs.Prelude.{◌≡◌, ◌≢◌, ◌≤◌, None, IfOk};
 ghost use Rattle.age_words.specs.Job.{IsInRange};
 ghost use Rattle.age_cli.specs.Program.{Begins, Completes, Finishes, IsTaskOf, PerformsTo};
+ghost use Rattle.age_header.specs.Device.{moved_by};
 
 use crate::failure::Failure;
 use crate::fault::Fault;
@@ -61,9 +62,9 @@ pub fn run_job<F: Files + AllocGlobal, R: Read, W: Write + IsTerminal, E: Write>
     ensures status { result ≤ 1 }
     ensures quiet { result ≡ 0 → err.new ≡ err.old }
     ensures finishes { result ≡ 0 → job.now.input ≡ None → job.now.output ≡ None
-        → Finishes job.now (R.remaining input.old) (W.contents out.old) (W.contents out.new) }
+        → Finishes job.now (R.remaining input.old) (moved_by W.contents out.old out.new) }
     ensures begins { result ≡ 1 → job.now.input ≡ None → job.now.output ≡ None
-        → Begins job.now (R.remaining input.old) (W.contents out.old) (W.contents out.new) }
+        → Begins job.now (R.remaining input.old) (moved_by W.contents out.old out.new) }
 {
     match perform(rt, job, input, out) {
         Ok(()) => DONE,
@@ -81,7 +82,7 @@ fn perform<'a, F: Files + AllocGlobal, R: Read, W: Write + IsTerminal>(
 ) -> Result<(), Failure<'a>>
     requires { IsInRange job.now }
     ensures { job.now.input ≡ None → job.now.output ≡ None
-        → Completes job.now (R.remaining input.old) (W.contents out.old) (W.contents out.new)
+        → Completes job.now (R.remaining input.old) (moved_by W.contents out.old out.new)
         result }
 {
     refuse_terminal(job, out)?;
@@ -206,7 +207,7 @@ fn perform_on<'a, F: Files + AllocGlobal, R: Read, W: Write>(
 ) -> Result<(), Failure<'a>>
     requires { IsInRange job.now }
     ensures { job.now.output ≡ None → PerformsTo job.now task (R.remaining input.old)
-        (W.contents out.old) (W.contents out.new) result }
+        (moved_by W.contents out.old out.new) result }
 {
     let mut input = Watched::new(rt.alloc(), input, kept_prefix(job));
     match &job.output {

@@ -5,7 +5,7 @@ use Rattle.std.proofs.KnownBytes.{Appends-nil, Appends-trans, Keeps-refl}
 use Rattle.std.proofs.lemmas.List.{length-append, length-take, length-take-le, take-append-le, get_or-take, get_or_append_left, get_or-append-add}
 use Rattle.std.proofs.lemmas.Bool.{cases_lt}
 use Rattle.std.specs.Io.KnownBytes.{Appends}
-use Rattle.age_header.specs.Device.{Bytes, Known}
+use Rattle.age_header.specs.Device.{Bytes, Known, moved}
 use Rattle.age_header.specs.Header.{StanzaParts}
 use Rattle.age_recipient.specs.declared.unwrapped.Unwrapped.{Unwrapped}
 use Rattle.age_stream.specs.declared.fault.StreamFault.{StreamFault}
@@ -19,7 +19,8 @@ use Rattle.age_file.specs.Verdict.{stream_fault}
 use Rattle.age_commands.specs.Range.{Ranging, WritesPlain, WritesRange}
 
 -- nothing is written
-nothing : (told : Known) (layout : Layout) (at n : ℕ) (old : Known) → n ≡ 0 → WritesPlain told layout at n old old
+nothing : (told : Known) (layout : Layout) (at n : ℕ) (old : Known) → n ≡ 0
+    → WritesPlain told layout at n (moved old old)
 nothing told layout at n old none = record {
   part = [];
   size = sym none;
@@ -66,7 +67,7 @@ pub stopped : (told : Known) (s : RangeState) (at left most : ℕ) (was buf : By
     (named : Fault) (old : Known)
     → most ≤ left → most ≤ 65536 - at % 65536 → named ≡ stream_fault fault → IsSound told s
     → Stops told s at (range_len s at most) was buf opened fault
-    → WritesRange told s at left old old (Err named)
+    → WritesRange told s at left (moved old old) (Err named)
 stopped told s at left most was buf opened fault named old le within is sound stops =
     let some : 0 < range_len s at most = stops.some in
     let to : 65536 * stops.chunk < at + range_len s at most = stops.to in
@@ -89,7 +90,7 @@ stopped told s at left most was buf opened fault named old le within is sound st
 -- a piece was written
 pub written : (told : Known) (layout : Layout) (at n : ℕ) (buf rest : Bytes) (old new : Known) → n ≤ length buf
     → HasPlain told layout at (take n buf)
-    → Appends old new (take n (buf ++ rest)) → WritesPlain told layout at n old new
+    → Appends old new (take n (buf ++ rest)) → WritesPlain told layout at n (moved old new)
 written told layout at n buf rest old new le plain a = record {
   part = take n buf;
   size = length-take-le n buf le;
@@ -100,7 +101,8 @@ written told layout at n buf rest old new le plain a = record {
 -- a prefix of a piece was written
 pub written_part : (told : Known) (layout : Layout) (at n k most : ℕ) (buf rest : Bytes) (old new : Known)
     → n ≤ length buf → HasPlain told layout at (take n buf) → n ≤ most
-    → Appends old new (take k (take n (buf ++ rest))) → (x : ℕ) × (x ≤ most) × WritesPlain told layout at x old new
+    → Appends old new (take k (take n (buf ++ rest))) → (x : ℕ) × (x ≤ most)
+    × WritesPlain told layout at x (moved old new)
 written_part told layout at n k most buf rest old new le plain low a =
     let l : length (take k (take n buf)) ≡ min k (length (take n buf)) = length-take k (take n buf) in
     let m : length (take n buf) ≡ n = length-take-le n buf le in (
@@ -117,8 +119,8 @@ written_part told layout at n k most buf rest old new le plain low a =
 -- two parts that follow one another are one
 pub joined : (told again : Known) (layout same : Layout) (at k from n m : ℕ) (old mid new : Known) → again ≡ told
     → same ≡ layout → from ≡ at + k → m ≡ k + n
-    → WritesPlain told layout at k old mid → WritesPlain again same from n mid new
-    → WritesPlain told layout at m old new
+    → WritesPlain told layout at k (moved old mid) → WritesPlain again same from n (moved mid new)
+    → WritesPlain told layout at m (moved old new)
 joined told again layout same at k from n m old mid new et el ef em one more =
     let all : length (one.part ++ more.part) ≡ length one.part + length more.part = length-append one.part more.part in
     let a : length one.part ≡ k = one.size in
@@ -165,8 +167,9 @@ before_chunk plain begin at left i (inr (inr (inr e))) low some from = absurd (o
 pub failed_on : (told again : Known) (s t : RangeState) (begin len at left : ℕ) (old mid new : Known) (fault : Fault)
     → again ≡ told → t.layout ≡ s.layout
     → at + left ≡ begin + len → begin ≤ at → at - begin ≤ range_len s begin len → IsWhole s.layout.plain begin at left
-    → WritesPlain told s.layout begin (at - begin) old mid → WritesRange again t at left mid new (Err fault)
-    → WritesRange told s begin len old new (Err fault)
+    → WritesPlain told s.layout begin (at - begin) (moved old mid)
+    → WritesRange again t at left (moved mid new) (Err fault)
+    → WritesRange told s begin len (moved old new) (Err fault)
 failed_on told again s t begin len at left old mid new fault et el end low some whole one (inl (i, is, stops)) =
     let plain : t.layout.plain ≡ s.layout.plain = ap (λ (l : Layout). l.plain) el in
     let has : 0 < range_len t at left = stops.some in
@@ -204,8 +207,8 @@ pub ranged : {X : Type 0} (m : X → List StanzaParts → Unwrapped) (items : Li
     (at len : ℕ) (told again : Known) (s : RangeState) (given given2 : ℕ)
     (old new : Known) (r : Result ⊤ Fault) → items ≡ x ∷ [] → l ≡ limits → again ≡ told
     → IfSome told (λ b. IsRangesOf l (λ stanzas. map (λ i. m i stanzas) items) b s given given2)
-    → (IsSound again s → WritesRange again s at len old new r)
-    → Ranging limits (λ stanzas. m x stanzas ∷ []) at len told old new r
+    → (IsSound again s → WritesRange again s at len (moved old new) r)
+    → Ranging limits (λ stanzas. m x stanzas ∷ []) at len told (moved old new) r
 ranged m items x l limits at len None again s given given2 old new r one is et opens writes = tt
 ranged m items x l limits at len (Some b) again s given given2 old new r one is et opens writes =
     let opened : IsRangesOf limits (λ stanzas. m x stanzas ∷ []) b s given given2 =
@@ -216,7 +219,7 @@ ranged m items x l limits at len (Some b) again s given given2 old new r one is 
       given = given;
       given2 = given2;
       opened = opened;
-      writes = subst (λ (k : Known). WritesRange k s at len old new r) et
+      writes = subst (λ (k : Known). WritesRange k s at len (moved old new) r) et
           (writes (subst (λ (k : Known). IsSound k s) (sym et) opened.opened.sound));
     })
 
@@ -224,7 +227,7 @@ ranged m items x l limits at len (Some b) again s given given2 old new r one is 
 pub unopened : {X : Type 0} (m : X → List StanzaParts → Unwrapped) (items : List X) (x : X) (l limits : Bounds)
     (at len : ℕ) (told old : Known) (fault : Fault) → items ≡ x ∷ [] → l ≡ limits
     → MissesRanges l (λ stanzas. map (λ i. m i stanzas) items) told fault
-    → Ranging limits (λ stanzas. m x stanzas ∷ []) at len told old old (Err fault)
+    → Ranging limits (λ stanzas. m x stanzas ∷ []) at len told (moved old old) (Err fault)
 unopened m items x l limits at len None old fault one is misses = tt
 unopened m items x l limits at len (Some b) old fault one is misses =
     inl (
@@ -235,6 +238,7 @@ unopened m items x l limits at len (Some b) old fault one is misses =
 
 pub ranging_meant : (f g : List StanzaParts → Unwrapped) (limits : Bounds) (at len : ℕ) (told old new : Known)
     (r : Result ⊤ Fault) → f ≡ g
-    → Ranging limits (λ s. f s ∷ []) at len told old new r → Ranging limits (λ s. g s ∷ []) at len told old new r
+    → Ranging limits (λ s. f s ∷ []) at len told (moved old new) r
+    → Ranging limits (λ s. g s ∷ []) at len told (moved old new) r
 ranging_meant f g limits at len told old new r same h =
-    subst (λ (m : List StanzaParts → Unwrapped). Ranging limits (λ s. m s ∷ []) at len told old new r) same h
+    subst (λ (m : List StanzaParts → Unwrapped). Ranging limits (λ s. m s ∷ []) at len told (moved old new) r) same h

@@ -4,8 +4,7 @@ use Rattle.std.specs.Fmt.{format_spec, styled_decimal}
 use Rattle.std.specs.Str.{bytes_eq}
 use Rattle.std.specs.declared.option.Option.{Option}
 use Rattle.std.specs.declared.option.Option.TheVariants.{None, Some}
-use Rattle.std.specs.Io.KnownBytes.{Appends, Keeps}
-use Rattle.age_header.specs.Device.{Bytes, Known, MayGive, WritesPart}
+use Rattle.age_header.specs.Device.{Bytes, Known, MayGive, WritesPart, Moved, Took, Stays}
 use Rattle.age_header.specs.declared.fault.HeaderFault.{HeaderFault}
 use Rattle.age_header.specs.Base64.{IsBase64}
 use Rattle.age_header.specs.Header.{Head, HeaderParts, StanzaParts, line}
@@ -74,19 +73,18 @@ IsShown true header checked shown = Head header.stanzas header.mac shown
 IsShown false header checked shown = IsTable header checked shown
 
 -- a prefix of what is shown of a header was written
-abbrev pub ShowsPrefix : (raw : Bool) (header : HeaderParts) (checked : Check) (old new : Known)
+abbrev pub ShowsPrefix : (raw : Bool) (header : HeaderParts) (checked : Check) (sink : Moved)
     → Type 0
-ShowsPrefix raw header checked old new =
-    (shown : Bytes) × IsShown raw header checked shown × WritesPart old new shown
+ShowsPrefix raw header checked sink =
+    (shown : Bytes) × IsShown raw header checked shown × WritesPart sink shown
 
 -- what showing a header writes: all of it, a prefix where a write failed, or nothing
-abbrev pub Shows : (raw : Bool) (header : HeaderParts) (checked : Check) (old new : Known)
+abbrev pub Shows : (raw : Bool) (header : HeaderParts) (checked : Check) (sink : Moved)
     (result : Result ⊤ Fault) → Type 0
-Shows raw header checked old new (Ok _) =
-    (shown : Bytes) × IsShown raw header checked shown × Appends old new shown
-Shows raw header checked old new (Err fault) =
-    ((fault ≡ Write) × ShowsPrefix raw header checked old new)
-    ⊎ ((fault ≡ OutOfMemory) × Keeps old new)
+Shows raw header checked sink (Ok _) =
+    (shown : Bytes) × IsShown raw header checked shown × Took sink shown
+Shows raw header checked sink (Err fault) =
+    ((fault ≡ Write) × ShowsPrefix raw header checked sink) ⊎ ((fault ≡ OutOfMemory) × Stays sink)
 
 -- what is returned after a header was shown
 abbrev pub checked_result : Check → Result ⊤ Fault
@@ -95,40 +93,39 @@ checked_result _ = Ok tt
 
 -- b begins with a header, of which all was shown, and the result is that of the check
 abbrev pub ShowsAll : (limits : Bounds) (raw : Bool) (key : Option Bytes) (b : Bytes)
-    (old new : Known) (result : Result ⊤ Fault) → Type 0
-ShowsAll limits raw key b old new result =
+    (sink : Moved) (result : Result ⊤ Fault) → Type 0
+ShowsAll limits raw key b sink result =
     (header : HeaderParts) × (text : Bytes)
     × HeaderVerdict b limits.max_header (Ok (found_in text header))
-    × Shows raw header (check_of key header) old new (Ok tt)
+    × Shows raw header (check_of key header) sink (Ok tt)
     × (result ≡ checked_result (check_of key header))
 
 -- b begins with a header, of which a prefix was shown
 abbrev pub ShowsPart : (limits : Bounds) (raw : Bool) (key : Option Bytes) (b : Bytes)
-    (old new : Known) → Type 0
-ShowsPart limits raw key b old new =
+    (sink : Moved) → Type 0
+ShowsPart limits raw key b sink =
     (header : HeaderParts) × (text : Bytes)
     × HeaderVerdict b limits.max_header (Ok (found_in text header))
-    × ShowsPrefix raw header (check_of key header) old new
+    × ShowsPrefix raw header (check_of key header) sink
 
 -- b begins with no header, and this is its fault; nothing was written
-abbrev pub Misses : (limits : Bounds) (b : Bytes) (old new : Known) (fault : Fault) → Type 0
-Misses limits b old new fault =
+abbrev pub Misses : (limits : Bounds) (b : Bytes) (sink : Moved) (fault : Fault) → Type 0
+Misses limits b sink fault =
     (e : HeaderFault) × HeaderVerdict b limits.max_header (Err e) × (fault ≡ header_fault e)
-    × Keeps old new
+    × Stays sink
 
 -- What `inspect` returns where b was to come, and what it writes.
 abbrev pub InspectsText : (limits : Bounds) (raw : Bool) (key : Option Bytes) (b : Bytes)
-    (old new : Known) (result : Result ⊤ Fault) → Type 0
-InspectsText limits raw key b old new (Ok _) = ShowsAll limits raw key b old new (Ok tt)
-InspectsText limits raw key b old new (Err BadMac) =
-    ShowsAll limits raw key b old new (Err BadMac)
-InspectsText limits raw key b old new (Err Write) = ShowsPart limits raw key b old new
-InspectsText limits raw key b old new (Err Read) = Keeps old new
-InspectsText limits raw key b old new (Err OutOfMemory) = Keeps old new
-InspectsText limits raw key b old new (Err fault) = Misses limits b old new fault
+    (sink : Moved) (result : Result ⊤ Fault) → Type 0
+InspectsText limits raw key b sink (Ok _) = ShowsAll limits raw key b sink (Ok tt)
+InspectsText limits raw key b sink (Err BadMac) = ShowsAll limits raw key b sink (Err BadMac)
+InspectsText limits raw key b sink (Err Write) = ShowsPart limits raw key b sink
+InspectsText limits raw key b sink (Err Read) = Stays sink
+InspectsText limits raw key b sink (Err OutOfMemory) = Stays sink
+InspectsText limits raw key b sink (Err fault) = Misses limits b sink fault
 
 -- the same of bytes that a source may give
-abbrev pub Inspecting : (limits : Bounds) (raw : Bool) (key : Option Bytes) (from old new : Known)
-    (result : Result ⊤ Fault) → Type 0
-Inspecting limits raw key from old new result =
-    (b : Bytes) × MayGive from b × InspectsText limits raw key b old new result
+abbrev pub Inspecting : (limits : Bounds) (raw : Bool) (key : Option Bytes) (from : Known)
+    (sink : Moved) (result : Result ⊤ Fault) → Type 0
+Inspecting limits raw key from sink result =
+    (b : Bytes) × MayGive from b × InspectsText limits raw key b sink result

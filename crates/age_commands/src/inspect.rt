@@ -2,7 +2,7 @@
 ghost use Rattle.std.specs.Prelude.{◌≡◌, ◌⊎◌, map, Err, IfOk, OnOk};
 ghost use Rattle.std.specs.String.{string_bytes};
 ghost use Rattle.std.specs.Io.KnownBytes.{Appends};
-ghost use Rattle.age_header.specs.Device.{Bytes};
+ghost use Rattle.age_header.specs.Device.{Bytes, moved_by};
 ghost use Rattle.age_file.specs.Device.{IsQuiet};
 ghost use Rattle.age_words.specs.Job.{IsInRange};
 ghost use Rattle.age_commands.specs.Inspect.{Inspecting, IsTable, Shows, check_of, row, rows, spaced};
@@ -50,7 +50,7 @@ pub(crate) fn inspect<S: Source, W: Sink>(
 ) -> Result<(), Fault>
     requires { IsInRange job.now }
     ensures inspects { Inspecting (limits_of job.now) job.now.raw file_key.now
-        (S.to_come input.old) (W.taken out.old) (W.taken out.new) result }
+        (S.to_come input.old) (moved_by W.taken out.old out.new) result }
     ensures quiet { (result ≡ Err Fault.BadMac) ⊎ IsQuiet out.old out.new result }
 {
     let header = match age_file::inspect(alloc, input, &limits_of(job)) {
@@ -60,10 +60,7 @@ pub(crate) fn inspect<S: Source, W: Sink>(
     let Ok(check) = check_of(alloc, &header, file_key) else {
         return Err(Fault::OutOfMemory);
     };
-    match show(alloc, job.raw, &header, check, out) {
-        Ok(()) => {}
-        Err(fault) => return Err(fault),
-    }
+    show(alloc, job.raw, &header, check, out)?;
     match check {
         Check::Bad => Err(Fault::BadMac),
         Check::None | Check::Good => Ok(()),
@@ -78,7 +75,7 @@ fn show<W: Sink>(
     check: Check,
     out: &mut W,
 ) -> Result<(), Fault>
-    ensures shows { Shows raw header.now check (W.taken out.old) (W.taken out.new) result }
+    ensures shows { Shows raw header.now check (moved_by W.taken out.old out.new) result }
     ensures quiet { IsQuiet out.old out.new result }
 {
     if raw {

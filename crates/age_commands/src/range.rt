@@ -6,6 +6,7 @@ ghost use Rattle.age_words.specs.Job.{IsInRange};
 ghost use Rattle.age_words.specs.declared.options.TheConstants.{MOST_OFFSET};
 ghost use Rattle.age_commands.specs.Range.{Ranging, WritesNext, WritesRange};
 ghost use Rattle.age_commands.specs.Secret.{answers_of, limits_of};
+ghost use Rattle.age_header.specs.Device.{moved_by};
 
 use crate::buffering::limits_of;
 use crate::identity::SecretIdentity;
@@ -26,7 +27,7 @@ pub fn range_of<D: ReadAt, W: Sink>(
 ) -> Result<(), Fault>
     requires { IsInRange job.now }
     ensures { Ranging (limits_of job.now) (answers_of secret job.now.max_work) job.now.at
-        job.now.len (D.bytes input.old) (W.taken out.old) (W.taken out.new) result }
+        job.now.len (D.bytes input.old) (moved_by W.taken out.old out.new) result }
 {
     let Ok(identity) = SecretIdentity::new(alloc, job, secret) else {
         return Err(Fault::OutOfMemory);
@@ -47,7 +48,7 @@ fn range_by<D: ReadAt, W: Sink>(
 ) -> Result<(), Fault>
     requires { IsInRange job.now }
     ensures { Ranging (limits_of job.now) (λ stanzas. meaning identity stanzas ∷ []) job.now.at
-        job.now.len (D.bytes input.old) (W.taken out.old) (W.taken out.new) result }
+        job.now.len (D.bytes input.old) (moved_by W.taken out.old out.new) result }
 {
     let Ok(identities) = vec![in alloc; identity] else {
         return Err(Fault::OutOfMemory);
@@ -74,7 +75,7 @@ fn write_range<D: ReadAt, W: Sink>(
     requires piece { length piece.old ≡ CHUNK_SIZE }
     ensures { let told = D.bytes (source_at_of reader.old).now in
         IsSound told (chunks_of reader.old) → WritesRange told (chunks_of reader.old) at len
-        (W.taken out.old) (W.taken out.new) result }
+        (moved_by W.taken out.old out.new) result }
 {
     let mut at = at;
     let mut left = len;
@@ -112,7 +113,7 @@ fn write_next<D: ReadAt, W: Sink>(
         ≡ range_len (chunks_of reader.old) at (min left (chunk_size - at % chunk_size))) }
     ensures writes { let told = D.bytes (source_at_of reader.old).now in
         IsSound told (chunks_of reader.old) → WritesNext told (chunks_of reader.old) at left
-        (W.taken out.old) (W.taken out.new) result }
+        (moved_by W.taken out.old out.new) result }
 {
     let most = left.min(CHUNK_SIZE as u64 - at % CHUNK_SIZE as u64) as usize;
     let n = match reader.read_range(at, &mut piece[..most]) {

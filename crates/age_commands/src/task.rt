@@ -2,6 +2,7 @@
 ghost use Rattle.std.specs.Prelude.{◌≡◌};
 ghost use Rattle.age_words.specs.Job.{IsInRange};
 ghost use Rattle.age_commands.specs.Task.{Performs, PerformsQuietly, without_counts};
+ghost use Rattle.age_header.specs.Device.{moved_by};
 
 use crate::buffering::{file_source, header_source};
 use crate::decrypt::decrypt;
@@ -34,8 +35,8 @@ pub fn perform_between<R: Read, W: Sink>(
     out: &mut W,
 ) -> Result<(), Fault>
     requires { IsInRange job.now }
-    ensures performs { Performs job.now task (R.remaining input.old) (W.taken out.old)
-        (W.taken out.new) result }
+    ensures performs { Performs job.now task (R.remaining input.old)
+        (moved_by W.taken out.old out.new) result }
     ensures quiet { PerformsQuietly task out.old out.new result }
 {
     match task {

@@ -1,7 +1,7 @@
 -- A source read from its first byte on.
 use Rattle.std.proofs.Common.{◌≡◌, ℕ, ◌++◌, ◌+◌, ◌-◌, ◌^◌, ◌<◌, ◌≤◌, length, take, drop, min, option_map, sym, ◌∙◌, ap, arith, subst, Option, Some, None, Result, Ok}
 use Rattle.std.proofs.lemmas.List.{length-drop, length-take, length-take-le, drop-drop, drop_all, take-append-drop}
-use Rattle.age_header.specs.Device.{Bytes, Gives, Known}
+use Rattle.age_header.specs.Device.{Bytes, Gives, Known, moved}
 use Rattle.age_file.specs.Ranges.{IsWithin}
 use Rattle.age_stream.specs.Offsets.{GivesAt, HasOffsets}
 
@@ -9,13 +9,13 @@ use Rattle.age_stream.specs.Offsets.{GivesAt, HasOffsets}
 pub gives-on : {E : Type 0} (told : Known) (size : Option ℕ) (at at2 n : ℕ) (buf : Bytes) (r : Result ℕ E) → r ≡ Ok n
     → HasOffsets told → IsWithin told at → n ≤ length buf
     → at2 ≡ min (at + n) (2 ^ 64 - 1) → GivesAt told size at r buf
-    → Gives (option_map (drop at) told) (option_map (drop at2) told) r buf
+    → Gives (moved (option_map (drop at) told) (option_map (drop at2) told)) r buf
 gives-on {E} told size at at2 n buf r is offsets within le next h =
-    subst (λ (x : Result ℕ E). Gives (option_map (drop at) told) (option_map (drop at2) told) x buf) (sym is)
+    subst (λ (x : Result ℕ E). Gives (moved (option_map (drop at) told) (option_map (drop at2) told)) x buf) (sym is)
     (go told offsets within (subst (λ (x : Result ℕ E). GivesAt told size at x buf) is h))
   where
     go : (t : Known) → HasOffsets t → IsWithin t at → GivesAt {E = E} t size at (Ok n) buf
-        → Gives {E = E} (option_map (drop at) t) (option_map (drop at2) t) (Ok n) buf
+        → Gives {E = E} (moved (option_map (drop at) t) (option_map (drop at2) t)) (Ok n) buf
     go None p w g = (tt, λ e some. tt)
     go (Some bytes) p w g =
         let fits : length bytes < 2 ^ 64 = p in

@@ -6,7 +6,7 @@ use Rattle.std.proofs.KnownBytes.{Appends-nil}
 use Rattle.std.proofs.lemmas.List.{drop_at, take_all}
 use Rattle.age_header.specs.declared.fault.HeaderFault.{HeaderFault}
 use Rattle.age_header.specs.declared.fault.HeaderFault.TheVariants as header
-use Rattle.age_header.specs.Device.{Bytes, CountsFaultIf, GaveAtMost, MayGive, Known}
+use Rattle.age_header.specs.Device.{Bytes, CountsFaultIf, GaveAtMost, MayGive, Known, moved}
 use Rattle.age_header.specs.Header.{HeaderParts}
 use Rattle.age_header.specs.Reader.{ReadsHeader, Refuses}
 use Rattle.age_header.specs.Verdict.{HeaderVerdict}
@@ -51,14 +51,14 @@ some-verdict limits answers b =
 
 -- the whole is a prefix of itself
 begins-whole : (limits : Bounds) (answers : Answering) (b : Bytes) (old new : Known) (r : Result Done Fault)
-    → GivesVerdict limits answers b old new r → BeginsVerdict limits answers b old new
+    → GivesVerdict limits answers b (moved old new) r → BeginsVerdict limits answers b (moved old new)
 begins-whole limits answers b old new r (v, is, tells, h) =
     (v, is, (length v.front, subst (Appends old new) (sym (take_all (length v.front) v.front (omega arith))) h))
 
 -- a verdict that was written
 gives-decrypts : (limits : Bounds) (answers : Answering) (b : Bytes) (old new : Known) (fault : Fault)
-    → GivesVerdict limits answers b old new (Err fault)
-    → DecryptsText limits answers b old new (Err fault)
+    → GivesVerdict limits answers b (moved old new) (Err fault)
+    → DecryptsText limits answers b (moved old new) (Err fault)
 gives-decrypts limits answers b old new Read h = begins-whole limits answers b old new (Err Read) h
 gives-decrypts limits answers b old new Write h = begins-whole limits answers b old new (Err Write) h
 gives-decrypts limits answers b old new OutOfMemory h = tt
@@ -82,18 +82,19 @@ gives-decrypts limits answers b old new (Refused i code) h = h
 
 -- a fault before any plaintext
 stops-decrypts : (limits : Bounds) (answers : Answering) (b : Bytes) (old : Known) (fault : Fault)
-    → IsVerdict limits answers b (stops fault) → DecryptsText limits answers b old old (Err fault)
+    → IsVerdict limits answers b (stops fault) → DecryptsText limits answers b (moved old old) (Err fault)
 stops-decrypts limits answers b old fault v =
     gives-decrypts limits answers b old old fault (stops fault, v, refl, Appends-nil old)
 
 -- nothing was read or written yet
-begins-none : (limits : Bounds) (answers : Answering) (b : Bytes) (old : Known) → BeginsVerdict limits answers b old old
+begins-none : (limits : Bounds) (answers : Answering) (b : Bytes) (old : Known)
+    → BeginsVerdict limits answers b (moved old old)
 begins-none limits answers b old = let v = some-verdict limits answers b in (v.0, v.1, (0, Appends-nil old))
 
 -- ---- the header
 
 header-text : (limits : Bounds) (answers : Answering) (b : Bytes) (old : Known) (g : HeaderFault)
-    → Refuses b limits.max_header g → DecryptsText limits answers b old old (Err (header_fault g))
+    → Refuses b limits.max_header g → DecryptsText limits answers b (moved old old) (Err (header_fault g))
 header-text limits answers b old header.Read h = begins-none limits answers b old
 header-text limits answers b old header.Memory h = tt
 header-text limits answers b old header.NotAge h =
@@ -109,25 +110,27 @@ header-text limits answers b old header.TooLarge h =
     (record { header = Err header.TooLarge; header_verdict = h; is = refl })
 
 header-decrypts : (limits : Bounds) (answers : Answering) (come mid old : Known) (g : HeaderFault)
-    → ReadsHeader come mid limits.max_header (Err g) → Decrypts limits answers come old old (Err (header_fault g))
+    → ReadsHeader (moved come mid) limits.max_header (Err g)
+    → Decrypts limits answers come (moved old old) (Err (header_fault g))
 header-decrypts limits answers come mid old g (b, may, h) = (b, may, header-text limits answers b old g h)
 
 pub inspect-decrypts : (limits : Bounds) (answers : Answering) (come mid old : Known) (fault : Fault)
-    → Inspects limits come mid (Err fault) → Decrypts limits answers come old old (Err fault)
+    → Inspects limits (moved come mid) (Err fault) → Decrypts limits answers come (moved old old) (Err fault)
 inspect-decrypts limits answers come mid old fault (Ok parts, is, h) = absurd (cc)
 inspect-decrypts limits answers come mid old fault (Err g, is, h) =
-    subst (λ f. Decrypts limits answers come old old (Err f))
+    subst (λ f. Decrypts limits answers come (moved old old) (Err f))
     (sym (err-err {A = HeaderParts} fault (header_fault g) is)) (header-decrypts limits answers come mid old g h)
 
 -- the header that was read, and whatever may follow it
 pub record IsHeaded (limits : Bounds) (come mid : Known) (h : HeaderParts) : Type 0 where
   pub text : Bytes
-  pub took : GaveAtMost (length text) come mid
+  pub took : GaveAtMost (length text) (moved come mid)
   pub may : (rest : Bytes) → MayGive mid rest → MayGive come (text ++ rest)
   pub verdict : (rest : Bytes) → MayGive mid rest
       → HeaderVerdict (text ++ rest) limits.max_header (Ok (found_in text h))
 
-parts-headed : (limits : Bounds) (come mid : Known) (h : HeaderParts) → ReadsHeader come mid limits.max_header (Ok h)
+parts-headed : (limits : Bounds) (come mid : Known) (h : HeaderParts)
+    → ReadsHeader (moved come mid) limits.max_header (Ok h)
     → IsHeaded limits come mid h
 parts-headed limits come mid h (b, given, (text, verdict, took)) = record {
   text = text;
@@ -136,7 +139,7 @@ parts-headed limits come mid h (b, given, (text, verdict, took)) = record {
   verdict = λ rest m. found_again b limits.max_header (found_in text h) verdict rest;
 }
 
-pub headed : (limits : Bounds) (come mid : Known) (h : HeaderParts) → Inspects limits come mid (Ok h)
+pub headed : (limits : Bounds) (come mid : Known) (h : HeaderParts) → Inspects limits (moved come mid) (Ok h)
     → IsHeaded limits come mid h
 headed limits come mid h (Err g, is, a) = absurd (cc)
 headed limits come mid h (Ok k, is, a) =
@@ -157,16 +160,17 @@ verdict-of limits answers come mid h i rest m = record {
 
 -- memory was refused
 pub memory-decrypts : (limits : Bounds) (answers : Answering) (come old new : Known)
-    → Decrypts limits answers come old new (Err OutOfMemory)
+    → Decrypts limits answers come (moved old new) (Err OutOfMemory)
 memory-decrypts limits answers come old new = let b = may-some come in (b.0, b.1, tt)
 
 -- no key
 pub locked-decrypts : (limits : Bounds) (answers : Answering) (come mid old : Known) (h : HeaderParts) (fault : Fault)
-    → Inspects limits come mid (Ok h)
+    → Inspects limits (moved come mid) (Ok h)
     → (◌≡◌ {A = Result FileKey Fault} (Err fault) (Err OutOfMemory)) ⊎ (Err fault ≡ unlocked answers h)
-    → Decrypts limits answers come old old (Err fault)
+    → Decrypts limits answers come (moved old old) (Err fault)
 locked-decrypts limits answers come mid old h fault i (inl memory) =
-    subst (λ f. Decrypts limits answers come old old (Err f)) (sym (err-err {A = FileKey} fault OutOfMemory memory))
+    subst (λ f. Decrypts limits answers come (moved old old) (Err f))
+    (sym (err-err {A = FileKey} fault OutOfMemory memory))
     (memory-decrypts limits answers come old old)
 locked-decrypts limits answers come mid old h fault i (inr key) =
     let is = headed limits come mid h i in
@@ -189,7 +193,7 @@ payload-text : (limits : Bounds) (answers : Answering) (come mid : Known) (h : H
     (i : IsHeaded limits come mid h) (k : FileKey) (c : Bytes) (m : MayGive mid c) (old new : Known)
     (r : Result Done StreamFault)
     → Ok k ≡ unlocked answers h → WritesReading (payload_reading k limits.max_chunks c) (length (pieces (drop 16 c)))
-    old new r → DecryptsText limits answers (i.text ++ c) old new (file_result r)
+    (moved old new) r → DecryptsText limits answers (i.text ++ c) (moved old new) (file_result r)
 payload-text limits answers come mid h i k c m old new r key w = go r w
   where
     v : Reading Fault
@@ -207,11 +211,12 @@ payload-text limits answers come mid h i k c m old new r key w = go r w
     count = ap (λ x. length (pieces (drop 16 x))) (sym (drop_at i.text c (length i.text) refl))
 
     gives : (fault : StreamFault) → (payload_reading k limits.max_chunks c).fault ≡ Some fault → Appends old new v.front
-        → GivesVerdict limits answers (i.text ++ c) old new (Err (stream_fault fault))
+        → GivesVerdict limits answers (i.text ++ c) (moved old new) (Err (stream_fault fault))
     gives fault f a = (v, is, ap (option_map stream_fault) f, a)
 
     go : (q : Result Done StreamFault) → WritesReading (payload_reading k limits.max_chunks c)
-        (length (pieces (drop 16 c))) old new q → DecryptsText limits answers (i.text ++ c) old new (file_result q)
+        (length (pieces (drop 16 c))) (moved old new) q
+        → DecryptsText limits answers (i.text ++ c) (moved old new) (file_result q)
     go (Ok done) x = (v, is, (ap (option_map stream_fault) x.0, x.2, x.3 ∙ count), x.1)
     go (Err stream.Read) x = (v, is, x)
     go (Err stream.Write) x = (v, is, x)
@@ -223,24 +228,24 @@ payload-text limits answers come mid h i k c m old new r key w = go r w
     go (Err stream.TooManyChunks) x = gives stream.TooManyChunks x.0 x.1
 
 pub payload-decrypts : (limits : Bounds) (answers : Answering) (come mid old new : Known) (h : HeaderParts)
-    (k : FileKey) (max : ℕ) (r : Result Done StreamFault) → Inspects limits come mid (Ok h)
+    (k : FileKey) (max : ℕ) (r : Result Done StreamFault) → Inspects limits (moved come mid) (Ok h)
     → (◌≡◌ {A = Result FileKey Fault} (Ok k) (Err OutOfMemory)) ⊎ (Ok k ≡ unlocked answers h) → max ≡ limits.max_chunks
     → WritesPayload k max mid old new r
-    → Decrypts limits answers come old new (file_result r)
+    → Decrypts limits answers come (moved old new) (file_result r)
 payload-decrypts limits answers come mid old new h k max r i (inl memory) same w = absurd (cc)
 payload-decrypts limits answers come mid old new h k max r i (inr key) same (c, may, x) =
     let is = headed limits come mid h i in
-    let w = subst (λ m. WritesReading (payload_reading k m c) (length (pieces (drop 16 c))) old new r) same x in
+    let w = subst (λ m. WritesReading (payload_reading k m c) (length (pieces (drop 16 c))) (moved old new) r) same x in
     (is.text ++ c, is.may c may, payload-text limits answers come mid h is k c may old new r key w)
 
 -- there is no nonce, or no memory
 pub missed-decrypts : (P : Type 0) (limits : Bounds) (answers : Answering) (come mid to old : Known) (before after : ℕ)
-    (h : HeaderParts) (k : FileKey) (max : ℕ) (fault : StreamFault) → Inspects limits come mid (Ok h)
+    (h : HeaderParts) (k : FileKey) (max : ℕ) (fault : StreamFault) → Inspects limits (moved come mid) (Ok h)
     → (◌≡◌ {A = Result FileKey Fault} (Ok k) (Err OutOfMemory)) ⊎ (Ok k ≡ unlocked answers h) → max ≡ limits.max_chunks
-    → ((fault ≡ stream.Memory) × P) ⊎ MissesNonce k max mid to before after fault
-    → Decrypts limits answers come old old (Err (stream_fault fault))
+    → ((fault ≡ stream.Memory) × P) ⊎ MissesNonce k max (moved mid to) before after fault
+    → Decrypts limits answers come (moved old old) (Err (stream_fault fault))
 missed-decrypts P limits answers come mid to old before after h k max fault i key same (inl m) =
-    subst (λ f. Decrypts limits answers come old old (Err (stream_fault f))) (sym m.0)
+    subst (λ f. Decrypts limits answers come (moved old old) (Err (stream_fault f))) (sym m.0)
     (memory-decrypts limits answers come old old)
 missed-decrypts P limits answers come mid to old before after h k max fault i key same (inr m) =
     payload-decrypts limits answers come mid old old h k max (Err fault) i key same
@@ -254,8 +259,8 @@ reads-file old new stream.Read h = h
 reads-file old new _ h = h
 
 took-piece : (limits : Bounds) (come mid to old new : Known) (h : HeaderParts) (i : IsHeaded limits come mid h)
-    (fault : StreamFault) (n : ℕ) (e : EndsAt limits.max_chunks 16 mid to old new fault) → e.piece ≤ n
-    → TookThrough limits n come to
+    (fault : StreamFault) (n : ℕ) (e : EndsAt limits.max_chunks 16 (moved mid to) (moved old new) fault) → e.piece ≤ n
+    → TookThrough limits n (moved come to)
 took-piece limits come mid to old new h i fault n e le =
     let d = may-some mid in
     let all = gave-more come mid to (length i.text) (16 + (65552 * (e.piece + 1) + 1)) i.took e.gave in
@@ -268,8 +273,8 @@ took-piece limits come mid to old new h i fault n e le =
     }
 
 ends-takes : (limits : Bounds) (come mid to old new : Known) (h : HeaderParts) (i : IsHeaded limits come mid h)
-    (fault : StreamFault) → EndsAt limits.max_chunks 16 mid to old new fault
-    → TookUpTo limits come to old new (stream_fault fault)
+    (fault : StreamFault) → EndsAt limits.max_chunks 16 (moved mid to) (moved old new) fault
+    → TookUpTo limits (moved come to) (moved old new) (stream_fault fault)
 ends-takes limits come mid to old new h i stream.Read e = tt
 ends-takes limits come mid to old new h i stream.Memory e = tt
 ends-takes limits come mid to old new h i stream.NonceTruncated e = tt
@@ -279,7 +284,7 @@ ends-takes limits come mid to old new h i stream.Write e = go e.at
     not-piece x = x
 
     go : ((◌≡◌ {A = StreamFault} stream.Write stream.Write) × (65536 * e.piece ≤ length e.text))
-        ⊎ IsAtPiece limits.max_chunks e.piece stream.Write → TookUpTo limits come to old new Write
+        ⊎ IsAtPiece limits.max_chunks e.piece stream.Write → TookUpTo limits (moved come to) (moved old new) Write
     go (inl (is, le)) = (
       e.text,
       e.written,
@@ -292,7 +297,7 @@ ends-takes limits come mid to old new h i (stream.ChunkShort j) e = go e.at
     not-write x = cc
 
     go : ((◌≡◌ {A = StreamFault} (stream.ChunkShort j) stream.Write) × (65536 * e.piece ≤ length e.text))
-        ⊎ IsAtPiece limits.max_chunks e.piece (stream.ChunkShort j) → TookThrough limits j come to
+        ⊎ IsAtPiece limits.max_chunks e.piece (stream.ChunkShort j) → TookThrough limits j (moved come to)
     go (inl (is, le)) = absurd (not-write is)
     go (inr at) = took-piece limits come mid to old new h i (stream.ChunkShort j) j e (omega (arith, at))
 ends-takes limits come mid to old new h i (stream.EmptyFinal j) e = go e.at
@@ -301,7 +306,7 @@ ends-takes limits come mid to old new h i (stream.EmptyFinal j) e = go e.at
     not-write x = cc
 
     go : ((◌≡◌ {A = StreamFault} (stream.EmptyFinal j) stream.Write) × (65536 * e.piece ≤ length e.text))
-        ⊎ IsAtPiece limits.max_chunks e.piece (stream.EmptyFinal j) → TookThrough limits j come to
+        ⊎ IsAtPiece limits.max_chunks e.piece (stream.EmptyFinal j) → TookThrough limits j (moved come to)
     go (inl (is, le)) = absurd (not-write is)
     go (inr at) = took-piece limits come mid to old new h i (stream.EmptyFinal j) j e (omega (arith, at))
 ends-takes limits come mid to old new h i (stream.BadChunk j) e = go e.at
@@ -310,7 +315,7 @@ ends-takes limits come mid to old new h i (stream.BadChunk j) e = go e.at
     not-write x = cc
 
     go : ((◌≡◌ {A = StreamFault} (stream.BadChunk j) stream.Write) × (65536 * e.piece ≤ length e.text))
-        ⊎ IsAtPiece limits.max_chunks e.piece (stream.BadChunk j) → TookThrough limits j come to
+        ⊎ IsAtPiece limits.max_chunks e.piece (stream.BadChunk j) → TookThrough limits j (moved come to)
     go (inl (is, le)) = absurd (not-write is)
     go (inr at) = took-piece limits come mid to old new h i (stream.BadChunk j) j e (omega (arith, at))
 ends-takes limits come mid to old new h i stream.TooManyChunks e = go e.at
@@ -319,15 +324,16 @@ ends-takes limits come mid to old new h i stream.TooManyChunks e = go e.at
     not-write x = cc
 
     go : ((◌≡◌ {A = StreamFault} stream.TooManyChunks stream.Write) × (65536 * e.piece ≤ length e.text))
-        ⊎ IsAtPiece limits.max_chunks e.piece stream.TooManyChunks → TookThrough limits limits.max_chunks come to
+        ⊎ IsAtPiece limits.max_chunks e.piece stream.TooManyChunks
+        → TookThrough limits limits.max_chunks (moved come to)
     go (inl (is, le)) = absurd (not-write is)
     go (inr at) = took-piece limits come mid to old new h i stream.TooManyChunks limits.max_chunks e (omega (arith, at))
 
 pub payload-takes : (limits : Bounds) (come mid to old new : Known) (h : HeaderParts) (fault : StreamFault)
-    → Inspects limits come mid (Ok h)
-    → (fault ≡ stream.Read) ⊎ EndsAt limits.max_chunks 16 mid to old new fault
-    → TookUpTo limits come to old new (stream_fault fault)
+    → Inspects limits (moved come mid) (Ok h)
+    → (fault ≡ stream.Read) ⊎ EndsAt limits.max_chunks 16 (moved mid to) (moved old new) fault
+    → TookUpTo limits (moved come to) (moved old new) (stream_fault fault)
 payload-takes limits come mid to old new h fault i (inl e) =
-    subst (λ f. TookUpTo limits come to old new (stream_fault f)) (sym e) tt
+    subst (λ f. TookUpTo limits (moved come to) (moved old new) (stream_fault f)) (sym e) tt
 payload-takes limits come mid to old new h fault i (inr e) =
     ends-takes limits come mid to old new h (headed limits come mid h i) fault e

@@ -4,7 +4,7 @@ use Rattle.std.proofs.lemmas.List.{append-nil, length-append}
 use Rattle.std.specs.List.{concat}
 use Rattle.std.specs.Io.KnownBytes.{Appends}
 use Rattle.std.proofs.KnownBytes.{Appends-nil, Appends-trans}
-use Rattle.age_header.specs.Device.{Bytes, GaveAtMost, WritesPart, Known}
+use Rattle.age_header.specs.Device.{Bytes, GaveAtMost, WritesPart, Known, moved}
 use Rattle.age_header.specs.Header.{StanzaParts, Head}
 use Rattle.age_header.specs.Mac.{header_mac}
 use Rattle.age_header.proofs.DeviceLemmas.{may-more, may-some, done_part}
@@ -48,21 +48,21 @@ made limits k gathered stanzas mac written (is, (text, heading)) head =
 
 -- memory was refused
 pub encrypts_refused : (limits : Bounds) (fresh : Fresh) (gathered : Gathering) (from old new : Known)
-    → EncryptsGiven limits fresh gathered from old new (Err OutOfMemory)
+    → EncryptsGiven limits fresh gathered from (moved old new) (Err OutOfMemory)
 encrypts_refused limits fresh gathered from old new = let plain = may-some from in (plain.0, plain.1, tt)
 
 -- no header was made
 pub encrypts_unmade : (limits : Bounds) (fresh : Fresh) (gathered : Gathering) (from old new : Known) (fault : Fault)
     → FailsHeading limits fresh.file_key gathered fault
-    → EncryptsGiven limits fresh gathered from old new (Err fault)
+    → EncryptsGiven limits fresh gathered from (moved old new) (Err fault)
 encrypts_unmade limits fresh gathered from old new fault (inl memory) =
-    subst (λ f. EncryptsGiven limits fresh gathered from old new (Err f)) (sym memory)
+    subst (λ f. EncryptsGiven limits fresh gathered from (moved old new) (Err f)) (sym memory)
     (encrypts_refused limits fresh gathered from old new)
 encrypts_unmade limits fresh gathered from old new fault (inr refusal) =
     let plain = may-some from in (plain.0, plain.1, go plain.0 fault refusal)
   where
     go : (plain : Bytes) (f : Fault) → IsRefusal limits fresh.file_key gathered f
-        → EncryptsText limits fresh gathered plain old new (Err f)
+        → EncryptsText limits fresh gathered plain (moved old new) (Err f)
     go plain TooManyChunks h = absurd h
     go plain Read h = absurd h
     go plain Write h = absurd h
@@ -72,8 +72,8 @@ encrypts_unmade limits fresh gathered from old new fault (inr refusal) =
 pub encrypts_begun : (limits : Bounds) (fresh : Fresh) (gathered : Gathering) (stanzas : List StanzaParts) (mac : Bytes)
     (from old new : Known)
     → HeaderMade limits fresh.file_key gathered stanzas mac
-    → FrontWritten stanzas mac (λ text. WritesPart old new (text ++ fresh.nonce))
-    → EncryptsGiven limits fresh gathered from old new (Err Write)
+    → FrontWritten stanzas mac (λ text. WritesPart (moved old new) (text ++ fresh.nonce))
+    → EncryptsGiven limits fresh gathered from (moved old new) (Err Write)
 encrypts_begun limits fresh gathered stanzas mac from old new header (text, head, part) =
     let m = made limits fresh.file_key gathered stanzas mac text header head in
     let plain = may-some from in
@@ -96,7 +96,7 @@ encrypts_begun limits fresh gathered stanzas mac from old new header (text, head
 pub encrypts_unread : (limits : Bounds) (fresh : Fresh) (gathered : Gathering) (stanzas : List StanzaParts)
     (mac : Bytes) (from old : Known)
     → HeaderMade limits fresh.file_key gathered stanzas mac
-    → EncryptsGiven limits fresh gathered from old old (Err Read)
+    → EncryptsGiven limits fresh gathered from (moved old old) (Err Read)
 encrypts_unread limits fresh gathered stanzas mac from old (is, (text, heading)) =
     let plain = may-some from in
     (plain.0, plain.1, record { stanzas = stanzas; text = text; heading = heading; part = (0, Appends-nil old) })
@@ -104,8 +104,8 @@ encrypts_unread limits fresh gathered stanzas mac from old (is, (text, heading))
 -- a prefix of the payload was written after them
 begun : (limits : Bounds) (fresh : Fresh) (gathered : Gathering) (text plain : Bytes) (a b c : Known)
     → Made limits fresh.file_key gathered text → Appends a b (text ++ fresh.nonce)
-    → WritesPart b c (concat (sealed_chunks fresh.file_key fresh.nonce plain))
-    → BegunFile limits fresh gathered plain a c
+    → WritesPart (moved b c) (concat (sealed_chunks fresh.file_key fresh.nonce plain))
+    → BegunFile limits fresh gathered plain (moved a c)
 begun limits fresh gathered text plain a b c m front part =
     let rest : Bytes = concat (sealed_chunks fresh.file_key fresh.nonce plain) in
     record {
@@ -124,7 +124,7 @@ whole : (limits : Bounds) (fresh : Fresh) (gathered : Gathering) (text plain : B
     → Appends b c (concat (sealed_chunks fresh.file_key fresh.nonce plain))
     → 0 + length (chunks plain) ≤ limits.max_chunks
     → done.bytes ≡ 65536 * 0 + 0 + length plain → done.chunks ≡ 0 + length (chunks plain)
-    → EncryptsText limits fresh gathered plain a c (Ok done)
+    → EncryptsText limits fresh gathered plain (moved a c) (Ok done)
 whole limits fresh gathered text plain a b c done sixteen m front rest fits bytes count = (
   text ++ payload fresh.file_key fresh.nonce plain,
   record {
@@ -154,7 +154,7 @@ up_to_limit : (limits : Bounds) (fresh : Fresh) (gathered : Gathering) (text pla
     → Made limits fresh.file_key gathered text → Appends a b (text ++ fresh.nonce)
     → limits.max_chunks < 0 + length (chunks plain)
     → Appends b c (concat (take (limits.max_chunks - 1 - 0) (sealed_chunks fresh.file_key fresh.nonce plain)))
-    → EncryptsText limits fresh gathered plain a c (Err TooManyChunks)
+    → EncryptsText limits fresh gathered plain (moved a c) (Err TooManyChunks)
 up_to_limit limits fresh gathered text plain a b c m front many rest =
     let n : limits.max_chunks - 1 - 0 ≡ limits.max_chunks - 1 = omega arith in
     let out : Bytes = concat (take (limits.max_chunks - 1) (sealed_chunks fresh.file_key fresh.nonce plain)) in
@@ -167,29 +167,29 @@ up_to_limit limits fresh gathered text plain a b c m front many rest =
 
 -- a sealer that was just made was filled
 pub filled : (s t : SealerState) (key : Bytes) (m max : ℕ) (more : Bool) (from mid : Known) → s ≡ at_start key m
-    → m ≡ max → IfNone s.fault (Fills s t from mid (Ok more))
-    → Fills (at_start key max) t from mid (Ok more)
+    → m ≡ max → IfNone s.fault (Fills s t (moved from mid) (Ok more))
+    → Fills (at_start key max) t (moved from mid) (Ok more)
 filled s t key m max more from mid is same h =
-    subst (λ n. Fills (at_start key n) t from mid (Ok more)) same
-    (subst (λ x. IfNone x.fault (Fills x t from mid (Ok more))) is h)
+    subst (λ n. Fills (at_start key n) t (moved from mid) (Ok more)) same
+    (subst (λ x. IfNone x.fault (Fills x t (moved from mid) (Ok more))) is h)
 
 -- and then sealed what it held and what came
 pub sealed_filled : (key : Bytes) (max : ℕ) (t : SealerState) (more : Bool) (from mid to a c : Known)
     (r : Result Done StreamFault) → 1 ≤ max
-    → Fills (at_start key max) t from mid (Ok more) → SealsRest t more mid to a c r
-    → SealsAll (at_start key max) from to a c r
+    → Fills (at_start key max) t (moved from mid) (Ok more) → SealsRest t more (moved mid to) (moved a c) r
+    → SealsAll (at_start key max) (moved from to) (moved a c) r
 sealed_filled key max t true from mid to a c r some fills seals =
     filled-seals key max t true from mid to a c r fills seals
 sealed_filled key max t false from mid to a c r some fills (finishes, same) =
-    subst (λ k. SealsAll (at_start key max) from k a c r) (sym same)
+    subst (λ k. SealsAll (at_start key max) (moved from k) (moved a c) r) (sym same)
     (filled-finishes key max t from mid a c r some fills finishes)
 
 -- the payload after the header and the nonce
 encrypts_payload : (limits : Bounds) (fresh : Fresh) (gathered : Gathering) (text : Bytes) (from to a b c : Known)
     (r : Result Done StreamFault) → length fresh.nonce ≡ 16
     → Made limits fresh.file_key gathered text → Appends a b (text ++ fresh.nonce)
-    → SealsAll (at_start (payload_key fresh.file_key fresh.nonce) limits.max_chunks) from to b c r
-    → EncryptsGiven limits fresh gathered from a c (file_result r)
+    → SealsAll (at_start (payload_key fresh.file_key fresh.nonce) limits.max_chunks) (moved from to) (moved b c) r
+    → EncryptsGiven limits fresh gathered from (moved a c) (file_result r)
 encrypts_payload limits fresh gathered text from to a b c (Ok done) sixteen m front
     (plain, may, rest, fits, bytes, count) =
     (plain, may, whole limits fresh gathered text plain a b c done sixteen m front rest fits bytes count)
@@ -198,8 +198,8 @@ encrypts_payload limits fresh gathered text from to a b c (Err fault) sixteen m 
     key : Bytes
     key = payload_key fresh.file_key fresh.nonce
 
-    go : (f : StreamFault) → StopsIn key limits.max_chunks 0 [] s.text b c f
-        → EncryptsGiven limits fresh gathered from a c (Err (stream_fault f))
+    go : (f : StreamFault) → StopsIn key limits.max_chunks 0 [] s.text (moved b c) f
+        → EncryptsGiven limits fresh gathered from (moved a c) (Err (stream_fault f))
     go stream.Read h = (s.text, s.may, begun limits fresh gathered text s.text a b c m front h)
     go stream.Write h = (s.text, s.may, begun limits fresh gathered text s.text a b c m front h)
     go stream.TooManyChunks h = (s.text, s.may, up_to_limit limits fresh gathered text s.text a b c m front h.0 h.1)
@@ -214,15 +214,15 @@ pub encrypts_sealed : (limits : Bounds) (fresh : Fresh) (gathered : Gathering) (
     (mac : Bytes) (from to a b c : Known) (r : Result Done StreamFault)
     → HeaderMade limits fresh.file_key gathered stanzas mac
     → FrontWritten stanzas mac (λ text. Appends a b (text ++ fresh.nonce)) → length fresh.nonce ≡ 16
-    → SealsAll (at_start (payload_key fresh.file_key fresh.nonce) limits.max_chunks) from to b c r
-    → EncryptsGiven limits fresh gathered from a c (file_result r)
+    → SealsAll (at_start (payload_key fresh.file_key fresh.nonce) limits.max_chunks) (moved from to) (moved b c) r
+    → EncryptsGiven limits fresh gathered from (moved a c) (file_result r)
 encrypts_sealed limits fresh gathered stanzas mac from to a b c r header (text, head, front) sixteen seals =
     encrypts_payload limits fresh gathered text from to a b c r sixteen
     (made limits fresh.file_key gathered stanzas mac text header head) front seals
 
 -- a read failed after something was written: the source may give a whole chunk
 pub read_late : (key : Bytes) (max : ℕ) (t : SealerState) (more : Bool) (from mid to a c : Known) (fault : StreamFault)
-    → Fills (at_start key max) t from mid (Ok more) → SealsRest t more mid to a c (Err fault)
+    → Fills (at_start key max) t (moved from mid) (Ok more) → SealsRest t more (moved mid to) (moved a c) (Err fault)
     → stream_fault fault ≡ Read → MayFillChunk from
 read_late key max t true from mid to a c fault (x, took, is, fits, full, ended) seals read =
     let d = may-some mid in
@@ -239,8 +239,9 @@ read_late key max t false from mid to a c fault fills ((write, part), same) read
 pub takes_begun : (limits : Bounds) (fresh : Fresh) (gathered : Gathering) (stanzas : List StanzaParts) (mac : Bytes)
     (key : Bytes) (max : ℕ) (t : SealerState) (more : Bool)
     (from mid old new : Known) → HeaderMade limits fresh.file_key gathered stanzas mac
-    → FrontWritten stanzas mac (λ text. WritesPart old new (text ++ fresh.nonce))
-    → Fills (at_start key max) t from mid (Ok more) → TookWhileEncrypting limits fresh gathered from mid old new Write
+    → FrontWritten stanzas mac (λ text. WritesPart (moved old new) (text ++ fresh.nonce))
+    → Fills (at_start key max) t (moved from mid) (Ok more)
+    → TookWhileEncrypting limits fresh gathered (moved from mid) (moved old new) Write
 takes_begun limits fresh gathered stanzas mac key max t more from mid old new header (text, head, part)
     (x, gave, is, fits, full, ended) =
     let m = made limits fresh.file_key gathered stanzas mac text header head in
@@ -259,8 +260,9 @@ takes_begun limits fresh gathered stanzas mac key max t more from mid old new he
 took : (limits : Bounds) (fresh : Fresh) (gathered : Gathering) (text : Bytes) (from to a b c : Known) (chunk : ℕ)
     (fault : StreamFault) → length fresh.nonce ≡ 16
     → Made limits fresh.file_key gathered text → Appends a b (text ++ fresh.nonce)
-    → Stopped (payload_key fresh.file_key fresh.nonce) limits.max_chunks 0 chunk [] from to b c fault
-    → GaveAtMost (65536 * (chunk + 1 - 0) + 1 - 0) from to → TookChunks limits fresh gathered from to a c
+    → Stopped (payload_key fresh.file_key fresh.nonce) limits.max_chunks 0 chunk [] (moved from to) (moved b c) fault
+    → GaveAtMost (65536 * (chunk + 1 - 0) + 1 - 0) (moved from to)
+    → TookChunks limits fresh gathered (moved from to) (moved a c)
 took limits fresh gathered text from to a b c chunk fault sixteen m front s gave =
     let l : length ((text ++ fresh.nonce) ++ s.wrote.0) ≡ length (text ++ fresh.nonce) + length s.wrote.0 =
     length-append (text ++ fresh.nonce) s.wrote.0 in
@@ -279,8 +281,9 @@ took limits fresh gathered text from to a b c chunk fault sixteen m front s gave
 takes_payload : (limits : Bounds) (fresh : Fresh) (gathered : Gathering) (text : Bytes) (from to a b c : Known)
     (fault : StreamFault) → length fresh.nonce ≡ 16
     → Made limits fresh.file_key gathered text → Appends a b (text ++ fresh.nonce)
-    → SealsAll (at_start (payload_key fresh.file_key fresh.nonce) limits.max_chunks) from to b c (Err fault)
-    → TookWhileEncrypting limits fresh gathered from to a c (stream_fault fault)
+    → SealsAll (at_start (payload_key fresh.file_key fresh.nonce) limits.max_chunks) (moved from to) (moved b c)
+    (Err fault)
+    → TookWhileEncrypting limits fresh gathered (moved from to) (moved a c) (stream_fault fault)
 takes_payload limits fresh gathered text from to a b c stream.Read sixteen m front s = tt
 takes_payload limits fresh gathered text from to a b c stream.Memory sixteen m front s = tt
 takes_payload limits fresh gathered text from to a b c stream.NonceTruncated sixteen m front s = tt
@@ -292,8 +295,8 @@ takes_payload limits fresh gathered text from to a b c stream.Write sixteen m fr
     not-read : stream.Write ≡ stream.Read → ⊥
     not-read e = cc
 
-    go : (stream.Write ≡ stream.Read) ⊎ GaveAtMost (65536 * (chunk + 1 - 0) + 1 - 0) from to
-        → TookChunks limits fresh gathered from to a c
+    go : (stream.Write ≡ stream.Read) ⊎ GaveAtMost (65536 * (chunk + 1 - 0) + 1 - 0) (moved from to)
+        → TookChunks limits fresh gathered (moved from to) (moved a c)
     go (inl e) = absurd (not-read e)
     go (inr gave) = took limits fresh gathered text from to a b c chunk stream.Write sixteen m front s gave
 takes_payload limits fresh gathered text from to a b c stream.TooManyChunks sixteen m front (chunk, s) = go s.gave
@@ -301,14 +304,15 @@ takes_payload limits fresh gathered text from to a b c stream.TooManyChunks sixt
     not-read : stream.TooManyChunks ≡ stream.Read → ⊥
     not-read e = cc
 
-    go : (stream.TooManyChunks ≡ stream.Read) ⊎ GaveAtMost (65536 * (chunk + 1 - 0) + 1 - 0) from to
-        → TookChunks limits fresh gathered from to a c
+    go : (stream.TooManyChunks ≡ stream.Read) ⊎ GaveAtMost (65536 * (chunk + 1 - 0) + 1 - 0) (moved from to)
+        → TookChunks limits fresh gathered (moved from to) (moved a c)
     go (inl e) = absurd (not-read e)
     go (inr gave) = took limits fresh gathered text from to a b c chunk stream.TooManyChunks sixteen m front s gave
 
 -- a fault of the payload names no reason against the header, and comes late
 pub refuses_none : (limits : Bounds) (fresh : Fresh) (gathered : Gathering) (from to b c : Known) (fault : StreamFault)
-    → SealsAll (at_start (payload_key fresh.file_key fresh.nonce) limits.max_chunks) from to b c (Err fault)
+    → SealsAll (at_start (payload_key fresh.file_key fresh.nonce) limits.max_chunks) (moved from to) (moved b c)
+    (Err fault)
     → RefusesFirst limits fresh.file_key gathered (stream_fault fault) × IsLate (stream_fault fault)
 refuses_none limits fresh gathered from to b c stream.Read h = (tt, tt)
 refuses_none limits fresh gathered from to b c stream.Write h = (tt, tt)
@@ -323,8 +327,9 @@ pub takes_sealed : (limits : Bounds) (fresh : Fresh) (gathered : Gathering) (sta
     (from to a b c : Known) (fault : StreamFault)
     → HeaderMade limits fresh.file_key gathered stanzas mac
     → FrontWritten stanzas mac (λ text. Appends a b (text ++ fresh.nonce)) → length fresh.nonce ≡ 16
-    → SealsAll (at_start (payload_key fresh.file_key fresh.nonce) limits.max_chunks) from to b c (Err fault)
-    → TookWhileEncrypting limits fresh gathered from to a c (stream_fault fault)
+    → SealsAll (at_start (payload_key fresh.file_key fresh.nonce) limits.max_chunks) (moved from to) (moved b c)
+    (Err fault)
+    → TookWhileEncrypting limits fresh gathered (moved from to) (moved a c) (stream_fault fault)
 takes_sealed limits fresh gathered stanzas mac from to a b c fault header (text, head, front) sixteen seals =
     takes_payload limits fresh gathered text from to a b c fault sixteen
     (made limits fresh.file_key gathered stanzas mac text header head) front seals

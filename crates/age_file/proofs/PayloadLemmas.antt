@@ -4,7 +4,7 @@ use Rattle.std.specs.Prelude.{IfErr, IfNone}
 use Rattle.std.proofs.KnownBytes.{Appends-nil}
 use Rattle.std.proofs.lemmas.Bool.{le-ltb, lt-ltb, cond-false, cond-true}
 use Rattle.std.proofs.lemmas.List.{take_at, drop_at}
-use Rattle.age_header.specs.Device.{Bytes, GaveAtMost, MayGive, Known}
+use Rattle.age_header.specs.Device.{Bytes, GaveAtMost, MayGive, Known, moved}
 use Rattle.age_header.proofs.DeviceLemmas.{gave-more, may-some}
 use Rattle.age_recipient.specs.declared.key.FileKey.{FileKey}
 use Rattle.age_stream.specs.declared.done.Done.{Done}
@@ -17,15 +17,15 @@ use Rattle.age_stream.specs.Reading.{payload_reading, reading_from, stops}
 -- the reading of a payload that the source may have given was written
 abbrev pub WritesPayload : FileKey → ℕ → Known → Known → Known → Result Done StreamFault → Type 0
 WritesPayload k max from old new r = (c : Bytes) × MayGive from c
-    × WritesReading (payload_reading k max c) (length (pieces (drop 16 c))) old new r
+    × WritesReading (payload_reading k max c) (length (pieces (drop 16 c))) (moved old new) r
 
 -- the nonce, then the pieces
 pub payload-writes : (k : FileKey) (max : ℕ) (s : OpenerState) (from mid a b : Known) (r : Result Done StreamFault)
-    → Starts k max from mid (Ok s) → IfNone s.fault (WritesAll s mid a b r)
+    → Starts k max (moved from mid) (Ok s) → IfNone s.fault (WritesAll s mid (moved a b) r)
     → WritesPayload k max from a b r
 payload-writes k max s from mid a b r (nonce, len, is, may) h =
-    let all : WritesAll (at_start (payload_key k nonce) max) mid a b r =
-    subst (λ (x : OpenerState). IfNone x.fault (WritesAll x mid a b r)) is h in
+    let all : WritesAll (at_start (payload_key k nonce) max) mid (moved a b) r =
+    subst (λ (x : OpenerState). IfNone x.fault (WritesAll x mid (moved a b) r)) is h in
     let c = all.0 in
     let l : length (nonce ++ c) ≡ length nonce + length c = length-append nonce c in
     let long : nat_lt (length (nonce ++ c)) 16 ≡ false = le-ltb (length (nonce ++ c)) 16 (omega arith) in
@@ -38,20 +38,20 @@ payload-writes k max s from mid a b r (nonce, len, is, may) h =
     ∙ ap (reading_from key max 0) back in (
       nonce ++ c,
       may c all.1,
-      subst (λ x. WritesReading x (length (pieces (drop 16 (nonce ++ c)))) a b r) (sym reads)
-          (subst (λ x. WritesReading (reading_from key max 0 c) (length (pieces x)) a b r) (sym back) all.2),
+      subst (λ x. WritesReading x (length (pieces (drop 16 (nonce ++ c)))) (moved a b) r) (sym reads)
+          (subst (λ x. WritesReading (reading_from key max 0 c) (length (pieces x)) (moved a b) r) (sym back) all.2),
     )
 
 -- the nonce is cut short, or was not read
 pub nonce-writes : (k : FileKey) (max : ℕ) (from mid a : Known) (fault : StreamFault)
-    → Starts k max from mid (Err fault) → WritesPayload k max from a a (Err fault)
+    → Starts k max (moved from mid) (Err fault) → WritesPayload k max from a a (Err fault)
 nonce-writes k max from mid a Read h = let d = may-some from in (d.0, d.1, (0, Appends-nil a))
 nonce-writes k max from mid a NonceTruncated h =
     let short : nat_lt (length h.1.0) 16 ≡ true = lt-ltb (length h.1.0) 16 h.1.2 in
     let all : payload_reading k max h.1.0 ≡ stops NonceTruncated = cond-true (nat_lt (length h.1.0) 16) _ _ short in (
       h.1.0,
       h.1.1,
-      subst (λ x. WritesReading x (length (pieces (drop 16 h.1.0))) a a (Err NonceTruncated)) (sym all)
+      subst (λ x. WritesReading x (length (pieces (drop 16 h.1.0))) (moved a a) (Err NonceTruncated)) (sym all)
           (refl, Appends-nil a),
     )
 nonce-writes k max from mid a (ChunkShort i) h = absurd (cc)
@@ -63,14 +63,18 @@ nonce-writes k max from mid a Memory h = absurd (cc)
 
 -- what was taken, with the nonce
 pub payload-ends : (k : FileKey) (max : ℕ) (s : OpenerState) (from mid to a b : Known) (fault : StreamFault)
-    → Starts k max from mid (Ok s) → GaveAtMost 16 from mid
-    → IfNone s.fault (IfErr {T = Done} (Err fault) (λ f. (f ≡ Read) ⊎ EndsAt s.max_chunks 0 mid to a b f))
-    → (fault ≡ Read) ⊎ EndsAt max 16 from to a b fault
+    → Starts k max (moved from mid) (Ok s) → GaveAtMost 16 (moved from mid)
+    → IfNone s.fault
+    (IfErr {T = Done} (Err fault) (λ f. (f ≡ Read) ⊎ EndsAt s.max_chunks 0 (moved mid to) (moved a b) f))
+    → (fault ≡ Read) ⊎ EndsAt max 16 (moved from to) (moved a b) fault
 payload-ends k max s from mid to a b fault starts nonce h =
-    go (subst (λ (x : OpenerState). IfNone x.fault ((fault ≡ Read) ⊎ EndsAt x.max_chunks 0 mid to a b fault)) starts.2
+    go (subst
+    (λ (x : OpenerState). IfNone x.fault ((fault ≡ Read) ⊎ EndsAt x.max_chunks 0 (moved mid to) (moved a b) fault))
+    starts.2
     h)
   where
-    go : (fault ≡ Read) ⊎ EndsAt max 0 mid to a b fault → (fault ≡ Read) ⊎ EndsAt max 16 from to a b fault
+    go : (fault ≡ Read) ⊎ EndsAt max 0 (moved mid to) (moved a b) fault → (fault ≡ Read)
+        ⊎ EndsAt max 16 (moved from to) (moved a b) fault
     go (inl e) = inl e
     go (inr e) =
         let all = gave-more from mid to 16 (0 + (65552 * (e.piece + 1) + 1)) nonce e.gave in

@@ -4,7 +4,7 @@ use Rattle.std.specs.Prelude.{◌^◌, min, Bool, true, false, IfErr, IfSome, if
 use Rattle.std.specs.Result.{result_map_both}
 use Rattle.std.specs.Str.{bytes_eq}
 use Rattle.std.proofs.lemmas.List.{length-append, length-drop}
-use Rattle.age_header.specs.Device.{Bytes, CountsFaultIf, Known}
+use Rattle.age_header.specs.Device.{Bytes, CountsFaultIf, Known, moved}
 use Rattle.age_header.specs.declared.fault.HeaderFault.{HeaderFault}
 use Rattle.age_header.specs.declared.fault.HeaderFault.TheVariants as header
 use Rattle.age_header.specs.Header.{HeaderParts}
@@ -33,7 +33,7 @@ use Rattle.age_file.proofs.DecryptLemmas.{err-err, found-key, headed, reads-file
 
 -- a header that was read from the first byte on
 pub header-found : (limits : Bounds) (told : Known) (at : ℕ) (h : HeaderParts) → IsWithin told at
-    → Inspects limits (option_map (drop 0) told) (option_map (drop at) told) (Ok h) → HasHeader limits told at h
+    → Inspects limits (moved (option_map (drop 0) told) (option_map (drop at) told)) (Ok h) → HasHeader limits told at h
 header-found limits None at h w i = tt
 header-found limits (Some b) at h w i =
     let is = headed limits (Some b) (Some (drop at b)) h i in
@@ -48,7 +48,7 @@ header-found limits (Some b) at h w i =
     )
 
 -- the header of some bytes
-pub header-some : (limits : Bounds) (from to : Known) (h : HeaderParts) → Inspects limits from to (Ok h)
+pub header-some : (limits : Bounds) (from to : Known) (h : HeaderParts) → Inspects limits (moved from to) (Ok h)
     → IsSomeHeader limits h
 header-some limits from to h i =
     let is = headed limits from to h i in
@@ -66,7 +66,7 @@ refused limits b header.TooLarge h = inr (inr (header.TooLarge, h, refl))
 
 -- no header
 pub header-missed : (limits : Bounds) (told mid : Known) (fault : Fault)
-    → Inspects limits (option_map (drop 0) told) mid (Err fault) → MissesHeader limits told fault
+    → Inspects limits (moved (option_map (drop 0) told) mid) (Err fault) → MissesHeader limits told fault
 header-missed limits None mid fault i = inr (inr tt)
 header-missed limits (Some b) mid fault (Ok parts, is, h) = absurd (cc)
 header-missed limits (Some b) mid fault (Err g, is, (c, may, h)) =
@@ -119,7 +119,7 @@ inspect-open header.TooLarge = tt
 inspect-open header.Read = tt
 inspect-open header.Memory = tt
 
-pub header-named : (limits : Bounds) (old mid : Known) (fault : Fault) → Inspects limits old mid (Err fault)
+pub header-named : (limits : Bounds) (old mid : Known) (fault : Fault) → Inspects limits (moved old mid) (Err fault)
     → IsOpenFault fault
 header-named limits old mid fault (Ok parts, is, h) = absurd (cc)
 header-named limits old mid fault (Err g, is, h) =

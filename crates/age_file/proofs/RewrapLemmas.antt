@@ -6,7 +6,7 @@ use Rattle.std.proofs.lemmas.List.{append-nil, drop_at}
 use Rattle.std.specs.Str.{bytes_eq}
 use Rattle.age_header.specs.declared.fault.HeaderFault.{HeaderFault}
 use Rattle.age_header.specs.declared.fault.HeaderFault.TheVariants as header
-use Rattle.age_header.specs.Device.{Bytes, MayGive, WritesPart, Known}
+use Rattle.age_header.specs.Device.{Bytes, MayGive, WritesPart, Known, moved}
 use Rattle.age_header.specs.Header.{HeaderParts}
 use Rattle.age_header.specs.Mac.{header_mac}
 use Rattle.age_header.specs.Reader.{ReadsHeader, Refuses}
@@ -47,7 +47,7 @@ IsEarly _ = Unit {0}
 refused : (limits : Bounds) (answers : Answering) (gathered : FileKey → Gathering) (b : Bytes) (old : Known)
     (fault : Fault)
     → IsEarly fault → RefusesRewrap limits answers gathered b fault
-    → RewrapsText limits answers gathered b old old (Err fault)
+    → RewrapsText limits answers gathered b (moved old old) (Err fault)
 unfolding IsEarly
 refused limits answers gathered b old Read early h = absurd early
 refused limits answers gathered b old Write early h = absurd early
@@ -72,7 +72,7 @@ refused limits answers gathered b old (IncompatibleRecipients i) early h = h
 
 no_header : (limits : Bounds) (answers : Answering) (gathered : FileKey → Gathering) (b : Bytes) (old : Known)
     (g : HeaderFault)
-    → Refuses b limits.max_header g → RewrapsText limits answers gathered b old old (Err (header_fault g))
+    → Refuses b limits.max_header g → RewrapsText limits answers gathered b (moved old old) (Err (header_fault g))
 no_header limits answers gathered b old header.Read h = inl (keeps_same old)
 no_header limits answers gathered b old header.Memory h = tt
 no_header limits answers gathered b old header.NotAge h = (Err header.NotAge, h, refl)
@@ -82,16 +82,16 @@ no_header limits answers gathered b old header.TooLarge h = (Err header.TooLarge
 
 none_read : (limits : Bounds) (answers : Answering) (gathered : FileKey → Gathering) (come mid old : Known)
     (g : HeaderFault)
-    → ReadsHeader come mid limits.max_header (Err g)
-    → Rewraps limits answers gathered come old old (Err (header_fault g))
+    → ReadsHeader (moved come mid) limits.max_header (Err g)
+    → Rewraps limits answers gathered come (moved old old) (Err (header_fault g))
 none_read limits answers gathered come mid old g (b, may, h) = (b, may, no_header limits answers gathered b old g h)
 
 pub inspect_rewraps : (limits : Bounds) (answers : Answering) (gathered : FileKey → Gathering) (come mid old : Known)
     (fault : Fault)
-    → Inspects limits come mid (Err fault) → Rewraps limits answers gathered come old old (Err fault)
+    → Inspects limits (moved come mid) (Err fault) → Rewraps limits answers gathered come (moved old old) (Err fault)
 inspect_rewraps limits answers gathered come mid old fault (Ok parts, is, h) = absurd (cc)
 inspect_rewraps limits answers gathered come mid old fault (Err g, is, h) =
-    subst (λ f. Rewraps limits answers gathered come old old (Err f))
+    subst (λ f. Rewraps limits answers gathered come (moved old old) (Err f))
     (sym (err-err {A = HeaderParts} fault (header_fault g) is)) (none_read limits answers gathered come mid old g h)
 
 -- a fault of unlocking is early
@@ -120,15 +120,15 @@ early_unlocked answers h fault e = go (is_mixed h.stanzas) e
 pub locked_rewraps : (limits : Bounds) (answers : Answering) (gathered : FileKey → Gathering) (come mid old : Known)
     (h : HeaderParts) (fault : Fault)
     → IsHeaded limits come mid h → (◌≡◌ {A = Result FileKey Fault} (Err fault) (Err OutOfMemory))
-    ⊎ (Err fault ≡ unlocked answers h) → Rewraps limits answers gathered come old old (Err fault)
+    ⊎ (Err fault ≡ unlocked answers h) → Rewraps limits answers gathered come (moved old old) (Err fault)
 locked_rewraps limits answers gathered come mid old h fault i r =
     let rest = may-some mid in
     let b : Bytes = i.text ++ rest.0 in
-    let memory : RewrapsText limits answers gathered b old old (Err OutOfMemory) = tt in (
+    let memory : RewrapsText limits answers gathered b (moved old old) (Err OutOfMemory) = tt in (
       b,
       i.may rest.0 rest.1,
       elim r [
-        | inl is ↦ subst (λ f. RewrapsText limits answers gathered b old old (Err f))
+        | inl is ↦ subst (λ f. RewrapsText limits answers gathered b (moved old old) (Err f))
             (sym (err-err {A = FileKey} fault OutOfMemory is)) memory
         | inr is ↦ refused limits answers gathered b old fault (early_unlocked answers h fault (sym is))
             (Ok (found_in i.text h), i.verdict rest.0 rest.1, inl (sym is))
@@ -150,7 +150,7 @@ early_refusal limits k gathered fault h = absurd h
 pub heading_rewraps : (limits : Bounds) (answers : Answering) (gathered : FileKey → Gathering) (come mid old : Known)
     (h : HeaderParts) (key : FileKey) (fault : Fault)
     → IsHeaded limits come mid h → unlocked answers h ≡ Ok key → FailsHeading limits key (gathered key) fault
-    → Rewraps limits answers gathered come old old (Err fault)
+    → Rewraps limits answers gathered come (moved old old) (Err fault)
 heading_rewraps limits answers gathered come mid old h key fault i chosen fails =
     (b, i.may rest.0 rest.1, go fails)
   where
@@ -160,11 +160,12 @@ heading_rewraps limits answers gathered come mid old h key fault i chosen fails 
     b : Bytes
     b = i.text ++ rest.0
 
-    memory : RewrapsText limits answers gathered b old old (Err OutOfMemory)
+    memory : RewrapsText limits answers gathered b (moved old old) (Err OutOfMemory)
     memory = tt
 
-    go : FailsHeading limits key (gathered key) fault → RewrapsText limits answers gathered b old old (Err fault)
-    go (inl is) = subst (λ g. RewrapsText limits answers gathered b old old (Err g)) (sym is) memory
+    go : FailsHeading limits key (gathered key) fault
+        → RewrapsText limits answers gathered b (moved old old) (Err fault)
+    go (inl is) = subst (λ g. RewrapsText limits answers gathered b (moved old old) (Err g)) (sym is) memory
     go (inr refusal) =
         refused limits answers gathered b old fault (early_refusal limits key (gathered key) fault refusal)
         (Ok (found_in i.text h), i.verdict rest.0 rest.1, inr (key, chosen, refusal))
@@ -196,7 +197,7 @@ new_file limits answers gathered come mid h key text bytes i chosen made may = (
 pub begun_rewraps : (limits : Bounds) (answers : Answering) (gathered : FileKey → Gathering) (come mid old new : Known)
     (h : HeaderParts) (key : FileKey) (text : Bytes)
     → IsHeaded limits come mid h → unlocked answers h ≡ Ok key → Made limits key (gathered key) text
-    → WritesPart old new text → Rewraps limits answers gathered come old new (Err Write)
+    → WritesPart (moved old new) text → Rewraps limits answers gathered come (moved old new) (Err Write)
 begun_rewraps limits answers gathered come mid old new h key text i chosen made part =
     let rest = may-some mid in (
       i.text ++ rest.0,
@@ -213,8 +214,8 @@ begun_rewraps limits answers gathered come mid old new h key text i chosen made 
 copied_part : (limits : Bounds) (answers : Answering) (gathered : FileKey → Gathering) (come mid old put new : Known)
     (h : HeaderParts) (key : FileKey) (text bytes : Bytes)
     → (i : IsHeaded limits come mid h) → unlocked answers h ≡ Ok key → Made limits key (gathered key) text
-    → Appends old put text → MayGive mid bytes → WritesPart put new bytes
-    → BeginsRewrapped limits answers gathered (i.text ++ bytes) old new
+    → Appends old put text → MayGive mid bytes → WritesPart (moved put new) bytes
+    → BeginsRewrapped limits answers gathered (i.text ++ bytes) (moved old new)
 copied_part limits answers gathered come mid old put new h key text bytes i chosen made front may part = (
   text ++ bytes,
   new_file limits answers gathered come mid h key text bytes i chosen made may,
@@ -225,8 +226,8 @@ copied_part limits answers gathered come mid old put new h key text bytes i chos
 pub copied_rewraps : (limits : Bounds) (answers : Answering) (gathered : FileKey → Gathering)
     (come mid old put new : Known) (h : HeaderParts) (key : FileKey) (text : Bytes)
     (r : Result (Unit {0}) Fault) → IsHeaded limits come mid h → unlocked answers h ≡ Ok key
-    → Made limits key (gathered key) text → Appends old put text → Copies mid put new r
-    → Rewraps limits answers gathered come old new r
+    → Made limits key (gathered key) text → Appends old put text → Copies mid (moved put new) r
+    → Rewraps limits answers gathered come (moved old new) r
 copied_rewraps limits answers gathered come mid old put new h key text (Ok done) i chosen made front
     (bytes, may, wrote) = (
       i.text ++ bytes,
@@ -240,12 +241,12 @@ copied_rewraps limits answers gathered come mid old put new h key text (Ok done)
 copied_rewraps limits answers gathered come mid old put new h key text (Err fault) i chosen made front copied =
     go fault copied
   where
-    part : (bytes : Bytes) → MayGive mid bytes → WritesPart put new bytes
-        → BeginsRewrapped limits answers gathered (i.text ++ bytes) old new
+    part : (bytes : Bytes) → MayGive mid bytes → WritesPart (moved put new) bytes
+        → BeginsRewrapped limits answers gathered (i.text ++ bytes) (moved old new)
     part bytes may wrote = copied_part limits answers gathered come mid old put new h key text bytes i chosen made front
         may wrote
 
-    go : (f : Fault) → Copies mid put new (Err f) → Rewraps limits answers gathered come old new (Err f)
+    go : (f : Fault) → Copies mid (moved put new) (Err f) → Rewraps limits answers gathered come (moved old new) (Err f)
     go Read (bytes, may, wrote) = (i.text ++ bytes, i.may bytes may, inr (part bytes may wrote))
     go Write (bytes, may, wrote) = (i.text ++ bytes, i.may bytes may, part bytes may wrote)
     go TooManyChunks ((copy, put-copy, much), (bytes, may, wrote, long)) = (
@@ -280,12 +281,12 @@ copied_rewraps limits answers gathered come mid old put new h key text (Err faul
     go (IncompatibleRecipients i) c = absurd c
 
 -- copying ends with a late fault alone
-pub copies_late : (from old new : Known) (K : Type 0) (r : Result (Unit {0}) Fault) → Copies from old new r
+pub copies_late : (from old new : Known) (K : Type 0) (r : Result (Unit {0}) Fault) → Copies from (moved old new) r
     → IfErr r (λ fault. IsLate fault ⊎ K)
 copies_late from old new K (Ok done) c = tt
 copies_late from old new K (Err fault) c = go fault c
   where
-    go : (f : Fault) → Copies from old new (Err f) → IsLate f ⊎ K
+    go : (f : Fault) → Copies from (moved old new) (Err f) → IsLate f ⊎ K
     go Read c = inl tt
     go Write c = inl tt
     go TooManyChunks c = inl tt

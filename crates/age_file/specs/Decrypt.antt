@@ -1,8 +1,7 @@
 -- What decrypting a file returns and writes.
 use Rattle.std.specs.Prelude.{◌≡◌, ℕ, ◌+◌, ◌*◌, ◌/◌, List, [], ⊤, length, drop, Some, None, Result, Ok, Err}
-use Rattle.std.specs.Io.KnownBytes.{Appends}
 use Rattle.age_header.specs.declared.fault.HeaderFault.{HeaderFault}
-use Rattle.age_header.specs.Device.{Bytes, Known, GaveAtMost, MayGive, WritesPart}
+use Rattle.age_header.specs.Device.{Bytes, Known, GaveAtMost, MayGive, WritesPart, Moved, Took}
 use Rattle.age_header.specs.Verdict.{Found, HeaderVerdict}
 use Rattle.age_stream.specs.declared.done.Done.{Done}
 use Rattle.age_stream.specs.Payload.{pieces}
@@ -26,52 +25,50 @@ ReturnsVerdict verdict n (Ok done) =
 ReturnsVerdict verdict n (Err fault) = verdict.fault ≡ Some fault
 
 -- the verdict on b is returned, and its plaintext was written
-abbrev pub GivesVerdict : (limits : Bounds) (answers : Answering) (b : Bytes) (old new : Known)
+abbrev pub GivesVerdict : (limits : Bounds) (answers : Answering) (b : Bytes) (sink : Moved)
     (r : Result Done Fault) → Type 0
-GivesVerdict limits answers b old new r =
+GivesVerdict limits answers b sink r =
     (verdict : Reading Fault) × (is : IsVerdict limits answers b verdict)
-    × ReturnsVerdict verdict (length (payload_pieces b is.header)) r × Appends old new verdict.front
+    × ReturnsVerdict verdict (length (payload_pieces b is.header)) r × Took sink verdict.front
 
 -- a prefix of the verdict's plaintext was written
-abbrev pub BeginsVerdict : (limits : Bounds) (answers : Answering) (b : Bytes) (old new : Known)
+abbrev pub BeginsVerdict : (limits : Bounds) (answers : Answering) (b : Bytes) (sink : Moved)
     → Type 0
-BeginsVerdict limits answers b old new =
-    (verdict : Reading Fault) × IsVerdict limits answers b verdict
-    × WritesPart old new verdict.front
+BeginsVerdict limits answers b sink =
+    (verdict : Reading Fault) × IsVerdict limits answers b verdict × WritesPart sink verdict.front
 
 -- What is returned where b was to come, and what is written: the verdict, unless a device failed or
 -- memory was refused.
-abbrev pub DecryptsText : (limits : Bounds) (answers : Answering) (b : Bytes) (old new : Known)
+abbrev pub DecryptsText : (limits : Bounds) (answers : Answering) (b : Bytes) (sink : Moved)
     (r : Result Done Fault) → Type 0
-DecryptsText limits answers b old new (Err Read) = BeginsVerdict limits answers b old new
-DecryptsText limits answers b old new (Err Write) = BeginsVerdict limits answers b old new
-DecryptsText limits answers b old new (Err OutOfMemory) = ⊤
-DecryptsText limits answers b old new r = GivesVerdict limits answers b old new r
+DecryptsText limits answers b sink (Err Read) = BeginsVerdict limits answers b sink
+DecryptsText limits answers b sink (Err Write) = BeginsVerdict limits answers b sink
+DecryptsText limits answers b sink (Err OutOfMemory) = ⊤
+DecryptsText limits answers b sink r = GivesVerdict limits answers b sink r
 
 -- the same of bytes that a source may give
-abbrev pub Decrypts : (limits : Bounds) (answers : Answering) (from old new : Known)
+abbrev pub Decrypts : (limits : Bounds) (answers : Answering) (from : Known) (sink : Moved)
     (r : Result Done Fault) → Type 0
-Decrypts limits answers from old new r =
-    (b : Bytes) × MayGive from b × DecryptsText limits answers b old new r
+Decrypts limits answers from sink r =
+    (b : Bytes) × MayGive from b × DecryptsText limits answers b sink r
 
 -- of a source that may have given b at most the header, the nonce, the pieces through number i and
 -- one byte were read
-pub record TookThrough (limits : Bounds) (i : ℕ) (from to : Known) : Type 0 where
+pub record TookThrough (limits : Bounds) (i : ℕ) (source : Moved) : Type 0 where
   pub b : Bytes
-  pub may : MayGive from b
+  pub may : MayGive source.before b
   pub found : Found
   pub header : HeaderVerdict b limits.max_header (Ok found)
-  pub gave : GaveAtMost (length found.text + (nonce_size + (sealed_chunk_size * (i + 1) + 1))) from
-      to
+  pub gave : GaveAtMost (length found.text + (nonce_size + (sealed_chunk_size * (i + 1) + 1)))
+      source
 
 -- How much of the source was read where decrypting ended at a piece, or at a write after so many
 -- written bytes.
-abbrev pub TookUpTo : (limits : Bounds) (from to old new : Known) (fault : Fault) → Type 0
-TookUpTo limits from to old new (ChunkShort i) = TookThrough limits i from to
-TookUpTo limits from to old new (EmptyFinal i) = TookThrough limits i from to
-TookUpTo limits from to old new (BadChunk i) = TookThrough limits i from to
-TookUpTo limits from to old new TooManyChunks = TookThrough limits limits.max_chunks from to
-TookUpTo limits from to old new Write =
-    (written : Bytes) × Appends old new written
-    × TookThrough limits (length written / chunk_size) from to
-TookUpTo limits from to old new _ = ⊤
+abbrev pub TookUpTo : (limits : Bounds) (source sink : Moved) (fault : Fault) → Type 0
+TookUpTo limits source sink (ChunkShort i) = TookThrough limits i source
+TookUpTo limits source sink (EmptyFinal i) = TookThrough limits i source
+TookUpTo limits source sink (BadChunk i) = TookThrough limits i source
+TookUpTo limits source sink TooManyChunks = TookThrough limits limits.max_chunks source
+TookUpTo limits source sink Write =
+    (written : Bytes) × Took sink written × TookThrough limits (length written / chunk_size) source
+TookUpTo limits source sink _ = ⊤

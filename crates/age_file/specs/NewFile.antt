@@ -2,8 +2,7 @@
 use Rattle.std.specs.Prelude.{◌≡◌, ℕ, ◌+◌, ◌-◌, ◌*◌, ◌<◌, ◌≤◌, ◌⊎◌, Bool, true, false, ⊤, List, [], ◌∷◌, ◌++◌, length, map, take, Result, Ok, Err, Option, Some, None, Vec}
 use Rattle.std.specs.Global.{Global}
 use Rattle.std.specs.List.{AllZip, concat}
-use Rattle.std.specs.Io.KnownBytes.{Appends}
-use Rattle.age_header.specs.Device.{Bytes, Known, GaveAtMost, MayGive, WritesPart}
+use Rattle.age_header.specs.Device.{Bytes, Known, GaveAtMost, MayGive, WritesPart, Moved, Took}
 use Rattle.age_header.specs.Header.{StanzaParts, Head}
 use Rattle.age_header.specs.Mac.{header_mac}
 use Rattle.age_recipient.specs.declared.key.FileKey.{FileKey}
@@ -120,32 +119,32 @@ pub record FileBelowLimit (limits : Bounds) (fresh : Fresh) (gathered : Gatherin
 
 -- a prefix of the header and payload was written
 pub record BegunFile (limits : Bounds) (fresh : Fresh) (gathered : Gathering) (plain : Bytes)
-    (old new : Known) : Type 0 where
+    (sink : Moved) : Type 0 where
   pub stanzas : List StanzaParts
   pub text : Bytes
   pub heading : IsHeading limits fresh.file_key gathered stanzas text
-  pub part : WritesPart old new (text ++ payload fresh.file_key fresh.nonce plain)
+  pub part : WritesPart sink (text ++ payload fresh.file_key fresh.nonce plain)
 
 -- What `encrypt` returns and writes, `gathered` being what the recipients may give, and the source
 -- giving `plain`.
 abbrev pub EncryptsText : (limits : Bounds) (fresh : Fresh) (gathered : Gathering) (plain : Bytes)
-    (old new : Known) (result : Result Done Fault) → Type 0
-EncryptsText limits fresh gathered plain old new (Ok done) =
-    (gained : Bytes) × NewFile limits fresh gathered plain gained × Appends old new gained
+    (sink : Moved) (result : Result Done Fault) → Type 0
+EncryptsText limits fresh gathered plain sink (Ok done) =
+    (gained : Bytes) × NewFile limits fresh gathered plain gained × Took sink gained
     × (done.bytes ≡ length plain) × (done.chunks ≡ length (chunks plain))
-EncryptsText limits fresh gathered plain old new (Err TooManyChunks) =
-    (gained : Bytes) × FileBelowLimit limits fresh gathered plain gained × Appends old new gained
-EncryptsText limits fresh gathered plain old new (Err Read) =
-    BegunFile limits fresh gathered plain old new
-EncryptsText limits fresh gathered plain old new (Err Write) =
-    BegunFile limits fresh gathered plain old new
-EncryptsText limits fresh gathered plain old new (Err fault) = ⊤
+EncryptsText limits fresh gathered plain sink (Err TooManyChunks) =
+    (gained : Bytes) × FileBelowLimit limits fresh gathered plain gained × Took sink gained
+EncryptsText limits fresh gathered plain sink (Err Read) =
+    BegunFile limits fresh gathered plain sink
+EncryptsText limits fresh gathered plain sink (Err Write) =
+    BegunFile limits fresh gathered plain sink
+EncryptsText limits fresh gathered plain sink (Err fault) = ⊤
 
 -- the same of a plaintext that a source may give
 abbrev pub EncryptsGiven : (limits : Bounds) (fresh : Fresh) (gathered : Gathering)
-    (from old new : Known) (r : Result Done Fault) → Type 0
-EncryptsGiven limits fresh gathered from old new r =
-    (plain : Bytes) × MayGive from plain × EncryptsText limits fresh gathered plain old new r
+    (from : Known) (sink : Moved) (r : Result Done Fault) → Type 0
+EncryptsGiven limits fresh gathered from sink r =
+    (plain : Bytes) × MayGive from plain × EncryptsText limits fresh gathered plain sink r
 
 -- a fault with which no header was made names the first reason; any other result says nothing of it
 abbrev pub RefusesFirst : (limits : Bounds) (k : FileKey) (gathered : Gathering) (fault : Fault)
@@ -179,10 +178,10 @@ FailsHeading limits k gathered fault = (fault ≡ OutOfMemory) ⊎ IsRefusal lim
 
 -- a sealer that keeps no fault seals what it holds: with all that an open source gives, or as the
 -- last chunk where the source has ended
-abbrev pub SealsRest : (s : SealerState) (is_open : Bool) (from to old new : Known)
+abbrev pub SealsRest : (s : SealerState) (is_open : Bool) (source sink : Moved)
     (result : Result Done StreamFault) → Type 0
-SealsRest s true from to old new result = SealsAll s from to old new result
-SealsRest s false from to old new result = FinishesBy s old new result × (to ≡ from)
+SealsRest s true source sink result = SealsAll s source sink result
+SealsRest s false source sink result = FinishesBy s sink result × (source.after ≡ source.before)
 
 -- the source may give a whole chunk
 abbrev pub MayFillChunk : (from : Known) → Type 0
@@ -191,21 +190,21 @@ MayFillChunk from = (text : Bytes) × MayGive from text × (chunk_size ≤ lengt
 -- Of the source at most so much was read: with n full sealed chunks written after the header and
 -- the nonce, n + 2 chunks of text.
 pub record TookChunks (limits : Bounds) (fresh : Fresh) (gathered : Gathering)
-    (from to old new : Known) : Type 0 where
+    (source sink : Moved) : Type 0 where
   pub stanzas : List StanzaParts
   pub text : Bytes
   pub heading : IsHeading limits fresh.file_key gathered stanzas text
   pub written : Bytes
-  pub gained : Appends old new written
+  pub gained : Took sink written
   pub n : ℕ
   pub whole : sealed_chunk_size * n ≤ length written - (length text + nonce_size)
-  pub gave : GaveAtMost (chunk_size * (n + 2)) from to
+  pub gave : GaveAtMost (chunk_size * (n + 2)) source
 
 -- how much of the source was read where encrypting ended at a write, or with too many chunks
 abbrev pub TookWhileEncrypting : (limits : Bounds) (fresh : Fresh) (gathered : Gathering)
-    (from to old new : Known) (fault : Fault) → Type 0
-TookWhileEncrypting limits fresh gathered from to old new TooManyChunks =
-    TookChunks limits fresh gathered from to old new
-TookWhileEncrypting limits fresh gathered from to old new Write =
-    TookChunks limits fresh gathered from to old new
-TookWhileEncrypting limits fresh gathered from to old new _ = ⊤
+    (source sink : Moved) (fault : Fault) → Type 0
+TookWhileEncrypting limits fresh gathered source sink TooManyChunks =
+    TookChunks limits fresh gathered source sink
+TookWhileEncrypting limits fresh gathered source sink Write =
+    TookChunks limits fresh gathered source sink
+TookWhileEncrypting limits fresh gathered source sink _ = ⊤

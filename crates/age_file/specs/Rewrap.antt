@@ -1,8 +1,7 @@
 -- A file with another header for the same file key.
 use Rattle.std.specs.Prelude.{◌≡◌, ◌⊎◌, ◌≤◌, false, List, ◌++◌, ⊤, length, drop, Result, Ok, Err}
-use Rattle.std.specs.Io.KnownBytes.{Appends, Keeps}
 use Rattle.age_header.specs.declared.fault.HeaderFault.{HeaderFault}
-use Rattle.age_header.specs.Device.{Bytes, Known, MayGive, WritesPart}
+use Rattle.age_header.specs.Device.{Bytes, Known, MayGive, WritesPart, Moved, Took, Stays}
 use Rattle.age_header.specs.Header.{StanzaParts, Head}
 use Rattle.age_header.specs.Mac.{header_mac}
 use Rattle.age_header.specs.Verdict.{Found, HeaderVerdict}
@@ -53,28 +52,28 @@ RefusesRewrap limits answers gathered b fault =
 
 -- a prefix of the rewrapped file was written
 abbrev pub BeginsRewrapped : (limits : Bounds) (answers : Answering)
-    (gathered : FileKey → Gathering) (b : Bytes) (old new : Known) → Type 0
-BeginsRewrapped limits answers gathered b old new =
-    (c : Bytes) × IsRewrapped limits answers gathered b c × WritesPart old new c
+    (gathered : FileKey → Gathering) (b : Bytes) (sink : Moved) → Type 0
+BeginsRewrapped limits answers gathered b sink =
+    (c : Bytes) × IsRewrapped limits answers gathered b c × WritesPart sink c
 
 -- What is returned where b was to come, and what is written.
 abbrev pub RewrapsText : (limits : Bounds) (answers : Answering) (gathered : FileKey → Gathering)
-    (b : Bytes) (old new : Known) (result : Result (Unit {0}) Fault) → Type 0
-RewrapsText limits answers gathered b old new (Ok done) =
-    (c : Bytes) × IsRewrapped limits answers gathered b c × Appends old new c
-RewrapsText limits answers gathered b old new (Err Read) =
-    Keeps old new ⊎ BeginsRewrapped limits answers gathered b old new
-RewrapsText limits answers gathered b old new (Err Write) =
-    BeginsRewrapped limits answers gathered b old new
-RewrapsText limits answers gathered b old new (Err TooManyChunks) =
-    BeginsRewrapped limits answers gathered b old new × (most_copied ≤ length b)
-    × WroteAtLeast most_copied old new
-RewrapsText limits answers gathered b old new (Err OutOfMemory) = ⊤
-RewrapsText limits answers gathered b old new (Err fault) =
+    (b : Bytes) (sink : Moved) (result : Result (Unit {0}) Fault) → Type 0
+RewrapsText limits answers gathered b sink (Ok done) =
+    (c : Bytes) × IsRewrapped limits answers gathered b c × Took sink c
+RewrapsText limits answers gathered b sink (Err Read) =
+    Stays sink ⊎ BeginsRewrapped limits answers gathered b sink
+RewrapsText limits answers gathered b sink (Err Write) =
+    BeginsRewrapped limits answers gathered b sink
+RewrapsText limits answers gathered b sink (Err TooManyChunks) =
+    BeginsRewrapped limits answers gathered b sink × (most_copied ≤ length b)
+    × WroteAtLeast most_copied sink
+RewrapsText limits answers gathered b sink (Err OutOfMemory) = ⊤
+RewrapsText limits answers gathered b sink (Err fault) =
     RefusesRewrap limits answers gathered b fault
 
 -- the same of bytes that a source may give
 abbrev pub Rewraps : (limits : Bounds) (answers : Answering) (gathered : FileKey → Gathering)
-    (from old new : Known) (r : Result (Unit {0}) Fault) → Type 0
-Rewraps limits answers gathered from old new r =
-    (b : Bytes) × MayGive from b × RewrapsText limits answers gathered b old new r
+    (from : Known) (sink : Moved) (r : Result (Unit {0}) Fault) → Type 0
+Rewraps limits answers gathered from sink r =
+    (b : Bytes) × MayGive from b × RewrapsText limits answers gathered b sink r

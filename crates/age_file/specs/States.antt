@@ -1,9 +1,8 @@
 -- A file that is written, or read, in steps: what is kept between the steps, and what each does to
 -- its device.
 use Rattle.std.specs.Prelude.{◌≡◌, ◌⊎◌, ℕ, true, false, ◌++◌, Result, Ok, Err}
-use Rattle.std.specs.Io.KnownBytes.{Appends}
 use denote.Ref.{MutBor}
-use Rattle.age_header.specs.Device.{Bytes, CountsFaultIf, Known, WritesPart}
+use Rattle.age_header.specs.Device.{Bytes, CountsFaultIf, Known, WritesPart, Took, moved_by}
 use Rattle.age_header.specs.Header.{Head, HeaderParts}
 use Rattle.age_recipient.specs.declared.key.FileKey.{FileKey}
 use Rattle.age_stream.specs.declared.fault.StreamFault.{StreamFault}
@@ -33,14 +32,14 @@ abbrev pub StartsFile : {W : Type 0} (taken : W → Known) (failed : W → ℕ) 
     (old new : W) (r : Result SealerState Fault) → Type 0
 StartsFile taken failed s old new (Ok sealer) =
     ((text : Bytes) × Head s.header.stanzas s.header.mac text
-    × Appends (taken old) (taken new) (text ++ s.fresh.nonce))
+    × Took (moved_by taken old new) (text ++ s.fresh.nonce))
     × (failed new ≡ failed old)
     × (sealer ≡ at_start (payload_key s.fresh.file_key s.fresh.nonce) s.limits.max_chunks)
 StartsFile taken failed s old new (Err fault) =
     ((fault ≡ OutOfMemory) × (new ≡ old))
     ⊎ ((fault ≡ Write)
     × ((text : Bytes) × Head s.header.stanzas s.header.mac text
-    × WritesPart (taken old) (taken new) (text ++ s.fresh.nonce))
+    × WritesPart (moved_by taken old new) (text ++ s.fresh.nonce))
     × CountsFaultIf is_write (failed old) (failed new) fault)
 
 -- a file whose header was read: the source that gives the rest, the header, and the limits
@@ -58,13 +57,13 @@ limits_of d = d.limits
 abbrev pub StartsDecryptor : {S : Type 0} (to_come : S → Known) (failed : S → ℕ) (limits : Bounds)
     (old new : S) (r : Result HeaderParts Fault) → Type 0
 StartsDecryptor to_come failed limits old new (Ok header) =
-    Inspects limits (to_come old) (to_come new) (Ok header) × (is_mixed header.stanzas ≡ false)
+    Inspects limits (moved_by to_come old new) (Ok header) × (is_mixed header.stanzas ≡ false)
     × (failed new ≡ failed old)
 StartsDecryptor to_come failed limits old new (Err fault) =
     CountsFaultIf is_read (failed old) (failed new) fault
-    × (Inspects limits (to_come old) (to_come new) (Err fault)
+    × (Inspects limits (moved_by to_come old new) (Err fault)
     ⊎ ((fault ≡ MixedPassphrase)
-    × ((header : HeaderParts) × Inspects limits (to_come old) (to_come new) (Ok header)
+    × ((header : HeaderParts) × Inspects limits (moved_by to_come old new) (Ok header)
     × (is_mixed header.stanzas ≡ true))))
 
 -- what was made of what follows a header, where `found` is its file key, and what became of the
@@ -78,4 +77,4 @@ StartsUnder to_come failed limits found old new (Ok opener) =
 StartsUnder to_come failed limits found old new (Err fault) =
     (((fault ≡ OutOfMemory) ⊎ (found ≡ Err fault)) × (new ≡ old))
     ⊎ ((k : FileKey) × (met : StreamFault) × (found ≡ Ok k) × (fault ≡ stream_fault met)
-    × MissesNonce k limits.max_chunks (to_come old) (to_come new) (failed old) (failed new) met)
+    × MissesNonce k limits.max_chunks (moved_by to_come old new) (failed old) (failed new) met)

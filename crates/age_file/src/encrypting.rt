@@ -1,7 +1,7 @@
 //! Encrypting a whole file.
 
 ghost use Rattle.std.specs.Prelude.{◌≡◌, ◌⊎◌, ◌++◌, Err, None, IfErr};
-ghost use Rattle.age_header.specs.Device.{Bytes, Counts, CountsIf, Writes};
+ghost use Rattle.age_header.specs.Device.{Bytes, Counts, CountsIf, Writes, moved_by};
 ghost use Rattle.age_header.specs.Header.{Head};
 ghost use Rattle.age_file.specs.Device.{IsQuiet, is_read, is_write};
 ghost use Rattle.age_file.specs.NewFile.{EncryptsGiven, RefusesFirst, MayFillChunk, SealsRest, TookWhileEncrypting, gathering_by};
@@ -43,7 +43,7 @@ pub fn encrypt<S: Source, W: Sink>(
 ) -> Result<Done, Fault>
     ensures encrypts { EncryptsGiven limits.now fresh.now
         (gathering_by recipients.now (λ r k. wraps r k) (λ r. the_labels r) fresh.now.file_key)
-        (S.to_come plain.old) (W.taken out.old) (W.taken out.new) result }
+        (S.to_come plain.old) (moved_by W.taken out.old out.new) result }
     ensures refused { IfErr result (RefusesFirst limits.now fresh.now.file_key
         (gathering_by recipients.now (λ r k. wraps r k) (λ r. the_labels r) fresh.now.file_key)) }
     ensures quiet { IsQuiet out.old out.new result }
@@ -53,7 +53,7 @@ pub fn encrypt<S: Source, W: Sink>(
     ensures writes { CountsIf is_write (W.failed out.old) (W.failed out.new) result }
     ensures took { IfErr result (TookWhileEncrypting limits.now fresh.now
         (gathering_by recipients.now (λ r k. wraps r k) (λ r. the_labels r) fresh.now.file_key)
-        (S.to_come plain.old) (S.to_come plain.new) (W.taken out.old) (W.taken out.new)) }
+        (moved_by S.to_come plain.old plain.new) (moved_by W.taken out.old out.new)) }
 {
     let header = header_for(alloc, recipients, &fresh.file_key, limits)?;
     let Ok(buf) = ChunkBuf::new(alloc) else {
@@ -64,10 +64,9 @@ pub fn encrypt<S: Source, W: Sink>(
         Ok(is_open) => is_open,
         Err(_) => return Err(Fault::Read),
     };
-    match write_front(&header, &fresh.nonce, out) {
-        Ok(()) => {}
-        Err(_) => return Err(Fault::Write),
-    }
+    let Ok(()) = write_front(&header, &fresh.nonce, out) else {
+        return Err(Fault::Write);
+    };
     match seal_rest(sealer, is_open, plain, out) {
         Ok(done) => Ok(done),
         Err(fault) => Err(stream_fault(fault)),
@@ -82,8 +81,8 @@ fn seal_rest<S: Source, W: Sink>(
     out: &mut W,
 ) -> Result<Done, StreamFault>
     requires { sealer.fault ≡ None }
-    ensures seals { SealsRest sealer is_open (S.to_come plain.old) (S.to_come plain.new)
-        (W.taken out.old) (W.taken out.new) result }
+    ensures seals { SealsRest sealer is_open (moved_by S.to_come plain.old plain.new)
+        (moved_by W.taken out.old out.new) result }
     ensures reads { CountsIf stream.is_read (S.failed plain.old) (S.failed plain.new) result }
     ensures writes { CountsIf stream.is_write (W.failed out.old) (W.failed out.new) result }
 {
@@ -104,7 +103,7 @@ pub fn write_front<W: Sink>(
     out: &mut W,
 ) -> Result<(), DeviceFault>
     ensures text { (text : Bytes) × Head header.now.stanzas header.now.mac text
-        × Writes (W.taken out.old) (W.taken out.new) result (text ++ nonce.now) }
+        × Writes (moved_by W.taken out.old out.new) result (text ++ nonce.now) }
     ensures count { Counts (W.failed out.old) (W.failed out.new) result }
 {
     write_header(header, out)?;

@@ -89,10 +89,9 @@ impl Encryptor {
         let Ok(buf) = ChunkBuf::new(alloc) else {
             return Err(Refused::of(out, Fault::OutOfMemory));
         };
-        match write_front(&self.header, &self.fresh.nonce, out) {
-            Ok(()) => {}
-            Err(_) => return Err(Refused::of(out, Fault::Write)),
-        }
+        let Ok(()) = write_front(&self.header, &self.fresh.nonce, out) else {
+            return Err(Refused::of(out, Fault::Write));
+        };
         let max_chunks = self.limits.max_chunks();
         let sealer = ChunkSealer::new(&self.fresh.file_key, &self.fresh.nonce, max_chunks, buf);
         Ok(StreamWriter::over(out, sealer))

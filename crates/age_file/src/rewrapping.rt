@@ -1,6 +1,6 @@
 //! Replacing the header of a file; the payload stays.
 
-ghost use Rattle.age_header.specs.Device.{CountsIf};
+ghost use Rattle.age_header.specs.Device.{CountsIf, moved_by};
 ghost use Rattle.age_file.specs.Device.{IsQuiet, is_read, is_write};
 ghost use Rattle.age_file.specs.NewFile.{gathering_by};
 ghost use Rattle.age_file.specs.Rewrap.{Rewraps};
@@ -37,7 +37,7 @@ pub fn rewrap<S: Source, W: Sink>(
 ) -> Result<(), Fault>
     ensures rewraps { Rewraps limits.now (answers_by identities.now (λ i s. meaning i s))
         (gathering_by recipients.now (λ r k. wraps r k) (λ r. the_labels r))
-        (S.to_come input.old) (W.taken out.old) (W.taken out.new) result }
+        (S.to_come input.old) (moved_by W.taken out.old out.new) result }
     ensures quiet { IsQuiet out.old out.new result }
     ensures reads { CountsIf is_read (S.failed input.old) (S.failed input.new) result }
     ensures writes { CountsIf is_write (W.failed out.old) (W.failed out.new) result }
@@ -57,10 +57,9 @@ pub fn rewrap<S: Source, W: Sink>(
     let Ok(buf) = vec![in alloc; 0u8; BUFFER_SIZE] else {
         return Err(Fault::OutOfMemory);
     };
-    match write_header(&new, out) {
-        Ok(()) => {}
-        Err(_) => return Err(Fault::Write),
-    }
+    let Ok(()) = write_header(&new, out) else {
+        return Err(Fault::Write);
+    };
     let mut buf = buf;
     // So that with a buffered sink of this size each write but the last begins and ends at a
     // multiple of it.

@@ -9,7 +9,7 @@ use Rattle.std.proofs.Math.Seq.{take-append-add}
 use Rattle.std.specs.declared.result.Result.{Result}
 use Rattle.std.specs.declared.result.Result.TheVariants.{Ok, Err}
 use Rattle.age_kdf.specs.Bytes.{Bytes}
-use Rattle.age_header.specs.Device.{GaveAtMost, MayGive, Known, Writes, WritesPart}
+use Rattle.age_header.specs.Device.{GaveAtMost, MayGive, Known, Writes, WritesPart, moved}
 
 -- a source may give something
 pub may-some : (told : Known) → (bytes : Bytes) × MayGive told bytes
@@ -33,7 +33,8 @@ may-end None b given h end = tt
 may-end (Some x) None given h end = absurd h
 may-end (Some x) (Some y) given h end = h ∙ ap (λ t. given ++ t) end ∙ append-nil given
 
-pub gave-more : (a b c : Known) (n m : ℕ) → GaveAtMost n a b → GaveAtMost m b c → GaveAtMost (n + m) a c
+pub gave-more : (a b c : Known) (n m : ℕ) → GaveAtMost n (moved a b) → GaveAtMost m (moved b c)
+    → GaveAtMost (n + m) (moved a c)
 gave-more a b c n m g h = (
   g.0 ++ h.0,
   Consumes-trans a b c g.0 h.0 g.1 h.1,
@@ -61,8 +62,9 @@ pub done_all : (a b c : Known) (whole left : Bytes) → Done a b whole left → 
 done_all a b c whole left d h = subst (λ (z : Bytes). Appends a c z) (sym d.is)
     (Appends-trans a b c d.prefix left d.took h)
 
-pub done_part : (a b c : Known) (whole left x y : Bytes) → Done a b whole left → left ≡ x ++ y → WritesPart b c x
-    → WritesPart a c whole
+pub done_part : (a b c : Known) (whole left x y : Bytes) → Done a b whole left → left ≡ x ++ y
+    → WritesPart (moved b c) x
+    → WritesPart (moved a c) whole
 done_part a b c whole left x y d e w =
     let n : ℕ = min w.0 (length x) in
     let low : n ≤ length x = omega arith in
@@ -76,16 +78,17 @@ done_part a b c whole left x y d e w =
           (Appends-trans a b c d.prefix (take w.0 x) d.took w.1),
     )
 
-pub done_last : (a b c : Known) (whole left : Bytes) → Done a b whole left → WritesPart b c left → WritesPart a c whole
+pub done_last : (a b c : Known) (whole left : Bytes) → Done a b whole left → WritesPart (moved b c) left
+    → WritesPart (moved a c) whole
 done_last a b c whole left d w = done_part a b c whole left left [] d (sym (append-nil left)) w
 
 -- at the exit of a `?` a prefix was written
 pub part_at_exit : {T E : Type 0} (Q : E → Type 0) (a b : Known) (r : Result T E) (text : Bytes) → IsErrAnd r Q
-    → WritesPart a b text → Writes a b r text
+    → WritesPart (moved a b) text → Writes (moved a b) r text
 part_at_exit Q a b r text exit part = let p = err_from_is_err_and r exit in rw p.1 part
 
 -- what the last call did to what was left, it did to the whole
 pub writes_last : {T E : Type 0} (a b c : Known) (r : Result T E) (whole left : Bytes) → Done a b whole left
-    → Writes b c r left → Writes a c r whole
+    → Writes (moved b c) r left → Writes (moved a c) r whole
 writes_last a b c (Ok x) whole left d h = done_all a b c whole left d h
 writes_last a b c (Err e) whole left d h = done_last a b c whole left d h

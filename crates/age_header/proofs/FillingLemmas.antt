@@ -5,10 +5,10 @@ use Rattle.std.proofs.Math.Seq.{take-append-add, take-append_seam}
 use Rattle.std.specs.Io.{ReadsAtMost}
 use Rattle.age_kdf.specs.Bytes.{Bytes}
 use Rattle.age_header.specs.declared.device.DeviceFault.{DeviceFault}
-use Rattle.age_header.specs.Device.{Gives, Known}
+use Rattle.age_header.specs.Device.{Gives, Known, moved}
 use Rattle.age_header.specs.Filling.{Filled, Got}
 
-pub filled-none : (start : ℕ) (buf : Bytes) (a : Known) → start ≤ length buf → Filled start start buf buf a a
+pub filled-none : (start : ℕ) (buf : Bytes) (a : Known) → start ≤ length buf → Filled start start buf buf (moved a a)
 filled-none start buf a le = record {
   piece = [];
   len = omega arith;
@@ -18,7 +18,7 @@ filled-none start buf a le = record {
 }
 
 pub filled-more : (start at n : ℕ) (buf mid after : Bytes) (a b c : Known) → length mid ≡ length buf
-    → Filled start at buf mid a b → Got at n mid after b c → Filled start (at + n) buf after a c
+    → Filled start at buf mid (moved a b) → Got at n mid after (moved b c) → Filled start (at + n) buf after (moved a c)
 filled-more start at n buf mid after a b c size f h = record {
   piece = f.piece ++ h.piece;
   len = omega (arith, length-append f.piece h.piece, f.len, h.len);
@@ -30,7 +30,7 @@ filled-more start at n buf mid after a b c size f h = record {
 -- one read after a prefix
 pub got-read : (r : Result ℕ DeviceFault) (at : ℕ) (buf prefix rest after : Bytes) (a b : Known) → buf ≡ prefix ++ rest
     → length prefix ≡ at → length after ≡ length rest
-    → ReadsAtMost r after → Gives a b r after → IfOk r (λ n. Got at n buf (prefix ++ after) a b)
+    → ReadsAtMost r after → Gives (moved a b) r after → IfOk r (λ n. Got at n buf (prefix ++ after) (moved a b))
 got-read (Err e) at buf prefix rest after a b is len size bound gives = tt
 got-read (Ok n) at buf prefix rest after a b is len size bound gives =
     let all : length buf ≡ length prefix + length rest = ap length is ∙ length-append prefix rest in

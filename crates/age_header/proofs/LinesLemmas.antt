@@ -7,7 +7,7 @@ use Rattle.base64.proofs.Tables.{all_below_at}
 use Rattle.age_kdf.specs.Bytes.{Bytes}
 use Rattle.age_header.specs.Verdict.{IsLineText, lines_text}
 use Rattle.age_header.specs.Base64.{IsBase64, StandsFor, alphabet}
-use Rattle.age_header.specs.Header.{AreArguments, IsArgument, IsVisible, line}
+use Rattle.age_header.specs.Header.{AreArguments, IsArgument, IsVisible}
 
 -- a line ends at its first LF
 pub line_split : (a b x y : Bytes) → IsLineText a → IsLineText b → a ++ 10 ∷ x ≡ b ++ 10 ∷ y → (a ≡ b) × (x ≡ y)

@@ -6,7 +6,7 @@ use Rattle.std.proofs.KnownBytes.{starts_with_rest}
 use Rattle.std.specs.Io.KnownBytes.{Consumes, IsAtEnd}
 use Rattle.std.specs.declared.result.Result.TheVariants.{Err}
 use Rattle.age_kdf.specs.Bytes.{Bytes}
-use Rattle.age_header.specs.Device.{Known}
+use Rattle.age_header.specs.Device.{Known, moved}
 use Rattle.age_header.specs.declared.fault.HeaderFault.TheVariants.{NotAge, Truncated, TooLarge}
 use Rattle.age_header.specs.declared.lines.LineEnd.{LineEnd}
 use Rattle.age_header.specs.declared.lines.LineEnd.TheVariants.{Lf, Input, Room}
@@ -102,7 +102,7 @@ no_prefix_told b n first end max took text ends none age =
 pub no_prefix : (a new : Known) (first : Bytes) (end : LineEnd) (max : ℕ) → Consumes a new (line_bytes first end)
     → IsLineText first
     → IsEnd end (length first) (min max version_size) new → ((x : Bytes) → version_text ≢ first ++ x)
-    → ReadsHeader a new max (Err NotAge)
+    → ReadsHeader (moved a new) max (Err NotAge)
 no_prefix a new first Lf max took text ends none =
     answered a new (first ++ 10 ∷ []) max NotAge took (λ b n is. no_prefix_told b n first Lf max is text ends none)
 no_prefix a new first Input max took text ends none =
@@ -114,7 +114,7 @@ no_prefix a new first Room max took text ends none =
 -- a line that ends too early
 pub short_line : (a new : Known) (first rest : Bytes) (max : ℕ) → Consumes a new (first ++ 10 ∷ []) → IsLineText first
     → length first < min max version_size → version_text ≡ first ++ rest → rest ≢ []
-    → ReadsHeader a new max (Err NotAge)
+    → ReadsHeader (moved a new) max (Err NotAge)
 short_line a new first rest max took text ends is more = answered a new (first ++ 10 ∷ []) max NotAge took told
   where
     told : (b n : Bytes) → b ≡ (first ++ 10 ∷ []) ++ n → BeginsAsAge (take max b) → ⊥
@@ -146,7 +146,7 @@ prefix_size first rest is = omega (arith, ap length is, version_text_size, lengt
 -- a first line that goes on, at the end of the input or under the limit
 pub short_input : (a new : Known) (first rest : Bytes) (max : ℕ) → Consumes a new first → IsLineText first
     → (length first < min max version_size) × IsAtEnd new → version_text ≡ first ++ rest
-    → ReadsHeader a new max (Err Truncated)
+    → ReadsHeader (moved a new) max (Err Truncated)
 short_input a new first rest max took text ends is = answered_at_end a new first max Truncated took ends.1 told
   where
     told : (b : Bytes) → b ≡ first → IsFault b max Truncated
@@ -162,7 +162,7 @@ short_input a new first rest max took text ends is = answered_at_end a new first
         )
 
 pub short_room : (a new : Known) (first rest : Bytes) (max : ℕ) → Consumes a new first → IsLineText first
-    → length first ≡ min max version_size → version_text ≡ first ++ rest → ReadsHeader a new max (Err TooLarge)
+    → length first ≡ min max version_size → version_text ≡ first ++ rest → ReadsHeader (moved a new) max (Err TooLarge)
 short_room a new first rest max took text ends is = answered a new first max TooLarge took told
   where
     told : (b n : Bytes) → b ≡ first ++ n → IsFault b max TooLarge

@@ -7,7 +7,7 @@ use Rattle.std.specs.Io.KnownBytes.{Consumes, IsAtEnd}
 use Rattle.std.specs.List.{AllByRecursion}
 use Rattle.std.specs.declared.result.Result.TheVariants.{Ok, Err}
 use Rattle.age_kdf.specs.Bytes.{Bytes}
-use Rattle.age_header.specs.Device.{Known}
+use Rattle.age_header.specs.Device.{Known, moved}
 use Rattle.age_header.specs.declared.fault.HeaderFault.TheVariants.{BadLine, Truncated, TooLarge}
 use Rattle.age_header.specs.Base64.{IsBase64}
 use Rattle.age_header.specs.Header.{StanzaParts, Head, line, version_line, version_size, mac_size}
@@ -25,7 +25,7 @@ use Rattle.age_header.proofs.LengthLemmas.{length-version_line}
 pub path_truncated : (a mid new : Known) (max room count : ℕ) (s : State) (text : Bytes)
     → Reached a mid max room count s
     → Consumes mid new text → IsLineText text → (length text < room) × IsAtEnd new
-    → ReadsHeader a new max (Err Truncated)
+    → ReadsHeader (moved a new) max (Err Truncated)
 path_truncated a mid new max room count s text p took is ends =
     answered_at_end a new (prefix ++ text) max Truncated (Consumes-trans a mid new prefix text p.read took) ends.1 told
   where
@@ -54,7 +54,7 @@ path_truncated a mid new max room count s text p took is ends =
 
 pub path_too_large : (a mid new : Known) (max room count : ℕ) (s : State) (text : Bytes)
     → Reached a mid max room count s
-    → Consumes mid new text → IsLineText text → length text ≡ room → ReadsHeader a new max (Err TooLarge)
+    → Consumes mid new text → IsLineText text → length text ≡ room → ReadsHeader (moved a new) max (Err TooLarge)
 path_too_large a mid new max room count s text p took is ends =
     answered a new (prefix ++ text) max TooLarge (Consumes-trans a mid new prefix text p.read took) told
   where
@@ -158,7 +158,7 @@ pub path_header : (a mid new : Known) (max room count : ℕ) (s : State) (text :
     (mac characters : Bytes)
     → Reached a mid max room count s → Consumes mid new (text ++ 10 ∷ []) → IsLineText text → length text < room
     → s ≡ between ss → ss ≢ [] → text ≡ codes "--- " ++ characters → IsBase64 mac characters → length mac ≡ mac_size
-    → ReadsHeader a new max (Ok (record { stanzas = ss; mac = mac }))
+    → ReadsHeader (moved a new) max (Ok (record { stanzas = ss; mac = mac }))
 path_header a mid new max room count s text ss mac characters p took is low at some end h size =
     answered_header a new (lines_text whole) max (record { stanzas = ss; mac = mac })
     (took_line a mid new max room count s text p took) told
@@ -198,7 +198,7 @@ pub path_bad : (a mid new : Known) (max room count : ℕ) (s : State) (text : By
     → ((ss : List StanzaParts) (mac characters : Bytes) → ss ≢ [] → s ≡ between ss → length mac ≡ mac_size
     → text ≡ codes "--- " ++ characters → IsBase64 mac characters → ⊥)
     → ((t : State) → Step s text t → ⊥)
-    → ReadsHeader a new max (Err (BadLine (count + 1)))
+    → ReadsHeader (moved a new) max (Err (BadLine (count + 1)))
 path_bad a mid new max room count s text p took is low end none =
     answered a new (lines_text (version_text ∷ ls)) max (BadLine (count + 1))
     (took_line a mid new max room count s text p took) told

@@ -10,6 +10,30 @@ pub use Rattle.age_kdf.specs.Bytes.{Bytes}
 abbrev pub Known : Type 0
 Known = Option Bytes
 
+-- what a device held before a call and after it, where that is known
+pub record Moved : Type 0 where
+  pub before : Known
+  pub after : Known
+
+abbrev pub moved : (before after : Known) → Moved
+moved before after = record { before = before; after = after }
+
+-- the same by the ghost member that tells it
+abbrev pub moved_by : {D : Type 0} (told : D → Known) (old new : D) → Moved
+moved_by told old new = moved (told old) (told new)
+
+-- a source gave these bytes next
+abbrev pub Gave : (source : Moved) (bytes : Bytes) → Type 0
+Gave source bytes = Consumes source.before source.after bytes
+
+-- a sink took these bytes after those that it had
+abbrev pub Took : (sink : Moved) (bytes : Bytes) → Type 0
+Took sink bytes = Appends sink.before sink.after bytes
+
+-- a sink has what it had
+abbrev pub Stays : (sink : Moved) → Type 0
+Stays sink = Keeps sink.before sink.after
+
 -- a fault that is the device's raises its count by one, or leaves it at the largest u64; any other
 -- leaves it
 abbrev pub CountsFaultIf : {E : Type 0} (is_own : E → Bool) (old new : ℕ) (fault : E) → Type 0
@@ -26,24 +50,23 @@ Counts old new r = CountsIf (λ _. true) old new r
 
 -- Ok(n) gives the next n bytes, and 0 for a nonempty buffer only at the end; an Err says nothing of
 -- the bytes
-abbrev pub Gives : {E : Type 0} (old new : Known) (r : Result ℕ E) (buf : Bytes) → Type 0
-Gives old new r buf =
-    MatchResult r (λ n. Consumes old new (take n buf) × (n ≡ 0 → 0 < length buf → IsAtEnd new))
+abbrev pub Gives : {E : Type 0} (source : Moved) (r : Result ℕ E) (buf : Bytes) → Type 0
+Gives source r buf =
+    MatchResult r (λ n. Gave source (take n buf) × (n ≡ 0 → 0 < length buf → IsAtEnd source.after))
     (λ _. ⊤)
 
 -- Ok(n) takes the first n bytes, at least one of a nonempty piece; an Err takes nothing
-abbrev pub Takes : {E : Type 0} (old new : Known) (r : Result ℕ E) (piece : Bytes) → Type 0
-Takes old new r piece =
-    MatchResult r (λ n. Appends old new (take n piece) × (0 < length piece → 0 < n))
-    (λ _. Keeps old new)
+abbrev pub Takes : {E : Type 0} (sink : Moved) (r : Result ℕ E) (piece : Bytes) → Type 0
+Takes sink r piece =
+    MatchResult r (λ n. Took sink (take n piece) × (0 < length piece → 0 < n)) (λ _. Stays sink)
 
 -- a prefix of the text was written
-abbrev pub WritesPart : (old new : Known) (text : Bytes) → Type 0
-WritesPart old new text = (n : ℕ) × Appends old new (take n text)
+abbrev pub WritesPart : (sink : Moved) (text : Bytes) → Type 0
+WritesPart sink text = (n : ℕ) × Took sink (take n text)
 
 -- on Ok the text was written, on an Err a prefix of it
-abbrev pub Writes : {A E : Type 0} (old new : Known) (r : Result A E) (text : Bytes) → Type 0
-Writes old new r text = MatchResult r (λ _. Appends old new text) (λ _. WritesPart old new text)
+abbrev pub Writes : {A E : Type 0} (sink : Moved) (r : Result A E) (text : Bytes) → Type 0
+Writes sink r text = MatchResult r (λ _. Took sink text) (λ _. WritesPart sink text)
 
 -- A source may still give these bytes: the known ones alone, or any where none are known.
 abbrev pub MayGive : (left : Known) (bytes : Bytes) → Type 0
@@ -51,5 +74,5 @@ MayGive None bytes = ⊤
 MayGive (Some told) bytes = told ≡ bytes
 
 -- the source gave at most n bytes
-abbrev pub GaveAtMost : (n : ℕ) (old new : Known) → Type 0
-GaveAtMost n old new = (given : Bytes) × Consumes old new given × (length given ≤ n)
+abbrev pub GaveAtMost : (n : ℕ) (source : Moved) → Type 0
+GaveAtMost n source = (given : Bytes) × Gave source given × (length given ≤ n)

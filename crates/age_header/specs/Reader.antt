@@ -4,8 +4,7 @@ use Rattle.std.specs.declared.option.Option.{Option}
 use Rattle.std.specs.declared.option.Option.TheVariants.{None, Some}
 use Rattle.std.specs.declared.result.Result.{Result}
 use Rattle.std.specs.declared.result.Result.TheVariants.{Ok, Err}
-use Rattle.std.specs.Io.KnownBytes.{Consumes}
-use Rattle.age_header.specs.Device.{Known, MayGive}
+use Rattle.age_header.specs.Device.{MayGive, Moved, Gave}
 use Rattle.age_kdf.specs.Bytes.{Bytes}
 use Rattle.age_header.specs.declared.fault.HeaderFault.{HeaderFault}
 use Rattle.age_header.specs.declared.fault.HeaderFault.TheVariants.{Read, Memory}
@@ -21,17 +20,17 @@ Refuses b max fault = IsFault b max fault
 
 -- What a reader under a limit of max bytes returns where b comes: its verdict. Where that is a
 -- header, only the header's bytes are read.
-abbrev pub ReadsHeaderOf : (b : Bytes) (from to : Known) (max : ℕ)
+abbrev pub ReadsHeaderOf : (b : Bytes) (source : Moved) (max : ℕ)
     (result : Result HeaderParts HeaderFault) → Type 0
-ReadsHeaderOf b from to max (Ok h) =
+ReadsHeaderOf b source max (Ok h) =
     (text : Bytes)
     × HeaderVerdict b max (Ok (record { stanzas = h.stanzas; mac = h.mac; text = text }))
-    × Consumes from to text
-ReadsHeaderOf b from to max (Err fault) = Refuses b max fault
+    × Gave source text
+ReadsHeaderOf b source max (Err fault) = Refuses b max fault
 
 -- the same of bytes that a source may give
-abbrev pub ReadsHeader : (from to : Known) (max : ℕ) (r : Result HeaderParts HeaderFault) → Type 0
-ReadsHeader from to max r = (b : Bytes) × MayGive from b × ReadsHeaderOf b from to max r
+abbrev pub ReadsHeader : (source : Moved) (max : ℕ) (r : Result HeaderParts HeaderFault) → Type 0
+ReadsHeader source max r = (b : Bytes) × MayGive source.before b × ReadsHeaderOf b source max r
 
 -- a failed read, which the source counts
 abbrev pub is_read : HeaderFault → Bool

@@ -4,7 +4,7 @@
 ghost use Rattle.std.specs.Prelude.{◌≡◌, ◌<◌, ◌≤◌, ◌+◌, ◌-◌, ◌^◌, ℕ, Some, length, min, vec_capacity, vec_len, IfOk, OnErr};
 ghost use Rattle.std.specs.declared.option.Option.{Option};
 ghost use Rattle.std.specs.Io.{ReadsAtMost};
-ghost use Rattle.age_header.specs.Device.{Known, Counts, Gives, Takes, Writes};
+ghost use Rattle.age_header.specs.Device.{Known, Counts, Gives, Takes, Writes, moved, moved_by};
 ghost use Rattle.age_header.specs.MemSink.{spare_of};
 
 use std::io::{Read, Write};
@@ -27,7 +27,7 @@ pub trait Source {
     fn read(&mut self, buf: &mut [u8]) -> Result<usize, DeviceFault>
         ensures bound { ReadsAtMost result buf.new }
         ensures count { Counts (failed self.old) (failed self.new) result }
-        ensures bytes { Gives (to_come self.old) (to_come self.new) result buf.new };
+        ensures bytes { Gives (moved_by to_come self.old self.new) result buf.new };
 
     /// The number of failed reads, saturating at the largest `u64`.
     fn failures(&self) -> u64
@@ -47,7 +47,7 @@ pub trait Sink {
     fn write(&mut self, piece: &[u8]) -> Result<usize, DeviceFault>
         ensures bound { IfOk result (λ n. n ≤ length piece.now) }
         ensures count { Counts (failed self.old) (failed self.new) result }
-        ensures bytes { Takes (taken self.old) (taken self.new) result piece.now };
+        ensures bytes { Takes (moved_by taken self.old self.new) result piece.now };
 
     /// The number of failed writes, saturating at the largest `u64`.
     fn failures(&self) -> u64
@@ -57,7 +57,7 @@ pub trait Sink {
 /// Writes the whole piece, in as many writes as the sink needs. On an error a prefix of it was
 /// written; an interrupted call is not repeated.
 pub fn write_all<W: Sink>(out: &mut W, piece: &[u8]) -> Result<(), DeviceFault>
-    ensures text { Writes (W.taken out.old) (W.taken out.new) result piece.now }
+    ensures text { Writes (moved_by W.taken out.old out.new) result piece.now }
     ensures count { Counts (W.failed out.old) (W.failed out.new) result }
 {
     let mut at = 0;
@@ -150,7 +150,8 @@ impl Sink for MemSink {
     fn write(&mut self, piece: &[u8]) -> Result<usize, DeviceFault>
         ensures bound { IfOk result (λ n. n ≤ length piece.now) }
         ensures count { Counts self.old.failures self.new.failures result }
-        ensures bytes { Takes (Some self.old.out.items) (Some self.new.out.items) result piece.now }
+        ensures bytes { Takes (moved (Some self.old.out.items) (Some self.new.out.items))
+            result piece.now }
         ensures whole { IfOk result (λ n. n ≡ length piece.now) }
         ensures full { OnErr result (spare_of self.old < length piece.now) }
         ensures spare { IfOk result (λ n. spare_of self.old ≤ spare_of self.new + n) }

@@ -2,7 +2,7 @@
 
 ghost use Rattle.std.specs.Prelude.{◌≡◌, ◌<◌, ◌≤◌, length, IfOk};
 ghost use Rattle.std.specs.Io.KnownBytes.{IsAtEnd};
-ghost use Rattle.age_header.specs.Device.{Counts};
+ghost use Rattle.age_header.specs.Device.{Counts, moved_by};
 ghost use Rattle.age_header.specs.Filling.{Filled, Got};
 
 use crate::device::{DeviceFault, Source};
@@ -21,7 +21,7 @@ pub fn fill_from<S: Source>(
     requires { start ≤ length buf.old }
     ensures len { length buf.new ≡ length buf.old }
     ensures bytes { IfOk result
-        (λ n. Filled start n buf.old buf.new (S.to_come input.old) (S.to_come input.new)) }
+        (λ n. Filled start n buf.old buf.new (moved_by S.to_come input.old input.new)) }
     ensures end { IfOk result (λ n. n < length buf.old → IsAtEnd (S.to_come input.new)) }
     ensures count { Counts (S.failed input.old) (S.failed input.new) result }
 {
@@ -41,7 +41,7 @@ fn read_after<S: Source>(input: &mut S, buf: &mut [u8], at: usize) -> Result<usi
     requires { at ≤ length buf.old }
     ensures len { length buf.new ≡ length buf.old }
     ensures bytes { IfOk result
-        (λ n. Got at n buf.old buf.new (S.to_come input.old) (S.to_come input.new)) }
+        (λ n. Got at n buf.old buf.new (moved_by S.to_come input.old input.new)) }
     ensures count { Counts (S.failed input.old) (S.failed input.new) result }
 {
     let (_, rest) = buf.split_at_mut(at);

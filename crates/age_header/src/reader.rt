@@ -2,7 +2,7 @@
 
 ghost use Rattle.std.specs.Prelude.{◌≡◌, ◌≤◌, ◌++◌, length, codes, None, Err, IfOk, IfErr, OnOk, IfSome, IfNone};
 ghost use Rattle.std.specs.Io.KnownBytes.{Consumes};
-ghost use Rattle.age_header.specs.Device.{CountsIf};
+ghost use Rattle.age_header.specs.Device.{CountsIf, moved_by};
 ghost use Rattle.age_kdf.specs.Bytes.{Bytes};
 ghost use Rattle.age_header.specs.Base64.{IsBase64};
 ghost use Rattle.age_header.specs.Header.{mac_size, version_line, version_size};
@@ -69,7 +69,7 @@ impl HeaderReader {
         ensures count { IfNone self.old.fault
             (CountsIf is_read (S.failed input.old) (S.failed input.new) result) }
         ensures verdict { IfNone self.old.fault
-            (ReadsHeader (S.to_come input.old) (S.to_come input.new) self.old.max result) }
+            (ReadsHeader (moved_by S.to_come input.old input.new) self.old.max result) }
     {
         if let Some(fault) = self.fault {
             return Err(fault);
@@ -85,7 +85,7 @@ impl HeaderReader {
 /// Reads the header at the start of the input.
 fn read_header<S: Source>(alloc: Global, input: &mut S, max: usize) -> Result<Header, HeaderFault>
     ensures count { CountsIf is_read (S.failed input.old) (S.failed input.new) result }
-    ensures verdict { ReadsHeader (S.to_come input.old) (S.to_come input.new) max result }
+    ensures verdict { ReadsHeader (moved_by S.to_come input.old input.new) max result }
 {
     read_version(alloc, input, max)?;
     let engine = base64_no_pad::engine();
@@ -122,7 +122,7 @@ fn read_version<S: Source>(alloc: Global, input: &mut S, max: usize) -> Result<(
     ensures ok { OnOk result
         ((version_size ≤ max) × Consumes (S.to_come input.old) (S.to_come input.new) version_line) }
     ensures err { IfErr result
-        (λ e. ReadsHeader (S.to_come input.old) (S.to_come input.new) max (Err e)) }
+        (λ e. ReadsHeader (moved_by S.to_come input.old input.new) max (Err e)) }
 {
     let (first, end) = read_line(alloc, input, max.min(VERSION_SIZE))?;
     let Some(rest) = strip_prefix(VERSION, first.as_slice()) else {

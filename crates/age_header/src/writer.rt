@@ -3,7 +3,7 @@
 ghost use Rattle.std.specs.Prelude.{◌≡◌, ◌≤◌, length, map};
 ghost use Rattle.std.specs.String.{string_bytes};
 ghost use Rattle.age_kdf.specs.Bytes.{Bytes};
-ghost use Rattle.age_header.specs.Device.{Counts, Writes};
+ghost use Rattle.age_header.specs.Device.{Counts, Writes, moved_by};
 ghost use Rattle.age_header.specs.Header.{Head, argument_line, bytes_of_a_line};
 ghost use Rattle.age_header.specs.Base64.{base64_of};
 ghost use Rattle.age_header.specs.Text.{IsPlain, body_text, stanza_text, signed, mac_end};
@@ -18,7 +18,7 @@ use base64::engine::general_purpose::GeneralPurpose;
 /// Writes the header's text (C2SP `age.md`, "Header"). On an error a prefix of it was written.
 pub fn write_header<W: Sink>(header: &Header, out: &mut W) -> Result<(), DeviceFault>
     ensures text { (h : Bytes) × Head header.now.stanzas header.now.mac h
-        × Writes (W.taken out.old) (W.taken out.new) result h }
+        × Writes (moved_by W.taken out.old out.new) result h }
     ensures count { Counts (W.failed out.old) (W.failed out.new) result }
 {
     let engine = base64_no_pad::engine();
@@ -33,7 +33,7 @@ pub(crate) fn write_signed<W: Sink>(
     out: &mut W,
 ) -> Result<(), DeviceFault>
     requires { IsPlain engine.now }
-    ensures text { Writes (W.taken out.old) (W.taken out.new) result (signed stanzas.now) }
+    ensures text { Writes (moved_by W.taken out.old out.new) result (signed stanzas.now) }
     ensures count { Counts (W.failed out.old) (W.failed out.new) result }
 {
     write_all(out, b"age-encryption.org/v1\n")?;
@@ -51,7 +51,7 @@ fn write_mac<W: Sink>(
     out: &mut W,
 ) -> Result<(), DeviceFault>
     requires { IsPlain engine.now }
-    ensures text { Writes (W.taken out.old) (W.taken out.new) result (mac_end mac.now) }
+    ensures text { Writes (moved_by W.taken out.old out.new) result (mac_end mac.now) }
     ensures count { Counts (W.failed out.old) (W.failed out.new) result }
 {
     write_all(out, b" ")?;
@@ -61,7 +61,7 @@ fn write_mac<W: Sink>(
 
 /// Writes the line of these arguments.
 fn write_args<W: Sink>(args: &[String], out: &mut W) -> Result<(), DeviceFault>
-    ensures text { Writes (W.taken out.old) (W.taken out.new) result
+    ensures text { Writes (moved_by W.taken out.old out.new) result
         (argument_line (map string_bytes args.now)) }
     ensures count { Counts (W.failed out.old) (W.failed out.new) result }
 {
@@ -76,7 +76,7 @@ fn write_args<W: Sink>(args: &[String], out: &mut W) -> Result<(), DeviceFault>
 /// Writes a body's lines.
 fn write_body<W: Sink>(body: &[u8], engine: &GeneralPurpose, out: &mut W) -> Result<(), DeviceFault>
     requires { IsPlain engine.now }
-    ensures text { Writes (W.taken out.old) (W.taken out.new) result (body_text body.now) }
+    ensures text { Writes (moved_by W.taken out.old out.new) result (body_text body.now) }
     ensures count { Counts (W.failed out.old) (W.failed out.new) result }
 {
     let mut rest = body;
@@ -98,7 +98,7 @@ fn write_base64<W: Sink>(
 ) -> Result<(), DeviceFault>
     requires short { length bytes.now ≤ bytes_of_a_line }
     requires plain { IsPlain engine.now }
-    ensures text { Writes (W.taken out.old) (W.taken out.new) result (base64_of bytes.now) }
+    ensures text { Writes (moved_by W.taken out.old out.new) result (base64_of bytes.now) }
     ensures count { Counts (W.failed out.old) (W.failed out.new) result }
 {
     let mut characters = [0u8; LINE_SIZE];

@@ -7,7 +7,7 @@ use Rattle.age_stream.specs.declared.fault.StreamFault.{StreamFault}
 use Rattle.std.proofs.Common.{◌⊎◌, inl, inr, subst}
 use Rattle.std.specs.Prelude.{IfNone, IfSome, IsErrOf}
 use Rattle.age_kdf.specs.Bytes.{Bytes}
-use Rattle.age_header.specs.Device.{CountsFaultIf, GaveAtMost, MayGive, Known}
+use Rattle.age_header.specs.Device.{CountsFaultIf, GaveAtMost, MayGive, Known, moved}
 use Rattle.age_stream.specs.declared.fault.StreamFault.TheVariants.{Read}
 use Rattle.age_stream.specs.declared.opening.Piece.{Piece}
 use Rattle.age_stream.specs.Counts.{is_read}
@@ -76,7 +76,7 @@ unkept None p = p
 unkept (Some f) p = tt
 
 gave-held : (old : OpenerState) (ahead : Bytes) (from to : Known) → old.held ≡ Some ahead
-    → GaveAtMost (65553 - length ahead) from to → GaveAtMost (65553 - ahead_len old.held) from to
+    → GaveAtMost (65553 - length ahead) (moved from to) → GaveAtMost (65553 - ahead_len old.held) (moved from to)
 gave-held old ahead from to is h = rw is h
 
 -- one byte is read ahead, and the text before it is a full chunk
@@ -121,9 +121,9 @@ pub advances-ok : (now : OpenerState) (from to : Known) (key : Bytes) (max i ahe
     → IsErrOf {T = Piece} (Ok piece) Read
     ⊎ ((d : Bytes) → MayGive to d → (c : Bytes) × MayGive from c
     × OpensPiece key max i (take ahead (drop 65552 slice) ++ c) bytes d (Ok piece))
-    → IsErrOf {T = Piece} (Ok piece) Read ⊎ GaveAtMost (65553 - ahead) from to
+    → IsErrOf {T = Piece} (Ok piece) Read ⊎ GaveAtMost (65553 - ahead) (moved from to)
     → IfNone now.fault (IsErrOf {T = Bool} (Ok true) Read
-    ⊎ Advances now (parts key max (i + 1) piece.more 1 items piece.len fault) from to (Ok true))
+    ⊎ Advances now (parts key max (i + 1) piece.more 1 items piece.len fault) (moved from to) (Ok true))
 advances-ok now from to key max i ahead len more old slice bytes items fault piece view is_more none same size le
     new_size all small within full opens gave =
     let prefix : Bytes = take ahead (drop 65552 old) in
@@ -136,10 +136,10 @@ advances-ok now from to key max i ahead len more old slice bytes items fault pie
     let left : take 1 (drop 65552 items) ≡ drop 65552 bytes = ap (λ t. take 1 (drop 65552 t)) all
     ∙ ahead-one bytes new_size in
     let short : ahead_len (held_of more prefix) ≤ 1 = short-ahead more prefix (omega arith) in
-    let given : GaveAtMost (65553 - ahead_len (held_of more prefix)) from to =
-    subst (λ h. GaveAtMost (65553 - ahead_len h) from to) (sym held)
-    (subst (λ n. GaveAtMost (65553 - n) from to) (sym l) (unread piece gave)) in
-    subst (λ s. IfNone s.fault (IsErrOf {T = Bool} (Ok true) Read ⊎ Advances s next from to (Ok true))) view
+    let given : GaveAtMost (65553 - ahead_len (held_of more prefix)) (moved from to) =
+    subst (λ h. GaveAtMost (65553 - ahead_len h) (moved from to)) (sym held)
+    (subst (λ n. GaveAtMost (65553 - n) (moved from to)) (sym l) (unread piece gave)) in
+    subst (λ s. IfNone s.fault (IsErrOf {T = Bool} (Ok true) Read ⊎ Advances s next (moved from to) (Ok true))) view
     (unkept fault (inr (record {
       key = refl;
       max_chunks = refl;
@@ -164,7 +164,7 @@ advances-ok now from to key max i ahead len more old slice bytes items fault pie
     })))
 
 pub advances-read : (old new : OpenerState) (from to : Known) (fault : StreamFault) → fault ≡ Read
-    → IfNone old.fault (IsErrOf {T = Bool} (Err fault) Read ⊎ Advances old new from to (Err fault))
+    → IfNone old.fault (IsErrOf {T = Bool} (Err fault) Read ⊎ Advances old new (moved from to) (Err fault))
 advances-read old new from to fault is = unkept old.fault (inl (ap Err is))
 
 same-fault : (f : StreamFault) → IsErrOf {T = Piece} (Err f) Read → f ≡ Read
@@ -178,10 +178,10 @@ pub advances-err : (now : OpenerState) (from to : Known) (key : Bytes) (max i ah
     → IsErrOf {T = Piece} (Err fault) Read
     ⊎ ((d : Bytes) → MayGive to d → (c : Bytes) × MayGive from c
     × OpensPiece key max i (take ahead (drop 65552 slice) ++ c) bytes d (Err fault))
-    → IsErrOf {T = Piece} (Err fault) Read ⊎ GaveAtMost (65553 - ahead) from to
+    → IsErrOf {T = Piece} (Err fault) Read ⊎ GaveAtMost (65553 - ahead) (moved from to)
     → (fault ≡ Read) ⊎ IsAtPiece max i fault
     → IfNone now.fault (IsErrOf {T = Bool} (Err fault) Read
-    ⊎ Advances now (parts key max i false ahead items 0 (Some fault)) from to (Err fault))
+    ⊎ Advances now (parts key max i false ahead items 0 (Some fault)) (moved from to) (Err fault))
 advances-err now from to key max i ahead len more old slice bytes items kept fault view is_more same size le small
     (inl e) gave at =
     advances-read now (parts key max i false ahead items 0 (Some fault)) from to fault (same-fault fault e)
@@ -198,10 +198,10 @@ advances-err now from to key max i ahead len more old slice bytes items kept fau
     let held : held_of more prefix ≡ Some prefix = ap (λ m. held_of m prefix) is_more in
     let next : OpenerState = parts key max i false ahead items 0 (Some fault) in
     let short : ahead_len (held_of more prefix) ≤ 1 = short-ahead more prefix (omega arith) in
-    let given : GaveAtMost (65553 - ahead_len (held_of more prefix)) from to =
-    subst (λ h. GaveAtMost (65553 - ahead_len h) from to) (sym held)
-    (subst (λ n. GaveAtMost (65553 - n) from to) (sym l) gave) in
-    subst (λ s. IfNone s.fault (IsErrOf {T = Bool} (Err fault) Read ⊎ Advances s next from to (Err fault))) view
+    let given : GaveAtMost (65553 - ahead_len (held_of more prefix)) (moved from to) =
+    subst (λ h. GaveAtMost (65553 - ahead_len h) (moved from to)) (sym held)
+    (subst (λ n. GaveAtMost (65553 - n) (moved from to)) (sym l) gave) in
+    subst (λ s. IfNone s.fault (IsErrOf {T = Bool} (Err fault) Read ⊎ Advances s next (moved from to) (Err fault))) view
     (unkept kept (inr (record {
       key = refl;
       max_chunks = refl;
@@ -223,7 +223,8 @@ advances-err now from to key max i ahead len more old slice bytes items kept fau
 -- after the last piece
 advances-end : (key : Bytes) (max i : ℕ) (text text2 : Bytes) (from : Known) → max ≤ 2 ^ 88
     → Advances (record { key = key; max_chunks = max; index = i; held = None; text = text; fault = None })
-    (record { key = key; max_chunks = max; index = i; held = None; text = text2; fault = None }) from from (Ok false)
+    (record { key = key; max_chunks = max; index = i; held = None; text = text2; fault = None }) (moved from from)
+    (Ok false)
 advances-end key max i text text2 from small = record {
   key = refl;
   max_chunks = refl;
@@ -238,10 +239,10 @@ pub advances-none : (now : OpenerState) (from : Known) (key : Bytes) (max i ahea
     (fault : Option StreamFault)
     → parts key max i more ahead bytes len fault ≡ now → more ≡ false → fault ≡ None → max ≤ 2 ^ 88
     → IfNone now.fault (IsErrOf {T = Bool} (Ok false) Read
-    ⊎ Advances now (parts key max i more ahead bytes 0 fault) from from (Ok false))
+    ⊎ Advances now (parts key max i more ahead bytes 0 fault) (moved from from) (Ok false))
 advances-none now from key max i ahead len true bytes fault view over none small = absurd (cc)
 advances-none now from key max i ahead len false bytes (Some fault) view over none small = absurd (cc)
 advances-none now from key max i ahead len false bytes None view over none small =
     subst (λ s. IfNone s.fault (IsErrOf {T = Bool} (Ok false) Read
-    ⊎ Advances s (parts key max i false ahead bytes 0 None) from from (Ok false))) view
+    ⊎ Advances s (parts key max i false ahead bytes 0 None) (moved from from) (Ok false))) view
     (inr (advances-end key max i (take len bytes) (take 0 bytes) from small))

@@ -7,7 +7,7 @@ use Rattle.std.proofs.Math.Seq.{take-add, take-append-add, drop-append-add}
 use Rattle.std.proofs.lemmas.List.{take-append-drop, length-take-le, take_at, drop_at, length-drop}
 use Rattle.age_cipher.specs.Sealing.{sealed}
 use Rattle.age_cipher.proofs.OpeningLemmas.{length-sealed}
-use Rattle.age_header.specs.Device.{GaveAtMost, WritesPart, Known}
+use Rattle.age_header.specs.Device.{GaveAtMost, WritesPart, Known, moved}
 use Rattle.age_header.specs.Filling.{Filled}
 use Rattle.age_header.proofs.DeviceLemmas.{may-end, may-more, may-some, Done, done_part}
 use Rattle.age_stream.specs.declared.fault.StreamFault.{StreamFault}
@@ -30,7 +30,7 @@ chunks-full key i held text some full =
     ∙ ap (λ b. sealed key (chunk_nonce i b) [] held ∷ sealed_from key (i + 1) (cut 65536 text))
     (is_end-cut 65536 [] text)
 
-pub fed-none : (key : Bytes) (i : ℕ) (held : Bytes) (a : Known) → Fed key i i held [] held a a
+pub fed-none : (key : Bytes) (i : ℕ) (held : Bytes) (a : Known) → Fed key i i held [] held (moved a a)
 fed-none key i held a = record {
   gone = [];
   count = omega arith;
@@ -42,7 +42,7 @@ fed-none key i held a = record {
 
 -- what fits is held
 pub fed-held : (key : Bytes) (i j : ℕ) (held text now piece : Bytes) (a b : Known) → length now + length piece ≤ 65536
-    → Fed key i j held text now a b → Fed key i j held (text ++ piece) (now ++ piece) a b
+    → Fed key i j held text now (moved a b) → Fed key i j held (text ++ piece) (now ++ piece) (moved a b)
 fed-held key i j held text now piece a b fits f = record {
   gone = f.gone;
   count = f.count;
@@ -70,7 +70,7 @@ piece-len now piece full next h =
 
 -- the chunks of what came, of the full chunk, and of what may still come
 pub chunks-after : (key : Bytes) (i j : ℕ) (held text now piece full next more : Bytes) (a b : Known)
-    (h : IsFull now piece full next) (f : Fed key i j held text now a b)
+    (h : IsFull now piece full next) (f : Fed key i j held text now (moved a b))
     → sealed_after key i held ((text ++ piece) ++ more)
     ≡ f.gone ++ sealed key (chunk_nonce j false) [] full ∷ sealed_after key (j + 1) next more
 chunks-after key i j held text now piece full next more a b h f =
@@ -99,8 +99,8 @@ chunks-after key i j held text now piece full next more a b h f =
 -- a chunk became full and one byte more came: the chunk went out
 pub fed-full : (key : Bytes) (i j : ℕ) (held text now piece full next : Bytes) (a b c : Known)
     → IsFull now piece full next
-    → Fed key i j held text now a b → Appends b c (sealed key (chunk_nonce j false) [] full)
-    → Fed key i (j + 1) held (text ++ piece) next a c
+    → Fed key i j held text now (moved a b) → Appends b c (sealed key (chunk_nonce j false) [] full)
+    → Fed key i (j + 1) held (text ++ piece) next (moved a c)
 fed-full key i j held text now piece full next a b c h f put =
     let chunk : Bytes = sealed key (chunk_nonce j false) [] full in
     let l : length chunk ≡ 65552 = length-sealed key (chunk_nonce j false) [] full ∙ ap (λ n. n + 16) h.size in
@@ -123,13 +123,13 @@ fed-full key i j held text now piece full next a b c h f put =
 
 -- what was written is a prefix of what is to be written
 done-fed : (key : Bytes) (i j : ℕ) (held text now more : Bytes) (rest : List Bytes) (a b : Known)
-    (f : Fed key i j held text now a b)
+    (f : Fed key i j held text now (moved a b))
     → sealed_after key i held more ≡ f.gone ++ rest → Done a b (concat (sealed_after key i held more)) (concat rest)
 done-fed key i j held text now more rest a b f is =
     record { prefix = concat f.gone; took = f.written; is = ap concat is ∙ concat-append f.gone rest }
 
-wrote-fed : (key : Bytes) (i j : ℕ) (held text now part : Bytes) (a b c : Known) → Fed key i j held text now a b
-    → Appends b c part → WroteAtLeast (65552 * (j - i)) a c
+wrote-fed : (key : Bytes) (i j : ℕ) (held text now part : Bytes) (a b c : Known) → Fed key i j held text now (moved a b)
+    → Appends b c part → WroteAtLeast (65552 * (j - i)) (moved a c)
 wrote-fed key i j held text now part a b c f put = (
   concat f.gone ++ part,
   Appends-trans a b c (concat f.gone) part f.written put,
@@ -139,7 +139,7 @@ wrote-fed key i j held text now part a b c f put = (
 -- a read failed
 pub stopped-read : (key : Bytes) (max i j : ℕ) (held text now : Bytes) (from mid to a b : Known)
     → Consumes from mid text
-    → Fed key i j held text now a b → Stopped key max i j held from to a b Read
+    → Fed key i j held text now (moved a b) → Stopped key max i j held (moved from to) (moved a b) Read
 stopped-read key max i j held text now from mid to a b took f =
     let d = may-some mid in
     let done = done-fed key i j held text now (text ++ d.0) (sealed_after key j now d.0) a b f (f.chunks d.0) in
@@ -152,8 +152,9 @@ stopped-read key max i j held text now from mid to a b took f =
     }
 
 gave-full : (key : Bytes) (i j : ℕ) (held text now piece full next : Bytes) (from mid to a b : Known)
-    → IsFull now piece full next → Fed key i j held text now a b
-    → Consumes from mid text → Consumes mid to piece → GaveAtMost (65536 * (j + 1 - i) + 1 - length held) from to
+    → IsFull now piece full next → Fed key i j held text now (moved a b)
+    → Consumes from mid text → Consumes mid to piece
+    → GaveAtMost (65536 * (j + 1 - i) + 1 - length held) (moved from to)
 gave-full key i j held text now piece full next from mid to a b h f took more = (
   text ++ piece,
   Consumes-trans from mid to text piece took more,
@@ -163,8 +164,9 @@ gave-full key i j held text now piece full next from mid to a b h f took more = 
 -- a write failed
 pub stopped-write : (key : Bytes) (max i j : ℕ) (held text now piece full next : Bytes) (from mid to a b c : Known)
     → IsFull now piece full next
-    → Consumes from mid text → Consumes mid to piece → Fed key i j held text now a b
-    → WritesPart b c (sealed key (chunk_nonce j false) [] full) → Stopped key max i j held from to a c Write
+    → Consumes from mid text → Consumes mid to piece → Fed key i j held text now (moved a b)
+    → WritesPart (moved b c) (sealed key (chunk_nonce j false) [] full)
+    → Stopped key max i j held (moved from to) (moved a c) Write
 stopped-write key max i j held text now piece full next from mid to a b c h took more f part =
     let d = may-some to in
     let chunk : Bytes = sealed key (chunk_nonce j false) [] full in
@@ -182,8 +184,8 @@ stopped-write key max i j held text now piece full next from mid to a b c h took
 -- no chunk more is allowed
 pub stopped-many : (key : Bytes) (max i j : ℕ) (held text now piece full next : Bytes) (from mid to a b c : Known)
     → IsFull now piece full next → j < max → max ≤ j + 1
-    → Consumes from mid text → Consumes mid to piece → Fed key i j held text now a b → Appends b c []
-    → Stopped key max i j held from to a c TooManyChunks
+    → Consumes from mid text → Consumes mid to piece → Fed key i j held text now (moved a b) → Appends b c []
+    → Stopped key max i j held (moved from to) (moved a c) TooManyChunks
 stopped-many key max i j held text now piece full next from mid to a b c h within many took more f none =
     let d = may-some to in
     let all : Bytes = (text ++ piece) ++ d.0 in
@@ -213,7 +215,7 @@ stopped-many key max i j held text now piece full next from mid to a b c h withi
 -- the source is at its end
 pub fed-end : (key : Bytes) (i j : ℕ) (held text now piece : Bytes) (from mid to a b : Known)
     → length now + length piece ≤ 65536 → Consumes from mid text → Consumes mid to piece → IsAtEnd to
-    → Fed key i j held text now a b → IsFed key i j held (now ++ piece) from to a b
+    → Fed key i j held text now (moved a b) → IsFed key i j held (now ++ piece) (moved from to) (moved a b)
 fed-end key i j held text now piece from mid to a b fits took more end f = record {
   text = text ++ piece;
   took = Consumes-trans from mid to text piece took more;
@@ -224,25 +226,25 @@ fed-end key i j held text now piece from mid to a b fits took more end f = recor
 -- a chunk that did not go out
 pub stopped-full : (key : Bytes) (max i j k : ℕ) (held text now piece full next : Bytes) (from mid to a b c : Known)
     (fault : StreamFault) → IsFull now piece full next → j < max
-    → Consumes from mid text → Consumes mid to piece → Fed key i j held text now a b
-    → (k ≡ j) × (((fault ≡ Write) × WritesPart b c (sealed key (chunk_nonce j false) [] full))
+    → Consumes from mid text → Consumes mid to piece → Fed key i j held text now (moved a b)
+    → (k ≡ j) × (((fault ≡ Write) × WritesPart (moved b c) (sealed key (chunk_nonce j false) [] full))
     ⊎ ((fault ≡ TooManyChunks) × (max ≤ j + 1) × Appends b c []))
-    → Stopped key max i k held from to a c fault
+    → Stopped key max i k held (moved from to) (moved a c) fault
 stopped-full key max i j k held text now piece full next from mid to a b c fault h within took more f
     (same, inl (is, part)) =
-    subst (λ n. Stopped key max i n held from to a c fault) (sym same)
-    (subst (Stopped key max i j held from to a c) (sym is)
+    subst (λ n. Stopped key max i n held (moved from to) (moved a c) fault) (sym same)
+    (subst (Stopped key max i j held (moved from to) (moved a c)) (sym is)
     (stopped-write key max i j held text now piece full next from mid to a b c h took more f part))
 stopped-full key max i j k held text now piece full next from mid to a b c fault h within took more f
     (same, inr (is, many, none)) =
-    subst (λ n. Stopped key max i n held from to a c fault) (sym same)
-    (subst (Stopped key max i j held from to a c) (sym is)
+    subst (λ n. Stopped key max i n held (moved from to) (moved a c) fault) (sym same)
+    (subst (Stopped key max i j held (moved from to) (moved a c)) (sym is)
     (stopped-many key max i j held text now piece full next from mid to a b c h within many took more f none))
 
 -- a buffer that was filled up to the byte after a full chunk
 pub full-is : (held n : ℕ) (bytes filled : Bytes) (a b : Known) → 65536 < n → n ≤ 65537 → held ≤ 65536
     → length bytes ≡ 65553 → length filled ≡ 65553
-    → (f : Filled held n bytes filled a b)
+    → (f : Filled held n bytes filled (moved a b))
     → IsFull (take held bytes) f.piece (take 65536 filled) (take 1 (drop 65536 filled))
 full-is held n bytes filled a b low high le size full_size f =
     let is : n ≡ 65536 + 1 = omega arith in
@@ -264,12 +266,12 @@ first-of (x ∷ xs) (suc k) lt = first-of xs k (omega arith)
 
 -- a chunk that went out, by the byte that is then first
 pub fed-next : (key : Bytes) (i j k : ℕ) (held text now piece full next prefix : Bytes) (a b c : Known)
-    → IsFull now piece full next → Fed key i j held text now a b
+    → IsFull now piece full next → Fed key i j held text now (moved a b)
     → k ≡ j + 1 → prefix ≡ next → Appends b c (sealed key (chunk_nonce j false) [] full)
-    → Fed key i k held (text ++ piece) prefix a c
+    → Fed key i k held (text ++ piece) prefix (moved a c)
 fed-next key i j k held text now piece full next prefix a b c h f is same put =
-    subst (λ n. Fed key i n held (text ++ piece) prefix a c) (sym is)
-    (subst (λ t. Fed key i (j + 1) held (text ++ piece) t a c) (sym same)
+    subst (λ n. Fed key i n held (text ++ piece) prefix (moved a c)) (sym is)
+    (subst (λ t. Fed key i (j + 1) held (text ++ piece) t (moved a c)) (sym same)
     (fed-full key i j held text now piece full next a b c h f put))
 
 -- a sealer between two calls, by its parts
@@ -286,18 +288,19 @@ pub takes-ok : (u : Unit {0}) (now : SealerState) (from to a b : Known) (key : B
     (old slice bytes items : Bytes) (fault : Option StreamFault)
     → parts key max i len old fault ≡ now → fault ≡ None → slice ≡ old → length bytes ≡ 65553 → items ≡ bytes
     → n ≤ 65536 → j < max
-    → IsFed key i j (take len slice) (take n bytes) from to a b × IsAtEnd to
-    → IfNone now.fault (TakesAll {A = Unit {0}} now (parts key max j n items fault) from to a b (Ok u))
+    → IsFed key i j (take len slice) (take n bytes) (moved from to) (moved a b) × IsAtEnd to
+    → IfNone now.fault (TakesAll {A = Unit {0}} now (parts key max j n items fault) (moved from to) (moved a b) (Ok u))
 takes-ok u now from to a b key max i j len n old slice bytes items fault view none same size all le within (fed, end) =
-    subst (λ s. IfNone s.fault (TakesAll s (parts key max j n items fault) from to a b (Ok u))) view (unkept fault (
+    subst (λ s. IfNone s.fault (TakesAll s (parts key max j n items fault) (moved from to) (moved a b) (Ok u))) view
+    (unkept fault (
       refl,
       refl,
       (
         none,
         omega (arith, length-take-le n items (omega (arith, ap length all))),
         within,
-        subst (λ t. IsFed key i j (take len t) (take n items) from to a b) same
-            (subst (λ t. IsFed key i j (take len slice) (take n t) from to a b) (sym all) fed),
+        subst (λ t. IsFed key i j (take len t) (take n items) (moved from to) (moved a b)) same
+            (subst (λ t. IsFed key i j (take len slice) (take n t) (moved from to) (moved a b)) (sym all) fed),
         end,
       ),
     ))
@@ -306,29 +309,32 @@ takes-ok u now from to a b key max i j len n old slice bytes items fault view no
 pub takes-err : (now : SealerState) (from to a b : Known) (key : Bytes) (max i j len : ℕ) (old slice items : Bytes)
     (kept : Option StreamFault) (fault : StreamFault)
     → parts key max i len old kept ≡ now → slice ≡ old
-    → Stopped key max i j (take len slice) from to a b fault
-    → IfNone now.fault (TakesAll {A = Unit {0}} now (parts key max j len items (Some fault)) from to a b (Err fault))
+    → Stopped key max i j (take len slice) (moved from to) (moved a b) fault
+    → IfNone now.fault
+    (TakesAll {A = Unit {0}} now (parts key max j len items (Some fault)) (moved from to) (moved a b) (Err fault))
 takes-err now from to a b key max i j len old slice items kept fault view same stopped =
-    subst (λ s. IfNone s.fault (TakesAll {A = Unit {0}} s (parts key max j len items (Some fault)) from to a b
+    subst
+    (λ s. IfNone s.fault
+    (TakesAll {A = Unit {0}} s (parts key max j len items (Some fault)) (moved from to) (moved a b)
     (Err fault))) view (unkept kept (
       refl,
       refl,
-      (refl, subst (λ t. Stopped key max i j (take len t) from to a b fault) same stopped),
+      (refl, subst (λ t. Stopped key max i j (take len t) (moved from to) (moved a b) fault) same stopped),
     ))
 
 -- ---- a whole payload
 
 -- the chunks of a whole text: those that went out, and the last
-chunks-all : (key : Bytes) (i j : ℕ) (held text now : Bytes) (a b : Known) (f : Fed key i j held text now a b)
+chunks-all : (key : Bytes) (i j : ℕ) (held text now : Bytes) (a b : Known) (f : Fed key i j held text now (moved a b))
     → sealed_after key i held text ≡ f.gone ++ sealed_after key j now []
 chunks-all key i j held text now a b f = ap (sealed_after key i held) (sym (append-nil text)) ∙ f.chunks []
 
-answer-all : (key : Bytes) (i j : ℕ) (held text now : Bytes) (a b : Known) (f : Fed key i j held text now a b)
+answer-all : (key : Bytes) (i j : ℕ) (held text now : Bytes) (a b : Known) (f : Fed key i j held text now (moved a b))
     → concat (sealed_after key i held text) ≡ concat f.gone ++ concat (sealed_after key j now [])
 answer-all key i j held text now a b f = ap concat (chunks-all key i j held text now a b f)
     ∙ concat-append f.gone (sealed_after key j now [])
 
-count-all : (key : Bytes) (i j : ℕ) (held text now : Bytes) (a b : Known) (f : Fed key i j held text now a b)
+count-all : (key : Bytes) (i j : ℕ) (held text now : Bytes) (a b : Known) (f : Fed key i j held text now (moved a b))
     → i + length (cut_into 65536 held text) ≡ j + 1
 count-all key i j held text now a b f =
     let l : length (cut_into 65536 held text) ≡ length f.gone + length (sealed_after key j now []) =
@@ -338,11 +344,12 @@ count-all key i j held text now a b f =
     omega (arith, l, one, f.count)
 
 pub seals-ok : (s t : SealerState) (u : Unit {0}) (from to a b c : Known) (done : StreamDone) → s.fault ≡ None
-    → IfNone s.fault (TakesAll s t from to a b (Ok u)) → IfNone t.fault (FinishesBy t b c (Ok done))
-    → SealsAll s from to a c (Ok done)
+    → IfNone s.fault (TakesAll s t (moved from to) (moved a b) (Ok u))
+    → IfNone t.fault (FinishesBy t (moved b c) (Ok done))
+    → SealsAll s (moved from to) (moved a c) (Ok done)
 seals-ok s t u from to a b c done none takes finishes =
-    let h = subst (λ (x : Option StreamFault). IfNone x (TakesAll s t from to a b (Ok u))) none takes in
-    let e = subst (λ (x : Option StreamFault). IfNone x (FinishesBy t b c (Ok done))) h.2.0 finishes in
+    let h = subst (λ (x : Option StreamFault). IfNone x (TakesAll s t (moved from to) (moved a b) (Ok u))) none takes in
+    let e = subst (λ (x : Option StreamFault). IfNone x (FinishesBy t (moved b c) (Ok done))) h.2.0 finishes in
     let fed = h.2.3 in
     let last : Appends b c (concat (sealed_after s.key t.index t.held [])) =
     subst (λ k. Appends b c (concat (sealed_after k t.index t.held []))) h.0 e.0 in
@@ -359,18 +366,19 @@ seals-ok s t u from to a b c done none takes finishes =
     )
 
 pub seals-last : (s t : SealerState) (u : Unit {0}) (from to a b c : Known) (fault : StreamFault) → s.fault ≡ None
-    → IfNone s.fault (TakesAll s t from to a b (Ok u)) → IfNone t.fault (FinishesBy t b c (Err fault))
-    → SealsAll s from to a c (Err fault)
+    → IfNone s.fault (TakesAll s t (moved from to) (moved a b) (Ok u))
+    → IfNone t.fault (FinishesBy t (moved b c) (Err fault))
+    → SealsAll s (moved from to) (moved a c) (Err fault)
 seals-last s t u from to a b c fault none takes finishes =
-    let h = subst (λ (x : Option StreamFault). IfNone x (TakesAll s t from to a b (Ok u))) none takes in
-    let e = subst (λ (x : Option StreamFault). IfNone x (FinishesBy t b c (Err fault))) h.2.0 finishes in
+    let h = subst (λ (x : Option StreamFault). IfNone x (TakesAll s t (moved from to) (moved a b) (Ok u))) none takes in
+    let e = subst (λ (x : Option StreamFault). IfNone x (FinishesBy t (moved b c) (Err fault))) h.2.0 finishes in
     let fed = h.2.3 in
-    let part : WritesPart b c (concat (sealed_after s.key t.index t.held [])) =
-    subst (λ k. WritesPart b c (concat (sealed_after k t.index t.held []))) h.0 e.1 in
+    let part : WritesPart (moved b c) (concat (sealed_after s.key t.index t.held [])) =
+    subst (λ k. WritesPart (moved b c) (concat (sealed_after k t.index t.held []))) h.0 e.1 in
     let done = done-fed s.key s.index t.index s.held fed.text t.held fed.text (sealed_after s.key t.index t.held []) a b
     fed.fed (chunks-all s.key s.index t.index s.held fed.text t.held a b fed.fed) in (
       t.index,
-      subst (Stopped s.key s.max_chunks s.index t.index s.held from to a c) (sym e.0) (record {
+      subst (Stopped s.key s.max_chunks s.index t.index s.held (moved from to) (moved a c)) (sym e.0) (record {
         text = fed.text;
         may = fed.may;
         stops = done_part a b c _ _ (concat (sealed_after s.key t.index t.held [])) [] done (sym (append-nil _)) part;
@@ -381,16 +389,20 @@ seals-last s t u from to a b c fault none takes finishes =
     )
 
 pub seals-finish : (s t : SealerState) (u : Unit {0}) (from to a b c : Known) (r : Result StreamDone StreamFault)
-    → s.fault ≡ None → IfNone s.fault (TakesAll s t from to a b (Ok u)) → IfNone t.fault (FinishesBy t b c r)
-    → SealsAll s from to a c r
+    → s.fault ≡ None → IfNone s.fault (TakesAll s t (moved from to) (moved a b) (Ok u))
+    → IfNone t.fault (FinishesBy t (moved b c) r)
+    → SealsAll s (moved from to) (moved a c) r
 seals-finish s t u from to a b c (Ok done) none takes finishes = seals-ok s t u from to a b c done none takes finishes
 seals-finish s t u from to a b c (Err fault) none takes finishes =
     seals-last s t u from to a b c fault none takes finishes
 
 pub seals-err : (s t : SealerState) (from to a b : Known) (fault : StreamFault) → s.fault ≡ None
-    → IfNone s.fault (TakesAll {A = Unit {0}} s t from to a b (Err fault)) → SealsAll s from to a b (Err fault)
+    → IfNone s.fault (TakesAll {A = Unit {0}} s t (moved from to) (moved a b) (Err fault))
+    → SealsAll s (moved from to) (moved a b) (Err fault)
 seals-err s t from to a b fault none takes =
-    let h = subst (λ (x : Option StreamFault). IfNone x (TakesAll {A = Unit {0}} s t from to a b (Err fault))) none
+    let h = subst
+    (λ (x : Option StreamFault). IfNone x (TakesAll {A = Unit {0}} s t (moved from to) (moved a b) (Err fault)))
+    none
     takes in
     (t.index, h.2.1)
 
@@ -408,16 +420,17 @@ cut-held x more fits = cut-fits 65536 [] x more (omega (arith, fits))
 -- a sealer that was filled seals what came and what comes
 pub filled-seals : (key : Bytes) (max : ℕ) (t : SealerState) (more : Bool) (from mid to a c : Known)
     (r : Result StreamDone StreamFault)
-    → Fills (at_start key max) t from mid (Ok more) → SealsAll t mid to a c r
-    → SealsAll (at_start key max) from to a c r
+    → Fills (at_start key max) t (moved from mid) (Ok more) → SealsAll t (moved mid to) (moved a c) r
+    → SealsAll (at_start key max) (moved from to) (moved a c) r
 filled-seals key max t more from mid to a c r (x, took, is, fits, full, ended) seals =
-    go r (subst (λ (u : SealerState). SealsAll u mid to a c r) is seals)
+    go r (subst (λ (u : SealerState). SealsAll u (moved mid to) (moved a c) r) is seals)
   where
     le : length x ≤ 65536
     le = subst (λ (u : SealerState). length u.held ≤ 65536) is fits
 
-    go : (q : Result StreamDone StreamFault) → SealsAll (record (at_start key max) { held = x }) mid to a c q
-        → SealsAll (at_start key max) from to a c q
+    go : (q : Result StreamDone StreamFault)
+        → SealsAll (record (at_start key max) { held = x }) (moved mid to) (moved a c) q
+        → SealsAll (at_start key max) (moved from to) (moved a c) q
     go (Ok done) (text, may, put, within, bytes, count) =
         let same : cut_into 65536 [] (x ++ text) ≡ cut_into 65536 x text = cut-held x text le in (
           x ++ text,
@@ -441,16 +454,17 @@ filled-seals key max t more from mid to a c r (x, took, is, fits, full, ended) s
         same : cut_into 65536 [] (x ++ s.text) ≡ cut_into 65536 x s.text
         same = cut-held x s.text le
 
-        stops : (f : StreamFault) → StopsIn key max 0 x s.text a c f → StopsIn key max 0 [] (x ++ s.text) a c f
-        stops Read h = subst (λ cs. WritesPart a c (concat (sealed_from key 0 cs))) (sym same) h
-        stops Write h = subst (λ cs. WritesPart a c (concat (sealed_from key 0 cs))) (sym same) h
+        stops : (f : StreamFault) → StopsIn key max 0 x s.text (moved a c) f
+            → StopsIn key max 0 [] (x ++ s.text) (moved a c) f
+        stops Read h = subst (λ cs. WritesPart (moved a c) (concat (sealed_from key 0 cs))) (sym same) h
+        stops Write h = subst (λ cs. WritesPart (moved a c) (concat (sealed_from key 0 cs))) (sym same) h
         stops TooManyChunks h =
             subst (λ (cs : List Bytes). (max < 0 + length cs)
             × Appends a c (concat (take (max - 1 - 0) (sealed_from key 0 cs)))) (sym same) h
         stops _ h = absurd h
 
-        gave : (fault ≡ Read) ⊎ GaveAtMost (65536 * (j + 1 - 0) + 1 - length x) mid to
-            → (fault ≡ Read) ⊎ GaveAtMost (65536 * (j + 1 - 0) + 1 - 0) from to
+        gave : (fault ≡ Read) ⊎ GaveAtMost (65536 * (j + 1 - 0) + 1 - length x) (moved mid to)
+            → (fault ≡ Read) ⊎ GaveAtMost (65536 * (j + 1 - 0) + 1 - 0) (moved from to)
         gave (inl e) = inl e
         gave (inr g) = inr (
           x ++ g.0,
@@ -461,9 +475,10 @@ filled-seals key max t more from mid to a c r (x, took, is, fits, full, ended) s
 -- a sealer that was filled with all that came seals it as the last chunk
 pub filled-finishes : (key : Bytes) (max : ℕ) (t : SealerState) (from to a c : Known)
     (r : Result StreamDone StreamFault) → 1 ≤ max
-    → Fills (at_start key max) t from to (Ok false) → FinishesBy t a c r → SealsAll (at_start key max) from to a c r
+    → Fills (at_start key max) t (moved from to) (Ok false) → FinishesBy t (moved a c) r
+    → SealsAll (at_start key max) (moved from to) (moved a c) r
 filled-finishes key max t from to a c r some (x, took, is, fits, full, ended) finishes =
-    go r (subst (λ (u : SealerState). FinishesBy u a c r) is finishes)
+    go r (subst (λ (u : SealerState). FinishesBy u (moved a c) r) is finishes)
   where
     le : length x ≤ 65536
     le = subst (λ (u : SealerState). length u.held ≤ 65536) is fits
@@ -471,8 +486,8 @@ filled-finishes key max t from to a c r some (x, took, is, fits, full, ended) fi
     same : cut_into 65536 [] x ≡ x ∷ []
     same = ap (cut_into 65536 []) (sym (append-nil x)) ∙ cut-held x [] le
 
-    go : (q : Result StreamDone StreamFault) → FinishesBy (record (at_start key max) { held = x }) a c q
-        → SealsAll (at_start key max) from to a c q
+    go : (q : Result StreamDone StreamFault) → FinishesBy (record (at_start key max) { held = x }) (moved a c) q
+        → SealsAll (at_start key max) (moved from to) (moved a c) q
     go (Ok done) (put, bytes, count) = (
       x,
       may-end from to x took (ended refl),
@@ -486,8 +501,8 @@ filled-finishes key max t from to a c r some (x, took, is, fits, full, ended) fi
       record {
         text = x;
         may = may-end from to x took (ended refl);
-        stops = subst (λ f. StopsIn key max 0 [] x a c f) (sym write)
-            (subst (λ cs. WritesPart a c (concat (sealed_from key 0 cs))) (sym same) part);
+        stops = subst (λ f. StopsIn key max 0 [] x (moved a c) f) (sym write)
+            (subst (λ cs. WritesPart (moved a c) (concat (sealed_from key 0 cs))) (sym same) part);
         wrote = (_, part.1, omega arith);
         gave = inr (x, took, omega (arith, le));
       },

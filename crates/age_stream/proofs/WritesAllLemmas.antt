@@ -7,7 +7,7 @@ use Rattle.std.proofs.KnownBytes.{Appends-trans, Appends-nil, Consumes-nil}
 use Rattle.std.proofs.lemmas.Bool.{le-leb, lt-leb, cases_lt}
 use Rattle.std.proofs.lemmas.List.{take_all}
 use Rattle.age_kdf.specs.Bytes.{Bytes}
-use Rattle.age_header.specs.Device.{GaveAtMost, MayGive, WritesPart, Known}
+use Rattle.age_header.specs.Device.{GaveAtMost, MayGive, WritesPart, Known, moved}
 use Rattle.age_header.proofs.DeviceLemmas.{gave-more, may-some, done_part}
 use Rattle.age_stream.specs.declared.done.Done.{Done}
 use Rattle.age_stream.specs.declared.fault.StreamFault.{StreamFault}
@@ -78,7 +78,7 @@ pub record Opened (s t : OpenerState) (bytes : ℕ) (from now old new : Known) :
   pub written : Appends old new front
   pub bound : length front ≤ 65536 * (t.index - s.index)
   pub full : IfSome t.held (λ ahead. length front ≡ 65536 * (t.index - s.index))
-  pub gave : IfSome t.held (λ ahead. GaveAtMost (65552 * (t.index - s.index) + length ahead) from now)
+  pub gave : IfSome t.held (λ ahead. GaveAtMost (65552 * (t.index - s.index) + length ahead) (moved from now))
   pub reads : (d : Bytes) → MayGive now d → (c : Bytes) × MayGive from c
       × (reading_left s.key s.max_chunks s.index (left_of s.held c)
       ≡ before front (reading_left s.key s.max_chunks t.index (left_of t.held d)))
@@ -103,7 +103,8 @@ opened-none s from old none = record {
     full None = tt
     full (Some h) = omega arith
 
-    gave : (held : Known) → IfSome held (λ ahead. GaveAtMost (65552 * (s.index - s.index) + length ahead) from from)
+    gave : (held : Known)
+        → IfSome held (λ ahead. GaveAtMost (65552 * (s.index - s.index) + length ahead) (moved from from))
     gave None = tt
     gave (Some h) = ([], Consumes-nil from, omega arith)
 
@@ -120,7 +121,8 @@ false-not-true : false ≡ true → ⊥
 false-not-true e = cc
 
 -- a piece opens only where one is left
-held-some : (t u : OpenerState) (now next : Known) → Advances t u now next (Ok true) → (h : Bytes) × (t.held ≡ Some h)
+held-some : (t u : OpenerState) (now next : Known) → Advances t u (moved now next) (Ok true) → (h : Bytes)
+    × (t.held ≡ Some h)
 held-some t u now next adv = go t.held refl
   where
     go : (held : Known) → t.held ≡ held → (h : Bytes) × (t.held ≡ Some h)
@@ -167,7 +169,7 @@ under t key max left rest text r k m o =
 
 -- whatever comes, so much was opened when the next piece is
 next-reads : (s t u : OpenerState) (n : ℕ) (from now next old new : Known) (o : Opened s t n from now old new)
-    (adv : Advances t u now next (Ok true)) (d : Bytes) → MayGive next d
+    (adv : Advances t u (moved now next) (Ok true)) (d : Bytes) → MayGive next d
     → (c : Bytes) × MayGive from c
     × (reading_left s.key s.max_chunks s.index (left_of s.held c)
     ≡ before (o.front ++ u.text) (reading_left s.key s.max_chunks (t.index + 1) (left_of u.held d)))
@@ -186,18 +188,19 @@ next-reads s t u n from now next old new o adv d may =
     )
 
 gave-next : (s t u : OpenerState) (n : ℕ) (from now next old new : Known) → Opened s t n from now old new
-    → Advances t u now next (Ok true) → GaveAtMost (65552 * (t.index - s.index + 1) + 1) from next
+    → Advances t u (moved now next) (Ok true) → GaveAtMost (65552 * (t.index - s.index + 1) + 1) (moved from next)
 gave-next s t u n from now next old new o adv =
     let h = held-some t u now next adv in
-    let past : GaveAtMost (65552 * (t.index - s.index) + length h.0) from now = at-some _ t.held h.0 h.1 o.gave in
+    let past : GaveAtMost (65552 * (t.index - s.index) + length h.0) (moved from now) = at-some _ t.held h.0 h.1 o.gave
+    in
     let short : length h.0 ≤ 1 = subst (λ (x : Known). ahead_len x ≤ 1) h.1 adv.ahead in
-    let one : GaveAtMost (65553 - length h.0) now next =
-    subst (λ (x : Known). GaveAtMost (65553 - ahead_len x) now next) h.1 adv.gave in
+    let one : GaveAtMost (65553 - length h.0) (moved now next) =
+    subst (λ (x : Known). GaveAtMost (65553 - ahead_len x) (moved now next)) h.1 adv.gave in
     let all = gave-more from now next _ _ past one in
     (all.0, all.1, omega (arith, all.2))
 
 pub opened-more : (s t u : OpenerState) (n : ℕ) (from now next a b c : Known) → Opened s t n from now a b
-    → Advances t u now next (Ok true) → length u.text ≤ 65536 → Appends b c u.text
+    → Advances t u (moved now next) (Ok true) → length u.text ≤ 65536 → Appends b c u.text
     → Opened s u (n + length u.text) from next a c
 opened-more s t u n from now next a b c o adv le put =
     let h = held-some t u now next adv in
@@ -231,8 +234,9 @@ opened-more s t u n from now next a b c o adv le put =
     next_full (Some x) k up full l le = omega (arith, k.1)
 
     next_gave : (held : Known) → IfSome held (λ ahead. (length ahead ≡ 1) × (length u.text ≡ 65536))
-        → u.index ≡ t.index + 1 → GaveAtMost (65552 * (t.index - s.index + 1) + 1) from next
-        → s.index ≤ t.index → IfSome held (λ ahead. GaveAtMost (65552 * (u.index - s.index) + length ahead) from next)
+        → u.index ≡ t.index + 1 → GaveAtMost (65552 * (t.index - s.index + 1) + 1) (moved from next)
+        → s.index ≤ t.index
+        → IfSome held (λ ahead. GaveAtMost (65552 * (u.index - s.index) + length ahead) (moved from next))
     next_gave None k up gave le = tt
     next_gave (Some x) k up gave le = (gave.0, gave.1, omega (arith, gave.2, k.0))
 
@@ -240,8 +244,8 @@ opened-more s t u n from now next a b c o adv le put =
 
 -- nothing is left
 pub writes-done : (s t u : OpenerState) (n : ℕ) (from now next a b : Known) (done : Done) → Opened s t n from now a b
-    → Advances t u now next (Ok false)
-    → done.bytes ≡ n → done.chunks ≡ t.index - s.index → WritesAll s from a b (Ok done)
+    → Advances t u (moved now next) (Ok false)
+    → done.bytes ≡ n → done.chunks ≡ t.index - s.index → WritesAll s from (moved a b) (Ok done)
 writes-done s t u n from now next a b done o adv bytes chunks =
     let d = may-some next in
     let one = adv.opens d.0 d.1 in
@@ -268,14 +272,15 @@ writes-done s t u n from now next a b done o adv bytes chunks =
 
 -- a prefix of a reading was written
 part-of : (all rest : Reading StreamFault) (front part : Bytes) (a b c : Known) → all ≡ before front rest
-    → Appends a b front → (more : Bytes) → rest.front ≡ part ++ more → WritesPart b c part → WritesPart a c all.front
+    → Appends a b front → (more : Bytes) → rest.front ≡ part ++ more → WritesPart (moved b c) part
+    → WritesPart (moved a c) all.front
 part-of all rest front part a b c is put more cut wrote =
     done_part a b c all.front rest.front part more
     (record { prefix = front; took = put; is = ap (λ (r : Reading StreamFault). r.front) is }) cut wrote
 
 -- a read failed
 pub writes-read : (s t : OpenerState) (n : ℕ) (from now a b : Known) → Opened s t n from now a b
-    → WritesAll s from a b (Err Read)
+    → WritesAll s from (moved a b) (Err Read)
 writes-read s t n from now a b o =
     let d = may-some now in
     let past = o.reads d.0 d.1 in (
@@ -287,7 +292,7 @@ writes-read s t n from now a b o =
 
 -- a write failed
 pub writes-write : (s t u : OpenerState) (n : ℕ) (from now next a b c : Known) → Opened s t n from now a b
-    → Advances t u now next (Ok true) → WritesPart b c u.text → WritesAll s from a c (Err Write)
+    → Advances t u (moved now next) (Ok true) → WritesPart (moved b c) u.text → WritesAll s from (moved a c) (Err Write)
 writes-write s t u n from now next a b c o adv part =
     let d = may-some next in
     let past = next-reads s t u n from now next a b o adv d.0 d.1 in
@@ -296,8 +301,8 @@ writes-write s t u n from now next a b c o adv part =
     (past.0, past.1, part-of _ (before u.text rest) o.front u.text a b c all o.written rest.front refl part)
 
 pub ends-write : (s t u : OpenerState) (n : ℕ) (from now next a b c : Known) → Opened s t n from now a b
-    → Advances t u now next (Ok true) → WritesPart b c u.text
-    → EndsAt s.max_chunks 0 from next a c Write
+    → Advances t u (moved now next) (Ok true) → WritesPart (moved b c) u.text
+    → EndsAt s.max_chunks 0 (moved from next) (moved a c) Write
 ends-write s t u n from now next a b c o adv part =
     let h = held-some t u now next adv in
     let full : length o.front ≡ 65536 * (t.index - s.index) = at-some _ t.held h.0 h.1 o.full in
@@ -313,7 +318,7 @@ ends-write s t u n from now next a b c o adv part =
 -- a piece's fault
 stops-writes : (reading : Reading StreamFault) (n max i : ℕ) (a b : Known) (fault : StreamFault) → IsAtPiece max i fault
     → reading.fault ≡ Some fault → Appends a b reading.front
-    → WritesReading reading n a b (Err fault)
+    → WritesReading reading n (moved a b) (Err fault)
 stops-writes reading n max i a b NonceTruncated at f w = absurd at
 stops-writes reading n max i a b (ChunkShort j) at f w = (f, w)
 stops-writes reading n max i a b (EmptyFinal j) at f w = (f, w)
@@ -324,7 +329,7 @@ stops-writes reading n max i a b Write at f w = absurd at
 stops-writes reading n max i a b Memory at f w = absurd at
 
 pub writes-stop : (s t u : OpenerState) (n : ℕ) (from now next a b : Known) (fault : StreamFault)
-    → Opened s t n from now a b → Advances t u now next (Err fault) → WritesAll s from a b (Err fault)
+    → Opened s t n from now a b → Advances t u (moved now next) (Err fault) → WritesAll s from (moved a b) (Err fault)
 writes-stop s t u n from now next a b fault o adv =
     let d = may-some next in
     let one = adv.opens d.0 d.1 in
@@ -348,8 +353,8 @@ writes-stop s t u n from now next a b fault o adv =
     left-stops (Some c) rest text e = first-err s.key s.max_chunks t.index c fault e
 
 pub ends-stop : (s t u : OpenerState) (n : ℕ) (from now next a b : Known) (fault : StreamFault)
-    → Opened s t n from now a b → Advances t u now next (Err fault)
-    → EndsAt s.max_chunks 0 from next a b fault
+    → Opened s t n from now a b → Advances t u (moved now next) (Err fault)
+    → EndsAt s.max_chunks 0 (moved from next) (moved a b) fault
 ends-stop s t u n from now next a b fault o adv = record {
   piece = t.index;
   text = o.front;
@@ -358,12 +363,12 @@ ends-stop s t u n from now next a b fault o adv = record {
   gave = gave t.held refl;
 }
   where
-    gave : (held : Known) → t.held ≡ held → GaveAtMost (0 + (65552 * (t.index + 1) + 1)) from next
+    gave : (held : Known) → t.held ≡ held → GaveAtMost (0 + (65552 * (t.index + 1) + 1)) (moved from next)
     gave (Some h) e =
-        let past : GaveAtMost (65552 * (t.index - s.index) + length h) from now = at-some _ t.held h e o.gave in
+        let past : GaveAtMost (65552 * (t.index - s.index) + length h) (moved from now) = at-some _ t.held h e o.gave in
         let short : length h ≤ 1 = subst (λ (x : Known). ahead_len x ≤ 1) e adv.ahead in
-        let one : GaveAtMost (65553 - length h) now next =
-        subst (λ (x : Known). GaveAtMost (65553 - ahead_len x) now next) e adv.gave in
+        let one : GaveAtMost (65553 - length h) (moved now next) =
+        subst (λ (x : Known). GaveAtMost (65553 - ahead_len x) (moved now next)) e adv.gave in
         let all = gave-more from now next _ _ past one in
         (all.0, all.1, omega (arith, all.2))
     gave None e =
@@ -376,46 +381,50 @@ ends-stop s t u n from now next a b fault o adv = record {
 
 -- of the clause of a call what it says where no fault was kept, and no read failed
 pub advanced : {r : Result Bool StreamFault} (t u : OpenerState) (now next : Known) → t.fault ≡ None
-    → IfNone t.fault (IsErrOf r Read ⊎ Advances t u now next r) → IsErrOf r Read ⊎ Advances t u now next r
+    → IfNone t.fault (IsErrOf r Read ⊎ Advances t u (moved now next) r) → IsErrOf r Read
+    ⊎ Advances t u (moved now next) r
 advanced {r} t u now next none h = subst
-    (λ (x : Option StreamFault). IfNone x (IsErrOf r Read ⊎ Advances t u now next r)) none h
+    (λ (x : Option StreamFault). IfNone x (IsErrOf r Read ⊎ Advances t u (moved now next) r)) none h
 
 same-fault : (fault : StreamFault) → IsErrOf {T = Bool} (Err fault) Read → fault ≡ Read
 same-fault fault e = cc
 
 pub advanced-ok : (some : Bool) (t u : OpenerState) (now next : Known) → t.fault ≡ None
-    → IfNone t.fault (IsErrOf (Ok some) Read ⊎ Advances t u now next (Ok some)) → Advances t u now next (Ok some)
+    → IfNone t.fault (IsErrOf (Ok some) Read ⊎ Advances t u (moved now next) (Ok some))
+    → Advances t u (moved now next) (Ok some)
 advanced-ok some t u now next none h = go (advanced t u now next none h)
   where
-    go : IsErrOf (Ok some) Read ⊎ Advances t u now next (Ok some) → Advances t u now next (Ok some)
+    go : IsErrOf (Ok some) Read ⊎ Advances t u (moved now next) (Ok some) → Advances t u (moved now next) (Ok some)
     go (inl e) = absurd (ok-not-err Read some e)
     go (inr a) = a
 
 -- the fault of a call, of a read or of a piece
 pub failed-writes : (s t u : OpenerState) (n : ℕ) (from now next a b : Known) (fault : StreamFault)
     → Opened s t n from now a b
-    → IfNone t.fault (IsErrOf {T = Bool} (Err fault) Read ⊎ Advances t u now next (Err fault))
-    → WritesAll s from a b (Err fault)
+    → IfNone t.fault (IsErrOf {T = Bool} (Err fault) Read ⊎ Advances t u (moved now next) (Err fault))
+    → WritesAll s from (moved a b) (Err fault)
 failed-writes s t u n from now next a b fault o h = go (advanced t u now next o.none h)
   where
-    go : IsErrOf {T = Bool} (Err fault) Read ⊎ Advances t u now next (Err fault) → WritesAll s from a b (Err fault)
-    go (inl e) = subst (λ f. WritesAll s from a b (Err f)) (sym (same-fault fault e)) (writes-read s t n from now a b o)
+    go : IsErrOf {T = Bool} (Err fault) Read ⊎ Advances t u (moved now next) (Err fault)
+        → WritesAll s from (moved a b) (Err fault)
+    go (inl e) = subst (λ f. WritesAll s from (moved a b) (Err f)) (sym (same-fault fault e))
+        (writes-read s t n from now a b o)
     go (inr adv) = writes-stop s t u n from now next a b fault o adv
 
 pub failed-ends : (s t u : OpenerState) (n : ℕ) (from now next a b : Known) (fault : StreamFault)
     → Opened s t n from now a b
-    → IfNone t.fault (IsErrOf {T = Bool} (Err fault) Read ⊎ Advances t u now next (Err fault))
-    → (fault ≡ Read) ⊎ EndsAt s.max_chunks 0 from next a b fault
+    → IfNone t.fault (IsErrOf {T = Bool} (Err fault) Read ⊎ Advances t u (moved now next) (Err fault))
+    → (fault ≡ Read) ⊎ EndsAt s.max_chunks 0 (moved from next) (moved a b) fault
 failed-ends s t u n from now next a b fault o h = go (advanced t u now next o.none h)
   where
-    go : IsErrOf {T = Bool} (Err fault) Read ⊎ Advances t u now next (Err fault)
-        → (fault ≡ Read) ⊎ EndsAt s.max_chunks 0 from next a b fault
+    go : IsErrOf {T = Bool} (Err fault) Read ⊎ Advances t u (moved now next) (Err fault)
+        → (fault ≡ Read) ⊎ EndsAt s.max_chunks 0 (moved from next) (moved a b) fault
     go (inl e) = inl (same-fault fault e)
     go (inr adv) = inr (ends-stop s t u n from now next a b fault o adv)
 
 -- the count of bytes has room for one more text
 pub opened-room : (s t u : OpenerState) (n : ℕ) (from now next a b : Known) (len : ℕ) → Opened s t n from now a b
-    → Advances t u now next (Ok true) → len ≤ 65536 → Fits w128 (n + len)
+    → Advances t u (moved now next) (Ok true) → len ≤ 65536 → Fits w128 (n + len)
 opened-room s t u n from now next a b len o adv le =
     let within : t.index < t.max_chunks = adv.keeps.2 refl in
     omega (arith, o.len, o.bound, adv.small)

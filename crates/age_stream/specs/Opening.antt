@@ -1,9 +1,8 @@
 -- An opener of pieces between two calls, and what a call does.
 use Rattle.std.specs.Prelude.{ℕ, List, [], ◌++◌, ◌≡◌, ◌≤◌, ◌<◌, ◌+◌, ◌-◌, ◌*◌, ◌⊎◌, ⊤, length, take, drop, option_map, IfSome, Bool, true, false, Option, Some, None, Result, Ok, Err, if◌then◌else◌}
-use Rattle.std.specs.Io.KnownBytes.{Appends}
 use Rattle.age_cipher.specs.Bytes.{Key}
 use Rattle.age_kdf.specs.Bytes.{Bytes}
-use Rattle.age_header.specs.Device.{Known, GaveAtMost, MayGive, WritesPart}
+use Rattle.age_header.specs.Device.{Known, GaveAtMost, MayGive, WritesPart, Moved, Took}
 use Rattle.age_recipient.specs.declared.key.FileKey.{FileKey}
 use Rattle.age_stream.specs.declared.done.Done.{Done}
 use Rattle.age_stream.specs.declared.fault.StreamFault.{StreamFault}
@@ -76,38 +75,37 @@ KeepsState old new (Err fault) =
 abbrev pub IsSpent : OpenerState → Type 0
 IsSpent s = (s.text ≡ []) × (s.held ≡ None)
 
--- One call of an opener that keeps no fault, on a source that could give `from` before it and can
--- give `to` after it. For each d that the source may still give, there is a c that it may have
--- given before the call, such that the first piece of what was held and c was opened, and what is
--- left is what is now held and d.
-pub record Advances (old new : OpenerState) (from to : Known)
+-- One call of an opener that keeps no fault, and what the source gave. For each d that the source
+-- may still give, there is a c that it may have given before the call, such that the first piece of
+-- what was held and c was opened, and what is left is what is now held and d.
+pub record Advances (old new : OpenerState) (source : Moved)
     (r : Result Bool StreamFault) : Type 0 where
   pub key : new.key ≡ old.key
   pub max_chunks : new.max_chunks ≡ old.max_chunks
   pub small : old.max_chunks ≤ most_chunks
   pub keeps : KeepsState old new r
   pub ahead : ahead_len old.held ≤ 1
-  pub gave : GaveAtMost (chunk_buf_size - ahead_len old.held) from to
-  pub opens : (d : Bytes) → MayGive to d
-      → (c : Bytes) × MayGive from c
+  pub gave : GaveAtMost (chunk_buf_size - ahead_len old.held) source
+  pub opens : (d : Bytes) → MayGive source.after d → (c : Bytes) × MayGive source.before c
       × OpensNext old.key old.max_chunks old.index (left_of old.held c) (left_of new.held d)
       new.text r
 
 -- the nonce that was read, where the source could give it
-abbrev pub GivesNonce : (from to : Known) (result : Result Bytes StreamFault) → Type 0
-GivesNonce from to (Ok nonce) = (d : Bytes) → MayGive to d → MayGive from (nonce ++ d)
-GivesNonce from to (Err Read) = ⊤
-GivesNonce from to (Err fault) =
-    (fault ≡ NonceTruncated) × ((c : Bytes) × MayGive from c × (length c < nonce_size))
+abbrev pub GivesNonce : (source : Moved) (result : Result Bytes StreamFault) → Type 0
+GivesNonce source (Ok nonce) =
+    (d : Bytes) → MayGive source.after d → MayGive source.before (nonce ++ d)
+GivesNonce source (Err Read) = ⊤
+GivesNonce source (Err fault) =
+    (fault ≡ NonceTruncated) × ((c : Bytes) × MayGive source.before c × (length c < nonce_size))
 
 -- the start of a payload was read: its nonce, under which piece 0 is the opener's next; or there is
 -- no whole nonce
-abbrev pub Starts : (file_key : FileKey) (max : ℕ) (from to : Known)
+abbrev pub Starts : (file_key : FileKey) (max : ℕ) (source : Moved)
     (result : Result OpenerState StreamFault) → Type 0
-Starts file_key max from to (Ok opener) =
+Starts file_key max source (Ok opener) =
     (nonce : Bytes) × (length nonce ≡ nonce_size)
-    × (opener ≡ at_start (payload_key file_key nonce) max) × GivesNonce from to (Ok nonce)
-Starts file_key max from to (Err fault) = GivesNonce from to (Err fault)
+    × (opener ≡ at_start (payload_key file_key nonce) max) × GivesNonce source (Ok nonce)
+Starts file_key max source (Err fault) = GivesNonce source (Err fault)
 
 -- what is left, read from piece i on
 abbrev pub reading_left : (key : Key) (max i : ℕ) (left : Option Bytes) → Reading StreamFault
@@ -121,34 +119,32 @@ pieces_left (Some c) = pieces c
 
 -- A reading's fault was returned, or the length of its plaintext and the number of its pieces, and
 -- its plaintext was written; a prefix of it where a device failed.
-abbrev pub WritesReading : (reading : Reading StreamFault) (n : ℕ) (old new : Known)
+abbrev pub WritesReading : (reading : Reading StreamFault) (n : ℕ) (sink : Moved)
     (result : Result Done StreamFault) → Type 0
-WritesReading reading n old new (Ok done) =
-    (reading.fault ≡ None) × Appends old new reading.front × (done.bytes ≡ length reading.front)
+WritesReading reading n sink (Ok done) =
+    (reading.fault ≡ None) × Took sink reading.front × (done.bytes ≡ length reading.front)
     × (done.chunks ≡ n)
-WritesReading reading n old new (Err Read) = WritesPart old new reading.front
-WritesReading reading n old new (Err Write) = WritesPart old new reading.front
-WritesReading reading n old new (Err fault) =
-    (reading.fault ≡ Some fault) × Appends old new reading.front
+WritesReading reading n sink (Err Read) = WritesPart sink reading.front
+WritesReading reading n sink (Err Write) = WritesPart sink reading.front
+WritesReading reading n sink (Err fault) = (reading.fault ≡ Some fault) × Took sink reading.front
 
 -- the reading of what the source may have given was written
-abbrev pub WritesAll : (s : OpenerState) (from old new : Known) (r : Result Done StreamFault)
+abbrev pub WritesAll : (s : OpenerState) (from : Known) (sink : Moved) (r : Result Done StreamFault)
     → Type 0
-WritesAll s from old new r =
+WritesAll s from sink r =
     (c : Bytes) × MayGive from c
     × WritesReading (reading_left s.key s.max_chunks s.index (left_of s.held c))
-    (length (pieces_left (left_of s.held c))) old new r
+    (length (pieces_left (left_of s.held c))) sink r
 
 -- A fault of a piece or of a write: at which piece it was met, what had been written, and how much
 -- of the source had been read. `before` bytes were read before the pieces: 16 where the nonce
 -- counts.
-pub record EndsAt (max before : ℕ) (from to old new : Known) (fault : StreamFault)
-    : Type 0 where
+pub record EndsAt (max before : ℕ) (source sink : Moved) (fault : StreamFault) : Type 0 where
   pub piece : ℕ
   pub text : Bytes
-  pub written : Appends old new text
+  pub written : Took sink text
   pub at : ((fault ≡ Write) × (chunk_size * piece ≤ length text)) ⊎ IsAtPiece max piece fault
-  pub gave : GaveAtMost (before + (sealed_chunk_size * (piece + 1) + 1)) from to
+  pub gave : GaveAtMost (before + (sealed_chunk_size * (piece + 1) + 1)) source
 
 -- a piece's outcome is returned, and its text is at the start of the buffer
 abbrev pub GivesText : (outcome : Result Bytes StreamFault) (after : Bytes)

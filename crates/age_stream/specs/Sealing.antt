@@ -1,11 +1,11 @@
 -- A sealer of chunks between two calls, and what a call does.
 use Rattle.std.specs.Prelude.{ℕ, List, [], ◌++◌, ◌≡◌, ◌⊎◌, ◌≤◌, ◌<◌, ◌+◌, ◌-◌, ◌*◌, length, take, drop, Bool, true, false, MatchResult, Option, Some, None, Result, Ok, Err}
-use Rattle.std.specs.Io.KnownBytes.{Appends, Consumes, IsAtEnd}
+use Rattle.std.specs.Io.KnownBytes.{IsAtEnd}
 use Rattle.std.specs.List.{concat}
 use Rattle.age_cipher.specs.Bytes.{Key}
 use Rattle.age_kdf.specs.Bytes.{Bytes}
 use Rattle.age_cipher.specs.Sealing.{sealed}
-use Rattle.age_header.specs.Device.{Known, GaveAtMost, MayGive, WritesPart}
+use Rattle.age_header.specs.Device.{GaveAtMost, MayGive, WritesPart, Moved, Gave, Took}
 use Rattle.age_stream.specs.declared.done.Done.{Done}
 use Rattle.age_stream.specs.declared.fault.StreamFault.{StreamFault}
 use Rattle.age_stream.specs.declared.fault.StreamFault.TheVariants.{Read, Write, TooManyChunks}
@@ -37,103 +37,96 @@ sealed_rest s text = concat (sealed_after s.key s.index s.held text)
 -- A sealer that held `held` before chunk i took `text`, and now holds `now` before chunk j. The
 -- sealed chunks `gone` were written. Whatever `more` follows, the sealed chunks of it all are
 -- `gone` and then those of the new state.
-pub record Fed (key : Key) (i j : ℕ) (held text now : Bytes) (old new : Known)
-    : Type 0 where
+pub record Fed (key : Key) (i j : ℕ) (held text now : Bytes) (sink : Moved) : Type 0 where
   pub gone : List Bytes
   pub count : j ≡ i + length gone
   pub size : length (concat gone) ≡ sealed_chunk_size * length gone
   pub bytes : length held + length text ≡ chunk_size * length gone + length now
-  pub written : Appends old new (concat gone)
+  pub written : Took sink (concat gone)
   pub chunks : (more : Bytes)
       → sealed_after key i held (text ++ more) ≡ gone ++ sealed_after key j now more
 
 -- at least n bytes were written
-abbrev pub WroteAtLeast : (n : ℕ) (old new : Known) → Type 0
-WroteAtLeast n old new = (text : Bytes) × Appends old new text × (n ≤ length text)
+abbrev pub WroteAtLeast : (n : ℕ) (sink : Moved) → Type 0
+WroteAtLeast n sink = (text : Bytes) × Took sink text × (n ≤ length text)
 
 -- What was written where `text` was to come and a fault was met: of a device's fault a prefix of
 -- the sealed chunks; of too many chunks those with an index below the limit less one.
-abbrev pub StopsIn : (key : Key) (max i : ℕ) (held text : Bytes) (old new : Known)
+abbrev pub StopsIn : (key : Key) (max i : ℕ) (held text : Bytes) (sink : Moved)
     (fault : StreamFault) → Type 0
-StopsIn key max i held text old new Read =
-    WritesPart old new (concat (sealed_after key i held text))
-StopsIn key max i held text old new Write =
-    WritesPart old new (concat (sealed_after key i held text))
-StopsIn key max i held text old new TooManyChunks =
+StopsIn key max i held text sink Read = WritesPart sink (concat (sealed_after key i held text))
+StopsIn key max i held text sink Write = WritesPart sink (concat (sealed_after key i held text))
+StopsIn key max i held text sink TooManyChunks =
     (max < i + length (cut_into chunk_size held text))
-    × Appends old new (concat (take (max - 1 - i) (sealed_after key i held text)))
-StopsIn key max i held text old new _ = ⊥
+    × Took sink (concat (take (max - 1 - i) (sealed_after key i held text)))
+StopsIn key max i held text sink _ = ⊥
 
 -- a text that the source may have given was read
-pub record IsFed (key : Key) (i j : ℕ) (held now : Bytes) (from to old new : Known)
-    : Type 0 where
+pub record IsFed (key : Key) (i j : ℕ) (held now : Bytes) (source sink : Moved) : Type 0 where
   pub text : Bytes
-  pub took : Consumes from to text
-  pub may : MayGive from text
-  pub fed : Fed key i j held text now old new
+  pub took : Gave source text
+  pub may : MayGive source.before text
+  pub fed : Fed key i j held text now sink
 
 -- a fault was met in a text that the source may have given, with chunk j the next to be written; so
 -- much of the source was read
-pub record Stopped (key : Key) (max i j : ℕ) (held : Bytes) (from to old new : Known)
+pub record Stopped (key : Key) (max i j : ℕ) (held : Bytes) (source sink : Moved)
     (fault : StreamFault) : Type 0 where
   pub text : Bytes
-  pub may : MayGive from text
-  pub stops : StopsIn key max i held text old new fault
-  pub wrote : WroteAtLeast (sealed_chunk_size * (j - i)) old new
-  pub gave : (fault ≡ Read) ⊎ GaveAtMost (chunk_size * (j + 1 - i) + 1 - length held) from to
+  pub may : MayGive source.before text
+  pub stops : StopsIn key max i held text sink fault
+  pub wrote : WroteAtLeast (sealed_chunk_size * (j - i)) sink
+  pub gave : (fault ≡ Read) ⊎ GaveAtMost (chunk_size * (j + 1 - i) + 1 - length held) source
 
 -- a sealer that keeps no fault holds a full chunk, and the source may give more; or it holds all
 -- that the source gave, with what it held before; or a read failed
-abbrev pub Fills : (s t : SealerState) (from to : Known) (result : Result Bool StreamFault) → Type 0
-Fills s t from to (Ok more) =
-    (text : Bytes) × Consumes from to text × (t ≡ record s { held = s.held ++ text })
+abbrev pub Fills : (s t : SealerState) (source : Moved) (result : Result Bool StreamFault) → Type 0
+Fills s t source (Ok more) =
+    (text : Bytes) × Gave source text × (t ≡ record s { held = s.held ++ text })
     × (length t.held ≤ chunk_size) × (more ≡ true → length t.held ≡ chunk_size)
-    × (more ≡ false → IsAtEnd to)
-Fills s t from to (Err fault) =
+    × (more ≡ false → IsAtEnd source.after)
+Fills s t source (Err fault) =
     (fault ≡ Read) × (t.key ≡ s.key) × (t.max_chunks ≡ s.max_chunks) × (t.fault ≡ Some Read)
 
 -- all that a source gives was read by a sealer that keeps no fault
-abbrev pub TakesAll : {A : Type 0} (s t : SealerState) (from to old new : Known)
+abbrev pub TakesAll : {A : Type 0} (s t : SealerState) (source sink : Moved)
     (r : Result A StreamFault) → Type 0
-TakesAll s t from to old new r =
+TakesAll s t source sink r =
     (t.key ≡ s.key) × (t.max_chunks ≡ s.max_chunks)
     × MatchResult r
     (λ _. (t.fault ≡ None) × (length t.held ≤ chunk_size) × (t.index < t.max_chunks)
-    × IsFed s.key s.index t.index s.held t.held from to old new × IsAtEnd to)
+    × IsFed s.key s.index t.index s.held t.held source sink × IsAtEnd source.after)
     (λ fault. (t.fault ≡ Some fault)
-    × Stopped s.key s.max_chunks s.index t.index s.held from to old new fault)
+    × Stopped s.key s.max_chunks s.index t.index s.held source sink fault)
 
 -- the last chunk was written, or a prefix of it
-abbrev pub FinishesBy : (s : SealerState) (old new : Known) (result : Result Done StreamFault)
-    → Type 0
-FinishesBy s old new (Ok done) =
-    Appends old new (sealed_rest s []) × (done.bytes ≡ chunk_size * s.index + length s.held)
+abbrev pub FinishesBy : (s : SealerState) (sink : Moved) (result : Result Done StreamFault) → Type 0
+FinishesBy s sink (Ok done) =
+    Took sink (sealed_rest s []) × (done.bytes ≡ chunk_size * s.index + length s.held)
     × (done.chunks ≡ s.index + 1)
-FinishesBy s old new (Err fault) = (fault ≡ Write) × WritesPart old new (sealed_rest s [])
+FinishesBy s sink (Err fault) = (fault ≡ Write) × WritesPart sink (sealed_rest s [])
 
 -- all that a source gives was sealed and written by a sealer that keeps no fault; or a fault was
 -- met
-abbrev pub SealsAll : (s : SealerState) (from to old new : Known) (result : Result Done StreamFault)
+abbrev pub SealsAll : (s : SealerState) (source sink : Moved) (result : Result Done StreamFault)
     → Type 0
-SealsAll s from to old new (Ok done) =
-    (text : Bytes) × MayGive from text × Appends old new (sealed_rest s text)
+SealsAll s source sink (Ok done) =
+    (text : Bytes) × MayGive source.before text × Took sink (sealed_rest s text)
     × (s.index + length (cut_into chunk_size s.held text) ≤ s.max_chunks)
     × (done.bytes ≡ chunk_size * s.index + length s.held + length text)
     × (done.chunks ≡ s.index + length (cut_into chunk_size s.held text))
-SealsAll s from to old new (Err fault) =
-    (chunk : ℕ) × Stopped s.key s.max_chunks s.index chunk s.held from to old new fault
+SealsAll s source sink (Err fault) =
+    (chunk : ℕ) × Stopped s.key s.max_chunks s.index chunk s.held source sink fault
 
 -- the full chunk at the start of the buffer was written as chunk i, and the byte after it was moved
 -- to the start; or a write of it failed, or there is no room for one more
-abbrev pub PutsFull : {A : Type 0} (key : Key) (max i j : ℕ) (bytes after : Bytes) (old new : Known)
+abbrev pub PutsFull : {A : Type 0} (key : Key) (max i j : ℕ) (bytes after : Bytes) (sink : Moved)
     (r : Result A StreamFault) → Type 0
-PutsFull key max i j bytes after old new r =
+PutsFull key max i j bytes after sink r =
     MatchResult r
-    (λ _. (j ≡ i + 1)
-    × Appends old new (sealed key (chunk_nonce i false) [] (take chunk_size bytes))
+    (λ _. (j ≡ i + 1) × Took sink (sealed key (chunk_nonce i false) [] (take chunk_size bytes))
     × (take 1 after ≡ take 1 (drop chunk_size bytes)))
     (λ fault. (j ≡ i)
     × (((fault ≡ Write)
-    × WritesPart old new
-    (sealed key (chunk_nonce i false) [] (take chunk_size bytes)))
-    ⊎ ((fault ≡ TooManyChunks) × (max ≤ i + 1) × Appends old new [])))
+    × WritesPart sink (sealed key (chunk_nonce i false) [] (take chunk_size bytes)))
+    ⊎ ((fault ≡ TooManyChunks) × (max ≤ i + 1) × Took sink [])))

@@ -1,9 +1,8 @@
 -- A writer of a payload: what its constructors and its calls do to its sink.
 use Rattle.std.specs.Prelude.{ℕ, ◌≡◌, ◌≤◌, ◌<◌, ◌≢◌, length, MatchResult, None, Some, Result, Ok, Err}
-use Rattle.std.specs.Io.KnownBytes.{Appends}
 use Rattle.age_kdf.specs.Bytes.{Bytes}
 use denote.Ref.{MutBor}
-use Rattle.age_header.specs.Device.{CountsFaultIf, Known, WritesPart}
+use Rattle.age_header.specs.Device.{CountsFaultIf, Known, Moved, Took, WritesPart, moved_by}
 use Rattle.age_recipient.specs.declared.key.FileKey.{FileKey}
 use Rattle.age_stream.specs.declared.fault.StreamFault.{StreamFault}
 use Rattle.age_stream.specs.declared.fault.StreamFault.TheVariants.{Memory, Read, Write}
@@ -16,25 +15,25 @@ use Rattle.age_stream.specs.Sizes.{chunk_size}
 
 -- A text was passed to a sealer that keeps no fault: whatever still comes, what is written is as
 -- before. Or a fault was met: of the sink, or too many chunks.
-abbrev pub TakesPiece : {A : Type 0} (s t : SealerState) (piece : Bytes) (old new : Known)
+abbrev pub TakesPiece : {A : Type 0} (s t : SealerState) (piece : Bytes) (sink : Moved)
     (r : Result A StreamFault) → Type 0
-TakesPiece s t piece old new r =
+TakesPiece s t piece sink r =
     (t.key ≡ s.key) × (t.max_chunks ≡ s.max_chunks)
     × MatchResult r
     (λ _. (t.fault ≡ None) × (length t.held ≤ chunk_size) × (t.index < t.max_chunks)
-    × Fed s.key s.index t.index s.held piece t.held old new)
+    × Fed s.key s.index t.index s.held piece t.held sink)
     (λ fault. (t.fault ≡ Some fault) × (fault ≢ Read)
-    × StopsIn s.key s.max_chunks s.index s.held piece old new fault)
+    × StopsIn s.key s.max_chunks s.index s.held piece sink fault)
 
 -- what was made of a sink, and what became of it: the nonce was written, and chunk 0 is the
 -- sealer's next; or a write of the nonce failed
 abbrev pub StartsWriter : {W : Type 0} (taken : W → Known) (failed : W → ℕ) (file_key : FileKey)
     (nonce : Bytes) (max : ℕ) (old new : W) (r : Result SealerState StreamFault) → Type 0
 StartsWriter taken failed file_key nonce max old new (Ok sealer) =
-    Appends (taken old) (taken new) nonce × (failed new ≡ failed old)
+    Took (moved_by taken old new) nonce × (failed new ≡ failed old)
     × (sealer ≡ at_start (payload_key file_key nonce) max)
 StartsWriter taken failed file_key nonce max old new (Err fault) =
-    (fault ≡ Write) × WritesPart (taken old) (taken new) nonce
+    (fault ≡ Write) × WritesPart (moved_by taken old new) nonce
     × CountsFaultIf is_write (failed old) (failed new) fault
 
 -- memory was refused, and nothing was written

@@ -3,7 +3,7 @@ ghost use Rattle.std.specs.Prelude.{◌≡◌, ◌≢◌, ◌⊎◌, ◌<◌, �
 ghost use Rattle.std.specs.Bool.{OnTrue, OnFalse};
 ghost use Rattle.age_kdf.specs.Bytes.{Bytes};
 ghost use Rattle.age_cipher.specs.Sealing.{opened};
-ghost use Rattle.age_header.specs.Device.{CountsIf, GaveAtMost, MayGive};
+ghost use Rattle.age_header.specs.Device.{CountsIf, GaveAtMost, MayGive, moved_by};
 ghost use Rattle.age_stream.specs.Counts.{is_read, is_write};
 ghost use Rattle.age_stream.specs.Opening.{Advances, EndsAt, GivesNonce, GivesText, IsAtPiece, IsSpent, OpensPiece, Starts, WritesAll};
 ghost use Rattle.age_stream.specs.Reading.{outcome};
@@ -68,10 +68,10 @@ impl ChunkOpener {
         buf: ChunkBuf,
     ) -> Result<ChunkOpener, StreamFault>
         requires { max_chunks ≤ most_chunks }
-        ensures starts { Starts key.now max_chunks (S.to_come source.old) (S.to_come source.new)
+        ensures starts { Starts key.now max_chunks (moved_by S.to_come source.old source.new)
             result }
         ensures gave { IsErrOf result StreamFault.Read
-            ⊎ GaveAtMost nonce_size (S.to_come source.old) (S.to_come source.new) }
+            ⊎ GaveAtMost nonce_size (moved_by S.to_come source.old source.new) }
         ensures count { CountsIf is_read (S.failed source.old) (S.failed source.new) result }
     {
         let nonce = match read_nonce(source) {
@@ -114,7 +114,7 @@ impl ChunkOpener {
         ensures count { IfNone self.old.fault
             (CountsIf is_read (S.failed source.old) (S.failed source.new) result) }
         ensures opens { IfNone self.old.fault (IsErrOf result StreamFault.Read
-            ⊎ Advances self.old self.new (S.to_come source.old) (S.to_come source.new) result) }
+            ⊎ Advances self.old self.new (moved_by S.to_come source.old source.new) result) }
         ensures blank { IfNone self.old.fault (MatchResult result
             (λ some. OnFalse some (IsSpent self.new)) (λ _. IsSpent self.new)) }
     {
@@ -157,11 +157,11 @@ impl ChunkOpener {
         out: &mut W,
     ) -> Result<Done, StreamFault>
         requires { self.fault ≡ None }
-        ensures writes_all { WritesAll self (S.to_come source.old) (W.taken out.old)
-            (W.taken out.new) result }
+        ensures writes_all { WritesAll self (S.to_come source.old)
+            (moved_by W.taken out.old out.new) result }
         ensures ends { IfErr result (λ f. (f ≡ StreamFault.Read)
-            ⊎ EndsAt self.max_chunks 0 (S.to_come source.old) (S.to_come source.new)
-            (W.taken out.old) (W.taken out.new) f) }
+            ⊎ EndsAt self.max_chunks 0 (moved_by S.to_come source.old source.new)
+            (moved_by W.taken out.old out.new) f) }
         ensures reads { CountsIf is_read (S.failed source.old) (S.failed source.new) result }
         ensures writes { CountsIf is_write (W.failed out.old) (W.failed out.new) result }
     {
@@ -214,7 +214,7 @@ fn next_piece<S: Source>(
         × OpensPiece key.now max i (take ahead (drop sealed_chunk_size bytes.old) ++ c) bytes.new d
         result) }
     ensures gave { IsErrOf result StreamFault.Read
-        ⊎ GaveAtMost (chunk_buf_size - ahead) (S.to_come source.old) (S.to_come source.new) }
+        ⊎ GaveAtMost (chunk_buf_size - ahead) (moved_by S.to_come source.old source.new) }
     ensures at { IfErr result (λ f. (f ≡ StreamFault.Read) ⊎ IsAtPiece max i f) }
     ensures size { IfOk result
         (λ piece. (piece.len ≤ chunk_size) × (piece.more ≡ true → piece.len ≡ chunk_size)) }
@@ -239,9 +239,9 @@ fn next_piece<S: Source>(
 
 /// The 16 bytes of a payload's nonce.
 fn read_nonce<S: Source>(source: &mut S) -> Result<[u8; 16], StreamFault>
-    ensures nonce { GivesNonce (S.to_come source.old) (S.to_come source.new) result }
+    ensures nonce { GivesNonce (moved_by S.to_come source.old source.new) result }
     ensures gave { IsErrOf result StreamFault.Read
-        ⊎ GaveAtMost nonce_size (S.to_come source.old) (S.to_come source.new) }
+        ⊎ GaveAtMost nonce_size (moved_by S.to_come source.old source.new) }
     ensures count { CountsIf is_read (S.failed source.old) (S.failed source.new) result }
 {
     let mut nonce = [0; NONCE_SIZE];

@@ -1,7 +1,7 @@
 //! Reading a payload chunk by chunk from a caller's source.
 ghost use Rattle.std.specs.Prelude.{◌≡◌, ◌⊎◌, ◌≤◌, [], Ok, Err, Some, None, IfOk, IfErr, IfSome, IfNone, IsErrOf, ⊤};
 ghost use Rattle.std.specs.Borrow.{sem, follows_so};
-ghost use Rattle.age_header.specs.Device.{CountsIf};
+ghost use Rattle.age_header.specs.Device.{CountsIf, moved_by};
 ghost use Rattle.age_stream.specs.Counts.{is_read, is_write};
 ghost use Rattle.age_stream.specs.Opening.{Advances, EndsAt, WritesAll};
 ghost use Rattle.age_stream.specs.Reader.{Lends, StartsReader, is_lent};
@@ -113,8 +113,8 @@ impl<'a, S: Source> StreamReader<'a, S> {
         ensures count { IfNone self.old.opener.fault
             (CountsIf is_read (S.failed self.old.input.now) (S.failed self.new.input.now) result) }
         ensures opens { IfNone self.old.opener.fault (IsErrOf result StreamFault.Read
-            ⊎ Advances self.old.opener self.new.opener (S.to_come self.old.input.now)
-            (S.to_come self.new.input.now) result) }
+            ⊎ Advances self.old.opener self.new.opener
+            (moved_by S.to_come self.old.input.now self.new.input.now) result) }
     {
         self.opener.advance(self.input)
     }
@@ -139,7 +139,7 @@ impl<'a, S: Source> StreamReader<'a, S> {
             × IfSome self.old.opener.fault
             (λ f. (last.opener ≡ self.old.opener) × (last.input.now ≡ self.old.input.now))
             × IfNone self.old.opener.fault (Lends self.old.opener last.opener
-            (S.to_come self.old.input.now) (S.to_come last.input.now)
+            (moved_by S.to_come self.old.input.now last.input.now)
             (S.failed self.old.input.now) (S.failed last.input.now) (is_lent result))
             × IfOk result (λ o. IfSome o (λ piece. piece.now ≡ last.opener.text)))) }
         ensures kept_fault { IfSome self.old.opener.fault (λ f. result ≡ Err f) }
@@ -161,10 +161,11 @@ impl<'a, S: Source> StreamReader<'a, S> {
         ensures kept_fault { IfSome self.entry.opener.fault (λ f.
             (result ≡ Err f) × (self.exit.0.now ≡ self.entry.input.now) × (out.new ≡ out.old)) }
         ensures writes_all { IfNone self.entry.opener.fault (WritesAll self.entry.opener
-            (S.to_come self.entry.input.now) (W.taken out.old) (W.taken out.new) result) }
+            (S.to_come self.entry.input.now) (moved_by W.taken out.old out.new) result) }
         ensures ends { IfNone self.entry.opener.fault (IfErr result (λ f. (f ≡ StreamFault.Read)
-            ⊎ EndsAt self.entry.opener.max_chunks 0 (S.to_come self.entry.input.now)
-            (S.to_come self.exit.0.now) (W.taken out.old) (W.taken out.new) f)) }
+            ⊎ EndsAt self.entry.opener.max_chunks 0
+            (moved_by S.to_come self.entry.input.now self.exit.0.now)
+            (moved_by W.taken out.old out.new) f)) }
         ensures reads { IfNone self.entry.opener.fault
             (CountsIf is_read (S.failed self.entry.input.now) (S.failed self.exit.0.now) result) }
         ensures writes { IfNone self.entry.opener.fault

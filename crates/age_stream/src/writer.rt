@@ -1,6 +1,6 @@
 //! Writing a payload piece by piece to a caller's sink.
 ghost use Rattle.std.specs.Prelude.{◌≡◌, ◌⊎◌, ◌≤◌, Ok, Err, IfOk, IfErr, IfSome, IfNone};
-ghost use Rattle.age_header.specs.Device.{CountsIf, Writes};
+ghost use Rattle.age_header.specs.Device.{CountsIf, Writes, moved_by};
 ghost use Rattle.age_stream.specs.Counts.{is_read, is_write};
 ghost use Rattle.age_stream.specs.Sealing.{FinishesBy, SealsAll};
 ghost use Rattle.age_stream.specs.Writer.{IsRefusedMemory, StartsWriter, TakesPiece};
@@ -158,7 +158,7 @@ impl<'a, W: Sink> StreamWriter<'a, W> {
         ensures kept_fault { IfSome self.old.sealer.fault (λ f. (result ≡ Err f)
             × (self.new.sealer ≡ self.old.sealer) × (self.new.out.now ≡ self.old.out.now)) }
         ensures takes { IfNone self.old.sealer.fault (TakesPiece self.old.sealer self.new.sealer
-            piece.now (W.taken self.old.out.now) (W.taken self.new.out.now) result) }
+            piece.now (moved_by W.taken self.old.out.now self.new.out.now) result) }
         ensures count { IfNone self.old.sealer.fault
             (CountsIf is_write (W.failed self.old.out.now) (W.failed self.new.out.now) result) }
     {
@@ -176,8 +176,8 @@ impl<'a, W: Sink> StreamWriter<'a, W> {
         ensures kept_fault { IfSome self.entry.sealer.fault (λ f.
             (result ≡ Err f) × (plain.new ≡ plain.old) × (self.exit.0.now ≡ self.entry.out.now)) }
         ensures seals { IfNone self.entry.sealer.fault (SealsAll self.entry.sealer
-            (S.to_come plain.old) (S.to_come plain.new) (W.taken self.entry.out.now)
-            (W.taken self.exit.0.now) result) }
+            (moved_by S.to_come plain.old plain.new)
+            (moved_by W.taken self.entry.out.now self.exit.0.now) result) }
         ensures reads { IfNone self.entry.sealer.fault
             (CountsIf is_read (S.failed plain.old) (S.failed plain.new) result) }
         ensures writes { IfNone self.entry.sealer.fault
@@ -200,7 +200,7 @@ impl<'a, W: Sink> StreamWriter<'a, W> {
         ensures kept_fault { IfSome self.entry.sealer.fault
             (λ f. (result ≡ Err f) × (self.exit.0.now ≡ self.entry.out.now)) }
         ensures text { IfNone self.entry.sealer.fault (FinishesBy self.entry.sealer
-            (W.taken self.entry.out.now) (W.taken self.exit.0.now) result) }
+            (moved_by W.taken self.entry.out.now self.exit.0.now) result) }
         ensures count { IfNone self.entry.sealer.fault
             (CountsIf is_write (W.failed self.entry.out.now) (W.failed self.exit.0.now) result) }
     {
@@ -218,7 +218,7 @@ impl<'a, W: Sink> StreamWriter<'a, W> {
 
 /// Writes the nonce.
 fn put_nonce<W: Sink>(nonce: &[u8; 16], out: &mut W) -> Result<(), StreamFault>
-    ensures text { Writes (W.taken out.old) (W.taken out.new) result nonce.now }
+    ensures text { Writes (moved_by W.taken out.old out.new) result nonce.now }
     ensures fault { IfErr result (λ fault. fault ≡ StreamFault.Write) }
     ensures count { CountsIf is_write (W.failed out.old) (W.failed out.new) result }
 {

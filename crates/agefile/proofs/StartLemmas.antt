@@ -3,7 +3,7 @@ use Rattle.std.proofs.Common.{◌≡◌, ◌⊎◌, ◌+◌, ◌-◌, ◌<◌, �
 use Rattle.std.proofs.lemmas.Bool.{le-ltb, lt-ltb, cond-false, cond-true}
 use Rattle.std.proofs.lemmas.List.{drop_at}
 use Rattle.age_kdf.specs.Bytes.{Bytes}
-use Rattle.age_header.specs.Device.{CountsFaultIf, Known}
+use Rattle.age_header.specs.Device.{CountsFaultIf, Known, moved}
 use Rattle.age_header.specs.declared.fault.HeaderFault.{HeaderFault}
 use Rattle.age_header.specs.declared.fault.HeaderFault.TheVariants as header
 use Rattle.age_header.specs.Header.{StanzaParts, HeaderParts}
@@ -32,7 +32,7 @@ faulty : (answers : Answering) (b : Bytes) (g : HeaderFault) → HeaderVerdict b
 faulty answers b g verdict = inr (Err g, verdict, refl)
 
 pub start_none : (answers : Answering) (b : Bytes) (mid : Known) (fault : Fault)
-    → Inspects limits (Some b) mid (Err fault)
+    → Inspects limits (moved (Some b) mid) (Err fault)
     → CountsFaultIf is_read 0 0 fault → FindsStart answers b (Err fault)
 start_none answers b mid fault (Ok parts, is, h) count = absurd (cc)
 start_none answers b mid fault (Err header.Read, is, h) count =
@@ -51,7 +51,7 @@ pub record Fronts (b rest : Bytes) (h : HeaderParts) : Type 0 where
   pub verdict : HeaderVerdict b 65536 (Ok (record { stanzas = h.stanzas; mac = h.mac; text = text }))
   pub front : b ≡ text ++ rest
 
-pub fronts : (b rest : Bytes) (h : HeaderParts) → Inspects limits (Some b) (Some rest) (Ok h) → Fronts b rest h
+pub fronts : (b rest : Bytes) (h : HeaderParts) → Inspects limits (moved (Some b) (Some rest)) (Ok h) → Fronts b rest h
 fronts b rest h (Err g, is, _) = absurd (cc)
 fronts b rest h (Ok parts, is, reads) =
     let r = reads_known b (Some rest) limits.max_header (Ok parts) reads in
@@ -69,7 +69,7 @@ found-start answers b rest h f start is =
     )
 
 pub start_locked : (answers : Answering) (b rest : Bytes) (h : HeaderParts) (fault : Fault)
-    → Inspects limits (Some b) (Some rest) (Ok h)
+    → Inspects limits (moved (Some b) (Some rest)) (Ok h)
     → (◌≡◌ {A = Result FileKey Fault} (Err fault) (Err OutOfMemory)) ⊎ (Err fault ≡ unlocked answers h)
     → FindsStart answers b (Err fault)
 start_locked answers b rest h fault i (inl memory) = inl (ap Err (err-err {A = FileKey} fault OutOfMemory memory))
@@ -78,7 +78,7 @@ start_locked answers b rest h fault i (inr is) =
     found-start answers b rest h f (Err fault) (ap (start_under (length f.text) rest) is)
 
 pub start_cut : (answers : Answering) (b rest : Bytes) (h : HeaderParts) (k : FileKey)
-    → Inspects limits (Some b) (Some rest) (Ok h)
+    → Inspects limits (moved (Some b) (Some rest)) (Ok h)
     → (◌≡◌ {A = Result FileKey Fault} (Ok k) (Err OutOfMemory)) ⊎ (Ok k ≡ unlocked answers h) → length rest < 16
     → FindsStart answers b (Err NonceTruncated)
 start_cut answers b rest h k i (inl memory) short = absurd (cc)
@@ -89,7 +89,7 @@ start_cut answers b rest h k i (inr is) short =
     ∙ ap (start_under (length f.text) rest) is)
 
 pub start_found : (answers : Answering) (b rest nonce key : Bytes) (h : HeaderParts) (k : FileKey)
-    → Inspects limits (Some b) (Some rest) (Ok h)
+    → Inspects limits (moved (Some b) (Some rest)) (Ok h)
     → (◌≡◌ {A = Result FileKey Fault} (Ok k) (Err OutOfMemory)) ⊎ (Ok k ≡ unlocked answers h) → 16 ≤ length rest
     → nonce ≡ take 16 rest
     → key ≡ payload_key k nonce → FindsStart answers b (Ok (record { first = length b - length rest + 16; key = key }))

@@ -3,7 +3,7 @@ use Rattle.std.proofs.Common.{◌≡◌, ◌∙◌, ℕ, List, [], ◌∷◌, �
 use Rattle.std.specs.Prelude.{IfErr}
 use Rattle.std.proofs.lemmas.List.{append-nil}
 use Rattle.std.proofs.lemmas.Option.{none-some}
-use Rattle.age_header.specs.Device.{CountsFaultIf}
+use Rattle.age_header.specs.Device.{CountsFaultIf, moved}
 use Rattle.age_header.proofs.DeviceLemmas.{may-known}
 use Rattle.age_file.specs.declared.fault.Fault.{Fault}
 use Rattle.age_file.specs.declared.fault.Fault.TheVariants.{NotAge, BadLine, HeaderTruncated, HeaderTooLarge, MixedPassphrase, NoMatch, WrongKey, Malformed, BadMac, NonceTruncated, ChunkShort, EmptyFinal, BadChunk, TooManyChunks, Read, Write, OutOfMemory, NoRecipients, Refused, IncompatibleRecipients}
@@ -28,10 +28,11 @@ gathered_one (Err code) meant stanzas (place, apart, e) = cc
 
 pub file_of_one : (limits : Bounds) (fresh : Fresh) (wrapped : Result (List StanzaParts) ℕ) (meant : List Labels)
     (plain file : Bytes) (done : Done)
-    → EncryptsGiven limits fresh (Gathered (wrapped ∷ []) meant) (Some plain) (Some []) (Some file) (Ok done)
+    → EncryptsGiven limits fresh (Gathered (wrapped ∷ []) meant) (Some plain) (moved (Some []) (Some file)) (Ok done)
     → (stanzas : List StanzaParts) × (wrapped ≡ Ok stanzas) × AgeFile limits fresh.file_key stanzas plain file
 file_of_one limits fresh wrapped meant plain file done given =
-    let h = may-known (λ x. EncryptsText limits fresh (Gathered (wrapped ∷ []) meant) x (Some []) (Some file) (Ok done))
+    let h = may-known
+    (λ x. EncryptsText limits fresh (Gathered (wrapped ∷ []) meant) x (moved (Some []) (Some file)) (Ok done))
     plain given in
     let is : file ≡ h.0 = h.2 in (
       h.1.stanzas,
@@ -45,23 +46,24 @@ IsOnce limits answers b = (v w : Reading Fault) → IsVerdict limits answers b v
 
 pub text_of_whole : (limits : Bounds) (answers : Answering) (b plain text : Bytes) (done : Done)
     → IsOnce limits answers b
-    → IsVerdict limits answers b (whole plain) → Decrypts limits answers (Some b) (Some []) (Some text) (Ok done)
+    → IsVerdict limits answers b (whole plain)
+    → Decrypts limits answers (Some b) (moved (Some []) (Some text)) (Ok done)
     → text ≡ plain
 text_of_whole limits answers b plain text done once is decrypts =
-    let h = may-known (λ x. DecryptsText limits answers x (Some []) (Some text) (Ok done)) b decrypts in
+    let h = may-known (λ x. DecryptsText limits answers x (moved (Some []) (Some text)) (Ok done)) b decrypts in
     h.3 ∙ ap (λ (v : Reading Fault). v.front) (once h.0 (whole plain) h.1 is)
 
 -- what is read whole has no fault
 no_fault : (limits : Bounds) (answers : Answering) (b plain : Bytes) (fault : Fault) (old new : Known)
     → IsOnce limits answers b
-    → IsVerdict limits answers b (whole plain) → GivesVerdict limits answers b old new (Err fault) → ⊥
+    → IsVerdict limits answers b (whole plain) → GivesVerdict limits answers b (moved old new) (Err fault) → ⊥
 no_fault limits answers b plain fault old new once is h =
     none-some fault (ap (λ (v : Reading Fault). v.fault) (once (whole plain) h.0 is h.1) ∙ h.2)
 
 pub lost_of_whole : (limits : Bounds) (answers : Answering) (b plain : Bytes) (fault : Fault) (old new : Known)
     → IsOnce limits answers b
     → IsVerdict limits answers b (whole plain) → CountsFaultIf is_read 0 0 fault
-    → DecryptsText limits answers b old new (Err fault) → IsMemoryFault fault
+    → DecryptsText limits answers b (moved old new) (Err fault) → IsMemoryFault fault
 lost_of_whole limits answers b plain OutOfMemory old new once is count h = inl refl
 lost_of_whole limits answers b plain Write old new once is count h = inr refl
 lost_of_whole limits answers b plain Read old new once is count h = absurd (omega arith)
@@ -106,17 +108,18 @@ pub lost_of_one : {X : Type 0} (limits : Bounds) (meaning : X → List StanzaPar
     (old new : Known) → xs ≡ x ∷ [] → a ≡ b → IsOnce limits (λ s. meaning x s ∷ []) b
     → IsVerdict limits (λ s. meaning x s ∷ []) b (whole plain)
     → CountsFaultIf is_read 0 0 fault
-    → Decrypts limits (λ s. map (λ i. meaning i s) xs) (Some a) old new (Err fault) → IsMemoryFault fault
+    → Decrypts limits (λ s. map (λ i. meaning i s) xs) (Some a) (moved old new) (Err fault) → IsMemoryFault fault
 lost_of_one limits meaning xs x a b plain fault old new list come once is count h =
     lost_of_whole limits (λ s. meaning x s ∷ []) b plain fault old new once is count
-    (may-known (λ z. DecryptsText limits (λ s. meaning x s ∷ []) z old new (Err fault)) b
-    (subst (λ z. Decrypts limits (λ s. meaning x s ∷ []) (Some z) old new (Err fault)) come
-    (subst (λ z. Decrypts limits (λ s. map (λ i. meaning i s) z) (Some a) old new (Err fault)) list h)))
+    (may-known (λ z. DecryptsText limits (λ s. meaning x s ∷ []) z (moved old new) (Err fault)) b
+    (subst (λ z. Decrypts limits (λ s. meaning x s ∷ []) (Some z) (moved old new) (Err fault)) come
+    (subst (λ z. Decrypts limits (λ s. map (λ i. meaning i s) z) (Some a) (moved old new) (Err fault)) list h)))
 
 -- why no file was written from memory
 unwritten : (limits : Bounds) (fresh : Fresh) (gathered : Gathering) (plain : Bytes) (fault : Fault) (old new : Known)
     → CountsFaultIf is_read 0 0 fault
-    → RefusesFirst limits fresh.file_key gathered fault → EncryptsText limits fresh gathered plain old new (Err fault)
+    → RefusesFirst limits fresh.file_key gathered fault
+    → EncryptsText limits fresh gathered plain (moved old new) (Err fault)
     → IsUnwritten (IsRefusal limits fresh.file_key gathered) limits plain fault
 unwritten limits fresh gathered plain NotAge old new count refused h = inr (inr refused)
 unwritten limits fresh gathered plain (BadLine n) old new count refused h = inr (inr refused)
@@ -144,14 +147,17 @@ pub unwritten_of_one : {X : Type 0} (limits : Bounds) (fresh : Fresh) (wraps : X
     (labels : X → Labels) (xs : List X) (x : X) (a plain : Bytes) (fault : Fault)
     (old new : Known) → xs ≡ x ∷ [] → a ≡ plain → CountsFaultIf is_read 0 0 fault
     → RefusesFirst limits fresh.file_key (Gathered (map wraps xs) (map labels xs)) fault
-    → EncryptsGiven limits fresh (Gathered (map wraps xs) (map labels xs)) (Some a) old new (Err fault)
+    → EncryptsGiven limits fresh (Gathered (map wraps xs) (map labels xs)) (Some a) (moved old new) (Err fault)
     → IsUnwritten (IsRefusal limits fresh.file_key (Gathered (wraps x ∷ []) (labels x ∷ []))) limits plain fault
 unwritten_of_one limits fresh wraps labels xs x a plain fault old new list come count refused h =
     unwritten limits fresh (Gathered (wraps x ∷ []) (labels x ∷ [])) plain fault old new count
     (subst (λ z. RefusesFirst limits fresh.file_key (Gathered (map wraps z) (map labels z)) fault) list refused)
-    (subst (λ z. EncryptsText limits fresh (Gathered (wraps x ∷ []) (labels x ∷ [])) z old new (Err fault)) come
-    (may-known (λ z. EncryptsText limits fresh (Gathered (wraps x ∷ []) (labels x ∷ [])) z old new (Err fault)) a
-    (subst (λ z. EncryptsGiven limits fresh (Gathered (map wraps z) (map labels z)) (Some a) old new (Err fault)) list
+    (subst (λ z. EncryptsText limits fresh (Gathered (wraps x ∷ []) (labels x ∷ [])) z (moved old new) (Err fault)) come
+    (may-known (λ z. EncryptsText limits fresh (Gathered (wraps x ∷ []) (labels x ∷ [])) z (moved old new) (Err fault))
+    a
+    (subst
+    (λ z. EncryptsGiven limits fresh (Gathered (map wraps z) (map labels z)) (Some a) (moved old new) (Err fault))
+    list
     h)))
 
 -- a loss where no header is refused

@@ -98,10 +98,7 @@ fn read_parts<D: ReadAt>(
 {
     let mut text = Vec::new(alloc);
     for range in ranges {
-        match read_part(alloc, reader, *range, &mut text) {
-            Ok(()) => {}
-            Err(fault) => return Err(fault),
-        }
+        read_part(alloc, reader, *range, &mut text)?;
     }
     Ok(text)
 }

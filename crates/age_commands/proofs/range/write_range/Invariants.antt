@@ -3,6 +3,7 @@ use Rattle.age_stream.specs.Ranges.{IsSound, range_len}
 use Rattle.age_commands.specs.Range.{WritesPlain}
 use Rattle.age_commands.proofs.RangeLemmas.{IsWhole}
 use Rattle.age_commands.proofs.range.write_range.Given as goal
+use Rattle.age_header.specs.Device.{moved_by}
 
 abbrev pub invariant-loop-left : goal.invariant-loop-left
 invariant-loop-left g l =
@@ -19,7 +20,7 @@ invariant-loop-left g l =
       some : l.at - l.fn.at ≤ range_len s l.fn.at l.fn.len;
       whole : IsWhole s.layout.plain l.fn.at l.at l.left;
       written : IsSound told s
-          → WritesPlain told s.layout l.fn.at (l.at - l.fn.at) (g.W.Sink.taken l.fn.out) (g.W.Sink.taken l.out);
+          → WritesPlain told s.layout l.fn.at (l.at - l.fn.at) (moved_by g.W.Sink.taken l.fn.out l.out);
     }
 
 abbrev pub decreases-loop-left : goal.decreases-loop-left

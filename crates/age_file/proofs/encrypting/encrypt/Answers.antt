@@ -21,14 +21,14 @@ returns-in_default-clause-encrypts g c =
 pub returns-in-Err-clause-encrypts : goal.returns-in-Err-clause-encrypts
 returns-in-Err-clause-encrypts g c = encrypts_unread _ _ _ _ _ _ _ c.in_ok-header.ensures.ok
 
-pub returns-in-Err-write_front-clause-encrypts : goal.returns-in-Err-write_front-clause-encrypts
-returns-in-Err-write_front-clause-encrypts g c =
-    encrypts_begun _ _ _ _ _ _ _ _ c.in_ok-header.ensures.ok c.in-Err-write_front.ensures.text
+pub returns-in_default-write_front-clause-encrypts : goal.returns-in_default-write_front-clause-encrypts
+returns-in_default-write_front-clause-encrypts g c =
+    encrypts_begun _ _ _ _ _ _ _ _ c.in_ok-header.ensures.ok c.in_default-write_front.ensures.text
 
-pub returns-in-Err-write_front-clause-took : goal.returns-in-Err-write_front-clause-took
-returns-in-Err-write_front-clause-took g c =
+pub returns-in_default-write_front-clause-took : goal.returns-in_default-write_front-clause-took
+returns-in_default-write_front-clause-took g c =
     let fills = filled _ _ _ _ _ _ _ _ c.new-sealer.ensures c.max_chunks.ensures.value c.in-Ok-fill.ensures.fills in
-    takes_begun _ _ _ _ _ _ _ _ _ _ _ _ _ c.in_ok-header.ensures.ok c.in-Err-write_front.ensures.text fills
+    takes_begun _ _ _ _ _ _ _ _ _ _ _ _ _ c.in_ok-header.ensures.ok c.in_default-write_front.ensures.text fills
 
 pub returns-in-Ok-seal_rest-clause-encrypts : goal.returns-in-Ok-seal_rest-clause-encrypts
 returns-in-Ok-seal_rest-clause-encrypts g c =

@@ -38,14 +38,14 @@ returns-in-Err-header_for-clause-rewraps g c =
     c.in-Ok-unlock_header.key c.in-Err-header_for.fault (headed _ _ _ _ c.in-Ok.ensures.verdict)
     (key_found answers c.in-Ok.header _ c.in-Ok-unlock_header.ensures.key) c.in-Err-header_for.ensures.err
 
-pub returns-in-Err-write_header-clause-rewraps : goal.returns-in-Err-write_header-clause-rewraps
-returns-in-Err-write_header-clause-rewraps g c =
+pub returns-in_default-write_header-clause-rewraps : goal.returns-in_default-write_header-clause-rewraps
+returns-in_default-write_header-clause-rewraps g c =
     let gathered = λ (key : FileKey). Gathered
     (map (λ r. (goal.Recipient-dyn g (r.vtable, r.value)).wraps r.value key) c.args.recipients.now)
     (map (λ r. (goal.Recipient-dyn g (r.vtable, r.value)).the_labels r.value) c.args.recipients.now) in
     let answers = λ (stanzas : List StanzaParts). map
     (λ i. (goal.Identity-dyn g (i.vtable, i.value)).meaning i.value stanzas) c.args.identities.now in
-    let wrote = c.in-Err-write_header.ensures.text in
+    let wrote = c.in_default-write_header.ensures.text in
     begun_rewraps c.args.limits.now answers gathered _ _ _ _ c.in-Ok.header c.in-Ok-unlock_header.key wrote.0
     (headed _ _ _ _ c.in-Ok.ensures.verdict)
     (key_found answers c.in-Ok.header _ c.in-Ok-unlock_header.ensures.key)
