@@ -65,31 +65,6 @@ fn header_at<'a, D: ReadAt, K: Origin>(
     }
 }
 
-/// Reads the header at the start of a source.
-fn read_header_at<'a, D: ReadAt>(
-    alloc: Global,
-    dev: &'a mut D,
-    limits: &Limits,
-) -> Result<HeaderAt<'a, D>, Refused<'a, D, Fault>>
-    ensures same_reference { IfOk result (λ found. found.dev.ghost_name ≡ dev.entry.ghost_name) }
-    ensures stay { IfOk result (λ found. D.bytes found.dev.now ≡ D.bytes dev.old) }
-    ensures given { IfOk result (λ found. D.given found.dev.now ≤ D.given dev.old + found.at) }
-    ensures uncounted { IfOk result (λ found. D.failed found.dev.now ≡ D.failed dev.old) }
-    ensures header { IfOk result
-        (λ found. HasHeader limits.now (D.bytes dev.old) found.at found.header) }
-    ensures some { IfOk result (λ found. IsSomeHeader limits.now found.header) }
-    ensures handed_back { IfErr result
-        (λ refused. (device_of refused).ghost_name ≡ dev.entry.ghost_name) }
-    ensures misses { IfErr result
-        (λ refused. MissesHeader limits.now (D.bytes dev.old) (fault_of refused)) }
-    ensures named { IfErr result (λ refused. IsOpenFault (fault_of refused)) }
-    ensures left { IfErr result (λ refused. D.bytes (device_of refused).now ≡ D.bytes dev.old) }
-    ensures counted { IfErr result (λ refused. CountsFaultIf is_read (D.failed dev.old)
-        (D.failed (device_of refused).now) (fault_of refused)) }
-{
-    header_at::<D, Brand>(alloc, dev, limits)
-}
-
 /// Like `open_ranges`, but returns the source with the fault.
 ///
 /// # Errors
@@ -111,7 +86,7 @@ pub fn opened_ranges<'a, D: ReadAt>(
         D.found limits.now (answers_by identities.now (λ i s. meaning i s)) dev.old
         (device_of refused).now (Err (fault_of refused))) }
 {
-    let HeaderAt { header, dev, at } = match read_header_at(alloc, dev, limits) {
+    let HeaderAt { header, dev, at } = match header_at::<D, Brand>(alloc, dev, limits) {
         Ok(found) => found,
         Err(refused) => return Err(refused),
     };
