@@ -51,7 +51,7 @@ decrypted_whole law limits answers b xs taken new counts (verdict, judged, (none
 decrypted : OkIsAgeFile → (limits : Bounds) (answers : Answering) (b xs : Bytes) (taken new : Known)
     (done : Result Done Fault) (work : Result ⊤ Fault)
     → work ≡ without_counts done → Decrypts limits answers (Some b) (moved (Some xs) taken) done
-    → Ends (Some xs) taken new work (Ok tt) → Gained limits b xs new
+    → Ends (moved (Some xs) new) taken work (Ok tt) → Gained limits b xs new
 decrypted law limits answers b xs taken new (Err fault) work is d (inl (ended, keeps)) = absurd (cc)
 decrypted law limits answers b xs taken new (Err fault) work is d (inr (failed, rest)) = absurd (cc)
 decrypted law limits answers b xs taken new (Ok counts) work is d (inl (ended, keeps)) =
@@ -87,7 +87,7 @@ encrypted_whole limits fresh gathered plain xs taken new counts (gained, file, a
 encrypted : (limits : Bounds) (fresh : Fresh) (gathered : Gathering) (plain xs : Bytes) (taken new : Known)
     (done : Result Done Fault) (work : Result ⊤ Fault)
     → work ≡ without_counts done → Encrypting limits fresh gathered (Some plain) (moved (Some xs) taken) done
-    → Ends (Some xs) taken new work (Ok tt) → Made limits plain xs new
+    → Ends (moved (Some xs) new) taken work (Ok tt) → Made limits plain xs new
 encrypted limits fresh gathered plain xs taken new (Err fault) work is e (inl (ended, keeps)) = absurd (cc)
 encrypted limits fresh gathered plain xs taken new (Err fault) work is e (inr (failed, rest)) = absurd (cc)
 encrypted limits fresh gathered plain xs taken new (Ok counts) work is e (inl (ended, keeps)) =

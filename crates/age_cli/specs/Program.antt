@@ -28,7 +28,7 @@ abbrev pub Works : (job : Job) (task : Task) (from : Known) (sink : Moved)
 Works job task from sink result =
     (taken : Known) × (work : Result ⊤ FileFault)
     × Performs job task from (moved sink.before taken) work
-    × PerformsQuietly task sink.before taken work × Ends sink.before taken sink.after work result
+    × PerformsQuietly task sink.before taken work × Ends sink taken work result
 
 -- the same with what a failure names as its fault; memory may be refused before
 abbrev pub PerformsTo : (job : Job) (task : Task) (from : Known) (sink : Moved)

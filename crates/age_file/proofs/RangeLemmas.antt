@@ -164,7 +164,7 @@ payload-named fault.Memory h = tt
 pub header-refuses : (limits : Bounds) (answers : Answering) (told told2 : Known) (failed failed2 : ℕ) (fault : Fault)
     → MissesHeader limits told fault → IsOpenFault fault
     → told2 ≡ told → CountsFaultIf is_read failed failed2 fault
-    → RefusesRanges limits answers told told2 failed failed2 fault
+    → RefusesRanges limits answers (moved told told2) failed failed2 fault
 header-refuses limits answers told told2 failed failed2 fault m early stay count =
     record { misses = missed-ranges limits answers told fault m; named = early; stay = stay; counted = count }
 
@@ -176,7 +176,7 @@ pub locked-refuses : (limits : Bounds) (answers : Answering) (told mid told2 : K
     (h : HeaderParts) (fault : Fault) → mid ≡ told → HasHeader limits told at h
     → (◌≡◌ {A = Result FileKey Fault} (Err fault) (Err OutOfMemory)) ⊎ (Err fault ≡ unlocked answers h)
     → IsNoDeviceFault fault → told2 ≡ mid → failed2 ≡ failed
-    → RefusesRanges limits answers told told2 failed failed2 fault
+    → RefusesRanges limits answers (moved told told2) failed failed2 fault
 locked-refuses limits answers told mid told2 failed failed2 at h fault same found key none stay count = record {
   misses = locked-ranges limits answers told at h fault found key;
   named = locked-named answers h fault key;
@@ -190,7 +190,7 @@ pub payload-refuses : (limits : Bounds) (answers : Answering) (told mid told2 : 
     → (◌≡◌ {A = Result FileKey Fault} (Ok k) (Err OutOfMemory)) ⊎ (Ok k ≡ unlocked answers h)
     → OpensRanges k max at mid (Err fault) → stream.IsOpenFault fault → told2 ≡ mid
     → CountsFaultIf counts.is_read failed1 failed2 fault
-    → RefusesRanges limits answers told told2 failed failed2 (stream_fault fault)
+    → RefusesRanges limits answers (moved told told2) failed failed2 (stream_fault fault)
 payload-refuses limits answers told mid told2 failed failed1 failed2 at max h k fault same before most found key opens
     early stay count = record {
       misses = payload-missed limits answers told at h k fault found key
@@ -215,13 +215,13 @@ pub file-ranges : (limits : Bounds) (answers : Answering) (told mid told2 : Know
     (h : HeaderParts) (k : FileKey) (chunks : stream.RangeState) → mid ≡ told → given1 ≤ given + at
     → max ≡ limits.max_chunks → HasHeader limits told at h
     → (◌≡◌ {A = Result FileKey Fault} (Ok k) (Err OutOfMemory)) ⊎ (Ok k ≡ unlocked answers h)
-    → OpensRanges k max at mid (Ok chunks) → stream.Probes mid told2 at given1 given2
+    → OpensRanges k max at mid (Ok chunks) → stream.Probes (moved mid told2) at given1 given2
     → IfSome told (λ b. IsRangesOf limits answers b chunks given given2)
 file-ranges limits answers None mid told2 given given1 given2 at max h k chunks same le most found key opens probes = tt
 file-ranges limits answers (Some b) mid told2 given given1 given2 at max h k chunks same le most found key opens
     probes =
     let o = subst (λ t. OpensRanges k max at t (Ok chunks)) same opens in
-    let p = subst (λ t. stream.Probes t told2 at given1 given2) same probes in
+    let p = subst (λ t. stream.Probes (moved t told2) at given1 given2) same probes in
     record {
       found = found_in found.0 h;
       header = found.2;

@@ -1,7 +1,7 @@
 -- Opening a file for ranges of its plaintext.
 use Rattle.std.specs.Prelude.{◌≡◌, ◌⊎◌, ℕ, ◌+◌, ◌-◌, ◌≤◌, length, drop, IfSome, ⊤, Option, Some, Result, Ok, Err}
 use Rattle.std.specs.Result.{result_map_both}
-use Rattle.age_header.specs.Device.{Bytes, CountsFaultIf, Known}
+use Rattle.age_header.specs.Device.{Bytes, CountsFaultIf, Known, Moved, moved_by}
 use Rattle.age_header.specs.declared.fault.HeaderFault.{HeaderFault}
 use Rattle.age_header.specs.Header.{HeaderParts}
 use Rattle.age_header.specs.Verdict.{Found, HeaderVerdict}
@@ -110,11 +110,11 @@ pub record BeginsFile (limits : Bounds) (answers : Answering) (was_read : (at by
 
 -- Opening a file for ranges failed: with the first fault of the known bytes, a failed read or out
 -- of memory. The contents stayed, and a failed read was counted.
-pub record RefusesRanges (limits : Bounds) (answers : Answering) (told told2 : Known)
+pub record RefusesRanges (limits : Bounds) (answers : Answering) (source : Moved)
     (failed failed2 : ℕ) (fault : Fault) : Type 0 where
-  pub misses : MissesRanges limits answers told fault
+  pub misses : MissesRanges limits answers source.before fault
   pub named : IsOpenFault fault
-  pub stay : told2 ≡ told
+  pub stay : source.after ≡ source.before
   pub counted : CountsFaultIf is_read failed failed2 fault
 
 -- what was made of a source, and what became of it: a reader of the file's ranges, which keeps the
@@ -130,4 +130,4 @@ StartsFileRanges told given failed was_read found limits answers old new (Ok chu
     × (chunks.index ≡ Some (chunks.layout.count - 1)) × (chunks.opened ≡ 1)
     × (failed new ≡ failed old)
 StartsFileRanges told given failed was_read found limits answers old new (Err fault) =
-    RefusesRanges limits answers (told old) (told new) (failed old) (failed new) fault
+    RefusesRanges limits answers (moved_by told old new) (failed old) (failed new) fault

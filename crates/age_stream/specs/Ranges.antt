@@ -1,7 +1,7 @@
 -- A reader of ranges between two calls, and what its calls do.
 use Rattle.std.specs.Prelude.{ℕ, [], ◌+◌, ◌-◌, ◌*◌, ◌/◌, ◌^◌, ◌<◌, ◌≤◌, ◌≡◌, ◌⊎◌, length, take, drop, min, nat_eq, slice_get, slice_index, ◌%◌, unwrap_or, IsSome, IfSome, IfOk, IfErr, OnErr, MatchResult, ⊤, Bool, false, Option, Some, None, Result, Ok, Err, if◌then◌else◌}
 use Rattle.age_cipher.specs.Bytes.{Key}
-use Rattle.age_header.specs.Device.{CountsFaultIf, CountsIf, Known}
+use Rattle.age_header.specs.Device.{CountsFaultIf, CountsIf, Known, Moved, moved_by}
 use Rattle.age_kdf.specs.Bytes.{Bytes}
 use denote.Ref.{MutBor}
 use Rattle.age_recipient.specs.declared.key.FileKey.{FileKey}
@@ -224,10 +224,10 @@ IsOpenFault _ = ⊤
 
 -- a payload was opened: the source's contents stayed, and it gave at most the nonce and the last
 -- piece
-pub record Probes (told told2 : Known) (at given given2 : ℕ) : Type 0 where
-  pub stay : told2 ≡ told
+pub record Probes (source : Moved) (at given given2 : ℕ) : Type 0 where
+  pub stay : source.after ≡ source.before
   pub most : given2 ≤ given + (nonce_size + sealed_chunk_size)
-  pub last : IfSome told
+  pub last : IfSome source.before
       (λ bytes. given2 ≤ given + (nonce_size + length (last_piece (drop (at + nonce_size) bytes))))
 
 -- what was made of a source, and what became of it, whether or not its contents are known: a reader
@@ -239,7 +239,7 @@ abbrev pub StartsRanges : {D : Type 0} (told : D → Known) (given failed : D �
     (max at : ℕ) (old new : D) (r : Result RangeState StreamFault) → Type 0
 StartsRanges told given failed was_read found file_key max at old new r =
     OpensRanges file_key max at (told old) r
-    × Probes (told old) (told new) at (given old) (given new)
+    × Probes (moved_by told old new) at (given old) (given new)
     × MatchResult r
     (λ s. BeginsAt file_key at (was_read new) (found new) s × KeepsVerified (was_read new) s
     × (failed new ≡ failed old))

@@ -1,5 +1,6 @@
 use Rattle.std.proofs.Common.{◌∙◌, ap, List, map, subst, sym}
 use Rattle.age_header.specs.Header.{StanzaParts}
+use Rattle.age_header.specs.Device.{moved}
 use Rattle.age_file.specs.Ranges.{RefusesRanges}
 use Rattle.age_file.specs.Verdict.{stream_fault}
 use Rattle.age_file.proofs.RangeLemmas.{file-begins, file-ranges, header-refuses, locked-refuses, payload-refuses}
@@ -19,7 +20,8 @@ returns-in-Err-unlock_header-clause-refuses g c =
     let told = g.D.ReadAt.bytes c.args.dev.now in
     let failed = g.D.ReadAt.failed c.args.dev.now in
     let dev = c.of.result.device.now in
-    subst (λ f. RefusesRanges c.args.limits.now answers told (g.D.ReadAt.bytes dev) failed (g.D.ReadAt.failed dev) f)
+    subst (λ f. RefusesRanges c.args.limits.now answers (moved told (g.D.ReadAt.bytes dev)) failed
+    (g.D.ReadAt.failed dev) f)
     (sym c.of.ensures.fault)
     (locked-refuses c.args.limits.now answers told (g.D.ReadAt.bytes c.in-Ok.found.dev.now) (g.D.ReadAt.bytes dev)
     failed (g.D.ReadAt.failed dev) c.in-Ok.found.at c.in-Ok.found.header
@@ -57,9 +59,9 @@ returns-clause-refuses g c =
     let unchanged = c.of-in-Err-started.ensures.unchanged ∙ c.into_parts-dev.ensures.unchanged in
     let fault = c.of-in-Err-started.ensures.fault ∙ c.stream_fault.ensures
     ∙ ap stream_fault c.into_parts-dev.ensures.fault in
-    subst (λ d. RefusesRanges c.args.limits.now answers told (g.D.ReadAt.bytes d) failed (g.D.ReadAt.failed d)
+    subst (λ d. RefusesRanges c.args.limits.now answers (moved told (g.D.ReadAt.bytes d)) failed (g.D.ReadAt.failed d)
     c.of-in-Err-started.result.fault) (sym unchanged)
-    (subst (λ f. RefusesRanges c.args.limits.now answers told (g.D.ReadAt.bytes met.device.now) failed
+    (subst (λ f. RefusesRanges c.args.limits.now answers (moved told (g.D.ReadAt.bytes met.device.now)) failed
     (g.D.ReadAt.failed met.device.now) f) (sym fault)
     (payload-refuses c.args.limits.now answers told (g.D.ReadAt.bytes c.in-Ok.found.dev.now)
     (g.D.ReadAt.bytes met.device.now) failed (g.D.ReadAt.failed c.in-Ok.found.dev.now)
