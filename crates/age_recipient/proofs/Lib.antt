@@ -1,5 +1,6 @@
 pub mod AnswerLemmas
 pub mod LabelLemmas
+pub mod HeaderSizeLemmas
 mod PassphraseLemmas
 mod SealingLemmas
 mod SaltLemmas

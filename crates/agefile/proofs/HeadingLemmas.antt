@@ -23,7 +23,7 @@ use Rattle.age_file.proofs.DecryptLemmas.{err-err}
 use Rattle.agefile.specs.Heading.{FindsMac, HasStanzas, IsMac, MakesHeader, framed, given, in_text, lines_in, probe, stanzas_in, unless_mixed}
 use Rattle.agefile.specs.Inspect.{HeaderOf}
 use Rattle.agefile.specs.Limits.{limits}
-use Rattle.agefile.proofs.SizeLemmas.{b64_size}
+use Rattle.age_recipient.proofs.HeaderSizeLemmas.{b64_size}
 use Rattle.agefile.proofs.StartLemmas.{Fronts, ok-ok}
 
 -- ---- the MAC

@@ -24,7 +24,8 @@ use Rattle.agefile.specs.Heading.{MakesHeader, probe}
 use Rattle.agefile.specs.Limits.{limits}
 use Rattle.agefile.specs.Sizes.{file_len, sealed_len}
 use Rattle.agefile.proofs.HeadingLemmas.{Reads, read_of, same_body}
-use Rattle.agefile.proofs.SizeLemmas.{key_header, pass_header, payload_size}
+use Rattle.age_recipient.proofs.HeaderSizeLemmas.{key_header, pass_header}
+use Rattle.agefile.proofs.SizeLemmas.{payload_size}
 
 -- ---- any stanzas
 

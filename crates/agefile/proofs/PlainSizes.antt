@@ -17,7 +17,7 @@ use Rattle.age_file.specs.declared.fault.Fault.{Fault}
 use Rattle.age_file.specs.Verdict.{Answering, IsVerdict, judged, read_under}
 use Rattle.agefile.specs.Limits.{limits}
 use Rattle.agefile.specs.Sizes.{opened_len, plain_len_at_most}
-use Rattle.agefile.proofs.SizeLemmas.{least_header}
+use Rattle.age_recipient.proofs.HeaderSizeLemmas.{least_header}
 
 -- so many bytes of plaintext come from so many bytes of pieces: some pieces open, each to 65,536 bytes at most and 16
 -- fewer than it has
