@@ -72,24 +72,7 @@ pub copied_failed : (size : ℕ) (from a b old m n : Known) (k : ℕ) (fault : F
 copied_failed size from a b old m n k Read c h = let s = begun from a old m k c in
     (s.0, s.1, subst (λ t. WritesPart (moved old t) s.0) (sym h) s.2)
 copied_failed size from a b old m n k Write c (piece, took, part) = write_failed from a b old m n k piece c took part
-copied_failed size from a b old m n k NotAge c h = absurd h
-copied_failed size from a b old m n k (BadLine i) c h = absurd h
-copied_failed size from a b old m n k HeaderTruncated c h = absurd h
-copied_failed size from a b old m n k HeaderTooLarge c h = absurd h
-copied_failed size from a b old m n k MixedPassphrase c h = absurd h
-copied_failed size from a b old m n k NoMatch c h = absurd h
-copied_failed size from a b old m n k WrongKey c h = absurd h
-copied_failed size from a b old m n k (Malformed s) c h = absurd h
-copied_failed size from a b old m n k BadMac c h = absurd h
-copied_failed size from a b old m n k NonceTruncated c h = absurd h
-copied_failed size from a b old m n k (ChunkShort i) c h = absurd h
-copied_failed size from a b old m n k (EmptyFinal i) c h = absurd h
-copied_failed size from a b old m n k (BadChunk i) c h = absurd h
-copied_failed size from a b old m n k TooManyChunks c h = absurd h
-copied_failed size from a b old m n k OutOfMemory c h = absurd h
-copied_failed size from a b old m n k NoRecipients c h = absurd h
-copied_failed size from a b old m n k (Refused i code) c h = absurd h
-copied_failed size from a b old m n k (IncompatibleRecipients i) c h = absurd h
+copied_failed size from a b old m n k _ c h = absurd h
 
 pub copied_beyond : (from a old m : Known) (k : ℕ) → 2 ^ 89 ≤ k → Copied from a old m k
     → Copies from (moved old m) (Err TooManyChunks)
@@ -123,20 +106,4 @@ copied_after size from a old m n true (Err TooManyChunks) is (piece, took, put, 
       (piece ++ text, Appends-trans old m n piece text put wrote, omega (arith, length-append piece text, much)),
       (piece ++ rest, after.0, after.1, omega (arith, length-append piece rest, long)),
     )
-copied_after size from a old m n true (Err NotAge) is c h = absurd h
-copied_after size from a old m n true (Err (BadLine i)) is c h = absurd h
-copied_after size from a old m n true (Err HeaderTruncated) is c h = absurd h
-copied_after size from a old m n true (Err HeaderTooLarge) is c h = absurd h
-copied_after size from a old m n true (Err MixedPassphrase) is c h = absurd h
-copied_after size from a old m n true (Err NoMatch) is c h = absurd h
-copied_after size from a old m n true (Err WrongKey) is c h = absurd h
-copied_after size from a old m n true (Err (Malformed s)) is c h = absurd h
-copied_after size from a old m n true (Err BadMac) is c h = absurd h
-copied_after size from a old m n true (Err NonceTruncated) is c h = absurd h
-copied_after size from a old m n true (Err (ChunkShort i)) is c h = absurd h
-copied_after size from a old m n true (Err (EmptyFinal i)) is c h = absurd h
-copied_after size from a old m n true (Err (BadChunk i)) is c h = absurd h
-copied_after size from a old m n true (Err OutOfMemory) is c h = absurd h
-copied_after size from a old m n true (Err NoRecipients) is c h = absurd h
-copied_after size from a old m n true (Err (Refused i code)) is c h = absurd h
-copied_after size from a old m n true (Err (IncompatibleRecipients i)) is c h = absurd h
+copied_after size from a old m n true (Err _) is c h = absurd h
