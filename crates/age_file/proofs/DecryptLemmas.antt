@@ -62,23 +62,7 @@ gives-decrypts : (limits : Bounds) (answers : Answering) (b : Bytes) (old new : 
 gives-decrypts limits answers b old new Read h = begins-whole limits answers b old new (Err Read) h
 gives-decrypts limits answers b old new Write h = begins-whole limits answers b old new (Err Write) h
 gives-decrypts limits answers b old new OutOfMemory h = tt
-gives-decrypts limits answers b old new NotAge h = h
-gives-decrypts limits answers b old new (BadLine n) h = h
-gives-decrypts limits answers b old new HeaderTruncated h = h
-gives-decrypts limits answers b old new HeaderTooLarge h = h
-gives-decrypts limits answers b old new MixedPassphrase h = h
-gives-decrypts limits answers b old new NoMatch h = h
-gives-decrypts limits answers b old new WrongKey h = h
-gives-decrypts limits answers b old new (Malformed s) h = h
-gives-decrypts limits answers b old new BadMac h = h
-gives-decrypts limits answers b old new NonceTruncated h = h
-gives-decrypts limits answers b old new (ChunkShort i) h = h
-gives-decrypts limits answers b old new (EmptyFinal i) h = h
-gives-decrypts limits answers b old new (BadChunk i) h = h
-gives-decrypts limits answers b old new TooManyChunks h = h
-gives-decrypts limits answers b old new (IncompatibleRecipients i) h = h
-gives-decrypts limits answers b old new NoRecipients h = h
-gives-decrypts limits answers b old new (Refused i code) h = h
+gives-decrypts limits answers b old new _ h = h
 
 -- a fault before any plaintext
 stops-decrypts : (limits : Bounds) (answers : Answering) (b : Bytes) (old : Known) (fault : Fault)
@@ -275,9 +259,6 @@ took-piece limits come mid to old new h i fault n e le =
 ends-takes : (limits : Bounds) (come mid to old new : Known) (h : HeaderParts) (i : IsHeaded limits come mid h)
     (fault : StreamFault) → EndsAt limits.max_chunks 16 (moved mid to) (moved old new) fault
     → TookUpTo limits (moved come to) (moved old new) (stream_fault fault)
-ends-takes limits come mid to old new h i stream.Read e = tt
-ends-takes limits come mid to old new h i stream.Memory e = tt
-ends-takes limits come mid to old new h i stream.NonceTruncated e = tt
 ends-takes limits come mid to old new h i stream.Write e = go e.at
   where
     not-piece : IsAtPiece limits.max_chunks e.piece stream.Write → ⊥
@@ -328,6 +309,7 @@ ends-takes limits come mid to old new h i stream.TooManyChunks e = go e.at
         → TookThrough limits limits.max_chunks (moved come to)
     go (inl (is, le)) = absurd (not-write is)
     go (inr at) = took-piece limits come mid to old new h i stream.TooManyChunks limits.max_chunks e (omega (arith, at))
+ends-takes limits come mid to old new h i _ e = tt
 
 pub payload-takes : (limits : Bounds) (come mid to old new : Known) (h : HeaderParts) (fault : StreamFault)
     → Inspects limits (moved come mid) (Ok h)

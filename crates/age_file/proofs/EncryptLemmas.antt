@@ -203,11 +203,7 @@ encrypts_payload limits fresh gathered text from to a b c (Err fault) sixteen m 
     go stream.Read h = (s.text, s.may, begun limits fresh gathered text s.text a b c m front h)
     go stream.Write h = (s.text, s.may, begun limits fresh gathered text s.text a b c m front h)
     go stream.TooManyChunks h = (s.text, s.may, up_to_limit limits fresh gathered text s.text a b c m front h.0 h.1)
-    go stream.Memory h = absurd h
-    go stream.NonceTruncated h = absurd h
-    go (stream.ChunkShort i) h = absurd h
-    go (stream.EmptyFinal i) h = absurd h
-    go (stream.BadChunk i) h = absurd h
+    go _ h = absurd h
 
 -- the header, the nonce and the payload
 pub encrypts_sealed : (limits : Bounds) (fresh : Fresh) (gathered : Gathering) (stanzas : List StanzaParts)
@@ -284,12 +280,6 @@ takes_payload : (limits : Bounds) (fresh : Fresh) (gathered : Gathering) (text :
     → SealsAll (at_start (payload_key fresh.file_key fresh.nonce) limits.max_chunks) (moved from to) (moved b c)
     (Err fault)
     → TookWhileEncrypting limits fresh gathered (moved from to) (moved a c) (stream_fault fault)
-takes_payload limits fresh gathered text from to a b c stream.Read sixteen m front s = tt
-takes_payload limits fresh gathered text from to a b c stream.Memory sixteen m front s = tt
-takes_payload limits fresh gathered text from to a b c stream.NonceTruncated sixteen m front s = tt
-takes_payload limits fresh gathered text from to a b c (stream.ChunkShort i) sixteen m front s = tt
-takes_payload limits fresh gathered text from to a b c (stream.EmptyFinal i) sixteen m front s = tt
-takes_payload limits fresh gathered text from to a b c (stream.BadChunk i) sixteen m front s = tt
 takes_payload limits fresh gathered text from to a b c stream.Write sixteen m front (chunk, s) = go s.gave
   where
     not-read : stream.Write ≡ stream.Read → ⊥
@@ -308,6 +298,7 @@ takes_payload limits fresh gathered text from to a b c stream.TooManyChunks sixt
         → TookChunks limits fresh gathered (moved from to) (moved a c)
     go (inl e) = absurd (not-read e)
     go (inr gave) = took limits fresh gathered text from to a b c chunk stream.TooManyChunks sixteen m front s gave
+takes_payload limits fresh gathered text from to a b c _ sixteen m front s = tt
 
 -- a fault of the payload names no reason against the header, and comes late
 pub refuses_none : (limits : Bounds) (fresh : Fresh) (gathered : Gathering) (from to b c : Known) (fault : StreamFault)

@@ -49,26 +49,11 @@ refused : (limits : Bounds) (answers : Answering) (gathered : FileKey → Gather
     → IsEarly fault → RefusesRewrap limits answers gathered b fault
     → RewrapsText limits answers gathered b (moved old old) (Err fault)
 unfolding IsEarly
+refused limits answers gathered b old OutOfMemory early h = tt
 refused limits answers gathered b old Read early h = absurd early
 refused limits answers gathered b old Write early h = absurd early
 refused limits answers gathered b old TooManyChunks early h = absurd early
-refused limits answers gathered b old OutOfMemory early h = tt
-refused limits answers gathered b old NotAge early h = h
-refused limits answers gathered b old (BadLine n) early h = h
-refused limits answers gathered b old HeaderTruncated early h = h
-refused limits answers gathered b old HeaderTooLarge early h = h
-refused limits answers gathered b old MixedPassphrase early h = h
-refused limits answers gathered b old NoMatch early h = h
-refused limits answers gathered b old WrongKey early h = h
-refused limits answers gathered b old (Malformed s) early h = h
-refused limits answers gathered b old BadMac early h = h
-refused limits answers gathered b old NonceTruncated early h = h
-refused limits answers gathered b old (ChunkShort i) early h = h
-refused limits answers gathered b old (EmptyFinal i) early h = h
-refused limits answers gathered b old (BadChunk i) early h = h
-refused limits answers gathered b old NoRecipients early h = h
-refused limits answers gathered b old (Refused i code) early h = h
-refused limits answers gathered b old (IncompatibleRecipients i) early h = h
+refused limits answers gathered b old _ early h = h
 
 no_header : (limits : Bounds) (answers : Answering) (gathered : FileKey → Gathering) (b : Bytes) (old : Known)
     (g : HeaderFault)
@@ -262,23 +247,7 @@ copied_rewraps limits answers gathered come mid old put new h key text (Err faul
         ),
       ),
     )
-    go OutOfMemory c = absurd c
-    go NotAge c = absurd c
-    go (BadLine n) c = absurd c
-    go HeaderTruncated c = absurd c
-    go HeaderTooLarge c = absurd c
-    go MixedPassphrase c = absurd c
-    go NoMatch c = absurd c
-    go WrongKey c = absurd c
-    go (Malformed s) c = absurd c
-    go BadMac c = absurd c
-    go NonceTruncated c = absurd c
-    go (ChunkShort i) c = absurd c
-    go (EmptyFinal i) c = absurd c
-    go (BadChunk i) c = absurd c
-    go NoRecipients c = absurd c
-    go (Refused i code) c = absurd c
-    go (IncompatibleRecipients i) c = absurd c
+    go _ c = absurd c
 
 -- copying ends with a late fault alone
 pub copies_late : (from old new : Known) (K : Type 0) (r : Result (Unit {0}) Fault) → Copies from (moved old new) r
@@ -290,23 +259,7 @@ copies_late from old new K (Err fault) c = go fault c
     go Read c = inl tt
     go Write c = inl tt
     go TooManyChunks c = inl tt
-    go OutOfMemory c = absurd c
-    go NotAge c = absurd c
-    go (BadLine n) c = absurd c
-    go HeaderTruncated c = absurd c
-    go HeaderTooLarge c = absurd c
-    go MixedPassphrase c = absurd c
-    go NoMatch c = absurd c
-    go WrongKey c = absurd c
-    go (Malformed s) c = absurd c
-    go BadMac c = absurd c
-    go NonceTruncated c = absurd c
-    go (ChunkShort i) c = absurd c
-    go (EmptyFinal i) c = absurd c
-    go (BadChunk i) c = absurd c
-    go NoRecipients c = absurd c
-    go (Refused i code) c = absurd c
-    go (IncompatibleRecipients i) c = absurd c
+    go _ c = absurd c
 
 -- ---- the law
 

@@ -231,11 +231,5 @@ given-last (Some bytes) nonce at n new mid old h le le2 =
 
 -- a fault of a piece is one of opening
 pub piece-named : (max i : ℕ) (fault : StreamFault) → IsAtPiece max i fault → IsOpenFault fault
-piece-named max i NonceTruncated h = tt
-piece-named max i (ChunkShort n) h = tt
-piece-named max i (EmptyFinal n) h = tt
-piece-named max i (BadChunk n) h = tt
-piece-named max i TooManyChunks h = tt
-piece-named max i Read h = tt
 piece-named max i Write h = absurd h
-piece-named max i Memory h = tt
+piece-named max i _ h = tt

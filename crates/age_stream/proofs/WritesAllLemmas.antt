@@ -319,14 +319,11 @@ ends-write s t u n from now next a b c o adv part =
 stops-writes : (reading : Reading StreamFault) (n max i : ℕ) (a b : Known) (fault : StreamFault) → IsAtPiece max i fault
     → reading.fault ≡ Some fault → Appends a b reading.front
     → WritesReading reading n (moved a b) (Err fault)
-stops-writes reading n max i a b NonceTruncated at f w = absurd at
 stops-writes reading n max i a b (ChunkShort j) at f w = (f, w)
 stops-writes reading n max i a b (EmptyFinal j) at f w = (f, w)
 stops-writes reading n max i a b (BadChunk j) at f w = (f, w)
 stops-writes reading n max i a b TooManyChunks at f w = (f, w)
-stops-writes reading n max i a b Read at f w = absurd at
-stops-writes reading n max i a b Write at f w = absurd at
-stops-writes reading n max i a b Memory at f w = absurd at
+stops-writes reading n max i a b _ at f w = absurd at
 
 pub writes-stop : (s t u : OpenerState) (n : ℕ) (from now next a b : Known) (fault : StreamFault)
     → Opened s t n from now a b → Advances t u (moved now next) (Err fault) → WritesAll s from (moved a b) (Err fault)

@@ -27,25 +27,7 @@ reading_at key i = record { key = key; number = i; state = 1; spare = replicate 
 -- no fault has the code 0
 pub some-code : (f : Fault) → fault_code f ≡ 0 → ⊥
 some-code NotAge e = absurd (omega arith)
-some-code (BadLine n) e = absurd (omega arith)
-some-code HeaderTruncated e = absurd (omega arith)
-some-code HeaderTooLarge e = absurd (omega arith)
-some-code MixedPassphrase e = absurd (omega arith)
-some-code NoMatch e = absurd (omega arith)
-some-code WrongKey e = absurd (omega arith)
-some-code (Malformed s) e = absurd (omega arith)
-some-code BadMac e = absurd (omega arith)
-some-code NonceTruncated e = absurd (omega arith)
-some-code (ChunkShort i) e = absurd (omega arith)
-some-code (EmptyFinal i) e = absurd (omega arith)
-some-code (BadChunk i) e = absurd (omega arith)
-some-code TooManyChunks e = absurd (omega arith)
-some-code Read e = absurd (omega arith)
-some-code Write e = absurd (omega arith)
-some-code OutOfMemory e = absurd (omega arith)
-some-code NoRecipients e = absurd (omega arith)
-some-code (Refused i n) e = absurd (omega arith)
-some-code (IncompatibleRecipients i) e = absurd (omega arith)
+some-code _ e = absurd (omega arith)
 
 -- what a run gives, where its first chunk's outcome is known
 abbrev RunsBy : Payload → Bool → List Bytes → Bytes → ℕ → ℕ → Result Bytes StreamFault → Type 0

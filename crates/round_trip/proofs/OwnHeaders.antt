@@ -48,21 +48,7 @@ unrefused limits k stanza meant bounds short HeaderTooLarge h =
     let least = bounds.header_low in
     let over = h.exceeds in
     absurd (omega arith)
-unrefused limits k stanza meant bounds short NotAge h = absurd h
-unrefused limits k stanza meant bounds short (BadLine n) h = absurd h
-unrefused limits k stanza meant bounds short HeaderTruncated h = absurd h
-unrefused limits k stanza meant bounds short NoMatch h = absurd h
-unrefused limits k stanza meant bounds short WrongKey h = absurd h
-unrefused limits k stanza meant bounds short (Malformed part) h = absurd h
-unrefused limits k stanza meant bounds short BadMac h = absurd h
-unrefused limits k stanza meant bounds short NonceTruncated h = absurd h
-unrefused limits k stanza meant bounds short (ChunkShort i) h = absurd h
-unrefused limits k stanza meant bounds short (EmptyFinal i) h = absurd h
-unrefused limits k stanza meant bounds short (BadChunk i) h = absurd h
-unrefused limits k stanza meant bounds short TooManyChunks h = absurd h
-unrefused limits k stanza meant bounds short Read h = absurd h
-unrefused limits k stanza meant bounds short Write h = absurd h
-unrefused limits k stanza meant bounds short OutOfMemory h = absurd h
+unrefused limits k stanza meant bounds short _ h = absurd h
 
 pub pass_unrefused : (limits : Bounds) (k : FileKey) (pass salt : Bytes) (work : ℕ) (meant : Labels) → IsBounds limits
     → length salt ≡ 16 → IsFileKey k → work ≤ 30 → (fault : Fault)

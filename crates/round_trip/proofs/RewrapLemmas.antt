@@ -86,43 +86,13 @@ unrewrapped : (limits : Bounds) (answers : Answering) (gathered : FileKey → Ga
     → AgeFile limits k stanzas plain b → choice (answers stanzas) ≡ Ok k → CountsFaultIf is_read 0 0 fault
     → RewrapsText limits answers gathered b (moved old new) (Err fault)
     → IsUnwritten (IsRefusal limits k (gathered k)) limits plain fault
-unrewrapped limits answers gathered k stanzas plain b NotAge old new short file chosen count h =
-    inr (inr (refused_by limits answers gathered k stanzas plain b NotAge file chosen h))
-unrewrapped limits answers gathered k stanzas plain b (BadLine n) old new short file chosen count h =
-    inr (inr (refused_by limits answers gathered k stanzas plain b (BadLine n) file chosen h))
-unrewrapped limits answers gathered k stanzas plain b HeaderTruncated old new short file chosen count h =
-    inr (inr (refused_by limits answers gathered k stanzas plain b HeaderTruncated file chosen h))
-unrewrapped limits answers gathered k stanzas plain b HeaderTooLarge old new short file chosen count h =
-    inr (inr (refused_by limits answers gathered k stanzas plain b HeaderTooLarge file chosen h))
-unrewrapped limits answers gathered k stanzas plain b MixedPassphrase old new short file chosen count h =
-    inr (inr (refused_by limits answers gathered k stanzas plain b MixedPassphrase file chosen h))
-unrewrapped limits answers gathered k stanzas plain b NoMatch old new short file chosen count h =
-    inr (inr (refused_by limits answers gathered k stanzas plain b NoMatch file chosen h))
-unrewrapped limits answers gathered k stanzas plain b WrongKey old new short file chosen count h =
-    inr (inr (refused_by limits answers gathered k stanzas plain b WrongKey file chosen h))
-unrewrapped limits answers gathered k stanzas plain b (Malformed part) old new short file chosen count h =
-    inr (inr (refused_by limits answers gathered k stanzas plain b (Malformed part) file chosen h))
-unrewrapped limits answers gathered k stanzas plain b BadMac old new short file chosen count h =
-    inr (inr (refused_by limits answers gathered k stanzas plain b BadMac file chosen h))
-unrewrapped limits answers gathered k stanzas plain b NonceTruncated old new short file chosen count h =
-    inr (inr (refused_by limits answers gathered k stanzas plain b NonceTruncated file chosen h))
-unrewrapped limits answers gathered k stanzas plain b (ChunkShort i) old new short file chosen count h =
-    inr (inr (refused_by limits answers gathered k stanzas plain b (ChunkShort i) file chosen h))
-unrewrapped limits answers gathered k stanzas plain b (EmptyFinal i) old new short file chosen count h =
-    inr (inr (refused_by limits answers gathered k stanzas plain b (EmptyFinal i) file chosen h))
-unrewrapped limits answers gathered k stanzas plain b (BadChunk i) old new short file chosen count h =
-    inr (inr (refused_by limits answers gathered k stanzas plain b (BadChunk i) file chosen h))
-unrewrapped limits answers gathered k stanzas plain b NoRecipients old new short file chosen count h =
-    inr (inr (refused_by limits answers gathered k stanzas plain b NoRecipients file chosen h))
-unrewrapped limits answers gathered k stanzas plain b (Refused i code) old new short file chosen count h =
-    inr (inr (refused_by limits answers gathered k stanzas plain b (Refused i code) file chosen h))
-unrewrapped limits answers gathered k stanzas plain b (IncompatibleRecipients i) old new short file chosen count h =
-    inr (inr (refused_by limits answers gathered k stanzas plain b (IncompatibleRecipients i) file chosen h))
 unrewrapped limits answers gathered k stanzas plain b OutOfMemory old new short file chosen count h = inl (inl refl)
 unrewrapped limits answers gathered k stanzas plain b Write old new short file chosen count h = inl (inr refl)
 unrewrapped limits answers gathered k stanzas plain b Read old new short file chosen count h = absurd (omega arith)
 unrewrapped limits answers gathered k stanzas plain b TooManyChunks old new short file chosen count h = let long :
     most_copied ≤ length b = h.1 in absurd (omega arith)
+unrewrapped limits answers gathered k stanzas plain b fault old new short file chosen count h =
+    inr (inr (refused_by limits answers gathered k stanzas plain b fault file chosen h))
 
 -- the same where identity and recipient stand alone in their lists
 pub unrewrapped_one : {X Y : Type 0} (limits : Bounds) (meaning : X → List StanzaParts → Unwrapped) (xs : List X)

@@ -67,40 +67,8 @@ pub lost_of_whole : (limits : Bounds) (answers : Answering) (b plain : Bytes) (f
 lost_of_whole limits answers b plain OutOfMemory old new once is count h = inl refl
 lost_of_whole limits answers b plain Write old new once is count h = inr refl
 lost_of_whole limits answers b plain Read old new once is count h = absurd (omega arith)
-lost_of_whole limits answers b plain NotAge old new once is count h =
-    absurd (no_fault limits answers b plain NotAge old new once is h)
-lost_of_whole limits answers b plain (BadLine n) old new once is count h =
-    absurd (no_fault limits answers b plain (BadLine n) old new once is h)
-lost_of_whole limits answers b plain HeaderTruncated old new once is count h =
-    absurd (no_fault limits answers b plain HeaderTruncated old new once is h)
-lost_of_whole limits answers b plain HeaderTooLarge old new once is count h =
-    absurd (no_fault limits answers b plain HeaderTooLarge old new once is h)
-lost_of_whole limits answers b plain MixedPassphrase old new once is count h =
-    absurd (no_fault limits answers b plain MixedPassphrase old new once is h)
-lost_of_whole limits answers b plain NoMatch old new once is count h =
-    absurd (no_fault limits answers b plain NoMatch old new once is h)
-lost_of_whole limits answers b plain WrongKey old new once is count h =
-    absurd (no_fault limits answers b plain WrongKey old new once is h)
-lost_of_whole limits answers b plain (Malformed stanza) old new once is count h =
-    absurd (no_fault limits answers b plain (Malformed stanza) old new once is h)
-lost_of_whole limits answers b plain BadMac old new once is count h =
-    absurd (no_fault limits answers b plain BadMac old new once is h)
-lost_of_whole limits answers b plain NonceTruncated old new once is count h =
-    absurd (no_fault limits answers b plain NonceTruncated old new once is h)
-lost_of_whole limits answers b plain (ChunkShort i) old new once is count h =
-    absurd (no_fault limits answers b plain (ChunkShort i) old new once is h)
-lost_of_whole limits answers b plain (EmptyFinal i) old new once is count h =
-    absurd (no_fault limits answers b plain (EmptyFinal i) old new once is h)
-lost_of_whole limits answers b plain (BadChunk i) old new once is count h =
-    absurd (no_fault limits answers b plain (BadChunk i) old new once is h)
-lost_of_whole limits answers b plain TooManyChunks old new once is count h =
-    absurd (no_fault limits answers b plain TooManyChunks old new once is h)
-lost_of_whole limits answers b plain NoRecipients old new once is count h =
-    absurd (no_fault limits answers b plain NoRecipients old new once is h)
-lost_of_whole limits answers b plain (Refused i code) old new once is count h =
-    absurd (no_fault limits answers b plain (Refused i code) old new once is h)
-lost_of_whole limits answers b plain (IncompatibleRecipients i) old new once is count h =
-    absurd (no_fault limits answers b plain (IncompatibleRecipients i) old new once is h)
+lost_of_whole limits answers b plain fault old new once is count h =
+    absurd (no_fault limits answers b plain fault old new once is h)
 
 -- the same where the identity stands alone in a list
 pub lost_of_one : {X : Type 0} (limits : Bounds) (meaning : X → List StanzaParts → Unwrapped) (xs : List X) (x : X)
@@ -121,26 +89,11 @@ unwritten : (limits : Bounds) (fresh : Fresh) (gathered : Gathering) (plain : By
     → RefusesFirst limits fresh.file_key gathered fault
     → EncryptsText limits fresh gathered plain (moved old new) (Err fault)
     → IsUnwritten (IsRefusal limits fresh.file_key gathered) limits plain fault
-unwritten limits fresh gathered plain NotAge old new count refused h = inr (inr refused)
-unwritten limits fresh gathered plain (BadLine n) old new count refused h = inr (inr refused)
-unwritten limits fresh gathered plain HeaderTruncated old new count refused h = inr (inr refused)
-unwritten limits fresh gathered plain HeaderTooLarge old new count refused h = inr (inr refused)
-unwritten limits fresh gathered plain MixedPassphrase old new count refused h = inr (inr refused)
-unwritten limits fresh gathered plain NoMatch old new count refused h = inr (inr refused)
-unwritten limits fresh gathered plain WrongKey old new count refused h = inr (inr refused)
-unwritten limits fresh gathered plain (Malformed stanza) old new count refused h = inr (inr refused)
-unwritten limits fresh gathered plain BadMac old new count refused h = inr (inr refused)
-unwritten limits fresh gathered plain NonceTruncated old new count refused h = inr (inr refused)
-unwritten limits fresh gathered plain (ChunkShort i) old new count refused h = inr (inr refused)
-unwritten limits fresh gathered plain (EmptyFinal i) old new count refused h = inr (inr refused)
-unwritten limits fresh gathered plain (BadChunk i) old new count refused h = inr (inr refused)
-unwritten limits fresh gathered plain NoRecipients old new count refused h = inr (inr refused)
-unwritten limits fresh gathered plain (Refused i code) old new count refused h = inr (inr refused)
-unwritten limits fresh gathered plain (IncompatibleRecipients i) old new count refused h = inr (inr refused)
 unwritten limits fresh gathered plain OutOfMemory old new count refused h = inl (inl refl)
 unwritten limits fresh gathered plain Write old new count refused h = inl (inr refl)
 unwritten limits fresh gathered plain Read old new count refused h = absurd (omega arith)
 unwritten limits fresh gathered plain TooManyChunks old new count refused h = inr (inl (refl, h.1.too_many))
+unwritten limits fresh gathered plain _ old new count refused h = inr (inr refused)
 
 -- the same where the recipient stands alone in a list
 pub unwritten_of_one : {X : Type 0} (limits : Bounds) (fresh : Fresh) (wraps : X → Result (List StanzaParts) ℕ)
