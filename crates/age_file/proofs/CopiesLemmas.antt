@@ -5,7 +5,7 @@ use Rattle.std.specs.Io.KnownBytes.{Appends, Consumes}
 use Rattle.age_header.specs.Device.{Bytes, MayGive, WritesPart, Known, moved}
 use Rattle.age_header.proofs.DeviceLemmas.{may-end, may-more, may-some, done_part}
 use Rattle.age_file.specs.declared.fault.Fault.{Fault}
-use Rattle.age_file.specs.declared.fault.Fault.TheVariants.{NotAge, BadLine, HeaderTruncated, HeaderTooLarge, MixedPassphrase, NoMatch, WrongKey, Malformed, BadMac, NonceTruncated, ChunkShort, EmptyFinal, BadChunk, TooManyChunks, Read, Write, OutOfMemory, NoRecipients, Refused, IncompatibleRecipients}
+use Rattle.age_file.specs.declared.fault.Fault.TheVariants.{TooManyChunks, Read, Write}
 use Rattle.age_file.specs.Copying.{Copies, CopiesPiece}
 
 -- k full pieces were copied

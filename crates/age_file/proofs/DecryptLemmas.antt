@@ -23,7 +23,7 @@ use Rattle.age_stream.specs.Payload.{pieces}
 use Rattle.age_stream.specs.Reader.{MissesNonce}
 use Rattle.age_stream.specs.Reading.{Reading, payload_reading, stops}
 use Rattle.age_file.specs.declared.fault.Fault.{Fault}
-use Rattle.age_file.specs.declared.fault.Fault.TheVariants.{NotAge, BadLine, HeaderTruncated, HeaderTooLarge, MixedPassphrase, NoMatch, WrongKey, Malformed, BadMac, NonceTruncated, ChunkShort, EmptyFinal, BadChunk, TooManyChunks, Read, Write, OutOfMemory, NoRecipients, Refused, IncompatibleRecipients}
+use Rattle.age_file.specs.declared.fault.Fault.TheVariants.{NotAge, BadLine, HeaderTruncated, HeaderTooLarge, Read, Write, OutOfMemory}
 use Rattle.age_file.specs.AgeFile.{Bounds}
 use Rattle.age_file.specs.Decrypt.{BeginsVerdict, Decrypts, DecryptsText, GivesVerdict, TookUpTo, TookThrough, payload_pieces}
 use Rattle.age_file.specs.Device.{is_read}

@@ -1,5 +1,5 @@
 -- Ranges of a file whose verdict has no fault.
-use Rattle.std.proofs.Common.{◌≡◌, ◌⊎◌, ℕ, ◌+◌, length, take, drop, sym, ◌∙◌, ap, refl, subst, inl, inr, Some, Result, Ok, Err}
+use Rattle.std.proofs.Common.{◌≡◌, ◌⊎◌, ℕ, length, take, drop, sym, ◌∙◌, ap, subst, inl, inr, Some, Result, Ok, Err}
 use Rattle.std.specs.Result.{result_map_both}
 use Rattle.std.proofs.lemmas.List.{drop-drop}
 use Rattle.age_header.specs.Device.{Bytes}
@@ -7,7 +7,6 @@ use Rattle.age_header.specs.declared.fault.HeaderFault.{HeaderFault}
 use Rattle.age_header.specs.Verdict.{Found}
 use Rattle.age_header.proofs.VerdictUniqueLemmas as headers
 use Rattle.age_recipient.specs.declared.key.FileKey.{FileKey}
-use Rattle.age_stream.specs.Payload.{payload_key}
 use Rattle.age_stream.specs.Ranges.{HasPlain, RangeState}
 use Rattle.age_stream.specs.Reading.{payload_reading, whole}
 use Rattle.age_stream.specs.Slice.{IsSlice, plain_len}

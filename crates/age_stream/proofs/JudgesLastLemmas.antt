@@ -8,7 +8,7 @@ use Rattle.age_header.specs.Device.{Known}
 use Rattle.age_cipher.proofs.OpeningLemmas.{length-sealed, opened-sealed}
 use Rattle.age_recipient.specs.declared.key.FileKey.{FileKey}
 use Rattle.age_stream.specs.declared.fault.StreamFault.{StreamFault}
-use Rattle.age_stream.specs.declared.fault.StreamFault.TheVariants.{NonceTruncated, ChunkShort, EmptyFinal, BadChunk, TooManyChunks, Read, Write, Memory}
+use Rattle.age_stream.specs.declared.fault.StreamFault.TheVariants.{TooManyChunks, Write}
 use Rattle.age_stream.specs.declared.layout.Layout.{Layout}
 use Rattle.age_stream.specs.Opening.{IsAtPiece}
 use Rattle.age_stream.specs.Payload.{pieces, chunk_nonce, payload_key}

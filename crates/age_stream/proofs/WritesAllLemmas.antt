@@ -11,7 +11,7 @@ use Rattle.age_header.specs.Device.{GaveAtMost, MayGive, WritesPart, Known, move
 use Rattle.age_header.proofs.DeviceLemmas.{gave-more, may-some, done_part}
 use Rattle.age_stream.specs.declared.done.Done.{Done}
 use Rattle.age_stream.specs.declared.fault.StreamFault.{StreamFault}
-use Rattle.age_stream.specs.declared.fault.StreamFault.TheVariants.{NonceTruncated, ChunkShort, EmptyFinal, BadChunk, TooManyChunks, Read, Write, Memory}
+use Rattle.age_stream.specs.declared.fault.StreamFault.TheVariants.{ChunkShort, EmptyFinal, BadChunk, TooManyChunks, Read, Write}
 use Rattle.age_stream.specs.Opening.{Advances, EndsAt, IsAtPiece, OpenerState, OpensNext, WritesAll, WritesReading, ahead_len, left_of, pieces_left, reading_left}
 use Rattle.age_stream.specs.Payload.{pieces}
 use Rattle.age_stream.specs.Reading.{Reading, after_first, first_outcome, outcome, reading_from, stops}

@@ -9,7 +9,7 @@ use Rattle.age_stream.specs.Payload.{is_end, pieces}
 use Rattle.age_stream.specs.Reading.{first_fault, front, outcome, outcomes}
 use Rattle.age_stream.proofs.CuttingLemmas.{AtMost, cut-at_most}
 use Rattle.age_file.specs.declared.fault.Fault.{Fault}
-use Rattle.age_file.specs.declared.fault.Fault.TheVariants.{NotAge, BadLine, HeaderTruncated, HeaderTooLarge, MixedPassphrase, NoMatch, WrongKey, Malformed, BadMac, NonceTruncated, ChunkShort, EmptyFinal, BadChunk, TooManyChunks, Read, Write, OutOfMemory, NoRecipients, Refused, IncompatibleRecipients}
+use Rattle.age_file.specs.declared.fault.Fault.TheVariants.{NotAge}
 use Rattle.age_file.specs.Verdict.{stream_fault}
 use Rattle.agefile.specs.declared.payload.Payload.{Payload}
 use Rattle.agefile.specs.declared.report.Report.{Report}

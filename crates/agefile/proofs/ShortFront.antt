@@ -5,10 +5,9 @@ use Rattle.std.proofs.lemmas.List.{drop_at, take-append-le, take-take, take_all}
 use Rattle.std.specs.List.{AllByRecursion}
 use Rattle.std.proofs.Math.Seq.{take-append-add}
 use Rattle.age_kdf.specs.Bytes.{Bytes}
-use Rattle.age_header.specs.declared.fault.HeaderFault.{HeaderFault}
 use Rattle.age_header.specs.declared.fault.HeaderFault.TheVariants.{Truncated}
 use Rattle.age_header.specs.Header.{line, version_line, version_size}
-use Rattle.age_header.specs.Verdict.{AreLines, BeginsAsAge, Decides, Found, Finds, HeaderVerdict, IsLineText, lines_text}
+use Rattle.age_header.specs.Verdict.{AreLines, BeginsAsAge, Found, Finds, HeaderVerdict, IsLineText, lines_text}
 use Rattle.age_header.proofs.LengthLemmas.{length-version_line}
 use Rattle.age_header.proofs.VerdictUniqueLemmas as headers
 use Rattle.age_recipient.specs.declared.key.FileKey.{FileKey}

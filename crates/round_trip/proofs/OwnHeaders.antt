@@ -10,7 +10,7 @@ use Rattle.age_recipient.specs.Key.{IsFileKey}
 use Rattle.age_recipient.specs.KeyedStanza.{keyed_stanza}
 use Rattle.age_recipient.specs.PassphraseStanza.{pass_stanza}
 use Rattle.age_file.specs.declared.fault.Fault.{Fault}
-use Rattle.age_file.specs.declared.fault.Fault.TheVariants.{NotAge, BadLine, HeaderTruncated, HeaderTooLarge, MixedPassphrase, NoMatch, WrongKey, Malformed, BadMac, NonceTruncated, ChunkShort, EmptyFinal, BadChunk, TooManyChunks, Read, Write, OutOfMemory, NoRecipients, Refused, IncompatibleRecipients}
+use Rattle.age_file.specs.declared.fault.Fault.TheVariants.{HeaderTooLarge, MixedPassphrase, NoRecipients, Refused, IncompatibleRecipients}
 use Rattle.age_file.specs.AgeFile.{Bounds, IsBounds, is_mixed}
 use Rattle.age_file.specs.NewFile.{Gathered, IsRefusal}
 use Rattle.age_file.proofs.OwnLabels.{one_index}

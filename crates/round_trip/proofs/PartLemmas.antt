@@ -1,5 +1,5 @@
 -- Ranges of a file that reads whole.
-use Rattle.std.proofs.Common.{◌≡◌, ◌∙◌, ◌⊎◌, ◌+◌, ◌-◌, ◌*◌, ◌^◌, ◌<◌, ◌≤◌, ℕ, zero, suc, List, [], ◌∷◌, ◌++◌, length, take, drop, map, min, get_or, sym, ap, subst, arith, refl, inl, inr, Some, None, Result, Ok, Err}
+use Rattle.std.proofs.Common.{◌≡◌, ◌∙◌, ◌⊎◌, ◌+◌, ◌-◌, ◌*◌, ◌<◌, ◌≤◌, ℕ, zero, suc, List, [], ◌∷◌, ◌++◌, length, take, drop, map, min, get_or, sym, ap, subst, arith, refl, inl, inr, Some, None, Result, Ok, Err}
 use Rattle.std.specs.Prelude.{IfErr, IfOk, IfSome}
 use Rattle.std.specs.List.{concat}
 use Rattle.std.proofs.lemmas.Bool.{cases_lt}
@@ -15,14 +15,14 @@ use Rattle.age_recipient.specs.declared.unwrapped.Unwrapped.{Unwrapped}
 use Rattle.age_stream.specs.declared.layout.Layout.{Layout}
 use Rattle.age_stream.specs.Cutting.{IsFilled}
 use Rattle.age_stream.specs.Payload.{chunk_nonce, chunks, is_end, payload_key, pieces, sealed_from}
-use Rattle.age_stream.specs.Ranges.{HasPlain, IsSound, RangeState, opens_to, range_len}
+use Rattle.age_stream.specs.Ranges.{HasPlain, IsSound, RangeState, opens_to}
 use Rattle.age_stream.specs.Reading.{opened_at, payload_reading, whole}
 use Rattle.age_stream.specs.Slice.{opening, openings}
 use Rattle.age_stream.proofs.CuttingLemmas.{is_cut}
 use Rattle.age_stream.proofs.PayloadLemmas.{is_end-each}
 use Rattle.age_stream.proofs.WholeSlices.{whole-is}
 use Rattle.age_file.specs.declared.fault.Fault.{Fault}
-use Rattle.age_file.specs.declared.fault.Fault.TheVariants.{BadChunk, OutOfMemory, Read}
+use Rattle.age_file.specs.declared.fault.Fault.TheVariants.{OutOfMemory, Read}
 use Rattle.age_file.specs.AgeFile.{Bounds}
 use Rattle.age_file.specs.Device.{is_read}
 use Rattle.age_file.specs.Ranges.{IsRangesOf, MissesRanges}

@@ -2,8 +2,6 @@ use Rattle.std.proofs.Common.{◌≡◌, ◌∙◌, [], ◌∷◌, sym, ap, subs
 use Rattle.age_recipient.specs.declared.unwrapped.Unwrapped.TheVariants.{Key}
 use Rattle.age_recipient.specs.Key.{IsFileKey}
 use Rattle.age_file.specs.NewFile.{Gathered, IsRefusal}
-use Rattle.age_file.specs.Verdict.{IsVerdict}
-use Rattle.age_file.specs.Words.{whole}
 use Rattle.round_trip.specs.Losses.{IsUnwritten}
 use Rattle.round_trip.proofs.RewrapLemmas.{whole_of_rewrapped}
 use Rattle.round_trip.proofs.rewrapping.rewrapped_and_back.Goals as goal
