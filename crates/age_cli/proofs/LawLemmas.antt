@@ -1,10 +1,10 @@
 -- What a job that is done has written, where input and output are known.
-use Rattle.std.proofs.Common.{◌≡◌, ◌∙◌, ◌++◌, ap, inl, inr, subst, List, None, Some, Result, Ok, Err}
+use Rattle.std.proofs.Common.{◌≡◌, ◌∙◌, ◌++◌, ap, inl, inr, refl, subst, List, None, Some, Result, Ok, Err}
 use Rattle.std.specs.Prelude.{⊤, ◌↔◌}
 use Rattle.std.specs.Io.KnownBytes.{Appends, Keeps}
 use Rattle.age_header.specs.Device.{Bytes, Known, moved}
 use Rattle.age_header.specs.Header.{StanzaParts}
-use Rattle.age_header.proofs.DeviceLemmas.{may-known}
+use Rattle.age_header.proofs.DeviceLemmas.{of-known}
 use Rattle.age_recipient.specs.declared.key.FileKey.{FileKey}
 use Rattle.age_recipient.specs.Choice.{choice}
 use Rattle.age_stream.specs.declared.done.Done.{Done}
@@ -23,7 +23,7 @@ use Rattle.age_commands.specs.declared.task.Task.TheVariants as task
 use Rattle.age_cli.specs.Output.{Ends}
 use Rattle.age_cli.specs.Program.{Finishes, IsTaskOf, Works}
 use Rattle.age_commands.specs.Secret.{answers_of, limits_of}
-use Rattle.age_commands.specs.Task.{Encrypting, without_counts}
+use Rattle.age_commands.specs.Task.{Encrypting, unseen, without_counts}
 
 -- the output ends with what was appended
 grown : (xs more : Bytes) (taken new : Known) → Appends (Some xs) taken more → Keeps taken new → new ≡ Some (xs ++ more)
@@ -50,13 +50,13 @@ decrypted_whole law limits answers b xs taken new counts (verdict, judged, (none
 
 decrypted : OkIsAgeFile → (limits : Bounds) (answers : Answering) (b xs : Bytes) (taken new : Known)
     (done : Result Done Fault) (work : Result ⊤ Fault)
-    → work ≡ without_counts done → Decrypts limits answers (Some b) (moved (Some xs) taken) done
+    → work ≡ without_counts done → Decrypts limits answers (unseen (Some b)) (moved (Some xs) taken) done
     → Ends (moved (Some xs) new) taken work (Ok tt) → Gained limits b xs new
 decrypted law limits answers b xs taken new (Err fault) work is d (inl (ended, keeps)) = absurd (cc)
 decrypted law limits answers b xs taken new (Err fault) work is d (inr (failed, rest)) = absurd (cc)
 decrypted law limits answers b xs taken new (Ok counts) work is d (inl (ended, keeps)) =
     decrypted_whole law limits answers b xs taken new counts
-    (may-known (λ x. DecryptsText limits answers x (moved (Some xs) taken) (Ok counts)) b d) keeps
+    (of-known (λ x. DecryptsText limits answers x (moved (Some xs) taken) (Ok counts)) (unseen (Some b)) b refl d) keeps
 decrypted law limits answers b xs taken new (Ok counts) work is d (inr (failed, rest)) = absurd (cc)
 
 decrypt_done : OkIsAgeFile → (job : Job) (b xs : Bytes) (new : Known) (task : Task) → IsTaskOf command.Decrypt task
@@ -86,13 +86,14 @@ encrypted_whole limits fresh gathered plain xs taken new counts (gained, file, a
 
 encrypted : (limits : Bounds) (fresh : Fresh) (gathered : Gathering) (plain xs : Bytes) (taken new : Known)
     (done : Result Done Fault) (work : Result ⊤ Fault)
-    → work ≡ without_counts done → Encrypting limits fresh gathered (Some plain) (moved (Some xs) taken) done
+    → work ≡ without_counts done → Encrypting limits fresh gathered (unseen (Some plain)) (moved (Some xs) taken) done
     → Ends (moved (Some xs) new) taken work (Ok tt) → Made limits plain xs new
 encrypted limits fresh gathered plain xs taken new (Err fault) work is e (inl (ended, keeps)) = absurd (cc)
 encrypted limits fresh gathered plain xs taken new (Err fault) work is e (inr (failed, rest)) = absurd (cc)
 encrypted limits fresh gathered plain xs taken new (Ok counts) work is e (inl (ended, keeps)) =
     encrypted_whole limits fresh gathered plain xs taken new counts
-    (may-known (λ x. EncryptsText limits fresh gathered x (moved (Some xs) taken) (Ok counts)) plain e.0) keeps
+    (of-known (λ x. EncryptsText limits fresh gathered x (moved (Some xs) taken) (Ok counts)) (unseen (Some plain)) plain
+    refl e.0) keeps
 encrypted limits fresh gathered plain xs taken new (Ok counts) work is e (inr (failed, rest)) = absurd (cc)
 
 encrypt_done : (job : Job) (plain xs : Bytes) (new : Known) (task : Task) → IsTaskOf command.Encrypt task

@@ -2,80 +2,89 @@
 use Rattle.std.proofs.Common.{◌≡◌, ◌∙◌, ◌++◌, ◌∷◌, ◌+◌, ◌<◌, ℕ, List, ap, arith, get_or, length, take, Option, Bool, Ok, Err, inl, inr, refl, [], subst, sym}
 use Rattle.std.proofs.lemmas.List.{append_assoc, append-nil, length-take-le, take_more}
 use Rattle.std.specs.Prelude.{⊤, ◌^◌, ◌-◌, OnOk, Result, codes, min}
-use Rattle.std.specs.Io.KnownBytes.{Appends, Keeps}
+use Rattle.std.specs.Io.KnownBytes.{Appends}
 use Rattle.std.proofs.KnownBytes.{Appends-trans, Keeps-refl}
-use Rattle.age_header.specs.Device.{Bytes, Known, moved}
+use Rattle.age_header.specs.Device.{Bytes, Flow, Known, OfGiven, Seen, flow, moved}
 use Rattle.age_header.specs.declared.fault.HeaderFault.{HeaderFault}
 use Rattle.age_header.specs.declared.fault.HeaderFault.TheVariants as header
 use Rattle.age_header.specs.Base64.{IsBase64}
 use Rattle.age_header.specs.Header.{Head, HeaderParts, StanzaParts}
 use Rattle.age_header.specs.Reader.{ReadsHeader, ReadsHeaderOf}
-use Rattle.age_header.proofs.DeviceLemmas.{may-some}
+use Rattle.age_header.proofs.DeviceLemmas.{of-map}
 use Rattle.age_file.specs.declared.fault.Fault.{Fault}
-use Rattle.age_file.specs.declared.fault.Fault.TheVariants.{OutOfMemory, Write}
 use Rattle.age_file.specs.AgeFile.{Bounds}
 use Rattle.age_file.specs.Inspect.{Inspects}
 use Rattle.age_file.specs.Verdict.{header_fault}
 use Rattle.age_commands.specs.declared.inspect.Check.{Check}
-use Rattle.age_commands.specs.Inspect.{Inspecting, InspectsText, IsTable, Shows, ShowsPrefix, check_of, first_lines, last_lines, row, rows}
+use Rattle.age_commands.specs.Inspect.{Inspecting, InspectsText, IsTable, Shows, ShowsAll, check_of, checked_result, first_lines, last_lines, row, rows}
 
-missed_of : (limits : Bounds) (raw : Bool) (key : Option Bytes) (b : Bytes) (from to old : Known) (e : HeaderFault)
-    → ReadsHeaderOf b (moved from to) limits.max_header (Err e)
+missed_of : (limits : Bounds) (raw : Bool) (key : Option Bytes) (b : Bytes) (source : Flow) (old : Known)
+    (e : HeaderFault)
+    → ReadsHeaderOf b source limits.max_header (Err e)
     → InspectsText limits raw key b (moved old old) (Err (header_fault e))
-missed_of limits raw key b from to old header.NotAge h = (header.NotAge, h, refl, Keeps-refl old)
-missed_of limits raw key b from to old (header.BadLine n) h = (header.BadLine n, h, refl, Keeps-refl old)
-missed_of limits raw key b from to old header.Truncated h = (header.Truncated, h, refl, Keeps-refl old)
-missed_of limits raw key b from to old header.TooLarge h = (header.TooLarge, h, refl, Keeps-refl old)
-missed_of limits raw key b from to old header.Read h = Keeps-refl old
-missed_of limits raw key b from to old header.Memory h = Keeps-refl old
+missed_of limits raw key b source old header.NotAge h = (header.NotAge, h, refl, Keeps-refl old)
+missed_of limits raw key b source old (header.BadLine n) h = (header.BadLine n, h, refl, Keeps-refl old)
+missed_of limits raw key b source old header.Truncated h = (header.Truncated, h, refl, Keeps-refl old)
+missed_of limits raw key b source old header.TooLarge h = (header.TooLarge, h, refl, Keeps-refl old)
+missed_of limits raw key b source old header.Read h = Keeps-refl old
+missed_of limits raw key b source old header.Memory h = Keeps-refl old
 
-missed_from : (limits : Bounds) (raw : Bool) (key : Option Bytes) (from to old : Known) (e : HeaderFault)
-    → ReadsHeader (moved from to) limits.max_header (Err e)
-    → Inspecting limits raw key from (moved old old) (Err (header_fault e))
-missed_from limits raw key from to old e (b, may, h) = (b, may, missed_of limits raw key b from to old e h)
+missed_from : (limits : Bounds) (raw : Bool) (key : Option Bytes) (from to : Seen) (old : Known) (e : HeaderFault)
+    → ReadsHeader (flow from to) limits.max_header (Err e)
+    → Inspecting limits raw key (flow from to) (moved old old) (Err (header_fault e))
+missed_from limits raw key from to old e h =
+    of-map from to _ _ h (λ b reads. missed_of limits raw key b (flow from to) old e reads)
 
 -- there is no header
-pub missed : (limits l : Bounds) (raw : Bool) (key : Option Bytes) (from to old : Known) (fault : Fault) → l ≡ limits
-    → Inspects l (moved from to) (Err fault) → Inspecting limits raw key from (moved old old) (Err fault)
+pub missed : (limits l : Bounds) (raw : Bool) (key : Option Bytes) (from to : Seen) (old : Known) (fault : Fault)
+    → l ≡ limits → Inspects l (flow from to) (Err fault)
+    → Inspecting limits raw key (flow from to) (moved old old) (Err fault)
 missed limits l raw key from to old fault same (Ok h, is, reads) = absurd (cc)
 missed limits l raw key from to old fault same (Err e, is, reads) =
     let one : ◌≡◌ {A = Fault} fault (header_fault e) = cc in
-    subst (λ f. Inspecting limits raw key from (moved old old) (Err f)) (sym one)
+    subst (λ f. Inspecting limits raw key (flow from to) (moved old old) (Err f)) (sym one)
     (missed_from limits raw key from to old e
-    (subst (λ (m : Bounds). ReadsHeader (moved from to) m.max_header (Err e)) same reads))
+    (subst (λ (m : Bounds). ReadsHeader (flow from to) m.max_header (Err e)) same reads))
 
--- the same of a header that was not shown to its end
-prefix_from : (limits : Bounds) (raw : Bool) (key : Option Bytes) (from to old new : Known) (h : HeaderParts)
-    → ReadsHeader (moved from to) limits.max_header (Ok h) → ShowsPrefix raw h (check_of key h) (moved old new)
-    → Inspecting limits raw key from (moved old new) (Err Write)
-prefix_from limits raw key from to old new h (b, may, (text, verdict, took)) prefix =
-    (b, may, (h, text, verdict, prefix))
-
--- nothing is shown where memory was refused
-unshown : (limits : Bounds) (raw : Bool) (key : Option Bytes) (from old new : Known) → Keeps old new
-    → Inspecting limits raw key from (moved old new) (Err OutOfMemory)
-unshown limits raw key from old new k = let b = may-some from in (b.0, b.1, k)
-
-shown_of : (limits : Bounds) (raw : Bool) (key : Option Bytes) (from to old new : Known) (h : HeaderParts)
+shown_of : (limits : Bounds) (raw : Bool) (key : Option Bytes) (from to : Seen) (old new : Known) (h : HeaderParts)
     (fault : Fault)
-    → ReadsHeader (moved from to) limits.max_header (Ok h) → Shows raw h (check_of key h) (moved old new) (Err fault)
-    → Inspecting limits raw key from (moved old new) (Err fault)
+    → ReadsHeader (flow from to) limits.max_header (Ok h) → Shows raw h (check_of key h) (moved old new) (Err fault)
+    → Inspecting limits raw key (flow from to) (moved old new) (Err fault)
 shown_of limits raw key from to old new h fault reads (inl (is, prefix)) =
-    subst (λ f. Inspecting limits raw key from (moved old new) (Err f)) (sym is)
-    (prefix_from limits raw key from to old new h reads prefix)
+    subst (λ f. Inspecting limits raw key (flow from to) (moved old new) (Err f)) (sym is)
+    (of-map from to _ _ reads (λ b found. (h, found.0, found.1, prefix)))
 shown_of limits raw key from to old new h fault reads (inr (is, k)) =
-    subst (λ f. Inspecting limits raw key from (moved old new) (Err f)) (sym is) (unshown limits raw key from old new k)
+    subst (λ f. Inspecting limits raw key (flow from to) (moved old new) (Err f)) (sym is)
+    (of-map from to _ _ reads (λ b found. k))
 
-pub shown_in_part : (limits l : Bounds) (raw : Bool) (key : Option Bytes) (from to old new : Known) (h : HeaderParts)
-    (checked : Check) (fault : Fault) → l ≡ limits
-    → Inspects l (moved from to) (Ok h) → checked ≡ check_of key h → Shows raw h checked (moved old new) (Err fault)
-    → Inspecting limits raw key from (moved old new) (Err fault)
+-- all of a header was shown
+pub shown : (limits l : Bounds) (raw : Bool) (key : Option Bytes) (from to : Seen) (old new : Known)
+    (h : HeaderParts) (checked : Check) (r : Result ⊤ Fault) → l ≡ limits
+    → Inspects l (flow from to) (Ok h) → checked ≡ check_of key h → Shows raw h checked (moved old new) (Ok tt)
+    → r ≡ checked_result checked → OfGiven (flow from to) (λ b. ShowsAll limits raw key b (moved old new) r)
+shown limits l raw key from to old new h checked r same (Err e, is, reads) made shows tells = absurd (cc)
+shown limits l raw key from to old new h checked r same (Ok g, is, reads) made shows tells =
+    let one : ◌≡◌ {A = HeaderParts} g h = cc in
+    of-map from to _ _ (subst (λ (m : Bounds). ReadsHeader (flow from to) m.max_header (Ok h)) same
+    (subst (λ (x : HeaderParts). ReadsHeader (flow from to) l.max_header (Ok x)) one reads)) (λ b found. (
+      h,
+      found.0,
+      found.1,
+      subst (λ (x : Check). Shows raw h x (moved old new) (Ok tt)) made shows,
+      tells ∙ ap checked_result made,
+    ))
+
+-- a header that was not shown to its end, or not at all where memory was refused
+pub shown_in_part : (limits l : Bounds) (raw : Bool) (key : Option Bytes) (from to : Seen) (old new : Known)
+    (h : HeaderParts) (checked : Check) (fault : Fault) → l ≡ limits
+    → Inspects l (flow from to) (Ok h) → checked ≡ check_of key h → Shows raw h checked (moved old new) (Err fault)
+    → Inspecting limits raw key (flow from to) (moved old new) (Err fault)
 shown_in_part limits l raw key from to old new h checked fault same (Err e, is, reads) made shows = absurd (cc)
 shown_in_part limits l raw key from to old new h checked fault same (Ok g, is, reads) made shows =
     let one : ◌≡◌ {A = HeaderParts} g h = cc in
     shown_of limits raw key from to old new h fault
-    (subst (λ (m : Bounds). ReadsHeader (moved from to) m.max_header (Ok h)) same
-    (subst (λ (x : HeaderParts). ReadsHeader (moved from to) l.max_header (Ok x)) one reads))
+    (subst (λ (m : Bounds). ReadsHeader (flow from to) m.max_header (Ok h)) same
+    (subst (λ (x : HeaderParts). ReadsHeader (flow from to) l.max_header (Ok x)) one reads))
     (subst (λ (x : Check). Shows raw h x (moved old new) (Err fault)) made shows)
 
 -- the rows of one more stanza

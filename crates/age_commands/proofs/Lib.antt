@@ -1,3 +1,4 @@
 mod InspectLemmas
 mod RangeLemmas
 mod SecretLemmas
+mod TaskLemmas

@@ -2,7 +2,7 @@
 use Rattle.std.proofs.Common.{◌≡◌, ◌∙◌, ◌+◌, ◌<◌, ◌++◌, [], ◌∷◌, List, ap, get_or, length, map, subst, sym, take, Result}
 use Rattle.std.proofs.lemmas.List.{map_push, take_more}
 use Rattle.std.specs.Prelude.{⊤, ℕ}
-use Rattle.age_header.specs.Device.{Bytes, Known, moved}
+use Rattle.age_header.specs.Device.{Bytes, Flow, Known, moved}
 use Rattle.age_header.specs.Header.{StanzaParts}
 use Rattle.age_recipient.specs.declared.key.FileKey.{FileKey}
 use Rattle.age_recipient.specs.declared.labels.Labels.{Labels}
@@ -17,56 +17,56 @@ use Rattle.age_file.specs.Rewrap.{Rewraps}
 use Rattle.age_commands.specs.Task.{Encrypting}
 
 pub decrypts_alone : {X : Type 0} (m : X → List StanzaParts → Unwrapped) (items : List X) (x : X) (l limits : Bounds)
-    (from old new : Known) (r : Result Done Fault)
-    → items ≡ x ∷ [] → l ≡ limits → Decrypts l (λ s. map (λ i. m i s) items) from (moved old new) r
-    → Decrypts limits (λ s. m x s ∷ []) from (moved old new) r
-decrypts_alone m items x l limits from old new r one is h =
-    subst (λ b. Decrypts b (λ s. m x s ∷ []) from (moved old new) r) is
-    (subst (λ xs. Decrypts l (λ s. map (λ i. m i s) xs) from (moved old new) r) one h)
+    (source : Flow) (old new : Known) (r : Result Done Fault)
+    → items ≡ x ∷ [] → l ≡ limits → Decrypts l (λ s. map (λ i. m i s) items) source (moved old new) r
+    → Decrypts limits (λ s. m x s ∷ []) source (moved old new) r
+decrypts_alone m items x l limits source old new r one is h =
+    subst (λ b. Decrypts b (λ s. m x s ∷ []) source (moved old new) r) is
+    (subst (λ xs. Decrypts l (λ s. map (λ i. m i s) xs) source (moved old new) r) one h)
 
-pub decrypting_meant : (f g : List StanzaParts → Unwrapped) (limits : Bounds) (from old new : Known)
+pub decrypting_meant : (f g : List StanzaParts → Unwrapped) (limits : Bounds) (source : Flow) (old new : Known)
     (r : Result Done Fault) → f ≡ g
-    → Decrypts limits (λ s. f s ∷ []) from (moved old new) r → Decrypts limits (λ s. g s ∷ []) from (moved old new) r
-decrypting_meant f g limits from old new r same h =
-    subst (λ (m : List StanzaParts → Unwrapped). Decrypts limits (λ s. m s ∷ []) from (moved old new) r) same h
+    → Decrypts limits (λ s. f s ∷ []) source (moved old new) r → Decrypts limits (λ s. g s ∷ []) source (moved old new) r
+decrypting_meant f g limits source old new r same h =
+    subst (λ (m : List StanzaParts → Unwrapped). Decrypts limits (λ s. m s ∷ []) source (moved old new) r) same h
 
 pub encrypting_meant : (w v : FileKey → Result (List StanzaParts) ℕ) (l m : Labels) (limits : Bounds) (fresh : Fresh)
-    (from old new : Known) (r : Result Done Fault) → w ≡ v → l ≡ m
-    → Encrypting limits fresh (Gathered (w fresh.file_key ∷ []) (l ∷ [])) from (moved old new) r
-    → Encrypting limits fresh (Gathered (v fresh.file_key ∷ []) (m ∷ [])) from (moved old new) r
-encrypting_meant w v l m limits fresh from old new r same labels h =
-    subst (λ (x : Labels). Encrypting limits fresh (Gathered (v fresh.file_key ∷ []) (x ∷ [])) from (moved old new) r)
+    (source : Flow) (old new : Known) (r : Result Done Fault) → w ≡ v → l ≡ m
+    → Encrypting limits fresh (Gathered (w fresh.file_key ∷ []) (l ∷ [])) source (moved old new) r
+    → Encrypting limits fresh (Gathered (v fresh.file_key ∷ []) (m ∷ [])) source (moved old new) r
+encrypting_meant w v l m limits fresh source old new r same labels h =
+    subst (λ (x : Labels). Encrypting limits fresh (Gathered (v fresh.file_key ∷ []) (x ∷ [])) source (moved old new) r)
     labels
     (subst (λ (x : FileKey → Result (List StanzaParts) ℕ). Encrypting limits fresh
-    (Gathered (x fresh.file_key ∷ []) (l ∷ [])) from (moved old new) r) same h)
+    (Gathered (x fresh.file_key ∷ []) (l ∷ [])) source (moved old new) r) same h)
 
 pub rewraps_alone : {X Y : Type 0} (m : X → List StanzaParts → Unwrapped)
     (w : Y → FileKey → Result (List StanzaParts) ℕ) (labels : Y → Labels)
-    (items : List X) (x : X) (others : List Y) (y : Y) (l limits : Bounds) (from old new : Known) (r : Result ⊤ Fault)
+    (items : List X) (x : X) (others : List Y) (y : Y) (l limits : Bounds) (source : Flow) (old new : Known) (r : Result ⊤ Fault)
     → items ≡ x ∷ [] → others ≡ y ∷ [] → l ≡ limits
     → Rewraps l (λ s. map (λ i. m i s) items) (λ key. Gathered (map (λ o. w o key) others) (map (λ o. labels o) others))
-    from (moved old new) r
-    → Rewraps limits (λ s. m x s ∷ []) (λ key. Gathered (w y key ∷ []) (labels y ∷ [])) from (moved old new) r
-rewraps_alone m w labels items x others y l limits from old new r one other is h =
-    subst (λ b. Rewraps b (λ s. m x s ∷ []) (λ key. Gathered (w y key ∷ []) (labels y ∷ [])) from (moved old new) r) is
-    (subst (λ ys. Rewraps l (λ s. m x s ∷ []) (λ key. Gathered (map (λ o. w o key) ys) (map (λ o. labels o) ys)) from
+    source (moved old new) r
+    → Rewraps limits (λ s. m x s ∷ []) (λ key. Gathered (w y key ∷ []) (labels y ∷ [])) source (moved old new) r
+rewraps_alone m w labels items x others y l limits source old new r one other is h =
+    subst (λ b. Rewraps b (λ s. m x s ∷ []) (λ key. Gathered (w y key ∷ []) (labels y ∷ [])) source (moved old new) r) is
+    (subst (λ ys. Rewraps l (λ s. m x s ∷ []) (λ key. Gathered (map (λ o. w o key) ys) (map (λ o. labels o) ys)) source
     (moved old new) r) other
     (subst (λ xs. Rewraps l (λ s. map (λ i. m i s) xs)
-    (λ key. Gathered (map (λ o. w o key) others) (map (λ o. labels o) others)) from (moved old new) r) one h))
+    (λ key. Gathered (map (λ o. w o key) others) (map (λ o. labels o) others)) source (moved old new) r) one h))
 
 pub rewrapping_meant : (f g : List StanzaParts → Unwrapped) (w v : FileKey → Result (List StanzaParts) ℕ) (l m : Labels)
-    (limits : Bounds) (from old new : Known) (r : Result ⊤ Fault)
+    (limits : Bounds) (source : Flow) (old new : Known) (r : Result ⊤ Fault)
     → f ≡ g → w ≡ v → l ≡ m
-    → Rewraps limits (λ s. f s ∷ []) (λ key. Gathered (w key ∷ []) (l ∷ [])) from (moved old new) r
-    → Rewraps limits (λ s. g s ∷ []) (λ key. Gathered (v key ∷ []) (m ∷ [])) from (moved old new) r
-rewrapping_meant f g w v l m limits from old new r same wraps labels h =
+    → Rewraps limits (λ s. f s ∷ []) (λ key. Gathered (w key ∷ []) (l ∷ [])) source (moved old new) r
+    → Rewraps limits (λ s. g s ∷ []) (λ key. Gathered (v key ∷ []) (m ∷ [])) source (moved old new) r
+rewrapping_meant f g w v l m limits source old new r same wraps labels h =
     subst
-    (λ (x : Labels). Rewraps limits (λ s. g s ∷ []) (λ key. Gathered (v key ∷ []) (x ∷ [])) from (moved old new) r)
+    (λ (x : Labels). Rewraps limits (λ s. g s ∷ []) (λ key. Gathered (v key ∷ []) (x ∷ [])) source (moved old new) r)
     labels
     (subst (λ (x : FileKey → Result (List StanzaParts) ℕ). Rewraps limits (λ s. g s ∷ [])
-    (λ key. Gathered (x key ∷ []) (l ∷ [])) from (moved old new) r) wraps
+    (λ key. Gathered (x key ∷ []) (l ∷ [])) source (moved old new) r) wraps
     (subst (λ (x : List StanzaParts → Unwrapped). Rewraps limits (λ s. x s ∷ []) (λ key. Gathered (w key ∷ []) (l ∷ []))
-    from (moved old new) r) same h))
+    source (moved old new) r) same h))
 
 -- one more is made for the next key
 pub wrapped_more : {S : Type 0} (f : Bytes → S) (keys : List Bytes) (i : ℕ) (old one new : List S) → i < length keys

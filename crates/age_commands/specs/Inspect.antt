@@ -4,7 +4,7 @@ use Rattle.std.specs.Fmt.{format_spec, styled_decimal}
 use Rattle.std.specs.Str.{bytes_eq}
 use Rattle.std.specs.declared.option.Option.{Option}
 use Rattle.std.specs.declared.option.Option.TheVariants.{None, Some}
-use Rattle.age_header.specs.Device.{Bytes, Known, MayGive, WritesPart, Moved, Took, Stays}
+use Rattle.age_header.specs.Device.{Bytes, Flow, OfGiven, WritesPart, Moved, Took, Stays}
 use Rattle.age_header.specs.declared.fault.HeaderFault.{HeaderFault}
 use Rattle.age_header.specs.Base64.{IsBase64}
 use Rattle.age_header.specs.Header.{Head, HeaderParts, StanzaParts, line}
@@ -124,8 +124,8 @@ InspectsText limits raw key b sink (Err Read) = Stays sink
 InspectsText limits raw key b sink (Err OutOfMemory) = Stays sink
 InspectsText limits raw key b sink (Err fault) = Misses limits b sink fault
 
--- the same of bytes that a source may give
-abbrev pub Inspecting : (limits : Bounds) (raw : Bool) (key : Option Bytes) (from : Known)
+-- the same of the bytes that the source gave
+abbrev pub Inspecting : (limits : Bounds) (raw : Bool) (key : Option Bytes) (source : Flow)
     (sink : Moved) (result : Result ⊤ Fault) → Type 0
-Inspecting limits raw key from sink result =
-    (b : Bytes) × MayGive from b × InspectsText limits raw key b sink result
+Inspecting limits raw key source sink result =
+    OfGiven source (λ b. InspectsText limits raw key b sink result)

@@ -1,6 +1,6 @@
 -- What a job does with its secrets: from what its input gives to what its output takes.
-use Rattle.std.specs.Prelude.{◌≡◌, ◌⊎◌, ⊤, IfErr, Result, Ok, Err}
-use Rattle.age_header.specs.Device.{Known, Moved}
+use Rattle.std.specs.Prelude.{◌≡◌, ◌⊎◌, ⊤, IfErr, None, Result, Ok, Err}
+use Rattle.age_header.specs.Device.{Flow, Known, Moved, flow}
 use Rattle.age_stream.specs.declared.done.Done.{Done}
 use Rattle.age_file.specs.declared.fault.Fault.{Fault}
 use Rattle.age_file.specs.declared.fault.Fault.TheVariants.{BadMac}
@@ -23,10 +23,15 @@ without_counts (Err fault) = Err fault
 
 -- what `encrypt` returns and writes
 abbrev pub Encrypting : (limits : Bounds) (fresh : Fresh) (gathered : Gathering)
-    (from : Known) (sink : Moved) (done : Result Done Fault) → Type 0
-Encrypting limits fresh gathered from sink done =
-    EncryptsGiven limits fresh gathered from sink done
+    (source : Flow) (sink : Moved) (done : Result Done Fault) → Type 0
+Encrypting limits fresh gathered source sink done =
+    EncryptsGiven limits fresh gathered source sink done
     × IfErr done (RefusesFirst limits fresh.file_key gathered)
+
+-- a source of which proofs see the bytes to come alone, if they are known
+abbrev pub unseen : (from : Known) → Flow
+unseen from = flow (record { to_come = from; gave = λ past. ⊤ })
+    (record { to_come = None; gave = λ past. ⊤ })
 
 -- What is returned, and what the output takes, where the input gives `from`.
 abbrev pub Performs : (job : Job) (task : Task) (from : Known) (sink : Moved)
@@ -34,15 +39,15 @@ abbrev pub Performs : (job : Job) (task : Task) (from : Known) (sink : Moved)
 Performs job (Encrypt secret seed) from sink result =
     (done : Result Done Fault) × (result ≡ without_counts done)
     × Encrypting (limits_of job) seed.fresh
-    (gathering_of secret job.work seed.salt seed.fresh.file_key) from sink done
+    (gathering_of secret job.work seed.salt seed.fresh.file_key) (unseen from) sink done
 Performs job (Decrypt secret) from sink result =
     (done : Result Done Fault) × (result ≡ without_counts done)
-    × Decrypts (limits_of job) (answers_of secret job.max_work) from sink done
+    × Decrypts (limits_of job) (answers_of secret job.max_work) (unseen from) sink done
 Performs job (Rewrap one other salt) from sink result =
     Rewraps (limits_of job) (answers_of one job.max_work) (gathering_of other job.work salt)
-    from sink result
+    (unseen from) sink result
 Performs job (Inspect key) from sink result =
-    Inspecting (limits_of job) job.raw key from sink result
+    Inspecting (limits_of job) job.raw key (unseen from) sink result
 
 -- a task that ends with a fault which is not late leaves the output as it was, whether its contents
 -- are known or not; `inspect` shows a header whose MAC is wrong

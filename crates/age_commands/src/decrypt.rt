@@ -4,7 +4,7 @@ ghost use Rattle.age_file.specs.Decrypt.{Decrypts};
 ghost use Rattle.age_file.specs.Device.{IsQuiet};
 ghost use Rattle.age_words.specs.Job.{IsInRange};
 ghost use Rattle.age_commands.specs.Secret.{answers_of, limits_of};
-ghost use Rattle.age_header.specs.Device.{moved_by};
+ghost use Rattle.age_header.specs.Device.{flow_by, moved_by};
 
 use crate::buffering::limits_of;
 use crate::identity::SecretIdentity;
@@ -24,7 +24,7 @@ pub(crate) fn decrypt<S: Source, W: Sink>(
 ) -> Result<Done, Fault>
     requires { IsInRange job.now }
     ensures decrypts { Decrypts (limits_of job.now) (answers_of secret job.now.max_work)
-        (S.to_come input.old) (moved_by W.taken out.old out.new) result }
+        (flow_by S.to_come S.gave input.old input.new) (moved_by W.taken out.old out.new) result }
     ensures quiet { IsQuiet out.old out.new result }
 {
     let Ok(identity) = SecretIdentity::new(alloc, job, secret) else {
@@ -46,7 +46,7 @@ fn decrypt_by<S: Source, W: Sink>(
 ) -> Result<Done, Fault>
     requires { IsInRange job.now }
     ensures decrypts { Decrypts (limits_of job.now) (λ stanzas. meaning identity stanzas ∷ [])
-        (S.to_come input.old) (moved_by W.taken out.old out.new) result }
+        (flow_by S.to_come S.gave input.old input.new) (moved_by W.taken out.old out.new) result }
     ensures quiet { IsQuiet out.old out.new result }
 {
     match vec![in alloc; identity] {

@@ -5,7 +5,7 @@ ghost use Rattle.age_file.specs.NewFile.{Gathered};
 ghost use Rattle.age_words.specs.Job.{IsInRange};
 ghost use Rattle.age_commands.specs.Secret.{gathering_of, limits_of};
 ghost use Rattle.age_commands.specs.Task.{Encrypting};
-ghost use Rattle.age_header.specs.Device.{moved_by};
+ghost use Rattle.age_header.specs.Device.{flow_by, moved_by};
 
 use crate::buffering::limits_of;
 use crate::recipient::SecretRecipient;
@@ -26,7 +26,7 @@ pub(crate) fn encrypt<S: Source, W: Sink>(
     requires { IsInRange job.now }
     ensures encrypts { Encrypting (limits_of job.now) seed.now.fresh
         (gathering_of secret job.now.work seed.now.salt seed.now.fresh.file_key)
-        (S.to_come input.old) (moved_by W.taken out.old out.new) result }
+        (flow_by S.to_come S.gave input.old input.new) (moved_by W.taken out.old out.new) result }
     ensures quiet { IsQuiet out.old out.new result }
 {
     let Ok(recipient) = SecretRecipient::new(alloc, job, secret, seed.salt) else {
@@ -50,7 +50,7 @@ fn encrypt_for<S: Source, W: Sink>(
     requires { IsInRange job.now }
     ensures encrypts { Encrypting (limits_of job.now) fresh.now
         (Gathered (wraps recipient fresh.now.file_key ∷ []) (the_labels recipient ∷ []))
-        (S.to_come input.old) (moved_by W.taken out.old out.new) result }
+        (flow_by S.to_come S.gave input.old input.new) (moved_by W.taken out.old out.new) result }
     ensures quiet { IsQuiet out.old out.new result }
 {
     match vec![in alloc; recipient] {

@@ -2,7 +2,7 @@
 ghost use Rattle.std.specs.Prelude.{◌≡◌, ◌⊎◌, map, Err, IfOk, OnOk};
 ghost use Rattle.std.specs.String.{string_bytes};
 ghost use Rattle.std.specs.Io.KnownBytes.{Appends};
-ghost use Rattle.age_header.specs.Device.{Bytes, moved_by};
+ghost use Rattle.age_header.specs.Device.{Bytes, flow_by, moved_by};
 ghost use Rattle.age_file.specs.Device.{IsQuiet};
 ghost use Rattle.age_words.specs.Job.{IsInRange};
 ghost use Rattle.age_commands.specs.Inspect.{Inspecting, IsTable, Shows, check_of, row, rows, spaced};
@@ -50,7 +50,7 @@ pub(crate) fn inspect<S: Source, W: Sink>(
 ) -> Result<(), Fault>
     requires { IsInRange job.now }
     ensures inspects { Inspecting (limits_of job.now) job.now.raw file_key.now
-        (S.to_come input.old) (moved_by W.taken out.old out.new) result }
+        (flow_by S.to_come S.gave input.old input.new) (moved_by W.taken out.old out.new) result }
     ensures quiet { (result ≡ Err Fault.BadMac) ⊎ IsQuiet out.old out.new result }
 {
     let header = match age_file::inspect(alloc, input, &limits_of(job)) {

@@ -5,7 +5,7 @@ ghost use Rattle.age_file.specs.NewFile.{Gathered};
 ghost use Rattle.age_file.specs.Rewrap.{Rewraps};
 ghost use Rattle.age_words.specs.Job.{IsInRange};
 ghost use Rattle.age_commands.specs.Secret.{answers_of, gathering_of, limits_of};
-ghost use Rattle.age_header.specs.Device.{moved_by};
+ghost use Rattle.age_header.specs.Device.{flow_by, moved_by};
 
 use crate::buffering::limits_of;
 use crate::identity::SecretIdentity;
@@ -29,7 +29,7 @@ pub(crate) fn rewrap<S: Source, W: Sink>(
     requires { IsInRange job.now }
     ensures rewraps { Rewraps (limits_of job.now) (answers_of old job.now.max_work)
         (gathering_of new job.now.work salt)
-        (S.to_come input.old) (moved_by W.taken out.old out.new) result }
+        (flow_by S.to_come S.gave input.old input.new) (moved_by W.taken out.old out.new) result }
     ensures quiet { IsQuiet out.old out.new result }
 {
     let Ok(identity) = SecretIdentity::new(alloc, job, old) else {
@@ -59,7 +59,7 @@ fn rewrap_for<S: Source, W: Sink>(
     requires { IsInRange job.now }
     ensures rewraps { Rewraps (limits_of job.now) (λ stanzas. meaning identity stanzas ∷ [])
         (λ key. Gathered (wraps recipient key ∷ []) (the_labels recipient ∷ []))
-        (S.to_come input.old) (moved_by W.taken out.old out.new) result }
+        (flow_by S.to_come S.gave input.old input.new) (moved_by W.taken out.old out.new) result }
     ensures quiet { IsQuiet out.old out.new result }
 {
     let Ok(identities) = vec![in alloc; identity] else {

@@ -1,16 +1,16 @@
 -- What decrypting returns, from what its parts return.
-use Rattle.std.proofs.Common.{◌≡◌, ◌⊎◌, ◌+◌, ◌*◌, ◌/◌, ◌≤◌, ℕ, ◌++◌, length, drop, sym, ◌∙◌, ap, refl, subst, arith, inl, inr, Some, Result, Ok, Err}
+use Rattle.std.proofs.Common.{◌≡◌, ◌⊎◌, ◌+◌, ◌*◌, ◌/◌, ◌≤◌, ℕ, ◌++◌, length, drop, sym, ◌∙◌, ap, refl, subst, arith, append_assoc, inl, inr, Some, Result, Ok, Err}
 use Rattle.std.specs.Prelude.{option_map}
 use Rattle.std.specs.Io.KnownBytes.{Appends}
 use Rattle.std.proofs.KnownBytes.{Appends-nil}
 use Rattle.std.proofs.lemmas.List.{drop_at, take_all}
 use Rattle.age_header.specs.declared.fault.HeaderFault.{HeaderFault}
 use Rattle.age_header.specs.declared.fault.HeaderFault.TheVariants as header
-use Rattle.age_header.specs.Device.{Bytes, CountsFaultIf, GaveAtMost, MayGive, Known, moved}
+use Rattle.age_header.specs.Device.{Bytes, CountsFaultIf, Gave, GaveSome, Known, Seen, flow, flow_by, moved, seen_by}
 use Rattle.age_header.specs.Header.{HeaderParts}
 use Rattle.age_header.specs.Reader.{ReadsHeader, Refuses}
 use Rattle.age_header.specs.Verdict.{HeaderVerdict}
-use Rattle.age_header.proofs.DeviceLemmas.{gave-more, may-more, may-some}
+use Rattle.age_header.proofs.DeviceLemmas.{gave-more, gave-some, gave-then, of-any, of-map, of-more, of-then}
 use Rattle.age_header.proofs.VerdictUniqueLemmas.{found_again}
 use Rattle.age_header.proofs.VerdictTotalLemmas.{some_verdict}
 use Rattle.age_recipient.specs.declared.key.FileKey.{FileKey}
@@ -93,37 +93,35 @@ header-text limits answers b old header.TooLarge h =
     stops-decrypts limits answers b old HeaderTooLarge
     (record { header = Err header.TooLarge; header_verdict = h; is = refl })
 
-header-decrypts : (limits : Bounds) (answers : Answering) (come mid old : Known) (g : HeaderFault)
-    → ReadsHeader (moved come mid) limits.max_header (Err g)
-    → Decrypts limits answers come (moved old old) (Err (header_fault g))
-header-decrypts limits answers come mid old g (b, may, h) = (b, may, header-text limits answers b old g h)
+header-decrypts : (limits : Bounds) (answers : Answering) (come mid : Seen) (old : Known) (g : HeaderFault)
+    → ReadsHeader (flow come mid) limits.max_header (Err g)
+    → Decrypts limits answers (flow come mid) (moved old old) (Err (header_fault g))
+header-decrypts limits answers come mid old g h =
+    of-map come mid _ _ h (λ b refuses. header-text limits answers b old g refuses)
 
-pub inspect-decrypts : (limits : Bounds) (answers : Answering) (come mid old : Known) (fault : Fault)
-    → Inspects limits (moved come mid) (Err fault) → Decrypts limits answers come (moved old old) (Err fault)
+pub inspect-decrypts : (limits : Bounds) (answers : Answering) (come mid : Seen) (old : Known) (fault : Fault)
+    → Inspects limits (flow come mid) (Err fault) → Decrypts limits answers (flow come mid) (moved old old) (Err fault)
 inspect-decrypts limits answers come mid old fault (Ok parts, is, h) = absurd (cc)
 inspect-decrypts limits answers come mid old fault (Err g, is, h) =
-    subst (λ f. Decrypts limits answers come (moved old old) (Err f))
+    subst (λ f. Decrypts limits answers (flow come mid) (moved old old) (Err f))
     (sym (err-err {A = HeaderParts} fault (header_fault g) is)) (header-decrypts limits answers come mid old g h)
 
--- the header that was read, and whatever may follow it
-pub record IsHeaded (limits : Bounds) (come mid : Known) (h : HeaderParts) : Type 0 where
+-- the header that was read, whatever follows it
+pub record IsHeaded (limits : Bounds) (come mid : Seen) (h : HeaderParts) : Type 0 where
   pub text : Bytes
-  pub took : GaveAtMost (length text) (moved come mid)
-  pub may : (rest : Bytes) → MayGive mid rest → MayGive come (text ++ rest)
-  pub verdict : (rest : Bytes) → MayGive mid rest
-      → HeaderVerdict (text ++ rest) limits.max_header (Ok (found_in text h))
+  pub took : Gave (flow come mid) text
+  pub verdict : (rest : Bytes) → HeaderVerdict (text ++ rest) limits.max_header (Ok (found_in text h))
 
-parts-headed : (limits : Bounds) (come mid : Known) (h : HeaderParts)
-    → ReadsHeader (moved come mid) limits.max_header (Ok h)
+parts-headed : (limits : Bounds) (come mid : Seen) (h : HeaderParts)
+    → ReadsHeader (flow come mid) limits.max_header (Ok h)
     → IsHeaded limits come mid h
-parts-headed limits come mid h (b, given, (text, verdict, took)) = record {
-  text = text;
-  took = (text, took, omega arith);
-  may = λ rest m. may-more come mid text rest took m;
-  verdict = λ rest m. found_again b limits.max_header (found_in text h) verdict rest;
+parts-headed limits come mid h r = record {
+  text = r.holds.0;
+  took = r.holds.2;
+  verdict = λ rest. found_again r.given limits.max_header (found_in r.holds.0 h) r.holds.1 rest;
 }
 
-pub headed : (limits : Bounds) (come mid : Known) (h : HeaderParts) → Inspects limits (moved come mid) (Ok h)
+pub headed : (limits : Bounds) (come mid : Seen) (h : HeaderParts) → Inspects limits (flow come mid) (Ok h)
     → IsHeaded limits come mid h
 headed limits come mid h (Err g, is, a) = absurd (cc)
 headed limits come mid h (Ok k, is, a) =
@@ -133,38 +131,36 @@ headed limits come mid h (Ok k, is, a) =
     ok-ok x y e = cc
 
 -- the verdict on a header and what follows it
-verdict-of : (limits : Bounds) (answers : Answering) (come mid : Known) (h : HeaderParts)
-    (i : IsHeaded limits come mid h) (rest : Bytes) → MayGive mid rest
+verdict-of : (limits : Bounds) (answers : Answering) (come mid : Seen) (h : HeaderParts)
+    (i : IsHeaded limits come mid h) (rest : Bytes)
     → IsVerdict limits answers (i.text ++ rest) (read_under limits rest (unlocked answers h))
-verdict-of limits answers come mid h i rest m = record {
+verdict-of limits answers come mid h i rest = record {
   header = Ok (found_in i.text h);
-  header_verdict = i.verdict rest m;
+  header_verdict = i.verdict rest;
   is = ap (λ x. read_under limits x (unlocked answers h)) (sym (drop_at i.text rest (length i.text) refl));
 }
 
 -- memory was refused
-pub memory-decrypts : (limits : Bounds) (answers : Answering) (come old new : Known)
-    → Decrypts limits answers come (moved old new) (Err OutOfMemory)
-memory-decrypts limits answers come old new = let b = may-some come in (b.0, b.1, tt)
+pub memory-decrypts : (limits : Bounds) (answers : Answering) (come to : Seen) (old new : Known)
+    → GaveSome (flow come to) → Decrypts limits answers (flow come to) (moved old new) (Err OutOfMemory)
+memory-decrypts limits answers come to old new some = of-any come to _ some (λ b. tt)
 
 -- no key
-pub locked-decrypts : (limits : Bounds) (answers : Answering) (come mid old : Known) (h : HeaderParts) (fault : Fault)
-    → Inspects limits (moved come mid) (Ok h)
+pub locked-decrypts : (limits : Bounds) (answers : Answering) (come mid : Seen) (old : Known) (h : HeaderParts)
+    (fault : Fault)
+    → Inspects limits (flow come mid) (Ok h)
     → (◌≡◌ {A = Result FileKey Fault} (Err fault) (Err OutOfMemory)) ⊎ (Err fault ≡ unlocked answers h)
-    → Decrypts limits answers come (moved old old) (Err fault)
+    → Decrypts limits answers (flow come mid) (moved old old) (Err fault)
 locked-decrypts limits answers come mid old h fault i (inl memory) =
-    subst (λ f. Decrypts limits answers come (moved old old) (Err f))
+    let is = headed limits come mid h i in
+    subst (λ f. Decrypts limits answers (flow come mid) (moved old old) (Err f))
     (sym (err-err {A = FileKey} fault OutOfMemory memory))
-    (memory-decrypts limits answers come old old)
+    (memory-decrypts limits answers come mid old old (gave-some come mid is.text is.took))
 locked-decrypts limits answers come mid old h fault i (inr key) =
     let is = headed limits come mid h i in
-    let d = may-some mid in (
-      is.text ++ d.0,
-      is.may d.0 d.1,
-      stops-decrypts limits answers (is.text ++ d.0) old fault
-          (subst (λ k. IsVerdict limits answers (is.text ++ d.0) (read_under limits d.0 k)) (sym key)
-          (verdict-of limits answers come mid h is d.0 d.1)),
-    )
+    of-more come mid is.text _ is.took (λ d end. stops-decrypts limits answers (is.text ++ d) old fault
+    (subst (λ k. IsVerdict limits answers (is.text ++ d) (read_under limits d k)) (sym key)
+    (verdict-of limits answers come mid h is d)))
 
 -- ---- the payload
 
@@ -173,12 +169,12 @@ abbrev pub file_result : Result Done StreamFault → Result Done Fault
 file_result (Ok done) = Ok done
 file_result (Err fault) = Err (stream_fault fault)
 
-payload-text : (limits : Bounds) (answers : Answering) (come mid : Known) (h : HeaderParts)
-    (i : IsHeaded limits come mid h) (k : FileKey) (c : Bytes) (m : MayGive mid c) (old new : Known)
+payload-text : (limits : Bounds) (answers : Answering) (come mid : Seen) (h : HeaderParts)
+    (i : IsHeaded limits come mid h) (k : FileKey) (c : Bytes) (old new : Known)
     (r : Result Done StreamFault)
     → Ok k ≡ unlocked answers h → WritesReading (payload_reading k limits.max_chunks c) (length (pieces (drop 16 c)))
     (moved old new) r → DecryptsText limits answers (i.text ++ c) (moved old new) (file_result r)
-payload-text limits answers come mid h i k c m old new r key w = go r w
+payload-text limits answers come mid h i k c old new r key w = go r w
   where
     v : Reading Fault
     v = read_under limits c (Ok k)
@@ -186,7 +182,7 @@ payload-text limits answers come mid h i k c m old new r key w = go r w
     is : IsVerdict limits answers (i.text ++ c) v
     is = record {
       header = Ok (found_in i.text h);
-      header_verdict = i.verdict c m;
+      header_verdict = i.verdict c;
       is = ap (read_under limits c) key
           ∙ ap (λ x. read_under limits x (unlocked answers h)) (sym (drop_at i.text c (length i.text) refl));
     }
@@ -211,29 +207,37 @@ payload-text limits answers come mid h i k c m old new r key w = go r w
     go (Err (stream.BadChunk n)) x = gives (stream.BadChunk n) x.0 x.1
     go (Err stream.TooManyChunks) x = gives stream.TooManyChunks x.0 x.1
 
-pub payload-decrypts : (limits : Bounds) (answers : Answering) (come mid old new : Known) (h : HeaderParts)
-    (k : FileKey) (max : ℕ) (r : Result Done StreamFault) → Inspects limits (moved come mid) (Ok h)
+pub payload-decrypts : (limits : Bounds) (answers : Answering) (come mid to : Seen) (old new : Known) (h : HeaderParts)
+    (k : FileKey) (max : ℕ) (r : Result Done StreamFault) → Inspects limits (flow come mid) (Ok h)
     → (◌≡◌ {A = Result FileKey Fault} (Ok k) (Err OutOfMemory)) ⊎ (Ok k ≡ unlocked answers h) → max ≡ limits.max_chunks
-    → WritesPayload k max mid old new r
-    → Decrypts limits answers come (moved old new) (file_result r)
-payload-decrypts limits answers come mid old new h k max r i (inl memory) same w = absurd (cc)
-payload-decrypts limits answers come mid old new h k max r i (inr key) same (c, may, x) =
+    → WritesPayload k max (flow mid to) old new r
+    → Decrypts limits answers (flow come to) (moved old new) (file_result r)
+payload-decrypts limits answers come mid to old new h k max r i (inl memory) same w = absurd (cc)
+payload-decrypts limits answers come mid to old new h k max r i (inr key) same w =
     let is = headed limits come mid h i in
-    let w = subst (λ m. WritesReading (payload_reading k m c) (length (pieces (drop 16 c))) (moved old new) r) same x in
-    (is.text ++ c, is.may c may, payload-text limits answers come mid h is k c may old new r key w)
+    of-then come mid to is.text _ _ is.took w (λ c x. payload-text limits answers come mid h is k c old new r key
+    (subst (λ m. WritesReading (payload_reading k m c) (length (pieces (drop 16 c))) (moved old new) r) same x))
 
 -- there is no nonce, or no memory
-pub missed-decrypts : (P : Type 0) (limits : Bounds) (answers : Answering) (come mid to old : Known) (before after : ℕ)
-    (h : HeaderParts) (k : FileKey) (max : ℕ) (fault : StreamFault) → Inspects limits (moved come mid) (Ok h)
+pub missed-decrypts : {S : Type 0} (to_come : S → Known) (gave : S → Bytes → Type 0) (limits : Bounds)
+    (answers : Answering) (come : Seen) (mid to : S) (old : Known) (before after : ℕ)
+    (h : HeaderParts) (k : FileKey) (max : ℕ) (fault : StreamFault)
+    → Inspects limits (flow come (seen_by to_come gave mid)) (Ok h)
     → (◌≡◌ {A = Result FileKey Fault} (Ok k) (Err OutOfMemory)) ⊎ (Ok k ≡ unlocked answers h) → max ≡ limits.max_chunks
-    → ((fault ≡ stream.Memory) × P) ⊎ MissesNonce k max (moved mid to) before after fault
-    → Decrypts limits answers come (moved old old) (Err (stream_fault fault))
-missed-decrypts P limits answers come mid to old before after h k max fault i key same (inl m) =
-    subst (λ f. Decrypts limits answers come (moved old old) (Err (stream_fault f))) (sym m.0)
-    (memory-decrypts limits answers come old old)
-missed-decrypts P limits answers come mid to old before after h k max fault i key same (inr m) =
-    payload-decrypts limits answers come mid old old h k max (Err fault) i key same
-    (nonce-writes k max mid to old fault m.0)
+    → ((fault ≡ stream.Memory) × (to ≡ mid)) ⊎ MissesNonce k max (flow_by to_come gave mid to) before after fault
+    → Decrypts limits answers (flow come (seen_by to_come gave to)) (moved old old) (Err (stream_fault fault))
+missed-decrypts to_come gave limits answers come mid to old before after h k max fault i key same (inl m) =
+    let is = headed limits come (seen_by to_come gave mid) h i in
+    subst (λ x. Decrypts limits answers (flow come (seen_by to_come gave x)) (moved old old) (Err (stream_fault fault)))
+    (sym m.1)
+    (subst (λ f. Decrypts limits answers (flow come (seen_by to_come gave mid)) (moved old old)
+    (Err (stream_fault f))) (sym m.0)
+    (memory-decrypts limits answers come (seen_by to_come gave mid) old old
+    (gave-some come (seen_by to_come gave mid) is.text is.took)))
+missed-decrypts to_come gave limits answers come mid to old before after h k max fault i key same (inr m) =
+    payload-decrypts limits answers come (seen_by to_come gave mid) (seen_by to_come gave to) old old h k max
+    (Err fault) i key same
+    (nonce-writes k max (seen_by to_come gave mid) (seen_by to_come gave to) old fault m.0)
 
 -- ---- counts, and what was taken
 
@@ -242,30 +246,31 @@ pub reads-file : (old new : ℕ) (fault : StreamFault) → CountsFaultIf counts.
 reads-file old new stream.Read h = h
 reads-file old new _ h = h
 
-took-piece : (limits : Bounds) (come mid to old new : Known) (h : HeaderParts) (i : IsHeaded limits come mid h)
-    (fault : StreamFault) (n : ℕ) (e : EndsAt limits.max_chunks 16 (moved mid to) (moved old new) fault) → e.piece ≤ n
-    → TookThrough limits n (moved come to)
+took-piece : (limits : Bounds) (come mid to : Seen) (old new : Known) (h : HeaderParts) (i : IsHeaded limits come mid h)
+    (fault : StreamFault) (n : ℕ) (e : EndsAt limits.max_chunks 16 (flow mid to) (moved old new) fault) → e.piece ≤ n
+    → TookThrough limits n (flow come to)
 took-piece limits come mid to old new h i fault n e le =
-    let d = may-some mid in
-    let all = gave-more come mid to (length i.text) (16 + (65552 * (e.piece + 1) + 1)) i.took e.gave in
+    let g : Bytes = e.gave.0 in
+    let all = gave-more come mid to (length i.text) (16 + (65552 * (e.piece + 1) + 1)) (i.text, i.took, omega arith)
+    e.gave in
     record {
-      b = i.text ++ d.0;
-      may = i.may d.0 d.1;
       found = found_in i.text h;
-      header = i.verdict d.0 d.1;
+      header = of-more come to (i.text ++ g) _ (gave-then come mid to i.text g i.took e.gave.1) (λ d end.
+          subst (λ z. HeaderVerdict z limits.max_header (Ok (found_in i.text h))) (sym (append_assoc i.text g d))
+          (i.verdict (g ++ d)));
       gave = (all.0, all.1, omega (arith, all.2));
     }
 
-ends-takes : (limits : Bounds) (come mid to old new : Known) (h : HeaderParts) (i : IsHeaded limits come mid h)
-    (fault : StreamFault) → EndsAt limits.max_chunks 16 (moved mid to) (moved old new) fault
-    → TookUpTo limits (moved come to) (moved old new) (stream_fault fault)
+ends-takes : (limits : Bounds) (come mid to : Seen) (old new : Known) (h : HeaderParts) (i : IsHeaded limits come mid h)
+    (fault : StreamFault) → EndsAt limits.max_chunks 16 (flow mid to) (moved old new) fault
+    → TookUpTo limits (flow come to) (moved old new) (stream_fault fault)
 ends-takes limits come mid to old new h i stream.Write e = go e.at
   where
     not-piece : IsAtPiece limits.max_chunks e.piece stream.Write → ⊥
     not-piece x = x
 
     go : ((◌≡◌ {A = StreamFault} stream.Write stream.Write) × (65536 * e.piece ≤ length e.text))
-        ⊎ IsAtPiece limits.max_chunks e.piece stream.Write → TookUpTo limits (moved come to) (moved old new) Write
+        ⊎ IsAtPiece limits.max_chunks e.piece stream.Write → TookUpTo limits (flow come to) (moved old new) Write
     go (inl (is, le)) = (
       e.text,
       e.written,
@@ -278,7 +283,7 @@ ends-takes limits come mid to old new h i (stream.ChunkShort j) e = go e.at
     not-write x = cc
 
     go : ((◌≡◌ {A = StreamFault} (stream.ChunkShort j) stream.Write) × (65536 * e.piece ≤ length e.text))
-        ⊎ IsAtPiece limits.max_chunks e.piece (stream.ChunkShort j) → TookThrough limits j (moved come to)
+        ⊎ IsAtPiece limits.max_chunks e.piece (stream.ChunkShort j) → TookThrough limits j (flow come to)
     go (inl (is, le)) = absurd (not-write is)
     go (inr at) = took-piece limits come mid to old new h i (stream.ChunkShort j) j e (omega (arith, at))
 ends-takes limits come mid to old new h i (stream.EmptyFinal j) e = go e.at
@@ -287,7 +292,7 @@ ends-takes limits come mid to old new h i (stream.EmptyFinal j) e = go e.at
     not-write x = cc
 
     go : ((◌≡◌ {A = StreamFault} (stream.EmptyFinal j) stream.Write) × (65536 * e.piece ≤ length e.text))
-        ⊎ IsAtPiece limits.max_chunks e.piece (stream.EmptyFinal j) → TookThrough limits j (moved come to)
+        ⊎ IsAtPiece limits.max_chunks e.piece (stream.EmptyFinal j) → TookThrough limits j (flow come to)
     go (inl (is, le)) = absurd (not-write is)
     go (inr at) = took-piece limits come mid to old new h i (stream.EmptyFinal j) j e (omega (arith, at))
 ends-takes limits come mid to old new h i (stream.BadChunk j) e = go e.at
@@ -296,7 +301,7 @@ ends-takes limits come mid to old new h i (stream.BadChunk j) e = go e.at
     not-write x = cc
 
     go : ((◌≡◌ {A = StreamFault} (stream.BadChunk j) stream.Write) × (65536 * e.piece ≤ length e.text))
-        ⊎ IsAtPiece limits.max_chunks e.piece (stream.BadChunk j) → TookThrough limits j (moved come to)
+        ⊎ IsAtPiece limits.max_chunks e.piece (stream.BadChunk j) → TookThrough limits j (flow come to)
     go (inl (is, le)) = absurd (not-write is)
     go (inr at) = took-piece limits come mid to old new h i (stream.BadChunk j) j e (omega (arith, at))
 ends-takes limits come mid to old new h i stream.TooManyChunks e = go e.at
@@ -306,16 +311,16 @@ ends-takes limits come mid to old new h i stream.TooManyChunks e = go e.at
 
     go : ((◌≡◌ {A = StreamFault} stream.TooManyChunks stream.Write) × (65536 * e.piece ≤ length e.text))
         ⊎ IsAtPiece limits.max_chunks e.piece stream.TooManyChunks
-        → TookThrough limits limits.max_chunks (moved come to)
+        → TookThrough limits limits.max_chunks (flow come to)
     go (inl (is, le)) = absurd (not-write is)
     go (inr at) = took-piece limits come mid to old new h i stream.TooManyChunks limits.max_chunks e (omega (arith, at))
 ends-takes limits come mid to old new h i _ e = tt
 
-pub payload-takes : (limits : Bounds) (come mid to old new : Known) (h : HeaderParts) (fault : StreamFault)
-    → Inspects limits (moved come mid) (Ok h)
-    → (fault ≡ stream.Read) ⊎ EndsAt limits.max_chunks 16 (moved mid to) (moved old new) fault
-    → TookUpTo limits (moved come to) (moved old new) (stream_fault fault)
+pub payload-takes : (limits : Bounds) (come mid to : Seen) (old new : Known) (h : HeaderParts) (fault : StreamFault)
+    → Inspects limits (flow come mid) (Ok h)
+    → (fault ≡ stream.Read) ⊎ EndsAt limits.max_chunks 16 (flow mid to) (moved old new) fault
+    → TookUpTo limits (flow come to) (moved old new) (stream_fault fault)
 payload-takes limits come mid to old new h fault i (inl e) =
-    subst (λ f. TookUpTo limits (moved come to) (moved old new) (stream_fault f)) (sym e) tt
+    subst (λ f. TookUpTo limits (flow come to) (moved old new) (stream_fault f)) (sym e) tt
 payload-takes limits come mid to old new h fault i (inr e) =
     ends-takes limits come mid to old new h (headed limits come mid h i) fault e

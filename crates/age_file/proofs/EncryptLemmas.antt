@@ -4,10 +4,10 @@ use Rattle.std.proofs.lemmas.List.{append-nil, length-append}
 use Rattle.std.specs.List.{concat}
 use Rattle.std.specs.Io.KnownBytes.{Appends}
 use Rattle.std.proofs.KnownBytes.{Appends-nil, Appends-trans}
-use Rattle.age_header.specs.Device.{Bytes, GaveAtMost, WritesPart, Known, moved}
+use Rattle.age_header.specs.Device.{Bytes, Flow, GaveAtMost, GaveSome, OfGiven, WritesPart, Known, Seen, flow, moved}
 use Rattle.age_header.specs.Header.{StanzaParts, Head}
 use Rattle.age_header.specs.Mac.{header_mac}
-use Rattle.age_header.proofs.DeviceLemmas.{may-more, may-some, done_part}
+use Rattle.age_header.proofs.DeviceLemmas.{of-any, of-map, of-then, done_part}
 use Rattle.age_header.proofs.HeaderLemmas.{one_text}
 use Rattle.age_recipient.specs.declared.key.FileKey.{FileKey}
 use Rattle.age_stream.specs.declared.done.Done.{Done}
@@ -21,7 +21,7 @@ use Rattle.age_file.specs.declared.fault.Fault.TheVariants.{TooManyChunks, Read,
 use Rattle.age_file.specs.declared.limits.Fresh.{Fresh}
 use Rattle.age_file.specs.AgeFile.{Bounds}
 use Rattle.age_file.specs.Device.{IsLate}
-use Rattle.age_file.specs.NewFile.{BegunFile, EncryptsGiven, EncryptsText, FailsHeading, Gathering, IsHeading, IsRefusal, MayFillChunk, RefusesFirst, SealsRest, TookWhileEncrypting, TookChunks}
+use Rattle.age_file.specs.NewFile.{BegunFile, EncryptsGiven, EncryptsText, FailsHeading, Gathering, IsHeading, FillsChunk, IsRefusal, RefusesFirst, SealsRest, TookWhileEncrypting, TookChunks}
 use Rattle.age_file.specs.Verdict.{stream_fault}
 use Rattle.age_file.proofs.DecryptLemmas.{file_result}
 
@@ -47,19 +47,20 @@ made limits k gathered stanzas mac written (is, (text, heading)) head =
     record { stanzas = stanzas; heading = subst (λ (t : Bytes). IsHeading limits k gathered stanzas t) same heading }
 
 -- memory was refused
-pub encrypts_refused : (limits : Bounds) (fresh : Fresh) (gathered : Gathering) (from old new : Known)
-    → EncryptsGiven limits fresh gathered from (moved old new) (Err OutOfMemory)
-encrypts_refused limits fresh gathered from old new = let plain = may-some from in (plain.0, plain.1, tt)
+pub encrypts_refused : (limits : Bounds) (fresh : Fresh) (gathered : Gathering) (from to : Seen) (old new : Known)
+    → GaveSome (flow from to) → EncryptsGiven limits fresh gathered (flow from to) (moved old new) (Err OutOfMemory)
+encrypts_refused limits fresh gathered from to old new some = of-any from to _ some (λ plain. tt)
 
 -- no header was made
-pub encrypts_unmade : (limits : Bounds) (fresh : Fresh) (gathered : Gathering) (from old new : Known) (fault : Fault)
-    → FailsHeading limits fresh.file_key gathered fault
-    → EncryptsGiven limits fresh gathered from (moved old new) (Err fault)
-encrypts_unmade limits fresh gathered from old new fault (inl memory) =
-    subst (λ f. EncryptsGiven limits fresh gathered from (moved old new) (Err f)) (sym memory)
-    (encrypts_refused limits fresh gathered from old new)
-encrypts_unmade limits fresh gathered from old new fault (inr refusal) =
-    let plain = may-some from in (plain.0, plain.1, go plain.0 fault refusal)
+pub encrypts_unmade : (limits : Bounds) (fresh : Fresh) (gathered : Gathering) (from to : Seen) (old new : Known)
+    (fault : Fault)
+    → GaveSome (flow from to) → FailsHeading limits fresh.file_key gathered fault
+    → EncryptsGiven limits fresh gathered (flow from to) (moved old new) (Err fault)
+encrypts_unmade limits fresh gathered from to old new fault some (inl memory) =
+    subst (λ f. EncryptsGiven limits fresh gathered (flow from to) (moved old new) (Err f)) (sym memory)
+    (encrypts_refused limits fresh gathered from to old new some)
+encrypts_unmade limits fresh gathered from to old new fault some (inr refusal) =
+    of-any from to _ some (λ plain. go plain fault refusal)
   where
     go : (plain : Bytes) (f : Fault) → IsRefusal limits fresh.file_key gathered f
         → EncryptsText limits fresh gathered plain (moved old new) (Err f)
@@ -70,36 +71,33 @@ encrypts_unmade limits fresh gathered from old new fault (inr refusal) =
 
 -- a prefix of the header and the nonce was written
 pub encrypts_begun : (limits : Bounds) (fresh : Fresh) (gathered : Gathering) (stanzas : List StanzaParts) (mac : Bytes)
-    (from old new : Known)
+    (from to : Seen) (old new : Known) → GaveSome (flow from to)
     → HeaderMade limits fresh.file_key gathered stanzas mac
     → FrontWritten stanzas mac (λ text. WritesPart (moved old new) (text ++ fresh.nonce))
-    → EncryptsGiven limits fresh gathered from (moved old new) (Err Write)
-encrypts_begun limits fresh gathered stanzas mac from old new header (text, head, part) =
+    → EncryptsGiven limits fresh gathered (flow from to) (moved old new) (Err Write)
+encrypts_begun limits fresh gathered stanzas mac from to old new some header (text, head, part) =
     let m = made limits fresh.file_key gathered stanzas mac text header head in
-    let plain = may-some from in
     let front : Bytes = text ++ fresh.nonce in
-    let rest : Bytes = concat (sealed_chunks fresh.file_key fresh.nonce plain.0) in
-    let is : text ++ payload fresh.file_key fresh.nonce plain.0 ≡ front ++ rest =
-    sym (append_assoc text fresh.nonce rest) in (
-      plain.0,
-      plain.1,
-      record {
-        stanzas = m.stanzas;
-        text = text;
-        heading = m.heading;
-        part = done_part old old new (text ++ payload fresh.file_key fresh.nonce plain.0) (front ++ rest) front rest
-            (record { prefix = []; took = Appends-nil old; is = is }) refl part;
-      },
-    )
+    of-any from to _ some (λ plain.
+    let rest : Bytes = concat (sealed_chunks fresh.file_key fresh.nonce plain) in
+    let is : text ++ payload fresh.file_key fresh.nonce plain ≡ front ++ rest =
+    sym (append_assoc text fresh.nonce rest) in
+    record {
+      stanzas = m.stanzas;
+      text = text;
+      heading = m.heading;
+      part = done_part old old new (text ++ payload fresh.file_key fresh.nonce plain) (front ++ rest) front rest
+          (record { prefix = []; took = Appends-nil old; is = is }) refl part;
+    })
 
 -- the first chunk was not read, and nothing was written
 pub encrypts_unread : (limits : Bounds) (fresh : Fresh) (gathered : Gathering) (stanzas : List StanzaParts)
-    (mac : Bytes) (from old : Known)
+    (mac : Bytes) (from to : Seen) (old : Known) → GaveSome (flow from to)
     → HeaderMade limits fresh.file_key gathered stanzas mac
-    → EncryptsGiven limits fresh gathered from (moved old old) (Err Read)
-encrypts_unread limits fresh gathered stanzas mac from old (is, (text, heading)) =
-    let plain = may-some from in
-    (plain.0, plain.1, record { stanzas = stanzas; text = text; heading = heading; part = (0, Appends-nil old) })
+    → EncryptsGiven limits fresh gathered (flow from to) (moved old old) (Err Read)
+encrypts_unread limits fresh gathered stanzas mac from to old some (is, (text, heading)) =
+    of-any from to _ some
+    (λ plain. record { stanzas = stanzas; text = text; heading = heading; part = (0, Appends-nil old) })
 
 -- a prefix of the payload was written after them
 begun : (limits : Bounds) (fresh : Fresh) (gathered : Gathering) (text plain : Bytes) (a b c : Known)
@@ -166,64 +164,72 @@ up_to_limit limits fresh gathered text plain a b c m front many rest =
     )
 
 -- a sealer that was just made was filled
-pub filled : (s t : SealerState) (key : Bytes) (m max : ℕ) (more : Bool) (from mid : Known) → s ≡ at_start key m
-    → m ≡ max → IfNone s.fault (Fills s t (moved from mid) (Ok more))
-    → Fills (at_start key max) t (moved from mid) (Ok more)
+pub filled : (s t : SealerState) (key : Bytes) (m max : ℕ) (more : Bool) (from mid : Seen) → s ≡ at_start key m
+    → m ≡ max → IfNone s.fault (Fills s t (flow from mid) (Ok more))
+    → Fills (at_start key max) t (flow from mid) (Ok more)
 filled s t key m max more from mid is same h =
-    subst (λ n. Fills (at_start key n) t (moved from mid) (Ok more)) same
-    (subst (λ x. IfNone x.fault (Fills x t (moved from mid) (Ok more))) is h)
+    subst (λ n. Fills (at_start key n) t (flow from mid) (Ok more)) same
+    (subst (λ x. IfNone x.fault (Fills x t (flow from mid) (Ok more))) is h)
+
+-- or was not, since a read failed
+pub unfilled : (s t : SealerState) (key : Bytes) (m : ℕ) (source : Flow) (fault : StreamFault) → s ≡ at_start key m
+    → IfNone s.fault (Fills s t source (Err fault)) → GaveSome source
+unfilled s t key m source fault is h =
+    (subst (λ x. IfNone x.fault (Fills x t source (Err fault))) is h).1
 
 -- and then sealed what it held and what came
-pub sealed_filled : (key : Bytes) (max : ℕ) (t : SealerState) (more : Bool) (from mid to a c : Known)
+pub sealed_filled : (key : Bytes) (max : ℕ) (t : SealerState) (more : Bool) (from mid to : Seen) (a c : Known)
     (r : Result Done StreamFault) → 1 ≤ max
-    → Fills (at_start key max) t (moved from mid) (Ok more) → SealsRest t more (moved mid to) (moved a c) r
-    → SealsAll (at_start key max) (moved from to) (moved a c) r
+    → Fills (at_start key max) t (flow from mid) (Ok more) → SealsRest t more (flow mid to) (moved a c) r
+    → SealsAll (at_start key max) (flow from to) (moved a c) r
 sealed_filled key max t true from mid to a c r some fills seals =
     filled-seals key max t true from mid to a c r fills seals
 sealed_filled key max t false from mid to a c r some fills (finishes, same) =
-    subst (λ k. SealsAll (at_start key max) (moved from k) (moved a c) r) (sym same)
-    (filled-finishes key max t from mid a c r some fills finishes)
+    filled-finishes key max t from mid to a c r some fills same finishes
 
 -- the payload after the header and the nonce
-encrypts_payload : (limits : Bounds) (fresh : Fresh) (gathered : Gathering) (text : Bytes) (from to a b c : Known)
+encrypts_payload : (limits : Bounds) (fresh : Fresh) (gathered : Gathering) (text : Bytes) (from to : Seen) (a b c : Known)
     (r : Result Done StreamFault) → length fresh.nonce ≡ 16
     → Made limits fresh.file_key gathered text → Appends a b (text ++ fresh.nonce)
-    → SealsAll (at_start (payload_key fresh.file_key fresh.nonce) limits.max_chunks) (moved from to) (moved b c) r
-    → EncryptsGiven limits fresh gathered from (moved a c) (file_result r)
-encrypts_payload limits fresh gathered text from to a b c (Ok done) sixteen m front
-    (plain, may, rest, fits, bytes, count) =
-    (plain, may, whole limits fresh gathered text plain a b c done sixteen m front rest fits bytes count)
-encrypts_payload limits fresh gathered text from to a b c (Err fault) sixteen m front (chunk, s) = go fault s.stops
+    → SealsAll (at_start (payload_key fresh.file_key fresh.nonce) limits.max_chunks) (flow from to) (moved b c) r
+    → EncryptsGiven limits fresh gathered (flow from to) (moved a c) (file_result r)
+encrypts_payload limits fresh gathered text from to a b c (Ok done) sixteen m front h =
+    of-map from to _ _ h
+    (λ plain q. whole limits fresh gathered text plain a b c done sixteen m front q.0 q.1 q.2 q.3)
+encrypts_payload limits fresh gathered text from to a b c (Err fault) sixteen m front (chunk, s) =
+    go fault s.stops
   where
     key : Bytes
     key = payload_key fresh.file_key fresh.nonce
 
-    go : (f : StreamFault) → StopsIn key limits.max_chunks 0 [] s.text (moved b c) f
-        → EncryptsGiven limits fresh gathered from (moved a c) (Err (stream_fault f))
-    go stream.Read h = (s.text, s.may, begun limits fresh gathered text s.text a b c m front h)
-    go stream.Write h = (s.text, s.may, begun limits fresh gathered text s.text a b c m front h)
-    go stream.TooManyChunks h = (s.text, s.may, up_to_limit limits fresh gathered text s.text a b c m front h.0 h.1)
-    go _ h = absurd h
+    go : (f : StreamFault)
+        → OfGiven (flow from to) (λ plain. StopsIn key limits.max_chunks 0 [] plain (moved b c) f)
+        → EncryptsGiven limits fresh gathered (flow from to) (moved a c) (Err (stream_fault f))
+    go stream.Read h = of-map from to _ _ h (λ plain q. begun limits fresh gathered text plain a b c m front q)
+    go stream.Write h = of-map from to _ _ h (λ plain q. begun limits fresh gathered text plain a b c m front q)
+    go stream.TooManyChunks h =
+        of-map from to _ _ h (λ plain q. up_to_limit limits fresh gathered text plain a b c m front q.0 q.1)
+    go _ h = absurd h.holds
 
 -- the header, the nonce and the payload
 pub encrypts_sealed : (limits : Bounds) (fresh : Fresh) (gathered : Gathering) (stanzas : List StanzaParts)
-    (mac : Bytes) (from to a b c : Known) (r : Result Done StreamFault)
+    (mac : Bytes) (from to : Seen) (a b c : Known) (r : Result Done StreamFault)
     → HeaderMade limits fresh.file_key gathered stanzas mac
     → FrontWritten stanzas mac (λ text. Appends a b (text ++ fresh.nonce)) → length fresh.nonce ≡ 16
-    → SealsAll (at_start (payload_key fresh.file_key fresh.nonce) limits.max_chunks) (moved from to) (moved b c) r
-    → EncryptsGiven limits fresh gathered from (moved a c) (file_result r)
+    → SealsAll (at_start (payload_key fresh.file_key fresh.nonce) limits.max_chunks) (flow from to) (moved b c) r
+    → EncryptsGiven limits fresh gathered (flow from to) (moved a c) (file_result r)
 encrypts_sealed limits fresh gathered stanzas mac from to a b c r header (text, head, front) sixteen seals =
     encrypts_payload limits fresh gathered text from to a b c r sixteen
     (made limits fresh.file_key gathered stanzas mac text header head) front seals
 
--- a read failed after something was written: the source may give a whole chunk
-pub read_late : (key : Bytes) (max : ℕ) (t : SealerState) (more : Bool) (from mid to a c : Known) (fault : StreamFault)
-    → Fills (at_start key max) t (moved from mid) (Ok more) → SealsRest t more (moved mid to) (moved a c) (Err fault)
-    → stream_fault fault ≡ Read → MayFillChunk from
-read_late key max t true from mid to a c fault (x, took, is, fits, full, ended) seals read =
-    let d = may-some mid in
+-- a read failed after something was written: the source gave a whole chunk
+pub read_late : (key : Bytes) (max : ℕ) (t : SealerState) (more : Bool) (from mid to : Seen) (a c : Known)
+    (fault : StreamFault)
+    → Fills (at_start key max) t (flow from mid) (Ok more) → SealsRest t more (flow mid to) (moved a c) (Err fault)
+    → stream_fault fault ≡ Read → FillsChunk (flow from to)
+read_late key max t true from mid to a c fault (x, took, is, fits, full, ended) (chunk, seals) read =
     let l : length x ≡ 65536 = subst (λ (u : SealerState). length u.held ≡ 65536) is (full refl) in
-    (x ++ d.0, may-more from mid x d.0 took d.1, omega (arith, length-append x d.0, l))
+    of-then from mid to x _ _ took seals.stops (λ text h. omega (arith, length-append x text, l))
 read_late key max t false from mid to a c fault fills ((write, part), same) read =
     absurd (not-read (subst (λ f. stream_fault f ≡ Read) write read))
   where
@@ -234,10 +240,10 @@ read_late key max t false from mid to a c fault fills ((write, part), same) read
 
 pub takes_begun : (limits : Bounds) (fresh : Fresh) (gathered : Gathering) (stanzas : List StanzaParts) (mac : Bytes)
     (key : Bytes) (max : ℕ) (t : SealerState) (more : Bool)
-    (from mid old new : Known) → HeaderMade limits fresh.file_key gathered stanzas mac
+    (from mid : Seen) (old new : Known) → HeaderMade limits fresh.file_key gathered stanzas mac
     → FrontWritten stanzas mac (λ text. WritesPart (moved old new) (text ++ fresh.nonce))
-    → Fills (at_start key max) t (moved from mid) (Ok more)
-    → TookWhileEncrypting limits fresh gathered (moved from mid) (moved old new) Write
+    → Fills (at_start key max) t (flow from mid) (Ok more)
+    → TookWhileEncrypting limits fresh gathered (flow from mid) (moved old new) Write
 takes_begun limits fresh gathered stanzas mac key max t more from mid old new header (text, head, part)
     (x, gave, is, fits, full, ended) =
     let m = made limits fresh.file_key gathered stanzas mac text header head in
@@ -253,12 +259,12 @@ takes_begun limits fresh gathered stanzas mac key max t more from mid old new he
       gave = (x, gave, omega (arith, le));
     }
 
-took : (limits : Bounds) (fresh : Fresh) (gathered : Gathering) (text : Bytes) (from to a b c : Known) (chunk : ℕ)
+took : (limits : Bounds) (fresh : Fresh) (gathered : Gathering) (text : Bytes) (from to : Seen) (a b c : Known) (chunk : ℕ)
     (fault : StreamFault) → length fresh.nonce ≡ 16
     → Made limits fresh.file_key gathered text → Appends a b (text ++ fresh.nonce)
-    → Stopped (payload_key fresh.file_key fresh.nonce) limits.max_chunks 0 chunk [] (moved from to) (moved b c) fault
-    → GaveAtMost (65536 * (chunk + 1 - 0) + 1 - 0) (moved from to)
-    → TookChunks limits fresh gathered (moved from to) (moved a c)
+    → Stopped (payload_key fresh.file_key fresh.nonce) limits.max_chunks 0 chunk [] (flow from to) (moved b c) fault
+    → GaveAtMost (65536 * (chunk + 1 - 0) + 1 - 0) (flow from to)
+    → TookChunks limits fresh gathered (flow from to) (moved a c)
 took limits fresh gathered text from to a b c chunk fault sixteen m front s gave =
     let l : length ((text ++ fresh.nonce) ++ s.wrote.0) ≡ length (text ++ fresh.nonce) + length s.wrote.0 =
     length-append (text ++ fresh.nonce) s.wrote.0 in
@@ -274,19 +280,19 @@ took limits fresh gathered text from to a b c chunk fault sixteen m front s gave
       gave = (gave.0, gave.1, omega (arith, gave.2));
     }
 
-takes_payload : (limits : Bounds) (fresh : Fresh) (gathered : Gathering) (text : Bytes) (from to a b c : Known)
+takes_payload : (limits : Bounds) (fresh : Fresh) (gathered : Gathering) (text : Bytes) (from to : Seen) (a b c : Known)
     (fault : StreamFault) → length fresh.nonce ≡ 16
     → Made limits fresh.file_key gathered text → Appends a b (text ++ fresh.nonce)
-    → SealsAll (at_start (payload_key fresh.file_key fresh.nonce) limits.max_chunks) (moved from to) (moved b c)
+    → SealsAll (at_start (payload_key fresh.file_key fresh.nonce) limits.max_chunks) (flow from to) (moved b c)
     (Err fault)
-    → TookWhileEncrypting limits fresh gathered (moved from to) (moved a c) (stream_fault fault)
+    → TookWhileEncrypting limits fresh gathered (flow from to) (moved a c) (stream_fault fault)
 takes_payload limits fresh gathered text from to a b c stream.Write sixteen m front (chunk, s) = go s.gave
   where
     not-read : stream.Write ≡ stream.Read → ⊥
     not-read e = cc
 
-    go : (stream.Write ≡ stream.Read) ⊎ GaveAtMost (65536 * (chunk + 1 - 0) + 1 - 0) (moved from to)
-        → TookChunks limits fresh gathered (moved from to) (moved a c)
+    go : (stream.Write ≡ stream.Read) ⊎ GaveAtMost (65536 * (chunk + 1 - 0) + 1 - 0) (flow from to)
+        → TookChunks limits fresh gathered (flow from to) (moved a c)
     go (inl e) = absurd (not-read e)
     go (inr gave) = took limits fresh gathered text from to a b c chunk stream.Write sixteen m front s gave
 takes_payload limits fresh gathered text from to a b c stream.TooManyChunks sixteen m front (chunk, s) = go s.gave
@@ -294,33 +300,33 @@ takes_payload limits fresh gathered text from to a b c stream.TooManyChunks sixt
     not-read : stream.TooManyChunks ≡ stream.Read → ⊥
     not-read e = cc
 
-    go : (stream.TooManyChunks ≡ stream.Read) ⊎ GaveAtMost (65536 * (chunk + 1 - 0) + 1 - 0) (moved from to)
-        → TookChunks limits fresh gathered (moved from to) (moved a c)
+    go : (stream.TooManyChunks ≡ stream.Read) ⊎ GaveAtMost (65536 * (chunk + 1 - 0) + 1 - 0) (flow from to)
+        → TookChunks limits fresh gathered (flow from to) (moved a c)
     go (inl e) = absurd (not-read e)
     go (inr gave) = took limits fresh gathered text from to a b c chunk stream.TooManyChunks sixteen m front s gave
 takes_payload limits fresh gathered text from to a b c _ sixteen m front s = tt
 
 -- a fault of the payload names no reason against the header, and comes late
-pub refuses_none : (limits : Bounds) (fresh : Fresh) (gathered : Gathering) (from to b c : Known) (fault : StreamFault)
-    → SealsAll (at_start (payload_key fresh.file_key fresh.nonce) limits.max_chunks) (moved from to) (moved b c)
+pub refuses_none : (limits : Bounds) (fresh : Fresh) (gathered : Gathering) (from to : Seen) (b c : Known) (fault : StreamFault)
+    → SealsAll (at_start (payload_key fresh.file_key fresh.nonce) limits.max_chunks) (flow from to) (moved b c)
     (Err fault)
     → RefusesFirst limits fresh.file_key gathered (stream_fault fault) × IsLate (stream_fault fault)
 refuses_none limits fresh gathered from to b c stream.Read h = (tt, tt)
 refuses_none limits fresh gathered from to b c stream.Write h = (tt, tt)
 refuses_none limits fresh gathered from to b c stream.TooManyChunks h = (tt, tt)
-refuses_none limits fresh gathered from to b c stream.Memory h = absurd h.1.stops
-refuses_none limits fresh gathered from to b c stream.NonceTruncated h = absurd h.1.stops
-refuses_none limits fresh gathered from to b c (stream.ChunkShort i) h = absurd h.1.stops
-refuses_none limits fresh gathered from to b c (stream.EmptyFinal i) h = absurd h.1.stops
-refuses_none limits fresh gathered from to b c (stream.BadChunk i) h = absurd h.1.stops
+refuses_none limits fresh gathered from to b c stream.Memory h = absurd h.1.stops.holds
+refuses_none limits fresh gathered from to b c stream.NonceTruncated h = absurd h.1.stops.holds
+refuses_none limits fresh gathered from to b c (stream.ChunkShort i) h = absurd h.1.stops.holds
+refuses_none limits fresh gathered from to b c (stream.EmptyFinal i) h = absurd h.1.stops.holds
+refuses_none limits fresh gathered from to b c (stream.BadChunk i) h = absurd h.1.stops.holds
 
 pub takes_sealed : (limits : Bounds) (fresh : Fresh) (gathered : Gathering) (stanzas : List StanzaParts) (mac : Bytes)
-    (from to a b c : Known) (fault : StreamFault)
+    (from to : Seen) (a b c : Known) (fault : StreamFault)
     → HeaderMade limits fresh.file_key gathered stanzas mac
     → FrontWritten stanzas mac (λ text. Appends a b (text ++ fresh.nonce)) → length fresh.nonce ≡ 16
-    → SealsAll (at_start (payload_key fresh.file_key fresh.nonce) limits.max_chunks) (moved from to) (moved b c)
+    → SealsAll (at_start (payload_key fresh.file_key fresh.nonce) limits.max_chunks) (flow from to) (moved b c)
     (Err fault)
-    → TookWhileEncrypting limits fresh gathered (moved from to) (moved a c) (stream_fault fault)
+    → TookWhileEncrypting limits fresh gathered (flow from to) (moved a c) (stream_fault fault)
 takes_sealed limits fresh gathered stanzas mac from to a b c fault header (text, head, front) sixteen seals =
     takes_payload limits fresh gathered text from to a b c fault sixteen
     (made limits fresh.file_key gathered stanzas mac text header head) front seals

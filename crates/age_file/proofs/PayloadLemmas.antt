@@ -4,8 +4,8 @@ use Rattle.std.specs.Prelude.{IfErr, IfNone}
 use Rattle.std.proofs.KnownBytes.{Appends-nil}
 use Rattle.std.proofs.lemmas.Bool.{le-ltb, lt-ltb, cond-false, cond-true}
 use Rattle.std.proofs.lemmas.List.{take_at, drop_at}
-use Rattle.age_header.specs.Device.{Bytes, GaveAtMost, MayGive, Known, moved}
-use Rattle.age_header.proofs.DeviceLemmas.{gave-more, may-some}
+use Rattle.age_header.specs.Device.{Bytes, Flow, GaveAtMost, Known, OfGiven, Seen, flow, moved}
+use Rattle.age_header.proofs.DeviceLemmas.{gave-more, of-any, of-map, of-then}
 use Rattle.age_recipient.specs.declared.key.FileKey.{FileKey}
 use Rattle.age_stream.specs.declared.done.Done.{Done}
 use Rattle.age_stream.specs.declared.fault.StreamFault.{StreamFault}
@@ -14,19 +14,20 @@ use Rattle.age_stream.specs.Opening.{EndsAt, OpenerState, Starts, WritesAll, Wri
 use Rattle.age_stream.specs.Payload.{payload_key, pieces}
 use Rattle.age_stream.specs.Reading.{payload_reading, reading_from, stops}
 
--- the reading of a payload that the source may have given was written
-abbrev pub WritesPayload : FileKey → ℕ → Known → Known → Known → Result Done StreamFault → Type 0
-WritesPayload k max from old new r = (c : Bytes) × MayGive from c
-    × WritesReading (payload_reading k max c) (length (pieces (drop 16 c))) (moved old new) r
+-- the reading of the payload that the source gave was written
+abbrev pub WritesPayload : FileKey → ℕ → Flow → Known → Known → Result Done StreamFault → Type 0
+WritesPayload k max source old new r = OfGiven source
+    (λ c. WritesReading (payload_reading k max c) (length (pieces (drop 16 c))) (moved old new) r)
 
 -- the nonce, then the pieces
-pub payload-writes : (k : FileKey) (max : ℕ) (s : OpenerState) (from mid a b : Known) (r : Result Done StreamFault)
-    → Starts k max (moved from mid) (Ok s) → IfNone s.fault (WritesAll s mid (moved a b) r)
-    → WritesPayload k max from a b r
-payload-writes k max s from mid a b r (nonce, len, is, may) h =
-    let all : WritesAll (at_start (payload_key k nonce) max) mid (moved a b) r =
-    subst (λ (x : OpenerState). IfNone x.fault (WritesAll x mid (moved a b) r)) is h in
-    let c = all.0 in
+pub payload-writes : (k : FileKey) (max : ℕ) (s : OpenerState) (from mid to : Seen) (a b : Known)
+    (r : Result Done StreamFault)
+    → Starts k max (flow from mid) (Ok s) → IfNone s.fault (WritesAll s (flow mid to) (moved a b) r)
+    → WritesPayload k max (flow from to) a b r
+payload-writes k max s from mid to a b r (nonce, len, is, gave) h =
+    let all : WritesAll (at_start (payload_key k nonce) max) (flow mid to) (moved a b) r =
+    subst (λ (x : OpenerState). IfNone x.fault (WritesAll x (flow mid to) (moved a b) r)) is h in
+    of-then from mid to nonce _ _ gave all (λ c w.
     let l : length (nonce ++ c) ≡ length nonce + length c = length-append nonce c in
     let long : nat_lt (length (nonce ++ c)) 16 ≡ false = le-ltb (length (nonce ++ c)) 16 (omega arith) in
     let front : take 16 (nonce ++ c) ≡ nonce = take_at nonce c 16 len in
@@ -35,25 +36,19 @@ payload-writes k max s from mid a b r (nonce, len, is, may) h =
     let reads : payload_reading k max (nonce ++ c) ≡ reading_from key max 0 c =
     cond-false (nat_lt (length (nonce ++ c)) 16) _ _ long
     ∙ ap (λ n. reading_from (payload_key k n) max 0 (drop 16 (nonce ++ c))) front
-    ∙ ap (reading_from key max 0) back in (
-      nonce ++ c,
-      may c all.1,
-      subst (λ x. WritesReading x (length (pieces (drop 16 (nonce ++ c)))) (moved a b) r) (sym reads)
-          (subst (λ x. WritesReading (reading_from key max 0 c) (length (pieces x)) (moved a b) r) (sym back) all.2),
-    )
+    ∙ ap (reading_from key max 0) back in
+    subst (λ x. WritesReading x (length (pieces (drop 16 (nonce ++ c)))) (moved a b) r) (sym reads)
+    (subst (λ x. WritesReading (reading_from key max 0 c) (length (pieces x)) (moved a b) r) (sym back) w))
 
 -- the nonce is cut short, or was not read
-pub nonce-writes : (k : FileKey) (max : ℕ) (from mid a : Known) (fault : StreamFault)
-    → Starts k max (moved from mid) (Err fault) → WritesPayload k max from a a (Err fault)
-nonce-writes k max from mid a Read h = let d = may-some from in (d.0, d.1, (0, Appends-nil a))
-nonce-writes k max from mid a NonceTruncated h =
-    let short : nat_lt (length h.1.0) 16 ≡ true = lt-ltb (length h.1.0) 16 h.1.2 in
-    let all : payload_reading k max h.1.0 ≡ stops NonceTruncated = cond-true (nat_lt (length h.1.0) 16) _ _ short in (
-      h.1.0,
-      h.1.1,
-      subst (λ x. WritesReading x (length (pieces (drop 16 h.1.0))) (moved a a) (Err NonceTruncated)) (sym all)
-          (refl, Appends-nil a),
-    )
+pub nonce-writes : (k : FileKey) (max : ℕ) (from mid : Seen) (a : Known) (fault : StreamFault)
+    → Starts k max (flow from mid) (Err fault) → WritesPayload k max (flow from mid) a a (Err fault)
+nonce-writes k max from mid a Read h = of-any from mid _ h (λ c. (0, Appends-nil a))
+nonce-writes k max from mid a NonceTruncated h = of-map from mid _ _ h.1 (λ c less.
+    let short : nat_lt (length c) 16 ≡ true = lt-ltb (length c) 16 less in
+    let all : payload_reading k max c ≡ stops NonceTruncated = cond-true (nat_lt (length c) 16) _ _ short in
+    subst (λ x. WritesReading x (length (pieces (drop 16 c))) (moved a a) (Err NonceTruncated)) (sym all)
+    (refl, Appends-nil a))
 nonce-writes k max from mid a (ChunkShort i) h = absurd (cc)
 nonce-writes k max from mid a (EmptyFinal i) h = absurd (cc)
 nonce-writes k max from mid a (BadChunk i) h = absurd (cc)
@@ -62,19 +57,19 @@ nonce-writes k max from mid a Write h = absurd (cc)
 nonce-writes k max from mid a Memory h = absurd (cc)
 
 -- what was taken, with the nonce
-pub payload-ends : (k : FileKey) (max : ℕ) (s : OpenerState) (from mid to a b : Known) (fault : StreamFault)
-    → Starts k max (moved from mid) (Ok s) → GaveAtMost 16 (moved from mid)
+pub payload-ends : (k : FileKey) (max : ℕ) (s : OpenerState) (from mid to : Seen) (a b : Known) (fault : StreamFault)
+    → Starts k max (flow from mid) (Ok s) → GaveAtMost 16 (flow from mid)
     → IfNone s.fault
-    (IfErr {T = Done} (Err fault) (λ f. (f ≡ Read) ⊎ EndsAt s.max_chunks 0 (moved mid to) (moved a b) f))
-    → (fault ≡ Read) ⊎ EndsAt max 16 (moved from to) (moved a b) fault
+    (IfErr {T = Done} (Err fault) (λ f. (f ≡ Read) ⊎ EndsAt s.max_chunks 0 (flow mid to) (moved a b) f))
+    → (fault ≡ Read) ⊎ EndsAt max 16 (flow from to) (moved a b) fault
 payload-ends k max s from mid to a b fault starts nonce h =
     go (subst
-    (λ (x : OpenerState). IfNone x.fault ((fault ≡ Read) ⊎ EndsAt x.max_chunks 0 (moved mid to) (moved a b) fault))
+    (λ (x : OpenerState). IfNone x.fault ((fault ≡ Read) ⊎ EndsAt x.max_chunks 0 (flow mid to) (moved a b) fault))
     starts.2
     h)
   where
-    go : (fault ≡ Read) ⊎ EndsAt max 0 (moved mid to) (moved a b) fault → (fault ≡ Read)
-        ⊎ EndsAt max 16 (moved from to) (moved a b) fault
+    go : (fault ≡ Read) ⊎ EndsAt max 0 (flow mid to) (moved a b) fault → (fault ≡ Read)
+        ⊎ EndsAt max 16 (flow from to) (moved a b) fault
     go (inl e) = inl e
     go (inr e) =
         let all = gave-more from mid to 16 (0 + (65552 * (e.piece + 1) + 1)) nonce e.gave in

@@ -1,15 +1,16 @@
 -- What opening a file for ranges does, from what its parts do.
-use Rattle.std.proofs.Common.{◌≡◌, ◌⊎◌, ℕ, ◌++◌, ◌+◌, ◌-◌, ◌≤◌, length, drop, sym, ◌∙◌, ap, refl, subst, arith, inl, inr, option_map, Option, Some, None, Result, Ok, Err}
+use Rattle.std.proofs.Common.{◌≡◌, ◌⊎◌, ℕ, [], ◌++◌, ◌+◌, ◌-◌, ◌≤◌, length, drop, sym, ◌∙◌, ap, refl, subst, arith, inl, inr, option_map, Option, Some, None, Result, Ok, Err}
 use Rattle.std.specs.Prelude.{◌^◌, min, Bool, true, false, IfErr, IfSome, if◌then◌else◌}
 use Rattle.std.specs.Result.{result_map_both}
 use Rattle.std.specs.Str.{bytes_eq}
+use Rattle.std.specs.Io.KnownBytes.{Consumes}
 use Rattle.std.proofs.lemmas.List.{length-append, length-drop}
-use Rattle.age_header.specs.Device.{Bytes, CountsFaultIf, Known, moved}
+use Rattle.age_header.specs.Device.{Bytes, CountsFaultIf, Known, Seen, flow, moved}
 use Rattle.age_header.specs.declared.fault.HeaderFault.{HeaderFault}
 use Rattle.age_header.specs.declared.fault.HeaderFault.TheVariants as header
 use Rattle.age_header.specs.Header.{HeaderParts}
 use Rattle.age_header.specs.Mac.{header_mac}
-use Rattle.age_header.proofs.DeviceLemmas.{may-some}
+use Rattle.age_header.proofs.DeviceLemmas.{of-known}
 use Rattle.age_header.specs.Reader.{Refuses}
 use Rattle.age_header.specs.Verdict.{HeaderVerdict}
 use Rattle.age_recipient.specs.declared.key.FileKey.{FileKey}
@@ -32,28 +33,28 @@ use Rattle.age_file.specs.Verdict.{Answering, checked, found_in, header_fault, s
 use Rattle.age_file.proofs.DecryptLemmas.{err-err, found-key, headed, reads-file}
 
 -- a header that was read from the first byte on
-pub header-found : (limits : Bounds) (told : Known) (at : ℕ) (h : HeaderParts) → IsWithin told at
-    → Inspects limits (moved (option_map (drop 0) told) (option_map (drop at) told)) (Ok h) → HasHeader limits told at h
-header-found limits None at h w i = tt
-header-found limits (Some b) at h w i =
-    let is = headed limits (Some b) (Some (drop at b)) h i in
-    let all : b ≡ is.text ++ drop at b = is.may (drop at b) refl in
+pub header-found : (limits : Bounds) (told : Known) (at : ℕ) (a b : Seen) (h : HeaderParts)
+    → a.to_come ≡ option_map (drop 0) told → b.to_come ≡ option_map (drop at) told → IsWithin told at
+    → Inspects limits (flow a b) (Ok h) → HasHeader limits told at h
+header-found limits None at x y h old new w i = tt
+header-found limits (Some b) at x y h old new w i =
+    let is = headed limits x y h i in
+    let all : b ≡ is.text ++ drop at b = subst (λ (t : Known). Consumes (Some b) t is.text) new
+    (subst (λ (t : Known). Consumes t y.to_come is.text) old is.took.consumes) in
     let d : length (drop at b) ≡ length b - at = length-drop at b in
     let l : length b ≡ length is.text + length (drop at b) = ap length all ∙ length-append is.text (drop at b) in
     let inside : at ≤ length b = w in (
       is.text,
       omega arith,
-      subst (λ x. HeaderVerdict x limits.max_header (Ok (found_in is.text h))) (sym all)
-          (is.verdict (drop at b) refl),
+      subst (λ x. HeaderVerdict x limits.max_header (Ok (found_in is.text h))) (sym all) (is.verdict (drop at b)),
     )
 
 -- the header of some bytes
-pub header-some : (limits : Bounds) (from to : Known) (h : HeaderParts) → Inspects limits (moved from to) (Ok h)
+pub header-some : (limits : Bounds) (from to : Seen) (h : HeaderParts) → Inspects limits (flow from to) (Ok h)
     → IsSomeHeader limits h
 header-some limits from to h i =
     let is = headed limits from to h i in
-    let rest = may-some to in
-    (is.text ++ rest.0, is.text, is.verdict rest.0 rest.1)
+    (is.text ++ [], is.text, is.verdict [])
 
 refused : (limits : Bounds) (b : Bytes) (g : HeaderFault) → Refuses b limits.max_header g
     → MissesHeader limits (Some b) (header_fault g)
@@ -65,13 +66,14 @@ refused limits b header.Truncated h = inr (inr (header.Truncated, h, refl))
 refused limits b header.TooLarge h = inr (inr (header.TooLarge, h, refl))
 
 -- no header
-pub header-missed : (limits : Bounds) (told mid : Known) (fault : Fault)
-    → Inspects limits (moved (option_map (drop 0) told) mid) (Err fault) → MissesHeader limits told fault
-header-missed limits None mid fault i = inr (inr tt)
-header-missed limits (Some b) mid fault (Ok parts, is, h) = absurd (cc)
-header-missed limits (Some b) mid fault (Err g, is, (c, may, h)) =
+pub header-missed : (limits : Bounds) (told : Known) (a mid : Seen) (fault : Fault)
+    → a.to_come ≡ option_map (drop 0) told → Inspects limits (flow a mid) (Err fault)
+    → MissesHeader limits told fault
+header-missed limits None a mid fault old i = inr (inr tt)
+header-missed limits (Some b) a mid fault old (Ok parts, is, h) = absurd (cc)
+header-missed limits (Some b) a mid fault old (Err g, is, h) =
     subst (MissesHeader limits (Some b)) (sym (err-err {A = HeaderParts} fault (header_fault g) is))
-    (refused limits b g (subst (λ x. Refuses x limits.max_header g) (sym may) h))
+    (refused limits b g (of-known (λ x. Refuses x limits.max_header g) (flow a mid) b old h))
 
 pub missed-ranges : (limits : Bounds) (answers : Answering) (told : Known) (fault : Fault)
     → MissesHeader limits told fault → MissesRanges limits answers told fault
@@ -119,7 +121,7 @@ inspect-open header.TooLarge = tt
 inspect-open header.Read = tt
 inspect-open header.Memory = tt
 
-pub header-named : (limits : Bounds) (old mid : Known) (fault : Fault) → Inspects limits (moved old mid) (Err fault)
+pub header-named : (limits : Bounds) (old mid : Seen) (fault : Fault) → Inspects limits (flow old mid) (Err fault)
     → IsOpenFault fault
 header-named limits old mid fault (Ok parts, is, h) = absurd (cc)
 header-named limits old mid fault (Err g, is, h) =

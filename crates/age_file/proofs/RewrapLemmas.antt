@@ -6,12 +6,12 @@ use Rattle.std.proofs.lemmas.List.{append-nil, drop_at}
 use Rattle.std.specs.Str.{bytes_eq}
 use Rattle.age_header.specs.declared.fault.HeaderFault.{HeaderFault}
 use Rattle.age_header.specs.declared.fault.HeaderFault.TheVariants as header
-use Rattle.age_header.specs.Device.{Bytes, MayGive, WritesPart, Known, moved}
+use Rattle.age_header.specs.Device.{Bytes, Flow, WritesPart, Known, Seen, flow, moved}
 use Rattle.age_header.specs.Header.{HeaderParts}
 use Rattle.age_header.specs.Mac.{header_mac}
 use Rattle.age_header.specs.Reader.{ReadsHeader, Refuses}
 use Rattle.age_header.specs.Verdict.{BeginsWith, Found}
-use Rattle.age_header.proofs.DeviceLemmas.{may-some, done_part}
+use Rattle.age_header.proofs.DeviceLemmas.{of-map, of-more, of-then, done_part}
 use Rattle.age_header.proofs.VerdictUniqueLemmas as headers
 use Rattle.age_recipient.specs.declared.choice.UnlockFault.{UnlockFault}
 use Rattle.age_recipient.specs.declared.choice.UnlockFault.TheVariants as unlock
@@ -65,18 +65,19 @@ no_header limits answers gathered b old (header.BadLine n) h = (Err (header.BadL
 no_header limits answers gathered b old header.Truncated h = (Err header.Truncated, h, refl)
 no_header limits answers gathered b old header.TooLarge h = (Err header.TooLarge, h, refl)
 
-none_read : (limits : Bounds) (answers : Answering) (gathered : FileKey → Gathering) (come mid old : Known)
+none_read : (limits : Bounds) (answers : Answering) (gathered : FileKey → Gathering) (come mid : Seen) (old : Known)
     (g : HeaderFault)
-    → ReadsHeader (moved come mid) limits.max_header (Err g)
-    → Rewraps limits answers gathered come (moved old old) (Err (header_fault g))
-none_read limits answers gathered come mid old g (b, may, h) = (b, may, no_header limits answers gathered b old g h)
+    → ReadsHeader (flow come mid) limits.max_header (Err g)
+    → Rewraps limits answers gathered (flow come mid) (moved old old) (Err (header_fault g))
+none_read limits answers gathered come mid old g h =
+    of-map come mid _ _ h (λ b refuses. no_header limits answers gathered b old g refuses)
 
-pub inspect_rewraps : (limits : Bounds) (answers : Answering) (gathered : FileKey → Gathering) (come mid old : Known)
-    (fault : Fault)
-    → Inspects limits (moved come mid) (Err fault) → Rewraps limits answers gathered come (moved old old) (Err fault)
+pub inspect_rewraps : (limits : Bounds) (answers : Answering) (gathered : FileKey → Gathering) (come mid : Seen)
+    (old : Known) (fault : Fault) → Inspects limits (flow come mid) (Err fault)
+    → Rewraps limits answers gathered (flow come mid) (moved old old) (Err fault)
 inspect_rewraps limits answers gathered come mid old fault (Ok parts, is, h) = absurd (cc)
 inspect_rewraps limits answers gathered come mid old fault (Err g, is, h) =
-    subst (λ f. Rewraps limits answers gathered come (moved old old) (Err f))
+    subst (λ f. Rewraps limits answers gathered (flow come mid) (moved old old) (Err f))
     (sym (err-err {A = HeaderParts} fault (header_fault g) is)) (none_read limits answers gathered come mid old g h)
 
 -- a fault of unlocking is early
@@ -102,23 +103,23 @@ early_unlocked answers h fault e = go (is_mixed h.stanzas) e
     go true e = subst IsEarly (err-err {A = FileKey} MixedPassphrase fault e) tt
     go false e = early_checked h (choice (answers h.stanzas)) fault e
 
-pub locked_rewraps : (limits : Bounds) (answers : Answering) (gathered : FileKey → Gathering) (come mid old : Known)
-    (h : HeaderParts) (fault : Fault)
+-- memory was refused
+pub memory_rewraps : (limits : Bounds) (answers : Answering) (gathered : FileKey → Gathering) (come mid : Seen)
+    (old new : Known) (h : HeaderParts) → IsHeaded limits come mid h
+    → Rewraps limits answers gathered (flow come mid) (moved old new) (Err OutOfMemory)
+memory_rewraps limits answers gathered come mid old new h i = of-more come mid i.text _ i.took (λ d end. tt)
+
+pub locked_rewraps : (limits : Bounds) (answers : Answering) (gathered : FileKey → Gathering) (come mid : Seen)
+    (old : Known) (h : HeaderParts) (fault : Fault)
     → IsHeaded limits come mid h → (◌≡◌ {A = Result FileKey Fault} (Err fault) (Err OutOfMemory))
-    ⊎ (Err fault ≡ unlocked answers h) → Rewraps limits answers gathered come (moved old old) (Err fault)
-locked_rewraps limits answers gathered come mid old h fault i r =
-    let rest = may-some mid in
-    let b : Bytes = i.text ++ rest.0 in
-    let memory : RewrapsText limits answers gathered b (moved old old) (Err OutOfMemory) = tt in (
-      b,
-      i.may rest.0 rest.1,
-      elim r [
-        | inl is ↦ subst (λ f. RewrapsText limits answers gathered b (moved old old) (Err f))
-            (sym (err-err {A = FileKey} fault OutOfMemory is)) memory
-        | inr is ↦ refused limits answers gathered b old fault (early_unlocked answers h fault (sym is))
-            (Ok (found_in i.text h), i.verdict rest.0 rest.1, inl (sym is))
-      ],
-    )
+    ⊎ (Err fault ≡ unlocked answers h)
+    → Rewraps limits answers gathered (flow come mid) (moved old old) (Err fault)
+locked_rewraps limits answers gathered come mid old h fault i (inl is) =
+    subst (λ f. Rewraps limits answers gathered (flow come mid) (moved old old) (Err f))
+    (sym (err-err {A = FileKey} fault OutOfMemory is)) (memory_rewraps limits answers gathered come mid old old h i)
+locked_rewraps limits answers gathered come mid old h fault i (inr is) =
+    of-more come mid i.text _ i.took (λ d end. refused limits answers gathered (i.text ++ d) old fault
+    (early_unlocked answers h fault (sym is)) (Ok (found_in i.text h), i.verdict d, inl (sym is)))
 
 -- a reason why there is no new header is early
 early_refusal : (limits : Bounds) (k : FileKey) (gathered : Gathering) (fault : Fault)
@@ -132,40 +133,29 @@ early_refusal limits k gathered HeaderTooLarge h = tt
 early_refusal limits k gathered fault h = absurd h
 
 -- no new header was made
-pub heading_rewraps : (limits : Bounds) (answers : Answering) (gathered : FileKey → Gathering) (come mid old : Known)
-    (h : HeaderParts) (key : FileKey) (fault : Fault)
+pub heading_rewraps : (limits : Bounds) (answers : Answering) (gathered : FileKey → Gathering) (come mid : Seen)
+    (old : Known) (h : HeaderParts) (key : FileKey) (fault : Fault)
     → IsHeaded limits come mid h → unlocked answers h ≡ Ok key → FailsHeading limits key (gathered key) fault
-    → Rewraps limits answers gathered come (moved old old) (Err fault)
-heading_rewraps limits answers gathered come mid old h key fault i chosen fails =
-    (b, i.may rest.0 rest.1, go fails)
-  where
-    rest : (bytes : Bytes) × MayGive mid bytes
-    rest = may-some mid
-
-    b : Bytes
-    b = i.text ++ rest.0
-
-    memory : RewrapsText limits answers gathered b (moved old old) (Err OutOfMemory)
-    memory = tt
-
-    go : FailsHeading limits key (gathered key) fault
-        → RewrapsText limits answers gathered b (moved old old) (Err fault)
-    go (inl is) = subst (λ g. RewrapsText limits answers gathered b (moved old old) (Err g)) (sym is) memory
-    go (inr refusal) =
-        refused limits answers gathered b old fault (early_refusal limits key (gathered key) fault refusal)
-        (Ok (found_in i.text h), i.verdict rest.0 rest.1, inr (key, chosen, refusal))
+    → Rewraps limits answers gathered (flow come mid) (moved old old) (Err fault)
+heading_rewraps limits answers gathered come mid old h key fault i chosen (inl is) =
+    subst (λ g. Rewraps limits answers gathered (flow come mid) (moved old old) (Err g)) (sym is)
+    (memory_rewraps limits answers gathered come mid old old h i)
+heading_rewraps limits answers gathered come mid old h key fault i chosen (inr refusal) =
+    of-more come mid i.text _ i.took (λ d end. refused limits answers gathered (i.text ++ d) old fault
+    (early_refusal limits key (gathered key) fault refusal)
+    (Ok (found_in i.text h), i.verdict d, inr (key, chosen, refusal)))
 
 -- ---- what was written
 
 -- the file of the new header, if the source gives these bytes
-new_file : (limits : Bounds) (answers : Answering) (gathered : FileKey → Gathering) (come mid : Known) (h : HeaderParts)
+new_file : (limits : Bounds) (answers : Answering) (gathered : FileKey → Gathering) (come mid : Seen) (h : HeaderParts)
     (key : FileKey) (text bytes : Bytes)
     → (i : IsHeaded limits come mid h) → unlocked answers h ≡ Ok key → Made limits key (gathered key) text
-    → MayGive mid bytes → IsRewrapped limits answers gathered (i.text ++ bytes) (text ++ bytes)
-new_file limits answers gathered come mid h key text bytes i chosen made may = (
+    → IsRewrapped limits answers gathered (i.text ++ bytes) (text ++ bytes)
+new_file limits answers gathered come mid h key text bytes i chosen made = (
   record {
     found = found_in i.text h;
-    header = i.verdict bytes may;
+    header = i.verdict bytes;
     key = key;
     chosen = chosen;
     stanzas = made.stanzas;
@@ -179,83 +169,73 @@ new_file limits answers gathered come mid h key text bytes i chosen made may = (
 )
 
 -- a prefix of the header was written
-pub begun_rewraps : (limits : Bounds) (answers : Answering) (gathered : FileKey → Gathering) (come mid old new : Known)
-    (h : HeaderParts) (key : FileKey) (text : Bytes)
+pub begun_rewraps : (limits : Bounds) (answers : Answering) (gathered : FileKey → Gathering) (come mid : Seen)
+    (old new : Known) (h : HeaderParts) (key : FileKey) (text : Bytes)
     → IsHeaded limits come mid h → unlocked answers h ≡ Ok key → Made limits key (gathered key) text
-    → WritesPart (moved old new) text → Rewraps limits answers gathered come (moved old new) (Err Write)
+    → WritesPart (moved old new) text → Rewraps limits answers gathered (flow come mid) (moved old new) (Err Write)
 begun_rewraps limits answers gathered come mid old new h key text i chosen made part =
-    let rest = may-some mid in (
-      i.text ++ rest.0,
-      i.may rest.0 rest.1,
-      (
-        text ++ rest.0,
-        new_file limits answers gathered come mid h key text rest.0 i chosen made rest.1,
-        done_part old old new (text ++ rest.0) (text ++ rest.0) text rest.0
-            (record { prefix = []; took = Appends-nil old; is = refl }) refl part,
-      ),
-    )
+    of-more come mid i.text _ i.took (λ d end. (
+      text ++ d,
+      new_file limits answers gathered come mid h key text d i chosen made,
+      done_part old old new (text ++ d) (text ++ d) text d
+          (record { prefix = []; took = Appends-nil old; is = refl }) refl part,
+    ))
 
 -- a prefix of the rest was written after it
-copied_part : (limits : Bounds) (answers : Answering) (gathered : FileKey → Gathering) (come mid old put new : Known)
-    (h : HeaderParts) (key : FileKey) (text bytes : Bytes)
+copied_part : (limits : Bounds) (answers : Answering) (gathered : FileKey → Gathering) (come mid : Seen)
+    (old put new : Known) (h : HeaderParts) (key : FileKey) (text bytes : Bytes)
     → (i : IsHeaded limits come mid h) → unlocked answers h ≡ Ok key → Made limits key (gathered key) text
-    → Appends old put text → MayGive mid bytes → WritesPart (moved put new) bytes
+    → Appends old put text → WritesPart (moved put new) bytes
     → BeginsRewrapped limits answers gathered (i.text ++ bytes) (moved old new)
-copied_part limits answers gathered come mid old put new h key text bytes i chosen made front may part = (
+copied_part limits answers gathered come mid old put new h key text bytes i chosen made front part = (
   text ++ bytes,
-  new_file limits answers gathered come mid h key text bytes i chosen made may,
+  new_file limits answers gathered come mid h key text bytes i chosen made,
   done_part old put new (text ++ bytes) bytes bytes [] (record { prefix = text; took = front; is = refl })
       (sym (append-nil bytes)) part,
 )
 
 pub copied_rewraps : (limits : Bounds) (answers : Answering) (gathered : FileKey → Gathering)
-    (come mid old put new : Known) (h : HeaderParts) (key : FileKey) (text : Bytes)
+    (come mid to : Seen) (old put new : Known) (h : HeaderParts) (key : FileKey) (text : Bytes)
     (r : Result (Unit {0}) Fault) → IsHeaded limits come mid h → unlocked answers h ≡ Ok key
-    → Made limits key (gathered key) text → Appends old put text → Copies mid (moved put new) r
-    → Rewraps limits answers gathered come (moved old new) r
-copied_rewraps limits answers gathered come mid old put new h key text (Ok done) i chosen made front
-    (bytes, may, wrote) = (
-      i.text ++ bytes,
-      i.may bytes may,
-      (
-        text ++ bytes,
-        new_file limits answers gathered come mid h key text bytes i chosen made may,
-        Appends-trans old put new text bytes front wrote,
-      ),
-    )
-copied_rewraps limits answers gathered come mid old put new h key text (Err fault) i chosen made front copied =
+    → Made limits key (gathered key) text → Appends old put text → Copies (flow mid to) (moved put new) r
+    → Rewraps limits answers gathered (flow come to) (moved old new) r
+copied_rewraps limits answers gathered come mid to old put new h key text (Ok done) i chosen made front copied =
+    of-then come mid to i.text _ _ i.took copied (λ bytes wrote. (
+      text ++ bytes,
+      new_file limits answers gathered come mid h key text bytes i chosen made,
+      Appends-trans old put new text bytes front wrote,
+    ))
+copied_rewraps limits answers gathered come mid to old put new h key text (Err fault) i chosen made front copied =
     go fault copied
   where
-    part : (bytes : Bytes) → MayGive mid bytes → WritesPart (moved put new) bytes
+    part : (bytes : Bytes) → WritesPart (moved put new) bytes
         → BeginsRewrapped limits answers gathered (i.text ++ bytes) (moved old new)
-    part bytes may wrote = copied_part limits answers gathered come mid old put new h key text bytes i chosen made front
-        may wrote
+    part bytes wrote = copied_part limits answers gathered come mid old put new h key text bytes i chosen made front
+        wrote
 
-    go : (f : Fault) → Copies mid (moved put new) (Err f) → Rewraps limits answers gathered come (moved old new) (Err f)
-    go Read (bytes, may, wrote) = (i.text ++ bytes, i.may bytes may, inr (part bytes may wrote))
-    go Write (bytes, may, wrote) = (i.text ++ bytes, i.may bytes may, part bytes may wrote)
-    go TooManyChunks ((copy, put-copy, much), (bytes, may, wrote, long)) = (
-      i.text ++ bytes,
-      i.may bytes may,
+    go : (f : Fault) → Copies (flow mid to) (moved put new) (Err f)
+        → Rewraps limits answers gathered (flow come to) (moved old new) (Err f)
+    go Read c = of-then come mid to i.text _ _ i.took c (λ bytes wrote. inr (part bytes wrote))
+    go Write c = of-then come mid to i.text _ _ i.took c part
+    go TooManyChunks ((copy, put-copy, much), c) = of-then come mid to i.text _ _ i.took c (λ bytes wrote. (
+      part bytes wrote.0,
+      omega (arith, length-append i.text bytes, wrote.1),
       (
-        part bytes may wrote,
-        omega (arith, length-append i.text bytes, long),
-        (
-          text ++ copy,
-          Appends-trans old put new text copy front put-copy,
-          omega (arith, length-append text copy, much),
-        ),
+        text ++ copy,
+        Appends-trans old put new text copy front put-copy,
+        omega (arith, length-append text copy, much),
       ),
-    )
+    ))
     go _ c = absurd c
 
 -- copying ends with a late fault alone
-pub copies_late : (from old new : Known) (K : Type 0) (r : Result (Unit {0}) Fault) → Copies from (moved old new) r
+pub copies_late : (source : Flow) (old new : Known) (K : Type 0) (r : Result (Unit {0}) Fault)
+    → Copies source (moved old new) r
     → IfErr r (λ fault. IsLate fault ⊎ K)
-copies_late from old new K (Ok done) c = tt
-copies_late from old new K (Err fault) c = go fault c
+copies_late source old new K (Ok done) c = tt
+copies_late source old new K (Err fault) c = go fault c
   where
-    go : (f : Fault) → Copies from (moved old new) (Err f) → IsLate f ⊎ K
+    go : (f : Fault) → Copies source (moved old new) (Err f) → IsLate f ⊎ K
     go Read c = inl tt
     go Write c = inl tt
     go TooManyChunks c = inl tt

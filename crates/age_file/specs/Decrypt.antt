@@ -1,7 +1,7 @@
 -- What decrypting a file returns and writes.
 use Rattle.std.specs.Prelude.{◌≡◌, ℕ, ◌+◌, ◌*◌, ◌/◌, List, [], ⊤, length, drop, Some, None, Result, Ok, Err}
 use Rattle.age_header.specs.declared.fault.HeaderFault.{HeaderFault}
-use Rattle.age_header.specs.Device.{Bytes, Known, GaveAtMost, MayGive, WritesPart, Moved, Took}
+use Rattle.age_header.specs.Device.{Bytes, Flow, GaveAtMost, OfGiven, WritesPart, Moved, Took}
 use Rattle.age_header.specs.Verdict.{Found, HeaderVerdict}
 use Rattle.age_stream.specs.declared.done.Done.{Done}
 use Rattle.age_stream.specs.Payload.{pieces}
@@ -46,25 +46,23 @@ DecryptsText limits answers b sink (Err Write) = BeginsVerdict limits answers b 
 DecryptsText limits answers b sink (Err OutOfMemory) = ⊤
 DecryptsText limits answers b sink r = GivesVerdict limits answers b sink r
 
--- the same of bytes that a source may give
-abbrev pub Decrypts : (limits : Bounds) (answers : Answering) (from : Known) (sink : Moved)
+-- the same of the bytes that the source gave
+abbrev pub Decrypts : (limits : Bounds) (answers : Answering) (source : Flow) (sink : Moved)
     (r : Result Done Fault) → Type 0
-Decrypts limits answers from sink r =
-    (b : Bytes) × MayGive from b × DecryptsText limits answers b sink r
+Decrypts limits answers source sink r =
+    OfGiven source (λ b. DecryptsText limits answers b sink r)
 
--- of a source that may have given b at most the header, the nonce, the pieces through number i and
--- one byte were read
-pub record TookThrough (limits : Bounds) (i : ℕ) (source : Moved) : Type 0 where
-  pub b : Bytes
-  pub may : MayGive source.before b
+-- of a source that gave a header at most the header, the nonce, the pieces through number i and one
+-- byte were read
+pub record TookThrough (limits : Bounds) (i : ℕ) (source : Flow) : Type 0 where
   pub found : Found
-  pub header : HeaderVerdict b limits.max_header (Ok found)
+  pub header : OfGiven source (λ b. HeaderVerdict b limits.max_header (Ok found))
   pub gave : GaveAtMost (length found.text + (nonce_size + (sealed_chunk_size * (i + 1) + 1)))
       source
 
 -- How much of the source was read where decrypting ended at a piece, or at a write after so many
 -- written bytes.
-abbrev pub TookUpTo : (limits : Bounds) (source sink : Moved) (fault : Fault) → Type 0
+abbrev pub TookUpTo : (limits : Bounds) (source : Flow) (sink : Moved) (fault : Fault) → Type 0
 TookUpTo limits source sink (ChunkShort i) = TookThrough limits i source
 TookUpTo limits source sink (EmptyFinal i) = TookThrough limits i source
 TookUpTo limits source sink (BadChunk i) = TookThrough limits i source

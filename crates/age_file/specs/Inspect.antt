@@ -1,6 +1,6 @@
 -- What reading a file's header returns.
 use Rattle.std.specs.Prelude.{◌≡◌, Result, Ok, Err}
-use Rattle.age_header.specs.Device.{Moved}
+use Rattle.age_header.specs.Device.{Flow}
 use Rattle.age_header.specs.declared.fault.HeaderFault.{HeaderFault}
 use Rattle.age_header.specs.Header.{HeaderParts}
 use Rattle.age_header.specs.Reader.{ReadsHeader}
@@ -14,7 +14,7 @@ file_result (Ok header) = Ok header
 file_result (Err fault) = Err (header_fault fault)
 
 -- what a reader of headers returns under these limits
-abbrev pub Inspects : (limits : Bounds) (source : Moved) (r : Result HeaderParts Fault) → Type 0
+abbrev pub Inspects : (limits : Bounds) (source : Flow) (r : Result HeaderParts Fault) → Type 0
 Inspects limits source r =
     (answer : Result HeaderParts HeaderFault) × (r ≡ file_result answer)
     × ReadsHeader source limits.max_header answer

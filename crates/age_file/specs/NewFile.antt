@@ -2,7 +2,7 @@
 use Rattle.std.specs.Prelude.{◌≡◌, ℕ, ◌+◌, ◌-◌, ◌*◌, ◌<◌, ◌≤◌, ◌⊎◌, Bool, true, false, ⊤, List, [], ◌∷◌, ◌++◌, length, map, take, Result, Ok, Err, Option, Some, None, Vec}
 use Rattle.std.specs.Global.{Global}
 use Rattle.std.specs.List.{AllZip, concat}
-use Rattle.age_header.specs.Device.{Bytes, Known, GaveAtMost, MayGive, WritesPart, Moved, Took}
+use Rattle.age_header.specs.Device.{Bytes, Flow, Gave, GaveAtMost, OfGiven, WritesPart, Moved, Took}
 use Rattle.age_header.specs.Header.{StanzaParts, Head}
 use Rattle.age_header.specs.Mac.{header_mac}
 use Rattle.age_recipient.specs.declared.key.FileKey.{FileKey}
@@ -140,11 +140,11 @@ EncryptsText limits fresh gathered plain sink (Err Write) =
     BegunFile limits fresh gathered plain sink
 EncryptsText limits fresh gathered plain sink (Err fault) = ⊤
 
--- the same of a plaintext that a source may give
+-- the same of the plaintext that the source gave
 abbrev pub EncryptsGiven : (limits : Bounds) (fresh : Fresh) (gathered : Gathering)
-    (from : Known) (sink : Moved) (r : Result Done Fault) → Type 0
-EncryptsGiven limits fresh gathered from sink r =
-    (plain : Bytes) × MayGive from plain × EncryptsText limits fresh gathered plain sink r
+    (source : Flow) (sink : Moved) (r : Result Done Fault) → Type 0
+EncryptsGiven limits fresh gathered source sink r =
+    OfGiven source (λ plain. EncryptsText limits fresh gathered plain sink r)
 
 -- a fault with which no header was made names the first reason; any other result says nothing of it
 abbrev pub RefusesFirst : (limits : Bounds) (k : FileKey) (gathered : Gathering) (fault : Fault)
@@ -178,19 +178,19 @@ FailsHeading limits k gathered fault = (fault ≡ OutOfMemory) ⊎ IsRefusal lim
 
 -- a sealer that keeps no fault seals what it holds: with all that an open source gives, or as the
 -- last chunk where the source has ended
-abbrev pub SealsRest : (s : SealerState) (is_open : Bool) (source sink : Moved)
+abbrev pub SealsRest : (s : SealerState) (is_open : Bool) (source : Flow) (sink : Moved)
     (result : Result Done StreamFault) → Type 0
 SealsRest s true source sink result = SealsAll s source sink result
-SealsRest s false source sink result = FinishesBy s sink result × (source.after ≡ source.before)
+SealsRest s false source sink result = FinishesBy s sink result × Gave source []
 
--- the source may give a whole chunk
-abbrev pub MayFillChunk : (from : Known) → Type 0
-MayFillChunk from = (text : Bytes) × MayGive from text × (chunk_size ≤ length text)
+-- the source gave a whole chunk
+abbrev pub FillsChunk : (source : Flow) → Type 0
+FillsChunk source = OfGiven source (λ text. chunk_size ≤ length text)
 
 -- Of the source at most so much was read: with n full sealed chunks written after the header and
 -- the nonce, n + 2 chunks of text.
 pub record TookChunks (limits : Bounds) (fresh : Fresh) (gathered : Gathering)
-    (source sink : Moved) : Type 0 where
+    (source : Flow) (sink : Moved) : Type 0 where
   pub stanzas : List StanzaParts
   pub text : Bytes
   pub heading : IsHeading limits fresh.file_key gathered stanzas text
@@ -202,7 +202,7 @@ pub record TookChunks (limits : Bounds) (fresh : Fresh) (gathered : Gathering)
 
 -- how much of the source was read where encrypting ended at a write, or with too many chunks
 abbrev pub TookWhileEncrypting : (limits : Bounds) (fresh : Fresh) (gathered : Gathering)
-    (source sink : Moved) (fault : Fault) → Type 0
+    (source : Flow) (sink : Moved) (fault : Fault) → Type 0
 TookWhileEncrypting limits fresh gathered source sink TooManyChunks =
     TookChunks limits fresh gathered source sink
 TookWhileEncrypting limits fresh gathered source sink Write =

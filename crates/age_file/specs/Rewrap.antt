@@ -1,7 +1,7 @@
 -- A file with another header for the same file key.
 use Rattle.std.specs.Prelude.{◌≡◌, ◌⊎◌, ◌≤◌, false, List, ◌++◌, ⊤, length, drop, Result, Ok, Err}
 use Rattle.age_header.specs.declared.fault.HeaderFault.{HeaderFault}
-use Rattle.age_header.specs.Device.{Bytes, Known, MayGive, WritesPart, Moved, Took, Stays}
+use Rattle.age_header.specs.Device.{Bytes, Flow, OfGiven, WritesPart, Moved, Took, Stays}
 use Rattle.age_header.specs.Header.{StanzaParts, Head}
 use Rattle.age_header.specs.Mac.{header_mac}
 use Rattle.age_header.specs.Verdict.{Found, HeaderVerdict}
@@ -72,8 +72,8 @@ RewrapsText limits answers gathered b sink (Err OutOfMemory) = ⊤
 RewrapsText limits answers gathered b sink (Err fault) =
     RefusesRewrap limits answers gathered b fault
 
--- the same of bytes that a source may give
+-- the same of the bytes that the source gave
 abbrev pub Rewraps : (limits : Bounds) (answers : Answering) (gathered : FileKey → Gathering)
-    (from : Known) (sink : Moved) (r : Result (Unit {0}) Fault) → Type 0
-Rewraps limits answers gathered from sink r =
-    (b : Bytes) × MayGive from b × RewrapsText limits answers gathered b sink r
+    (source : Flow) (sink : Moved) (r : Result (Unit {0}) Fault) → Type 0
+Rewraps limits answers gathered source sink r =
+    OfGiven source (λ b. RewrapsText limits answers gathered b sink r)

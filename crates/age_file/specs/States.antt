@@ -2,7 +2,7 @@
 -- its device.
 use Rattle.std.specs.Prelude.{◌≡◌, ◌⊎◌, ℕ, true, false, ◌++◌, Result, Ok, Err}
 use denote.Ref.{MutBor}
-use Rattle.age_header.specs.Device.{Bytes, CountsFaultIf, Known, WritesPart, Took, moved_by}
+use Rattle.age_header.specs.Device.{Bytes, CountsFaultIf, Known, WritesPart, Took, flow_by, moved_by}
 use Rattle.age_header.specs.Header.{Head, HeaderParts}
 use Rattle.age_recipient.specs.declared.key.FileKey.{FileKey}
 use Rattle.age_stream.specs.declared.fault.StreamFault.{StreamFault}
@@ -54,27 +54,28 @@ limits_of d = d.limits
 
 -- what was made of a source, and what became of it: exactly a header was read that has no `scrypt`
 -- stanza beside another; or there is no such header, and a failed read was counted
-abbrev pub StartsDecryptor : {S : Type 0} (to_come : S → Known) (failed : S → ℕ) (limits : Bounds)
-    (old new : S) (r : Result HeaderParts Fault) → Type 0
-StartsDecryptor to_come failed limits old new (Ok header) =
-    Inspects limits (moved_by to_come old new) (Ok header) × (is_mixed header.stanzas ≡ false)
+abbrev pub StartsDecryptor : {S : Type 0} (to_come : S → Known) (gave : S → Bytes → Type 0)
+    (failed : S → ℕ) (limits : Bounds) (old new : S) (r : Result HeaderParts Fault) → Type 0
+StartsDecryptor to_come gave failed limits old new (Ok header) =
+    Inspects limits (flow_by to_come gave old new) (Ok header) × (is_mixed header.stanzas ≡ false)
     × (failed new ≡ failed old)
-StartsDecryptor to_come failed limits old new (Err fault) =
+StartsDecryptor to_come gave failed limits old new (Err fault) =
     CountsFaultIf is_read (failed old) (failed new) fault
-    × (Inspects limits (moved_by to_come old new) (Err fault)
+    × (Inspects limits (flow_by to_come gave old new) (Err fault)
     ⊎ ((fault ≡ MixedPassphrase)
-    × ((header : HeaderParts) × Inspects limits (moved_by to_come old new) (Ok header)
+    × ((header : HeaderParts) × Inspects limits (flow_by to_come gave old new) (Ok header)
     × (is_mixed header.stanzas ≡ true))))
 
 -- what was made of what follows a header, where `found` is its file key, and what became of the
 -- source: a reader of the payload; or there is no key, or memory was refused, and nothing was read;
 -- or the nonce was not read
-abbrev pub StartsUnder : {S : Type 0} (to_come : S → Known) (failed : S → ℕ) (limits : Bounds)
-    (found : Result FileKey Fault) (old new : S) (r : Result OpenerState Fault) → Type 0
-StartsUnder to_come failed limits found old new (Ok opener) =
+abbrev pub StartsUnder : {S : Type 0} (to_come : S → Known) (gave : S → Bytes → Type 0)
+    (failed : S → ℕ) (limits : Bounds) (found : Result FileKey Fault) (old new : S)
+    (r : Result OpenerState Fault) → Type 0
+StartsUnder to_come gave failed limits found old new (Ok opener) =
     (k : FileKey) × (found ≡ Ok k)
-    × StartsReader to_come failed k limits.max_chunks old new (Ok opener)
-StartsUnder to_come failed limits found old new (Err fault) =
+    × StartsReader to_come gave failed k limits.max_chunks old new (Ok opener)
+StartsUnder to_come gave failed limits found old new (Err fault) =
     (((fault ≡ OutOfMemory) ⊎ (found ≡ Err fault)) × (new ≡ old))
     ⊎ ((k : FileKey) × (met : StreamFault) × (found ≡ Ok k) × (fault ≡ stream_fault met)
-    × MissesNonce k limits.max_chunks (moved_by to_come old new) (failed old) (failed new) met)
+    × MissesNonce k limits.max_chunks (flow_by to_come gave old new) (failed old) (failed new) met)

@@ -1,7 +1,7 @@
 //! Decrypting a whole file.
 
 ghost use Rattle.std.specs.Prelude.{IfErr};
-ghost use Rattle.age_header.specs.Device.{CountsIf, moved_by};
+ghost use Rattle.age_header.specs.Device.{CountsIf, flow_by, moved_by};
 ghost use Rattle.age_file.specs.Decrypt.{Decrypts, TookUpTo};
 ghost use Rattle.age_file.specs.Device.{IsQuiet, is_read, is_write};
 ghost use Rattle.age_file.specs.Verdict.{answers_by};
@@ -39,11 +39,11 @@ pub fn decrypt<S: Source, W: Sink>(
     limits: &Limits,
 ) -> Result<Done, Fault>
     ensures decrypts { Decrypts limits.now (answers_by identities.now (λ i s. meaning i s))
-        (S.to_come input.old) (moved_by W.taken out.old out.new) result }
+        (flow_by S.to_come S.gave input.old input.new) (moved_by W.taken out.old out.new) result }
     ensures quiet { IsQuiet out.old out.new result }
     ensures reads { CountsIf is_read (S.failed input.old) (S.failed input.new) result }
     ensures writes { CountsIf is_write (W.failed out.old) (W.failed out.new) result }
-    ensures took { IfErr result (TookUpTo limits.now (moved_by S.to_come input.old input.new)
+    ensures took { IfErr result (TookUpTo limits.now (flow_by S.to_come S.gave input.old input.new)
         (moved_by W.taken out.old out.new)) }
 {
     let header = match inspect(alloc, input, limits) {

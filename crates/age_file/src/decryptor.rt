@@ -53,13 +53,13 @@ impl<'a, S: Source> Decryptor<'a, S> {
     ) -> Result<Decryptor<'a, S>, Refused<'a, S, Fault>>
         ensures same_reference { IfOk result
             (λ d. (input_of d).ghost_name ≡ input.entry.ghost_name) }
-        ensures starts { IfOk result (λ d. StartsDecryptor S.to_come S.failed limits.now input.old
-            (input_of d).now (Ok (header_of d))) }
+        ensures starts { IfOk result (λ d. StartsDecryptor S.to_come S.gave S.failed limits.now
+            input.old (input_of d).now (Ok (header_of d))) }
         ensures limits { IfOk result (λ d. limits_of d ≡ limits.now) }
         ensures handed_back { IfErr result
             (λ refused. (device_of refused).ghost_name ≡ input.entry.ghost_name) }
-        ensures refuses { IfErr result (λ refused. StartsDecryptor S.to_come S.failed limits.now
-            input.old (device_of refused).now (Err (fault_of refused))) }
+        ensures refuses { IfErr result (λ refused. StartsDecryptor S.to_come S.gave S.failed
+            limits.now input.old (device_of refused).now (Err (fault_of refused))) }
     {
         let header = match inspect(alloc, input, limits) {
             Ok(header) => header,
@@ -79,11 +79,11 @@ impl<'a, S: Source> Decryptor<'a, S> {
     pub fn new(alloc: Global, input: &'a mut S, limits: &Limits) -> Result<Decryptor<'a, S>, Fault>
         ensures same_reference { IfOk result
             (λ d. (input_of d).ghost_name ≡ input.entry.ghost_name) }
-        ensures starts { IfOk result (λ d. StartsDecryptor S.to_come S.failed limits.now input.old
-            (input_of d).now (Ok (header_of d))) }
+        ensures starts { IfOk result (λ d. StartsDecryptor S.to_come S.gave S.failed limits.now
+            input.old (input_of d).now (Ok (header_of d))) }
         ensures limits { IfOk result (λ d. limits_of d ≡ limits.now) }
         ensures refuses { IfErr result (λ fault. (last : S)
-            × StartsDecryptor S.to_come S.failed limits.now input.old last (Err fault)) }
+            × StartsDecryptor S.to_come S.gave S.failed limits.now input.old last (Err fault)) }
     {
         match Decryptor::started(alloc, input, limits) {
             Ok(decryptor) => Ok(decryptor),
@@ -112,13 +112,13 @@ impl<'a, S: Source> Decryptor<'a, S> {
         ensures same_reference { IfOk result
             (λ reader. (source_of reader).ghost_name ≡ (input_of self.entry).ghost_name) }
         ensures starts { IfOk result
-            (λ reader. StartsUnder S.to_come S.failed (limits_of self.entry)
+            (λ reader. StartsUnder S.to_come S.gave S.failed (limits_of self.entry)
             (unlocked (answers_by identities.now (λ i s. meaning i s)) (header_of self.entry))
             (input_of self.entry).now (source_of reader).now (Ok (opener_of reader))) }
         ensures handed_back { IfErr result
             (λ refused. (device_of refused).ghost_name ≡ (input_of self.entry).ghost_name) }
         ensures misses { IfErr result
-            (λ refused. StartsUnder S.to_come S.failed (limits_of self.entry)
+            (λ refused. StartsUnder S.to_come S.gave S.failed (limits_of self.entry)
             (unlocked (answers_by identities.now (λ i s. meaning i s)) (header_of self.entry))
             (input_of self.entry).now (device_of refused).now (Err (fault_of refused))) }
     {
@@ -155,11 +155,11 @@ impl<'a, S: Source> Decryptor<'a, S> {
         ensures same_reference { IfOk result
             (λ reader. (source_of reader).ghost_name ≡ (input_of self.entry).ghost_name) }
         ensures starts { IfOk result
-            (λ reader. StartsUnder S.to_come S.failed (limits_of self.entry)
+            (λ reader. StartsUnder S.to_come S.gave S.failed (limits_of self.entry)
             (unlocked (answers_by identities.now (λ i s. meaning i s)) (header_of self.entry))
             (input_of self.entry).now (source_of reader).now (Ok (opener_of reader))) }
         ensures misses { IfErr result
-            (λ fault. (last : S) × StartsUnder S.to_come S.failed (limits_of self.entry)
+            (λ fault. (last : S) × StartsUnder S.to_come S.gave S.failed (limits_of self.entry)
             (unlocked (answers_by identities.now (λ i s. meaning i s)) (header_of self.entry))
             (input_of self.entry).now last (Err fault)) }
     {

@@ -1,10 +1,10 @@
 //! Encrypting a whole file.
 
 ghost use Rattle.std.specs.Prelude.{◌≡◌, ◌⊎◌, ◌++◌, Err, None, IfErr};
-ghost use Rattle.age_header.specs.Device.{Bytes, Counts, CountsIf, Writes, moved_by};
+ghost use Rattle.age_header.specs.Device.{Bytes, Counts, CountsIf, Writes, flow_by, moved_by};
 ghost use Rattle.age_header.specs.Header.{Head};
 ghost use Rattle.age_file.specs.Device.{IsQuiet, is_read, is_write};
-ghost use Rattle.age_file.specs.NewFile.{EncryptsGiven, RefusesFirst, MayFillChunk, SealsRest, TookWhileEncrypting, gathering_by};
+ghost use Rattle.age_file.specs.NewFile.{EncryptsGiven, FillsChunk, RefusesFirst, SealsRest, TookWhileEncrypting, gathering_by};
 ghost use Rattle.age_stream.specs.Counts as stream;
 
 use crate::fault::Fault;
@@ -43,17 +43,17 @@ pub fn encrypt<S: Source, W: Sink>(
 ) -> Result<Done, Fault>
     ensures encrypts { EncryptsGiven limits.now fresh.now
         (gathering_by recipients.now (λ r k. wraps r k) (λ r. the_labels r) fresh.now.file_key)
-        (S.to_come plain.old) (moved_by W.taken out.old out.new) result }
+        (flow_by S.to_come S.gave plain.old plain.new) (moved_by W.taken out.old out.new) result }
     ensures refused { IfErr result (RefusesFirst limits.now fresh.now.file_key
         (gathering_by recipients.now (λ r k. wraps r k) (λ r. the_labels r) fresh.now.file_key)) }
     ensures quiet { IsQuiet out.old out.new result }
     ensures spared { result ≡ Err Fault.Read
-        → (out.new ≡ out.old) ⊎ MayFillChunk (S.to_come plain.old) }
+        → (out.new ≡ out.old) ⊎ FillsChunk (flow_by S.to_come S.gave plain.old plain.new) }
     ensures reads { CountsIf is_read (S.failed plain.old) (S.failed plain.new) result }
     ensures writes { CountsIf is_write (W.failed out.old) (W.failed out.new) result }
     ensures took { IfErr result (TookWhileEncrypting limits.now fresh.now
         (gathering_by recipients.now (λ r k. wraps r k) (λ r. the_labels r) fresh.now.file_key)
-        (moved_by S.to_come plain.old plain.new) (moved_by W.taken out.old out.new)) }
+        (flow_by S.to_come S.gave plain.old plain.new) (moved_by W.taken out.old out.new)) }
 {
     let header = header_for(alloc, recipients, &fresh.file_key, limits)?;
     let Ok(buf) = ChunkBuf::new(alloc) else {
@@ -81,7 +81,7 @@ fn seal_rest<S: Source, W: Sink>(
     out: &mut W,
 ) -> Result<Done, StreamFault>
     requires { sealer.fault ≡ None }
-    ensures seals { SealsRest sealer is_open (moved_by S.to_come plain.old plain.new)
+    ensures seals { SealsRest sealer is_open (flow_by S.to_come S.gave plain.old plain.new)
         (moved_by W.taken out.old out.new) result }
     ensures reads { CountsIf stream.is_read (S.failed plain.old) (S.failed plain.new) result }
     ensures writes { CountsIf stream.is_write (W.failed out.old) (W.failed out.new) result }

@@ -1,6 +1,6 @@
 //! Reading a file's header.
 
-ghost use Rattle.age_header.specs.Device.{CountsIf, moved_by};
+ghost use Rattle.age_header.specs.Device.{CountsIf, flow_by};
 ghost use Rattle.age_file.specs.Device.{is_read};
 ghost use Rattle.age_file.specs.Inspect.{Inspects};
 
@@ -17,7 +17,7 @@ use std::alloc::Global;
 /// The first of `NotAge`, `BadLine`, `HeaderTruncated` and `HeaderTooLarge` that applies, as
 /// `HeaderReader` says; `Read` if the source failed, `OutOfMemory` if an allocation was refused.
 pub fn inspect<S: Source>(alloc: Global, input: &mut S, limits: &Limits) -> Result<Header, Fault>
-    ensures verdict { Inspects limits.now (moved_by S.to_come input.old input.new) result }
+    ensures verdict { Inspects limits.now (flow_by S.to_come S.gave input.old input.new) result }
     ensures reads { CountsIf is_read (S.failed input.old) (S.failed input.new) result }
 {
     match HeaderReader::new(limits.max_header()).read_from(alloc, input) {

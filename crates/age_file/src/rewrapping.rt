@@ -1,6 +1,6 @@
 //! Replacing the header of a file; the payload stays.
 
-ghost use Rattle.age_header.specs.Device.{CountsIf, moved_by};
+ghost use Rattle.age_header.specs.Device.{CountsIf, flow_by, moved_by};
 ghost use Rattle.age_file.specs.Device.{IsQuiet, is_read, is_write};
 ghost use Rattle.age_file.specs.NewFile.{gathering_by};
 ghost use Rattle.age_file.specs.Rewrap.{Rewraps};
@@ -37,7 +37,7 @@ pub fn rewrap<S: Source, W: Sink>(
 ) -> Result<(), Fault>
     ensures rewraps { Rewraps limits.now (answers_by identities.now (λ i s. meaning i s))
         (gathering_by recipients.now (λ r k. wraps r k) (λ r. the_labels r))
-        (S.to_come input.old) (moved_by W.taken out.old out.new) result }
+        (flow_by S.to_come S.gave input.old input.new) (moved_by W.taken out.old out.new) result }
     ensures quiet { IsQuiet out.old out.new result }
     ensures reads { CountsIf is_read (S.failed input.old) (S.failed input.new) result }
     ensures writes { CountsIf is_write (W.failed out.old) (W.failed out.new) result }

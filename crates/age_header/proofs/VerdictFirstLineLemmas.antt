@@ -3,10 +3,10 @@ use Rattle.std.proofs.Common.{inl, inr, ◌≡◌, ◌≢◌, ℕ, ◌+◌, ◌-
 use Rattle.std.proofs.lemmas.List.{append-nil, append_cancel_left, take_all, take-take, take_at}
 use Rattle.std.proofs.lemmas.Bool.{cases_lt}
 use Rattle.std.proofs.KnownBytes.{starts_with_rest}
-use Rattle.std.specs.Io.KnownBytes.{Consumes, IsAtEnd}
+use Rattle.std.specs.Io.KnownBytes.{IsAtEnd}
 use Rattle.std.specs.declared.result.Result.TheVariants.{Err}
 use Rattle.age_kdf.specs.Bytes.{Bytes}
-use Rattle.age_header.specs.Device.{Known, moved}
+use Rattle.age_header.specs.Device.{Gave, Seen, flow}
 use Rattle.age_header.specs.declared.fault.HeaderFault.TheVariants.{NotAge, Truncated, TooLarge}
 use Rattle.age_header.specs.declared.lines.LineEnd.{LineEnd}
 use Rattle.age_header.specs.declared.lines.LineEnd.TheVariants.{Lf, Input, Room}
@@ -99,10 +99,10 @@ no_prefix_told b n first end max took text ends none age =
     none r.0 r.1
 
 -- no prefix of the version line's text
-pub no_prefix : (a new : Known) (first : Bytes) (end : LineEnd) (max : ℕ) → Consumes a new (line_bytes first end)
+pub no_prefix : (a new : Seen) (first : Bytes) (end : LineEnd) (max : ℕ) → Gave (flow a new) (line_bytes first end)
     → IsLineText first
-    → IsEnd end (length first) (min max version_size) new → ((x : Bytes) → version_text ≢ first ++ x)
-    → ReadsHeader (moved a new) max (Err NotAge)
+    → IsEnd end (length first) (min max version_size) new.to_come → ((x : Bytes) → version_text ≢ first ++ x)
+    → ReadsHeader (flow a new) max (Err NotAge)
 no_prefix a new first Lf max took text ends none =
     answered a new (first ++ 10 ∷ []) max NotAge took (λ b n is. no_prefix_told b n first Lf max is text ends none)
 no_prefix a new first Input max took text ends none =
@@ -112,9 +112,9 @@ no_prefix a new first Room max took text ends none =
     answered a new first max NotAge took (λ b n is. no_prefix_told b n first Room max is text ends none)
 
 -- a line that ends too early
-pub short_line : (a new : Known) (first rest : Bytes) (max : ℕ) → Consumes a new (first ++ 10 ∷ []) → IsLineText first
+pub short_line : (a new : Seen) (first rest : Bytes) (max : ℕ) → Gave (flow a new) (first ++ 10 ∷ []) → IsLineText first
     → length first < min max version_size → version_text ≡ first ++ rest → rest ≢ []
-    → ReadsHeader (moved a new) max (Err NotAge)
+    → ReadsHeader (flow a new) max (Err NotAge)
 short_line a new first rest max took text ends is more = answered a new (first ++ 10 ∷ []) max NotAge took told
   where
     told : (b n : Bytes) → b ≡ (first ++ 10 ∷ []) ++ n → BeginsAsAge (take max b) → ⊥
@@ -144,9 +144,9 @@ pub prefix_size : (first rest : Bytes) → version_text ≡ first ++ rest → le
 prefix_size first rest is = omega (arith, ap length is, version_text_size, length-append first rest)
 
 -- a first line that goes on, at the end of the input or under the limit
-pub short_input : (a new : Known) (first rest : Bytes) (max : ℕ) → Consumes a new first → IsLineText first
-    → (length first < min max version_size) × IsAtEnd new → version_text ≡ first ++ rest
-    → ReadsHeader (moved a new) max (Err Truncated)
+pub short_input : (a new : Seen) (first rest : Bytes) (max : ℕ) → Gave (flow a new) first → IsLineText first
+    → (length first < min max version_size) × IsAtEnd new.to_come → version_text ≡ first ++ rest
+    → ReadsHeader (flow a new) max (Err Truncated)
 short_input a new first rest max took text ends is = answered_at_end a new first max Truncated took ends.1 told
   where
     told : (b : Bytes) → b ≡ first → IsFault b max Truncated
@@ -161,8 +161,8 @@ short_input a new first rest max took text ends is = answered_at_end a new first
           omega arith,
         )
 
-pub short_room : (a new : Known) (first rest : Bytes) (max : ℕ) → Consumes a new first → IsLineText first
-    → length first ≡ min max version_size → version_text ≡ first ++ rest → ReadsHeader (moved a new) max (Err TooLarge)
+pub short_room : (a new : Seen) (first rest : Bytes) (max : ℕ) → Gave (flow a new) first → IsLineText first
+    → length first ≡ min max version_size → version_text ≡ first ++ rest → ReadsHeader (flow a new) max (Err TooLarge)
 short_room a new first rest max took text ends is = answered a new first max TooLarge took told
   where
     told : (b n : Bytes) → b ≡ first ++ n → IsFault b max TooLarge
@@ -178,13 +178,13 @@ short_room a new first rest max took text ends is = answered a new first max Too
         )
 
 -- the version line
-pub version_read : (a new : Known) (first rest : Bytes) (max : ℕ) → Consumes a new (first ++ 10 ∷ [])
+pub version_read : (a new : Seen) (first rest : Bytes) (max : ℕ) → Gave (flow a new) (first ++ 10 ∷ [])
     → length first < min max version_size
-    → version_text ≡ first ++ rest → rest ≡ [] → (version_size ≤ max) × Consumes a new version_line
+    → version_text ≡ first ++ rest → rest ≡ [] → (version_size ≤ max) × Gave (flow a new) version_line
 version_read a new first rest max took ends is none =
     let sum = prefix_size first rest is in
     let zero : length rest ≡ 0 = ap length none in
     let same : first ++ 10 ∷ [] ≡ version_line =
     sym (version_is_line ∙ ap (λ (z : Bytes). z ++ 10 ∷ [])
     (is ∙ ap (λ (z : Bytes). first ++ z) none ∙ append-nil first)) in
-    (omega arith, subst (λ (z : Bytes). Consumes a new z) same took)
+    (omega arith, subst (λ (z : Bytes). Gave (flow a new) z) same took)

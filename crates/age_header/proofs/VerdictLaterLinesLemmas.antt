@@ -2,12 +2,12 @@
 use Rattle.std.proofs.Common.{inl, inr, ◌≡◌, ◌≢◌, ◌⊎◌, ℕ, ◌+◌, ◌-◌, ◌<◌, ◌≤◌, List, [], ◌∷◌, ◌++◌, length, length-append, take, refl, sym, ap, arith, append_assoc, ◌∙◌, subst, codes, suc}
 use Rattle.std.proofs.lemmas.List.{append-nil, append_cancel_left, same_from_push, take_all, take_at}
 use Rattle.std.proofs.lemmas.List.Concat.{flat_map-append}
-use Rattle.std.proofs.KnownBytes.{Consumes-trans}
-use Rattle.std.specs.Io.KnownBytes.{Consumes, IsAtEnd}
+use Rattle.age_header.proofs.DeviceLemmas.{gave-then}
+use Rattle.std.specs.Io.KnownBytes.{IsAtEnd}
 use Rattle.std.specs.List.{AllByRecursion}
 use Rattle.std.specs.declared.result.Result.TheVariants.{Ok, Err}
 use Rattle.age_kdf.specs.Bytes.{Bytes}
-use Rattle.age_header.specs.Device.{Known, moved}
+use Rattle.age_header.specs.Device.{Gave, Seen, flow}
 use Rattle.age_header.specs.declared.fault.HeaderFault.TheVariants.{BadLine, Truncated, TooLarge}
 use Rattle.age_header.specs.Base64.{IsBase64}
 use Rattle.age_header.specs.Header.{StanzaParts, Head, line, version_line, version_size, mac_size}
@@ -22,12 +22,12 @@ use Rattle.age_header.proofs.ReaderLemmas.{answered, answered_at_end, answered_h
 use Rattle.age_header.proofs.LengthLemmas.{length-version_line}
 
 -- what a line at the end of the input, or under the limit, says of a path
-pub path_truncated : (a mid new : Known) (max room count : ℕ) (s : State) (text : Bytes)
+pub path_truncated : (a mid new : Seen) (max room count : ℕ) (s : State) (text : Bytes)
     → Reached a mid max room count s
-    → Consumes mid new text → IsLineText text → (length text < room) × IsAtEnd new
-    → ReadsHeader (moved a new) max (Err Truncated)
+    → Gave (flow mid new) text → IsLineText text → (length text < room) × IsAtEnd new.to_come
+    → ReadsHeader (flow a new) max (Err Truncated)
 path_truncated a mid new max room count s text p took is ends =
-    answered_at_end a new (prefix ++ text) max Truncated (Consumes-trans a mid new prefix text p.read took) ends.1 told
+    answered_at_end a new (prefix ++ text) max Truncated (gave-then a mid new prefix text p.read took) ends.1 told
   where
     prefix : Bytes
     prefix = version_line ++ lines_text p.ls
@@ -52,11 +52,11 @@ path_truncated a mid new max room count s text p took is ends =
           low,
         )
 
-pub path_too_large : (a mid new : Known) (max room count : ℕ) (s : State) (text : Bytes)
+pub path_too_large : (a mid new : Seen) (max room count : ℕ) (s : State) (text : Bytes)
     → Reached a mid max room count s
-    → Consumes mid new text → IsLineText text → length text ≡ room → ReadsHeader (moved a new) max (Err TooLarge)
+    → Gave (flow mid new) text → IsLineText text → length text ≡ room → ReadsHeader (flow a new) max (Err TooLarge)
 path_too_large a mid new max room count s text p took is ends =
-    answered a new (prefix ++ text) max TooLarge (Consumes-trans a mid new prefix text p.read took) told
+    answered a new (prefix ++ text) max TooLarge (gave-then a mid new prefix text p.read took) told
   where
     prefix : Bytes
     prefix = version_line ++ lines_text p.ls
@@ -100,11 +100,11 @@ pushed ls text =
     ∙ sym (append_assoc version_line (lines_text ls) (line text))
 
 -- what was read with one more line
-took_line : (a mid new : Known) (max room count : ℕ) (s : State) (text : Bytes) (p : Reached a mid max room count s)
-    → Consumes mid new (text ++ 10 ∷ []) → Consumes a new (lines_text (version_text ∷ (p.ls ++ text ∷ [])))
+took_line : (a mid new : Seen) (max room count : ℕ) (s : State) (text : Bytes) (p : Reached a mid max room count s)
+    → Gave (flow mid new) (text ++ 10 ∷ []) → Gave (flow a new) (lines_text (version_text ∷ (p.ls ++ text ∷ [])))
 took_line a mid new max room count s text p took =
-    subst (λ (z : Bytes). Consumes a new z) (sym (pushed p.ls text))
-    (Consumes-trans a mid new (version_line ++ lines_text p.ls) (line text) p.read took)
+    subst (λ (z : Bytes). Gave (flow a new) z) (sym (pushed p.ls text))
+    (gave-then a mid new (version_line ++ lines_text p.ls) (line text) p.read took)
 
 further : (b n : Bytes) (max room : ℕ) (ls : List Bytes) (text : Bytes)
     → b ≡ lines_text (version_text ∷ (ls ++ text ∷ [])) ++ n
@@ -154,11 +154,11 @@ age b n max ls text f =
     subst (λ (z : Bytes). BeginsAsAge (take max z)) (sym is) (begins (lines_text (ls ++ text ∷ []) ++ n) max f.wide)
 
 -- an end line
-pub path_header : (a mid new : Known) (max room count : ℕ) (s : State) (text : Bytes) (ss : List StanzaParts)
+pub path_header : (a mid new : Seen) (max room count : ℕ) (s : State) (text : Bytes) (ss : List StanzaParts)
     (mac characters : Bytes)
-    → Reached a mid max room count s → Consumes mid new (text ++ 10 ∷ []) → IsLineText text → length text < room
+    → Reached a mid max room count s → Gave (flow mid new) (text ++ 10 ∷ []) → IsLineText text → length text < room
     → s ≡ between ss → ss ≢ [] → text ≡ codes "--- " ++ characters → IsBase64 mac characters → length mac ≡ mac_size
-    → ReadsHeader (moved a new) max (Ok (record { stanzas = ss; mac = mac }))
+    → ReadsHeader (flow a new) max (Ok (record { stanzas = ss; mac = mac }))
 path_header a mid new max room count s text ss mac characters p took is low at some end h size =
     answered_header a new (lines_text whole) max (record { stanzas = ss; mac = mac })
     (took_line a mid new max room count s text p took) told
@@ -193,12 +193,12 @@ path_header a mid new max room count s text ss mac characters p took is low at s
         }
 
 -- a line that leads nowhere and is no end line
-pub path_bad : (a mid new : Known) (max room count : ℕ) (s : State) (text : Bytes)
-    → Reached a mid max room count s → Consumes mid new (text ++ 10 ∷ []) → IsLineText text → length text < room
+pub path_bad : (a mid new : Seen) (max room count : ℕ) (s : State) (text : Bytes)
+    → Reached a mid max room count s → Gave (flow mid new) (text ++ 10 ∷ []) → IsLineText text → length text < room
     → ((ss : List StanzaParts) (mac characters : Bytes) → ss ≢ [] → s ≡ between ss → length mac ≡ mac_size
     → text ≡ codes "--- " ++ characters → IsBase64 mac characters → ⊥)
     → ((t : State) → Step s text t → ⊥)
-    → ReadsHeader (moved a new) max (Err (BadLine (count + 1)))
+    → ReadsHeader (flow a new) max (Err (BadLine (count + 1)))
 path_bad a mid new max room count s text p took is low end none =
     answered a new (lines_text (version_text ∷ ls)) max (BadLine (count + 1))
     (took_line a mid new max room count s text p took) told
@@ -250,8 +250,8 @@ path_bad a mid new max room count s text p took is low end none =
         )
 
 -- a line that leads on
-pub path_more : (a mid new : Known) (max room count : ℕ) (s t : State) (text : Bytes)
-    → Reached a mid max room count s → Consumes mid new (text ++ 10 ∷ []) → IsLineText text → length text < room
+pub path_more : (a mid new : Seen) (max room count : ℕ) (s t : State) (text : Bytes)
+    → Reached a mid max room count s → Gave (flow mid new) (text ++ 10 ∷ []) → IsLineText text → length text < room
     → Step s text t
     → Reached a new max (room - (length text + 1)) (count + 1) t
 path_more a mid new max room count s t text p took is low step =
@@ -265,18 +265,18 @@ path_more a mid new max room count s t text p took is low step =
       ls = p.ls ++ text ∷ [];
       each = Lines-append p.ls (text ∷ []) p.each (is, tt);
       leads = Leads-append (between []) s t p.ls (text ∷ []) p.leads (t, step, refl);
-      read = subst (λ (z : Bytes). Consumes a new z) moved (Consumes-trans a mid new _ (line text) p.read took);
+      read = subst (λ (z : Bytes). Gave (flow a new) z) moved (gave-then a mid new _ (line text) p.read took);
       size = omega (arith, p.size);
       lines = omega (arith, p.lines, length-append p.ls (text ∷ []));
     }
 
-pub path_start : (a mid : Known) (max : ℕ) → version_size ≤ max → Consumes a mid version_line
+pub path_start : (a mid : Seen) (max : ℕ) → version_size ≤ max → Gave (flow a mid) version_line
     → Reached a mid max (max - version_size) 1 (between [])
 path_start a mid max wide took = record {
   ls = [];
   each = tt;
   leads = refl;
-  read = subst (λ (z : Bytes). Consumes a mid z) (sym (append-nil version_line)) took;
+  read = subst (λ (z : Bytes). Gave (flow a mid) z) (sym (append-nil version_line)) took;
   size = omega arith;
   lines = refl;
 }
@@ -286,5 +286,5 @@ lines_le : (ls : List Bytes) → length ls ≤ length (lines_text ls)
 lines_le [] = omega arith
 lines_le (l ∷ ls) = omega (arith, lines_le ls, length-append (line l) (lines_text ls), length-append l (10 ∷ []))
 
-pub path_lines : (a mid : Known) (max room count : ℕ) (s : State) → Reached a mid max room count s → count < max
+pub path_lines : (a mid : Seen) (max room count : ℕ) (s : State) → Reached a mid max room count s → count < max
 path_lines a mid max room count s p = omega (arith, lines_le p.ls, p.size, p.lines)

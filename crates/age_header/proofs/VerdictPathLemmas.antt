@@ -3,12 +3,11 @@ use Rattle.std.proofs.Common.{inr, ◌≡◌, List, [], ◌∷◌, ◌++◌, ref
 use Rattle.std.proofs.lemmas.List.{append-nil, append_cancel_left}
 use Rattle.std.specs.List.{AllByRecursion}
 use Rattle.std.proofs.lemmas.Bool.{cases_lt, and_parts, both_ways, not-true, eq-eqb}
-use Rattle.std.specs.Io.KnownBytes.{Consumes}
 use Rattle.age_kdf.specs.Bytes.{Bytes}
 use Rattle.age_header.specs.Header.{line, version_line, version_size}
 use Rattle.age_header.specs.Steps.{State, between, Leads}
 use Rattle.age_header.specs.Verdict.{IsLineText, lines_text, IsViable, IsHeader, AreLines, BeginsAsAge, IsUndecided}
-use Rattle.age_header.specs.Device.{Known}
+use Rattle.age_header.specs.Device.{Gave, Seen, flow}
 use Rattle.age_header.proofs.LinesLemmas.{line_split, lines_prefix}
 use Rattle.age_header.proofs.HeaderLemmas.{head_path, past_end, end_text}
 use Rattle.age_header.proofs.StepsLemmas.{Spells, step_spells, spells_prefix, Leads-split}
@@ -56,11 +55,11 @@ leads_no_header ls s each h k =
     past_end p.lines [] k.0 p.characters s p.leads (subst (λ (x : List Bytes). Leads (between []) x s) same h)
 
 -- The lines after the version line that were read, where they lead, and the room that is left under the limit.
-pub record Reached (a mid : Known) (max room count : ℕ) (s : State) : Type 0 where
+pub record Reached (a mid : Seen) (max room count : ℕ) (s : State) : Type 0 where
   pub ls : List Bytes
   pub each : AllByRecursion IsLineText ls
   pub leads : Leads (between []) ls s
-  pub read : Consumes a mid (version_line ++ lines_text ls)
+  pub read : Gave (flow a mid) (version_line ++ lines_text ls)
   pub size : room + version_size + length (lines_text ls) ≡ max
   pub lines : count ≡ length ls + 1
 

@@ -5,7 +5,8 @@ use Rattle.std.proofs.lemmas.Bool.{cases_lt, cases_eq}
 use Rattle.std.specs.List.{AllByRecursion}
 use Rattle.std.specs.declared.result.Result.{Result}
 use Rattle.age_kdf.specs.Bytes.{Bytes}
-use Rattle.age_header.specs.Device.{Known}
+use Rattle.age_header.specs.Device.{Known, flow}
+use Rattle.age_header.proofs.DeviceLemmas.{gave-told, of_told}
 use Rattle.age_header.specs.declared.fault.HeaderFault.{HeaderFault}
 use Rattle.age_header.specs.declared.fault.HeaderFault.TheVariants.{NotAge, BadLine, Truncated, TooLarge}
 use Rattle.age_header.specs.declared.lines.LineEnd.{LineEnd}
@@ -250,34 +251,35 @@ abbrev HasVerdict : Bytes → ℕ → Type 0
 HasVerdict b max = (r : Result Found HeaderFault) × HeaderVerdict b max r
 
 -- one more line, and the verdict of what follows where it decides nothing
-line_verdict : (b m : Bytes) (max room count : ℕ) (s : State) → Reached (Some b) (Some m) max room count s
-    → ((n : Bytes) (left more : ℕ) (t : State) → left < room → Reached (Some b) (Some n) max left more t
+line_verdict : (b m : Bytes) (max room count : ℕ) (s : State) → Reached (of_told b) (of_told m) max room count s
+    → ((n : Bytes) (left more : ℕ) (t : State) → left < room → Reached (of_told b) (of_told n) max left more t
     → HasVerdict b max)
     → (text : Bytes) (end : LineEnd) (rest : Bytes) → IsLineText text → m ≡ line_bytes text end ++ rest
     → IsEnd end (length text) room (Some rest) → HasVerdict b max
 line_verdict b m max room count s p next text Input rest is took ends = (
   Err Truncated,
-  reads_known b (Some rest) max (Err Truncated)
-      (path_truncated (Some b) (Some m) (Some rest) max room count s text p took is ends),
+  reads_known b (flow (of_told b) (of_told rest)) max (Err Truncated) refl
+      (path_truncated (of_told b) (of_told m) (of_told rest) max room count s text p (gave-told m text rest took) is ends),
 )
 line_verdict b m max room count s p next text Room rest is took ends = (
   Err TooLarge,
-  reads_known b (Some rest) max (Err TooLarge)
-      (path_too_large (Some b) (Some m) (Some rest) max room count s text p took is ends),
+  reads_known b (flow (of_told b) (of_told rest)) max (Err TooLarge) refl
+      (path_too_large (of_told b) (of_told m) (of_told rest) max room count s text p (gave-told m text rest took) is ends),
 )
 line_verdict b m max room count s p next text Lf rest is took ends = elim (end_of s text) [
   | inl e ↦
-      let h = reads_known b (Some rest) max (Ok (record { stanzas = e.stanzas; mac = e.mac }))
-      (path_header (Some b) (Some m) (Some rest) max room count s text e.stanzas e.mac e.characters p took is
+      let h = reads_known b (flow (of_told b) (of_told rest)) max (Ok (record { stanzas = e.stanzas; mac = e.mac })) refl
+      (path_header (of_told b) (of_told m) (of_told rest) max room count s text e.stanzas e.mac e.characters p
+      (gave-told m (text ++ 10 ∷ []) rest took) is
       ends e.at e.some e.spelled e.is e.size) in
       (Ok (record { stanzas = e.stanzas; mac = e.mac; text = h.0 }), h.1)
   | inr other ↦ elim (step_of s text) [
     | inl w ↦ next rest (room - (length text + 1)) (count + 1) w.0 (omega arith)
-        (path_more (Some b) (Some m) (Some rest) max room count s w.0 text p took is ends w.1)
+        (path_more (of_told b) (of_told m) (of_told rest) max room count s w.0 text p (gave-told m (text ++ 10 ∷ []) rest took) is ends w.1)
     | inr none ↦ (
       Err (BadLine (count + 1)),
-      reads_known b (Some rest) max (Err (BadLine (count + 1)))
-          (path_bad (Some b) (Some m) (Some rest) max room count s text p took is ends
+      reads_known b (flow (of_told b) (of_told rest)) max (Err (BadLine (count + 1))) refl
+          (path_bad (of_told b) (of_told m) (of_told rest) max room count s text p (gave-told m (text ++ 10 ∷ []) rest took) is ends
           (λ ss mac characters some at size spelled h. other
           (record {
             stanzas = ss;
@@ -295,7 +297,7 @@ line_verdict b m max room count s p next text Lf rest is took ends = elim (end_o
 ]
 
 path_verdict : (n : ℕ) (b m : Bytes) (max room count : ℕ) (s : State) → room ≤ n
-    → Reached (Some b) (Some m) max room count s → HasVerdict b max
+    → Reached (of_told b) (of_told m) max room count s → HasVerdict b max
 path_verdict zero b m max room count s low p =
     let l = first_line room m in
     line_verdict b m max room count s p (λ rest left more t less q. absurd (omega arith)) l.text l.end l.rest l.is
@@ -312,23 +314,23 @@ begun_verdict : (b : Bytes) (max : ℕ) (text : Bytes) (end : LineEnd) (rest beh
     → IsEnd end (length text) (min max version_size) (Some rest) → version_text ≡ text ++ behind → HasVerdict b max
 begun_verdict b max text Input rest behind is took ends prefix = (
   Err Truncated,
-  reads_known b (Some rest) max (Err Truncated)
-      (short_input (Some b) (Some rest) text behind max took is ends prefix),
+  reads_known b (flow (of_told b) (of_told rest)) max (Err Truncated) refl
+      (short_input (of_told b) (of_told rest) text behind max (gave-told b text rest took) is ends prefix),
 )
 begun_verdict b max text Room rest behind is took ends prefix = (
   Err TooLarge,
-  reads_known b (Some rest) max (Err TooLarge)
-      (short_room (Some b) (Some rest) text behind max took is ends prefix),
+  reads_known b (flow (of_told b) (of_told rest)) max (Err TooLarge) refl
+      (short_room (of_told b) (of_told rest) text behind max (gave-told b text rest took) is ends prefix),
 )
 begun_verdict b max text Lf rest behind is took ends prefix = elim (nil_or_some behind) [
   | inl none ↦
-      let v = version_read (Some b) (Some rest) text behind max took ends prefix none in
+      let v = version_read (of_told b) (of_told rest) text behind max (gave-told b (text ++ 10 ∷ []) rest took) ends prefix none in
       path_verdict max b rest max (max - version_size) 1 (between []) (omega arith)
-      (path_start (Some b) (Some rest) max v.0 v.1)
+      (path_start (of_told b) (of_told rest) max v.0 v.1)
   | inr some ↦ (
     Err NotAge,
-    reads_known b (Some rest) max (Err NotAge)
-        (short_line (Some b) (Some rest) text behind max took is ends prefix some),
+    reads_known b (flow (of_told b) (of_told rest)) max (Err NotAge) refl
+        (short_line (of_told b) (of_told rest) text behind max (gave-told b (text ++ 10 ∷ []) rest took) is ends prefix some),
   )
 ]
 
@@ -339,7 +341,8 @@ some_verdict b max =
       | inl w ↦ begun_verdict b max l.text l.end l.rest w.0 l.is l.took l.ends w.1
       | inr none ↦ (
         Err NotAge,
-        reads_known b (Some l.rest) max (Err NotAge)
-            (no_prefix (Some b) (Some l.rest) l.text l.end max l.took l.is l.ends none),
+        reads_known b (flow (of_told b) (of_told l.rest)) max (Err NotAge) refl
+            (no_prefix (of_told b) (of_told l.rest) l.text l.end max
+            (gave-told b (line_bytes l.text l.end) l.rest l.took) l.is l.ends none),
       )
     ]

@@ -1,7 +1,6 @@
 -- What a read or a write does to the known bytes of a device, and to its count of failures.
-use Rattle.std.specs.Prelude.{◌≡◌, ℕ, ◌+◌, ◌-◌, ◌^◌, ◌<◌, ◌≤◌, Bool, true, min, length, take, ⊤, MatchResult, if◌then◌else◌}
+use Rattle.std.specs.Prelude.{◌≡◌, ℕ, ◌+◌, ◌-◌, ◌^◌, ◌<◌, ◌≤◌, ◌++◌, [], Bool, true, min, length, take, ⊤, IfSome, MatchResult, if◌then◌else◌}
 use Rattle.std.specs.declared.option.Option.{Option}
-use Rattle.std.specs.declared.option.Option.TheVariants.{None, Some}
 use Rattle.std.specs.declared.result.Result.{Result}
 use Rattle.std.specs.Io.KnownBytes.{Consumes, Appends, Keeps, IsAtEnd}
 pub use Rattle.age_kdf.specs.Bytes.{Bytes}
@@ -22,9 +21,41 @@ moved before after = record { before = before; after = after }
 abbrev pub moved_by : {D : Type 0} (told : D → Known) (old new : D) → Moved
 moved_by told old new = moved (told old) (told new)
 
+-- a source at a moment: the bytes that are to come, if they are known, and which bytes may be all
+-- that it gave so far
+pub record Seen : Type 1 where
+  pub to_come : Known
+  pub gave : Bytes → Type 0
+
+-- a source before a call and after it
+pub record Flow : Type 1 where
+  pub before : Seen
+  pub after : Seen
+
+abbrev pub flow : (before after : Seen) → Flow
+flow before after = record { before = before; after = after }
+
+-- the same by the ghost members that tell it
+abbrev pub seen_by : {S : Type 0} (to_come : S → Known) (gave : S → Bytes → Type 0) (s : S) → Seen
+seen_by to_come gave s = record { to_come = to_come s; gave = gave s }
+
+abbrev pub flow_by : {S : Type 0} (to_come : S → Known) (gave : S → Bytes → Type 0) (old new : S)
+    → Flow
+flow_by to_come gave old new = flow (seen_by to_come gave old) (seen_by to_come gave new)
+
+-- all that a source gave grew by these bytes
+abbrev pub Grew : (source : Flow) (bytes : Bytes) → Type 0
+Grew source bytes = (past : Bytes) → source.before.gave past → source.after.gave (past ++ bytes)
+
 -- a source gave these bytes next
-abbrev pub Gave : (source : Moved) (bytes : Bytes) → Type 0
-Gave source bytes = Consumes source.before source.after bytes
+pub record Gave (source : Flow) (bytes : Bytes) : Type 0 where
+  pub consumes : Consumes source.before.to_come source.after.to_come bytes
+  pub grew : Grew source bytes
+
+-- a source gave some bytes, perhaps none
+pub record GaveSome (source : Flow) : Type 0 where
+  pub bytes : Bytes
+  pub grew : Grew source bytes
 
 -- a sink took these bytes after those that it had
 abbrev pub Took : (sink : Moved) (bytes : Bytes) → Type 0
@@ -52,8 +83,14 @@ Counts old new r = CountsIf (λ _. true) old new r
 -- the bytes
 abbrev pub Gives : {E : Type 0} (source : Moved) (r : Result ℕ E) (buf : Bytes) → Type 0
 Gives source r buf =
-    MatchResult r (λ n. Gave source (take n buf) × (n ≡ 0 → 0 < length buf → IsAtEnd source.after))
+    MatchResult r
+    (λ n. Consumes source.before source.after (take n buf)
+    × (n ≡ 0 → 0 < length buf → IsAtEnd source.after))
     (λ _. ⊤)
+
+-- Ok(n) gave n bytes more, an Err none
+abbrev pub Grows : {E : Type 0} (source : Flow) (r : Result ℕ E) (buf : Bytes) → Type 0
+Grows source r buf = MatchResult r (λ n. Grew source (take n buf)) (λ _. Grew source [])
 
 -- Ok(n) takes the first n bytes, at least one of a nonempty piece; an Err takes nothing
 abbrev pub Takes : {E : Type 0} (sink : Moved) (r : Result ℕ E) (piece : Bytes) → Type 0
@@ -68,11 +105,13 @@ WritesPart sink text = (n : ℕ) × Took sink (take n text)
 abbrev pub Writes : {A E : Type 0} (sink : Moved) (r : Result A E) (text : Bytes) → Type 0
 Writes sink r text = MatchResult r (λ _. Took sink text) (λ _. WritesPart sink text)
 
--- A source may still give these bytes: the known ones alone, or any where none are known.
-abbrev pub MayGive : (left : Known) (bytes : Bytes) → Type 0
-MayGive None bytes = ⊤
-MayGive (Some told) bytes = told ≡ bytes
+-- This holds of the bytes that a source gave, and of those that were to come, if they are known.
+pub record OfGiven (source : Flow) (P : Bytes → Type 0) : Type 0 where
+  pub given : Bytes
+  pub grew : Grew source given
+  pub holds : P given
+  pub known : IfSome source.before.to_come P
 
 -- the source gave at most n bytes
-abbrev pub GaveAtMost : (n : ℕ) (source : Moved) → Type 0
+abbrev pub GaveAtMost : (n : ℕ) (source : Flow) → Type 0
 GaveAtMost n source = (given : Bytes) × Gave source given × (length given ≤ n)

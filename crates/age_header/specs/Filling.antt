@@ -1,21 +1,21 @@
 -- What filling a buffer from a source leaves in the buffer.
 use Rattle.std.specs.Prelude.{ℕ, ◌++◌, ◌≡◌, ◌≤◌, ◌<◌, ◌+◌, length, take}
 use Rattle.std.specs.Io.KnownBytes.{IsAtEnd}
-use Rattle.age_header.specs.Device.{Moved, Gave}
+use Rattle.age_header.specs.Device.{Flow, Gave}
 use Rattle.age_kdf.specs.Bytes.{Bytes}
 
 -- the source gave n bytes, which follow the first `at` in the buffer; none only at its end or where
 -- there was no room
-pub record Got (at n : ℕ) (buf after : Bytes) (source : Moved) : Type 0 where
+pub record Got (at n : ℕ) (buf after : Bytes) (source : Flow) : Type 0 where
   pub piece : Bytes
   pub len : length piece ≡ n
   pub room : at + n ≤ length buf
   pub is : take (at + n) after ≡ take at buf ++ piece
   pub bytes : Gave source piece
-  pub none : n ≡ 0 → at < length buf → IsAtEnd source.after
+  pub none : n ≡ 0 → at < length buf → IsAtEnd source.after.to_come
 
 -- the source gave the bytes that follow the first `start` in the buffer, n bytes with these
-pub record Filled (start n : ℕ) (buf after : Bytes) (source : Moved) : Type 0 where
+pub record Filled (start n : ℕ) (buf after : Bytes) (source : Flow) : Type 0 where
   pub piece : Bytes
   pub len : start + length piece ≡ n
   pub room : n ≤ length buf

@@ -4,7 +4,7 @@ use Rattle.std.specs.declared.option.Option.{Option}
 use Rattle.std.specs.declared.option.Option.TheVariants.{None, Some}
 use Rattle.std.specs.declared.result.Result.{Result}
 use Rattle.std.specs.declared.result.Result.TheVariants.{Ok, Err}
-use Rattle.age_header.specs.Device.{MayGive, Moved, Gave}
+use Rattle.age_header.specs.Device.{Flow, Gave, OfGiven}
 use Rattle.age_kdf.specs.Bytes.{Bytes}
 use Rattle.age_header.specs.declared.fault.HeaderFault.{HeaderFault}
 use Rattle.age_header.specs.declared.fault.HeaderFault.TheVariants.{Read, Memory}
@@ -20,7 +20,7 @@ Refuses b max fault = IsFault b max fault
 
 -- What a reader under a limit of max bytes returns where b comes: its verdict. Where that is a
 -- header, only the header's bytes are read.
-abbrev pub ReadsHeaderOf : (b : Bytes) (source : Moved) (max : ℕ)
+abbrev pub ReadsHeaderOf : (b : Bytes) (source : Flow) (max : ℕ)
     (result : Result HeaderParts HeaderFault) → Type 0
 ReadsHeaderOf b source max (Ok h) =
     (text : Bytes)
@@ -28,9 +28,9 @@ ReadsHeaderOf b source max (Ok h) =
     × Gave source text
 ReadsHeaderOf b source max (Err fault) = Refuses b max fault
 
--- the same of bytes that a source may give
-abbrev pub ReadsHeader : (source : Moved) (max : ℕ) (r : Result HeaderParts HeaderFault) → Type 0
-ReadsHeader source max r = (b : Bytes) × MayGive source.before b × ReadsHeaderOf b source max r
+-- the same of the bytes that the source gave
+abbrev pub ReadsHeader : (source : Flow) (max : ℕ) (r : Result HeaderParts HeaderFault) → Type 0
+ReadsHeader source max r = OfGiven source (λ b. ReadsHeaderOf b source max r)
 
 -- a failed read, which the source counts
 abbrev pub is_read : HeaderFault → Bool

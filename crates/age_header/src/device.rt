@@ -1,10 +1,10 @@
 //! Devices: what bytes are read from and written to. A device counts its failures, so that a caller
 //! can tell an I/O error from a fault of the bytes. Its contents may be known to proofs.
 
-ghost use Rattle.std.specs.Prelude.{◌≡◌, ◌<◌, ◌≤◌, ◌+◌, ◌-◌, ◌^◌, ℕ, Some, length, min, vec_capacity, vec_len, IfOk, OnErr};
+ghost use Rattle.std.specs.Prelude.{◌≡◌, ◌<◌, ◌≤◌, ◌+◌, ◌-◌, ◌^◌, ℕ, Some, length, min, ⊤, vec_capacity, vec_len, IfOk, OnErr};
 ghost use Rattle.std.specs.declared.option.Option.{Option};
 ghost use Rattle.std.specs.Io.{ReadsAtMost};
-ghost use Rattle.age_header.specs.Device.{Known, Counts, Gives, Takes, Writes, moved, moved_by};
+ghost use Rattle.age_header.specs.Device.{Bytes, Known, Counts, Gives, Grows, Takes, Writes, flow_by, moved, moved_by};
 ghost use Rattle.age_header.specs.MemSink.{spare_of};
 
 use std::io::{Read, Write};
@@ -21,13 +21,17 @@ pub trait Source {
     // The bytes still to come, if the contents are known to proofs.
     ghost to_come: { Self → Known };
 
+    // Whether these may be all bytes given so far. The default says nothing.
+    ghost gave: { Self → Bytes → Type 0 } = { λ _ _. ⊤ };
+
     /// Reads the next bytes to the start of `buf`, and returns their number. It returns 0 with a
     /// nonempty `buf` only at the end of the input. A short read does not mean the end. After an
     /// error nothing is known of the bytes.
     fn read(&mut self, buf: &mut [u8]) -> Result<usize, DeviceFault>
         ensures bound { ReadsAtMost result buf.new }
         ensures count { Counts (failed self.old) (failed self.new) result }
-        ensures bytes { Gives (moved_by to_come self.old self.new) result buf.new };
+        ensures bytes { Gives (moved_by to_come self.old self.new) result buf.new }
+        ensures gave { Grows (flow_by to_come gave self.old self.new) result buf.new };
 
     /// The number of failed reads, saturating at the largest `u64`.
     fn failures(&self) -> u64

@@ -1,8 +1,8 @@
 //! Reading until a buffer is full.
 
-ghost use Rattle.std.specs.Prelude.{◌≡◌, ◌<◌, ◌≤◌, length, IfOk};
+ghost use Rattle.std.specs.Prelude.{◌≡◌, ◌<◌, ◌≤◌, length, IfOk, OnErr};
 ghost use Rattle.std.specs.Io.KnownBytes.{IsAtEnd};
-ghost use Rattle.age_header.specs.Device.{Counts, moved_by};
+ghost use Rattle.age_header.specs.Device.{Counts, GaveSome, flow_by};
 ghost use Rattle.age_header.specs.Filling.{Filled, Got};
 
 use crate::device::{DeviceFault, Source};
@@ -21,8 +21,9 @@ pub fn fill_from<S: Source>(
     requires { start ≤ length buf.old }
     ensures len { length buf.new ≡ length buf.old }
     ensures bytes { IfOk result
-        (λ n. Filled start n buf.old buf.new (moved_by S.to_come input.old input.new)) }
+        (λ n. Filled start n buf.old buf.new (flow_by S.to_come S.gave input.old input.new)) }
     ensures end { IfOk result (λ n. n < length buf.old → IsAtEnd (S.to_come input.new)) }
+    ensures lost { OnErr result (GaveSome (flow_by S.to_come S.gave input.old input.new)) }
     ensures count { Counts (S.failed input.old) (S.failed input.new) result }
 {
     let mut at = start;
@@ -41,7 +42,8 @@ fn read_after<S: Source>(input: &mut S, buf: &mut [u8], at: usize) -> Result<usi
     requires { at ≤ length buf.old }
     ensures len { length buf.new ≡ length buf.old }
     ensures bytes { IfOk result
-        (λ n. Got at n buf.old buf.new (moved_by S.to_come input.old input.new)) }
+        (λ n. Got at n buf.old buf.new (flow_by S.to_come S.gave input.old input.new)) }
+    ensures lost { OnErr result (GaveSome (flow_by S.to_come S.gave input.old input.new)) }
     ensures count { Counts (S.failed input.old) (S.failed input.new) result }
 {
     let (_, rest) = buf.split_at_mut(at);

@@ -1,8 +1,7 @@
 //! Reading one line.
 
-ghost use Rattle.std.specs.Prelude.{◌≡◌, length, IfOk, IfErr};
-ghost use Rattle.std.specs.Io.KnownBytes.{Consumes};
-ghost use Rattle.age_header.specs.Device.{CountsIf};
+ghost use Rattle.std.specs.Prelude.{◌≡◌, length, IfOk, IfErr, OnErr};
+ghost use Rattle.age_header.specs.Device.{CountsIf, Gave, GaveSome, flow_by};
 ghost use Rattle.age_header.specs.Verdict.{IsLineText};
 ghost use Rattle.age_header.specs.Reader.{is_read};
 ghost use Rattle.age_header.specs.Lines.{line_bytes, IsEnd, IsOutside};
@@ -30,11 +29,12 @@ pub(crate) fn read_line<S: Source>(
     max_len: usize,
 ) -> Result<(Vec<u8>, LineEnd), HeaderFault>
     ensures count { CountsIf is_read (S.failed input.old) (S.failed input.new) result }
-    ensures bytes { IfOk result (λ l. Consumes (S.to_come input.old) (S.to_come input.new)
+    ensures bytes { IfOk result (λ l. Gave (flow_by S.to_come S.gave input.old input.new)
         (line_bytes l.0.items l.1)) }
     ensures text { IfOk result (λ l. IsLineText l.0.items) }
     ensures end { IfOk result (λ l. IsEnd l.1 (length l.0.items) max_len (S.to_come input.new)) }
     ensures err { IfErr result IsOutside }
+    ensures lost { OnErr result (GaveSome (flow_by S.to_come S.gave input.old input.new)) }
 {
     let mut line = Vec::new(alloc);
     for _ in 0..max_len {

@@ -1,8 +1,7 @@
 //! Reading a header, line by line.
 
 ghost use Rattle.std.specs.Prelude.{◌≡◌, ◌≤◌, ◌++◌, length, codes, None, Err, IfOk, IfErr, OnOk, IfSome, IfNone};
-ghost use Rattle.std.specs.Io.KnownBytes.{Consumes};
-ghost use Rattle.age_header.specs.Device.{CountsIf, moved_by};
+ghost use Rattle.age_header.specs.Device.{CountsIf, Gave, flow_by};
 ghost use Rattle.age_kdf.specs.Bytes.{Bytes};
 ghost use Rattle.age_header.specs.Base64.{IsBase64};
 ghost use Rattle.age_header.specs.Header.{mac_size, version_line, version_size};
@@ -69,7 +68,7 @@ impl HeaderReader {
         ensures count { IfNone self.old.fault
             (CountsIf is_read (S.failed input.old) (S.failed input.new) result) }
         ensures verdict { IfNone self.old.fault
-            (ReadsHeader (moved_by S.to_come input.old input.new) self.old.max result) }
+            (ReadsHeader (flow_by S.to_come S.gave input.old input.new) self.old.max result) }
     {
         if let Some(fault) = self.fault {
             return Err(fault);
@@ -85,7 +84,7 @@ impl HeaderReader {
 /// Reads the header at the start of the input.
 fn read_header<S: Source>(alloc: Global, input: &mut S, max: usize) -> Result<Header, HeaderFault>
     ensures count { CountsIf is_read (S.failed input.old) (S.failed input.new) result }
-    ensures verdict { ReadsHeader (moved_by S.to_come input.old input.new) max result }
+    ensures verdict { ReadsHeader (flow_by S.to_come S.gave input.old input.new) max result }
 {
     read_version(alloc, input, max)?;
     let engine = base64_no_pad::engine();
@@ -120,9 +119,9 @@ fn read_header<S: Source>(alloc: Global, input: &mut S, max: usize) -> Result<He
 fn read_version<S: Source>(alloc: Global, input: &mut S, max: usize) -> Result<(), HeaderFault>
     ensures count { CountsIf is_read (S.failed input.old) (S.failed input.new) result }
     ensures ok { OnOk result
-        ((version_size ≤ max) × Consumes (S.to_come input.old) (S.to_come input.new) version_line) }
+        ((version_size ≤ max) × Gave (flow_by S.to_come S.gave input.old input.new) version_line) }
     ensures err { IfErr result
-        (λ e. ReadsHeader (moved_by S.to_come input.old input.new) max (Err e)) }
+        (λ e. ReadsHeader (flow_by S.to_come S.gave input.old input.new) max (Err e)) }
 {
     let (first, end) = read_line(alloc, input, max.min(VERSION_SIZE))?;
     let Some(rest) = strip_prefix(VERSION, first.as_slice()) else {

@@ -1,38 +1,33 @@
 -- The next piece, by what was read ahead, what was given, and what may still come.
-use Rattle.std.proofs.Common.{◌≡◌, ◌∙◌, ◌++◌, ◌+◌, ◌-◌, ◌^◌, ◌<◌, ◌≤◌, ℕ, [], length, take, drop, ap, sym, arith, append_assoc, length-append, refl, Option, Some, None, true, false, Bool, nat_le, cond, Ok, Err}
-use Rattle.std.proofs.KnownBytes.{Consumes-nil}
+use Rattle.std.proofs.Common.{◌≡◌, ◌∙◌, ◌++◌, ◌+◌, ◌-◌, ◌^◌, ◌<◌, ◌≤◌, ℕ, [], length, take, drop, ap, sym, arith, refl, Option, Some, None, true, false, Bool, nat_le, cond, Ok, Err}
+use Rattle.std.specs.Io.KnownBytes.{IsAtEnd}
 use Rattle.std.proofs.lemmas.Bool.{le-leb, lt-leb}
-use Rattle.std.proofs.lemmas.List.{take_all, take-append-le, drop-append-le, length-drop, length-take-le}
+use Rattle.std.proofs.lemmas.List.{take_all, length-drop, length-take-le}
 use Rattle.age_stream.specs.declared.fault.StreamFault.{StreamFault}
 use Rattle.std.proofs.Common.{◌⊎◌, inl, inr, subst}
 use Rattle.std.specs.Prelude.{IfNone, IfSome, IsErrOf}
 use Rattle.age_kdf.specs.Bytes.{Bytes}
-use Rattle.age_header.specs.Device.{CountsFaultIf, GaveAtMost, MayGive, Known, moved}
+use Rattle.age_header.specs.Device.{CountsFaultIf, GaveSome, Known, Seen, flow}
+use Rattle.age_header.proofs.DeviceLemmas.{gave-none}
 use Rattle.age_stream.specs.declared.fault.StreamFault.TheVariants.{Read}
 use Rattle.age_stream.specs.declared.opening.Piece.{Piece}
 use Rattle.age_stream.specs.Counts.{is_read}
-use Rattle.age_stream.specs.Opening.{Advances, IsAtPiece, OpenerState, OpensPiece, OpensNext, left_of, ahead_len, held_of}
+use Rattle.age_stream.specs.Opening.{Advances, IsAtPiece, IsFilled, Loses, OpenerState, OpensNext, ReadsPiece, left_of, ahead_len, held_of}
 use Rattle.age_stream.specs.Reading.{outcome, first_outcome, after_first}
 
 -- a full buffer: a piece and the byte that follows it
-pub outcome-more : (key : Bytes) (max i : ℕ) (ahead given d filled : Bytes) → length filled ≡ 65553
+pub outcome-more : (key : Bytes) (max i : ℕ) (ahead given filled : Bytes) → length filled ≡ 65553
     → filled ≡ ahead ++ given
-    → first_outcome key max i (ahead ++ (given ++ d)) ≡ outcome key max i false (take 65552 filled)
-outcome-more key max i ahead given d filled len is =
-    let l : length (filled ++ d) ≡ length filled + length d = length-append filled d in
-    let no : nat_le (length (filled ++ d)) 65552 ≡ false = lt-leb (length (filled ++ d)) 65552 (omega arith) in
-    ap (first_outcome key max i) (sym (append_assoc ahead given d) ∙ ap (λ t. t ++ d) (sym is))
-    ∙ ap (λ b. outcome key max i b (take 65552 (filled ++ d))) no
-    ∙ ap (outcome key max i false) (take-append-le 65552 filled d (omega arith))
+    → first_outcome key max i (ahead ++ given) ≡ outcome key max i false (take 65552 filled)
+outcome-more key max i ahead given filled len is =
+    let no : nat_le (length filled) 65552 ≡ false = lt-leb (length filled) 65552 (omega arith) in
+    ap (first_outcome key max i) (sym is) ∙ ap (λ b. outcome key max i b (take 65552 filled)) no
 
-pub after-more : (ahead given d filled : Bytes) → length filled ≡ 65553 → filled ≡ ahead ++ given
-    → after_first (ahead ++ (given ++ d)) ≡ Some (drop 65552 filled ++ d)
-after-more ahead given d filled len is =
-    let l : length (filled ++ d) ≡ length filled + length d = length-append filled d in
-    let no : nat_le (length (filled ++ d)) 65552 ≡ false = lt-leb (length (filled ++ d)) 65552 (omega arith) in
-    ap after_first (sym (append_assoc ahead given d) ∙ ap (λ t. t ++ d) (sym is))
-    ∙ ap (λ b. cond b None (Some (drop 65552 (filled ++ d)))) no
-    ∙ ap Some (drop-append-le 65552 filled d (omega arith))
+pub after-more : (ahead given filled : Bytes) → length filled ≡ 65553 → filled ≡ ahead ++ given
+    → after_first (ahead ++ given) ≡ Some (drop 65552 filled)
+after-more ahead given filled len is =
+    let no : nat_le (length filled) 65552 ≡ false = lt-leb (length filled) 65552 (omega arith) in
+    ap after_first (sym is) ∙ ap (λ b. cond b None (Some (drop 65552 filled))) no
 
 -- no byte follows
 pub outcome-last : (key : Bytes) (max i : ℕ) (ahead given prefix : Bytes) → length prefix < 65553
@@ -75,10 +70,6 @@ unkept : {P : Type 0} (fault : Option StreamFault) → P → IfNone fault P
 unkept None p = p
 unkept (Some f) p = tt
 
-gave-held : (old : OpenerState) (ahead : Bytes) (from to : Known) → old.held ≡ Some ahead
-    → GaveAtMost (65553 - length ahead) (moved from to) → GaveAtMost (65553 - ahead_len old.held) (moved from to)
-gave-held old ahead from to is h = rw is h
-
 -- one byte is read ahead, and the text before it is a full chunk
 pub one-ahead : (more : Bool) (len : ℕ) (bytes : Bytes) → length bytes ≡ 65553 → (more ≡ true → len ≡ 65536)
     → IfSome (held_of more (take 1 (drop 65552 bytes)))
@@ -112,118 +103,109 @@ ahead-len : (ahead : ℕ) (bytes : Bytes) → length bytes ≡ 65553 → ahead �
     → length (take ahead (drop 65552 bytes)) ≡ ahead
 ahead-len ahead bytes size le = length-take-le ahead (drop 65552 bytes) (omega (arith, length-drop 65552 bytes))
 
+-- what filling the buffer after these bytes gave
+pub is-filled : (ahead n : ℕ) (bytes given : Bytes) (left : Known) → length bytes ≡ 65553 → ahead ≤ 1
+    → ahead + length given ≡ n → n ≤ 65553 → (n < 65553 → IsAtEnd left)
+    → IsFilled (Some (take ahead (drop 65552 bytes))) given left
+is-filled ahead n bytes given left size le sum room end =
+    let l : length (take ahead (drop 65552 bytes)) ≡ ahead = ahead-len ahead bytes size le in
+    (omega arith, λ low. end (omega arith))
+
 -- a piece was opened
-pub advances-ok : (now : OpenerState) (from to : Known) (key : Bytes) (max i ahead len : ℕ) (more : Bool)
+pub advances-ok : (now : OpenerState) (from to : Seen) (key : Bytes) (max i ahead len : ℕ) (more : Bool)
     (old slice bytes items : Bytes) (fault : Option StreamFault) (piece : Piece)
     → parts key max i more ahead old len fault ≡ now → more ≡ true → fault ≡ None → slice ≡ old → length old ≡ 65553
     → ahead ≤ 1 → length bytes ≡ 65553 → items ≡ bytes
     → max ≤ 2 ^ 88 → i < max → (piece.more ≡ true → piece.len ≡ 65536)
     → IsErrOf {T = Piece} (Ok piece) Read
-    ⊎ ((d : Bytes) → MayGive to d → (c : Bytes) × MayGive from c
-    × OpensPiece key max i (take ahead (drop 65552 slice) ++ c) bytes d (Ok piece))
-    → IsErrOf {T = Piece} (Ok piece) Read ⊎ GaveAtMost (65553 - ahead) (moved from to)
+    ⊎ ReadsPiece key max i (take ahead (drop 65552 slice)) bytes (flow from to) (Ok piece)
     → IfNone now.fault (IsErrOf {T = Bool} (Ok true) Read
-    ⊎ Advances now (parts key max (i + 1) piece.more 1 items piece.len fault) (moved from to) (Ok true))
+    ⊎ Advances now (parts key max (i + 1) piece.more 1 items piece.len fault) (flow from to) (Ok true))
 advances-ok now from to key max i ahead len more old slice bytes items fault piece view is_more none same size le
-    new_size all small within full opens gave =
+    new_size all small within full opens =
     let prefix : Bytes = take ahead (drop 65552 old) in
+    let r : ReadsPiece key max i prefix items (flow from to) (Ok piece) =
+    subst (λ t. ReadsPiece key max i prefix t (flow from to) (Ok piece)) (sym all)
+    (subst (λ t. ReadsPiece key max i (take ahead (drop 65552 t)) bytes (flow from to) (Ok piece)) same
+    (unread piece opens)) in
     let l : length prefix ≡ ahead = ahead-len ahead old size le in
     let held : held_of more prefix ≡ Some prefix = ap (λ m. held_of m prefix) is_more in
     let next : OpenerState = parts key max (i + 1) piece.more 1 items piece.len fault in
     let one : IfSome (held_of piece.more (take 1 (drop 65552 items)))
     (λ a. (length a ≡ 1) × (length (take piece.len items) ≡ 65536)) =
     one-ahead piece.more piece.len items (ap length all ∙ new_size) full in
-    let left : take 1 (drop 65552 items) ≡ drop 65552 bytes = ap (λ t. take 1 (drop 65552 t)) all
-    ∙ ahead-one bytes new_size in
-    let short : ahead_len (held_of more prefix) ≤ 1 = short-ahead more prefix (omega arith) in
-    let given : GaveAtMost (65553 - ahead_len (held_of more prefix)) (moved from to) =
-    subst (λ h. GaveAtMost (65553 - ahead_len h) (moved from to)) (sym held)
-    (subst (λ n. GaveAtMost (65553 - n) (moved from to)) (sym l) (unread piece gave)) in
-    subst (λ s. IfNone s.fault (IsErrOf {T = Bool} (Ok true) Read ⊎ Advances s next (moved from to) (Ok true))) view
+    let rest : held_of piece.more (take 1 (drop 65552 items)) ≡ after_first (prefix ++ r.given) =
+    ap (held_of piece.more) (ahead-one items (ap length all ∙ new_size)) ∙ r.opens.2 in
+    subst (λ s. IfNone s.fault (IsErrOf {T = Bool} (Ok true) Read ⊎ Advances s next (flow from to) (Ok true))) view
     (unkept fault (inr (record {
       key = refl;
       max_chunks = refl;
       small = small;
       keeps = (none, refl, (λ e. within), one);
-      ahead = short;
-      gave = given;
-      opens = λ d may.
-          let o = unread piece opens d may in
-          let at : first_outcome key max i (prefix ++ o.0) ≡ Ok (take piece.len items) =
-          ap (λ t. first_outcome key max i (take ahead (drop 65552 t) ++ o.0)) (sym same) ∙ o.2.0
-          ∙ ap (λ t. Ok (take piece.len t)) (sym all) in
-          let rest : left_of (held_of piece.more (take 1 (drop 65552 items))) d ≡ after_first (prefix ++ o.0) =
-          ap (λ t. left_of (held_of piece.more t) d) left ∙ o.2.2
-          ∙ ap (λ t. after_first (take ahead (drop 65552 t) ++ o.0)) same in (
-            o.0,
-            o.1,
-            opens-ok key max i (held_of more prefix)
-                (left_of (held_of piece.more (take 1 (drop 65552 items))) d) prefix o.0 (take piece.len items) held at
-                rest,
-          );
+      ahead = short-ahead more prefix (omega arith);
+      given = r.given;
+      gave = r.gave;
+      filled = subst (λ h. IsFilled h r.given to.to_come) (sym held) r.filled;
+      opens = opens-ok key max i (held_of more prefix) (held_of piece.more (take 1 (drop 65552 items))) prefix r.given
+          (take piece.len items) held r.opens.0 rest;
     })))
 
-pub advances-read : (old new : OpenerState) (from to : Known) (fault : StreamFault) → fault ≡ Read
-    → IfNone old.fault (IsErrOf {T = Bool} (Err fault) Read ⊎ Advances old new (moved from to) (Err fault))
+pub advances-read : (old new : OpenerState) (from to : Seen) (fault : StreamFault) → fault ≡ Read
+    → IfNone old.fault (IsErrOf {T = Bool} (Err fault) Read ⊎ Advances old new (flow from to) (Err fault))
 advances-read old new from to fault is = unkept old.fault (inl (ap Err is))
 
 same-fault : (f : StreamFault) → IsErrOf {T = Piece} (Err f) Read → f ≡ Read
 same-fault f e = cc
 
 -- a fault was met
-pub advances-err : (now : OpenerState) (from to : Known) (key : Bytes) (max i ahead len : ℕ) (more : Bool)
+pub advances-err : (now : OpenerState) (from to : Seen) (key : Bytes) (max i ahead len : ℕ) (more : Bool)
     (old slice bytes items : Bytes) (kept : Option StreamFault) (fault : StreamFault)
     → parts key max i more ahead old len kept ≡ now → more ≡ true → slice ≡ old → length old ≡ 65553 → ahead ≤ 1
     → max ≤ 2 ^ 88
     → IsErrOf {T = Piece} (Err fault) Read
-    ⊎ ((d : Bytes) → MayGive to d → (c : Bytes) × MayGive from c
-    × OpensPiece key max i (take ahead (drop 65552 slice) ++ c) bytes d (Err fault))
-    → IsErrOf {T = Piece} (Err fault) Read ⊎ GaveAtMost (65553 - ahead) (moved from to)
+    ⊎ ReadsPiece key max i (take ahead (drop 65552 slice)) bytes (flow from to) (Err fault)
     → (fault ≡ Read) ⊎ IsAtPiece max i fault
     → IfNone now.fault (IsErrOf {T = Bool} (Err fault) Read
-    ⊎ Advances now (parts key max i false ahead items 0 (Some fault)) (moved from to) (Err fault))
+    ⊎ Advances now (parts key max i false ahead items 0 (Some fault)) (flow from to) (Err fault))
 advances-err now from to key max i ahead len more old slice bytes items kept fault view is_more same size le small
-    (inl e) gave at =
+    (inl e) at =
     advances-read now (parts key max i false ahead items 0 (Some fault)) from to fault (same-fault fault e)
 advances-err now from to key max i ahead len more old slice bytes items kept fault view is_more same size le small
-    (inr opens) (inl e) at =
-    advances-read now (parts key max i false ahead items 0 (Some fault)) from to fault (same-fault fault e)
-advances-err now from to key max i ahead len more old slice bytes items kept fault view is_more same size le small
-    (inr opens) (inr gave) (inl read) =
+    (inr opens) (inl read) =
     advances-read now (parts key max i false ahead items 0 (Some fault)) from to fault read
 advances-err now from to key max i ahead len more old slice bytes items kept fault view is_more same size le small
-    (inr opens) (inr gave) (inr at) =
+    (inr opens) (inr at) =
     let prefix : Bytes = take ahead (drop 65552 old) in
+    let r : ReadsPiece key max i prefix bytes (flow from to) (Err fault) =
+    subst (λ t. ReadsPiece key max i (take ahead (drop 65552 t)) bytes (flow from to) (Err fault)) same opens in
     let l : length prefix ≡ ahead = ahead-len ahead old size le in
     let held : held_of more prefix ≡ Some prefix = ap (λ m. held_of m prefix) is_more in
     let next : OpenerState = parts key max i false ahead items 0 (Some fault) in
-    let short : ahead_len (held_of more prefix) ≤ 1 = short-ahead more prefix (omega arith) in
-    let given : GaveAtMost (65553 - ahead_len (held_of more prefix)) (moved from to) =
-    subst (λ h. GaveAtMost (65553 - ahead_len h) (moved from to)) (sym held)
-    (subst (λ n. GaveAtMost (65553 - n) (moved from to)) (sym l) gave) in
-    subst (λ s. IfNone s.fault (IsErrOf {T = Bool} (Err fault) Read ⊎ Advances s next (moved from to) (Err fault))) view
+    subst (λ s. IfNone s.fault (IsErrOf {T = Bool} (Err fault) Read ⊎ Advances s next (flow from to) (Err fault))) view
     (unkept kept (inr (record {
       key = refl;
       max_chunks = refl;
       small = small;
       keeps = (refl, refl, at);
-      ahead = short;
-      gave = given;
-      opens = λ d may.
-          let o = opens d may in
-          let is : first_outcome key max i (prefix ++ o.0) ≡ Err fault =
-          ap (λ t. first_outcome key max i (take ahead (drop 65552 t) ++ o.0)) (sym same) ∙ o.2 in (
-            o.0,
-            o.1,
-            opens-err key max i (held_of more prefix) prefix o.0
-                (left_of next.held d) next.text fault held is,
-          );
+      ahead = short-ahead more prefix (omega arith);
+      given = r.given;
+      gave = r.gave;
+      filled = subst (λ h. IsFilled h r.given to.to_come) (sym held) r.filled;
+      opens = opens-err key max i (held_of more prefix) prefix r.given next.held next.text fault held r.opens;
     })))
 
+-- a fault is met only where a piece was left
+pub loses-held : (now : OpenerState) (from to : Seen) (key : Bytes) (max i ahead len : ℕ) (more : Bool) (old : Bytes)
+    (kept : Option StreamFault) → parts key max i more ahead old len kept ≡ now → more ≡ true
+    → GaveSome (flow from to) → IfNone now.fault (Loses now.held (flow from to))
+loses-held now from to key max i ahead len more old kept view is_more some =
+    subst (λ s. IfNone s.fault (Loses s.held (flow from to))) view
+    (unkept kept (subst (λ m. Loses (held_of m (take ahead (drop 65552 old))) (flow from to)) (sym is_more) some))
+
 -- after the last piece
-advances-end : (key : Bytes) (max i : ℕ) (text text2 : Bytes) (from : Known) → max ≤ 2 ^ 88
+advances-end : (key : Bytes) (max i : ℕ) (text text2 : Bytes) (from : Seen) → max ≤ 2 ^ 88
     → Advances (record { key = key; max_chunks = max; index = i; held = None; text = text; fault = None })
-    (record { key = key; max_chunks = max; index = i; held = None; text = text2; fault = None }) (moved from from)
+    (record { key = key; max_chunks = max; index = i; held = None; text = text2; fault = None }) (flow from from)
     (Ok false)
 advances-end key max i text text2 from small = record {
   key = refl;
@@ -231,18 +213,20 @@ advances-end key max i text text2 from small = record {
   small = small;
   keeps = (refl, refl, (λ e. absurd (cc)), tt);
   ahead = omega arith;
-  gave = ([], Consumes-nil from, omega arith);
-  opens = λ d may. (d, may, (refl, refl));
+  given = [];
+  gave = gave-none from;
+  filled = refl;
+  opens = (refl, refl);
 }
 
-pub advances-none : (now : OpenerState) (from : Known) (key : Bytes) (max i ahead len : ℕ) (more : Bool) (bytes : Bytes)
+pub advances-none : (now : OpenerState) (from : Seen) (key : Bytes) (max i ahead len : ℕ) (more : Bool) (bytes : Bytes)
     (fault : Option StreamFault)
     → parts key max i more ahead bytes len fault ≡ now → more ≡ false → fault ≡ None → max ≤ 2 ^ 88
     → IfNone now.fault (IsErrOf {T = Bool} (Ok false) Read
-    ⊎ Advances now (parts key max i more ahead bytes 0 fault) (moved from from) (Ok false))
+    ⊎ Advances now (parts key max i more ahead bytes 0 fault) (flow from from) (Ok false))
 advances-none now from key max i ahead len true bytes fault view over none small = absurd (cc)
 advances-none now from key max i ahead len false bytes (Some fault) view over none small = absurd (cc)
 advances-none now from key max i ahead len false bytes None view over none small =
     subst (λ s. IfNone s.fault (IsErrOf {T = Bool} (Ok false) Read
-    ⊎ Advances s (parts key max i false ahead bytes 0 None) (moved from from) (Ok false))) view
+    ⊎ Advances s (parts key max i false ahead bytes 0 None) (flow from from) (Ok false))) view
     (inr (advances-end key max i (take len bytes) (take 0 bytes) from small))

@@ -1,7 +1,7 @@
 -- What an opener that was given says of reads.
 use Rattle.std.proofs.Common.{◌≡◌, ◌⊎◌, inl, inr, ℕ, Ok}
 use Rattle.std.specs.Prelude.{IsErrOf}
-use Rattle.age_header.specs.Device.{Known, GaveAtMost, moved_by}
+use Rattle.age_header.specs.Device.{Bytes, Known, GaveAtMost, flow_by}
 use Rattle.age_recipient.specs.declared.key.FileKey.{FileKey}
 use Rattle.age_stream.specs.declared.fault.StreamFault.TheVariants.{Read}
 use Rattle.age_stream.specs.Opening.{OpenerState, Starts}
@@ -14,10 +14,10 @@ not-read s (inl e) = absurd (cc)
 not-read s (inr x) = x
 
 -- a reader of the source from which an opener read the nonce
-pub starts-reader : {S : Type 0} (to_come : S → Known) (failed : S → ℕ) (k : FileKey) (max : ℕ) (old mid new : S)
-    (s t : OpenerState) → new ≡ mid → t ≡ s → Starts k max (moved_by to_come old mid) (Ok s)
-    → IsErrOf {T = OpenerState} (Ok s) Read ⊎ GaveAtMost nonce_size (moved_by to_come old mid)
+pub starts-reader : {S : Type 0} (to_come : S → Known) (gave : S → Bytes → Type 0) (failed : S → ℕ) (k : FileKey) (max : ℕ) (old mid new : S)
+    (s t : OpenerState) → new ≡ mid → t ≡ s → Starts k max (flow_by to_come gave old mid) (Ok s)
+    → IsErrOf {T = OpenerState} (Ok s) Read ⊎ GaveAtMost nonce_size (flow_by to_come gave old mid)
     → failed mid ≡ failed old
-    → StartsReader to_come failed k max old new (Ok t)
-starts-reader to_come failed k max old mid new s t same opener starts gave uncounted =
-    rw same (rw opener (starts, not-read s gave, uncounted))
+    → StartsReader to_come gave failed k max old new (Ok t)
+starts-reader to_come gave failed k max old mid new s t same opener starts most uncounted =
+    rw same (rw opener (starts, not-read s most, uncounted))

@@ -1,15 +1,15 @@
 -- Full chunks that go out, one after another.
 use Rattle.std.proofs.Common.{Bool, ◌≡◌, ◌⊎◌, ◌∙◌, ◌++◌, ◌+◌, ◌-◌, ◌*◌, ◌<◌, ◌≤◌, ℕ, List, [], ◌∷◌, length, take, drop, ap, sym, subst, arith, append-nil, append_assoc, length-append, refl, Option, Some, None, Result, Ok, Err, false, inl, inr, zero, suc, slice_set, slice_index_or}
 use Rattle.std.specs.List.{concat}
-use Rattle.std.specs.Io.KnownBytes.{Appends, Consumes, IsAtEnd}
-use Rattle.std.proofs.KnownBytes.{Appends-trans, Appends-nil, Consumes-trans}
+use Rattle.std.specs.Io.KnownBytes.{Appends, IsAtEnd}
+use Rattle.std.proofs.KnownBytes.{Appends-trans, Appends-nil}
 use Rattle.std.proofs.Math.Seq.{take-add, take-append-add, drop-append-add}
 use Rattle.std.proofs.lemmas.List.{take-append-drop, length-take-le, take_at, drop_at, length-drop}
 use Rattle.age_cipher.specs.Sealing.{sealed}
 use Rattle.age_cipher.proofs.OpeningLemmas.{length-sealed}
-use Rattle.age_header.specs.Device.{GaveAtMost, WritesPart, Known, moved}
+use Rattle.age_header.specs.Device.{Gave, GaveAtMost, GaveSome, WritesPart, Known, Seen, flow, moved}
 use Rattle.age_header.specs.Filling.{Filled}
-use Rattle.age_header.proofs.DeviceLemmas.{may-end, may-more, may-some, Done, done_part}
+use Rattle.age_header.proofs.DeviceLemmas.{gave-all, gave-then, of-any, of-ended, of-more, of-still, of-then, Done, done_part}
 use Rattle.age_stream.specs.declared.fault.StreamFault.{StreamFault}
 use Rattle.age_stream.specs.declared.fault.StreamFault.TheVariants.{Read, Write, TooManyChunks}
 use Rattle.age_stream.specs.Cutting.{cut, cut_into}
@@ -137,114 +137,107 @@ wrote-fed key i j held text now part a b c f put = (
 )
 
 -- a read failed
-pub stopped-read : (key : Bytes) (max i j : ℕ) (held text now : Bytes) (from mid to a b : Known)
-    → Consumes from mid text
-    → Fed key i j held text now (moved a b) → Stopped key max i j held (moved from to) (moved a b) Read
-stopped-read key max i j held text now from mid to a b took f =
-    let d = may-some mid in
-    let done = done-fed key i j held text now (text ++ d.0) (sealed_after key j now d.0) a b f (f.chunks d.0) in
-    record {
-      text = text ++ d.0;
-      may = may-more from mid text d.0 took d.1;
-      stops = done_part a b b _ _ [] _ done refl (0, Appends-nil b);
-      wrote = wrote-fed key i j held text now [] a b b f (Appends-nil b);
-      gave = inl refl;
-    }
+pub stopped-read : (key : Bytes) (max i j : ℕ) (held text now : Bytes) (from mid to : Seen) (a b : Known)
+    → Gave (flow from mid) text → GaveSome (flow mid to)
+    → Fed key i j held text now (moved a b) → Stopped key max i j held (flow from to) (moved a b) Read
+stopped-read key max i j held text now from mid to a b took lost f = record {
+  stops = of-then from mid to text _ _ took (of-any mid to
+      (λ d. WritesPart (moved a b) (concat (sealed_after key i held (text ++ d)))) lost (λ d. done_part a b b _ _ [] _
+      (done-fed key i j held text now (text ++ d) (sealed_after key j now d) a b f (f.chunks d)) refl (0, Appends-nil b)))
+      (λ d part. part);
+  wrote = wrote-fed key i j held text now [] a b b f (Appends-nil b);
+  gave = inl refl;
+}
 
-gave-full : (key : Bytes) (i j : ℕ) (held text now piece full next : Bytes) (from mid to a b : Known)
+gave-full : (key : Bytes) (i j : ℕ) (held text now piece full next : Bytes) (from mid to : Seen) (a b : Known)
     → IsFull now piece full next → Fed key i j held text now (moved a b)
-    → Consumes from mid text → Consumes mid to piece
-    → GaveAtMost (65536 * (j + 1 - i) + 1 - length held) (moved from to)
+    → Gave (flow from mid) text → Gave (flow mid to) piece
+    → GaveAtMost (65536 * (j + 1 - i) + 1 - length held) (flow from to)
 gave-full key i j held text now piece full next from mid to a b h f took more = (
   text ++ piece,
-  Consumes-trans from mid to text piece took more,
+  gave-then from mid to text piece took more,
   omega (arith, length-append text piece, f.bytes, f.count, piece-len now piece full next h),
 )
 
 -- a write failed
-pub stopped-write : (key : Bytes) (max i j : ℕ) (held text now piece full next : Bytes) (from mid to a b c : Known)
+pub stopped-write : (key : Bytes) (max i j : ℕ) (held text now piece full next : Bytes) (from mid to : Seen) (a b c : Known)
     → IsFull now piece full next
-    → Consumes from mid text → Consumes mid to piece → Fed key i j held text now (moved a b)
+    → Gave (flow from mid) text → Gave (flow mid to) piece → Fed key i j held text now (moved a b)
     → WritesPart (moved b c) (sealed key (chunk_nonce j false) [] full)
-    → Stopped key max i j held (moved from to) (moved a c) Write
-stopped-write key max i j held text now piece full next from mid to a b c h took more f part =
-    let d = may-some to in
-    let chunk : Bytes = sealed key (chunk_nonce j false) [] full in
-    let rest : List Bytes = sealed_after key (j + 1) next d.0 in
-    let done = done-fed key i j held text now ((text ++ piece) ++ d.0) (chunk ∷ rest) a b f
-    (chunks-after key i j held text now piece full next d.0 a b h f) in
-    record {
-      text = (text ++ piece) ++ d.0;
-      may = may-more from to (text ++ piece) d.0 (Consumes-trans from mid to text piece took more) d.1;
-      stops = done_part a b c _ _ chunk (concat rest) done refl part;
-      wrote = wrote-fed key i j held text now (take part.0 chunk) a b c f part.1;
-      gave = inr (gave-full key i j held text now piece full next from mid to a b h f took more);
-    }
+    → Stopped key max i j held (flow from to) (moved a c) Write
+stopped-write key max i j held text now piece full next from mid to a b c h took more f part = record {
+  stops = of-more from to (text ++ piece) _ (gave-then from mid to text piece took more) (λ d end.
+      let chunk : Bytes = sealed key (chunk_nonce j false) [] full in
+      let rest : List Bytes = sealed_after key (j + 1) next d in
+      let done = done-fed key i j held text now ((text ++ piece) ++ d) (chunk ∷ rest) a b f
+      (chunks-after key i j held text now piece full next d a b h f) in
+      done_part a b c _ _ chunk (concat rest) done refl part);
+  wrote = wrote-fed key i j held text now (take part.0 (sealed key (chunk_nonce j false) [] full)) a b c f part.1;
+  gave = inr (gave-full key i j held text now piece full next from mid to a b h f took more);
+}
 
 -- no chunk more is allowed
-pub stopped-many : (key : Bytes) (max i j : ℕ) (held text now piece full next : Bytes) (from mid to a b c : Known)
+pub stopped-many : (key : Bytes) (max i j : ℕ) (held text now piece full next : Bytes) (from mid to : Seen) (a b c : Known)
     → IsFull now piece full next → j < max → max ≤ j + 1
-    → Consumes from mid text → Consumes mid to piece → Fed key i j held text now (moved a b) → Appends b c []
-    → Stopped key max i j held (moved from to) (moved a c) TooManyChunks
+    → Gave (flow from mid) text → Gave (flow mid to) piece → Fed key i j held text now (moved a b) → Appends b c []
+    → Stopped key max i j held (flow from to) (moved a c) TooManyChunks
 stopped-many key max i j held text now piece full next from mid to a b c h within many took more f none =
-    let d = may-some to in
-    let all : Bytes = (text ++ piece) ++ d.0 in
-    let chunk : Bytes = sealed key (chunk_nonce j false) [] full in
-    let rest : List Bytes = sealed_after key (j + 1) next d.0 in
-    let is : sealed_after key i held all ≡ f.gone ++ chunk ∷ rest =
-    chunks-after key i j held text now piece full next d.0 a b h f in
-    let lr : length rest ≡ length (cut_into 65536 next d.0) = length-each key (j + 1) (cut_into 65536 next d.0) in
-    let some : 0 < length (cut_into 65536 next d.0) = cut-some 65536 next d.0 in
-    let ll : length (cut_into 65536 held all) ≡ length f.gone + length (chunk ∷ rest) =
-    sym (length-each key i (cut_into 65536 held all)) ∙ ap length is ∙ length-append f.gone (chunk ∷ rest) in
-    let n : max - 1 - i ≡ length f.gone = omega (arith, f.count) in
-    let gone : take (max - 1 - i) (sealed_after key i held all) ≡ f.gone = ap (take (max - 1 - i)) is
-    ∙ take_at f.gone (chunk ∷ rest) (max - 1 - i) (sym n) in
-    let lc : length (chunk ∷ rest) ≡ suc (length rest) = refl in
     let wrote : Appends a c (concat f.gone) =
     subst (λ t. Appends a c t) (append-nil (concat f.gone))
     (Appends-trans a b c (concat f.gone) [] f.written none) in
     record {
-      text = all;
-      may = may-more from to (text ++ piece) d.0 (Consumes-trans from mid to text piece took more) d.1;
-      stops = (omega (arith, f.count), subst (λ t. Appends a c (concat t)) (sym gone) wrote);
+      stops = of-more from to (text ++ piece) _ (gave-then from mid to text piece took more) (λ d end.
+          let all : Bytes = (text ++ piece) ++ d in
+          let chunk : Bytes = sealed key (chunk_nonce j false) [] full in
+          let rest : List Bytes = sealed_after key (j + 1) next d in
+          let is : sealed_after key i held all ≡ f.gone ++ chunk ∷ rest =
+          chunks-after key i j held text now piece full next d a b h f in
+          let lr : length rest ≡ length (cut_into 65536 next d) = length-each key (j + 1) (cut_into 65536 next d) in
+          let some : 0 < length (cut_into 65536 next d) = cut-some 65536 next d in
+          let ll : length (cut_into 65536 held all) ≡ length f.gone + length (chunk ∷ rest) =
+          sym (length-each key i (cut_into 65536 held all)) ∙ ap length is ∙ length-append f.gone (chunk ∷ rest) in
+          let n : max - 1 - i ≡ length f.gone = omega (arith, f.count) in
+          let gone : take (max - 1 - i) (sealed_after key i held all) ≡ f.gone = ap (take (max - 1 - i)) is
+          ∙ take_at f.gone (chunk ∷ rest) (max - 1 - i) (sym n) in
+          let lc : length (chunk ∷ rest) ≡ suc (length rest) = refl in
+          (omega (arith, f.count), subst (λ t. Appends a c (concat t)) (sym gone) wrote));
       wrote = wrote-fed key i j held text now [] a b c f none;
       gave = inr (gave-full key i j held text now piece full next from mid to a b h f took more);
     }
 
 -- the source is at its end
-pub fed-end : (key : Bytes) (i j : ℕ) (held text now piece : Bytes) (from mid to a b : Known)
-    → length now + length piece ≤ 65536 → Consumes from mid text → Consumes mid to piece → IsAtEnd to
-    → Fed key i j held text now (moved a b) → IsFed key i j held (now ++ piece) (moved from to) (moved a b)
+pub fed-end : (key : Bytes) (i j : ℕ) (held text now piece : Bytes) (from mid to : Seen) (a b : Known)
+    → length now + length piece ≤ 65536 → Gave (flow from mid) text → Gave (flow mid to) piece → IsAtEnd to.to_come
+    → Fed key i j held text now (moved a b) → IsFed key i j held (now ++ piece) (flow from to) (moved a b)
 fed-end key i j held text now piece from mid to a b fits took more end f = record {
   text = text ++ piece;
-  took = Consumes-trans from mid to text piece took more;
-  may = may-end from to (text ++ piece) (Consumes-trans from mid to text piece took more) end;
+  took = gave-then from mid to text piece took more;
+  all = gave-all from.to_come to.to_come (text ++ piece) (gave-then from mid to text piece took more).consumes end;
   fed = fed-held key i j held text now piece a b fits f;
 }
 
 -- a chunk that did not go out
-pub stopped-full : (key : Bytes) (max i j k : ℕ) (held text now piece full next : Bytes) (from mid to a b c : Known)
+pub stopped-full : (key : Bytes) (max i j k : ℕ) (held text now piece full next : Bytes) (from mid to : Seen) (a b c : Known)
     (fault : StreamFault) → IsFull now piece full next → j < max
-    → Consumes from mid text → Consumes mid to piece → Fed key i j held text now (moved a b)
+    → Gave (flow from mid) text → Gave (flow mid to) piece → Fed key i j held text now (moved a b)
     → (k ≡ j) × (((fault ≡ Write) × WritesPart (moved b c) (sealed key (chunk_nonce j false) [] full))
     ⊎ ((fault ≡ TooManyChunks) × (max ≤ j + 1) × Appends b c []))
-    → Stopped key max i k held (moved from to) (moved a c) fault
+    → Stopped key max i k held (flow from to) (moved a c) fault
 stopped-full key max i j k held text now piece full next from mid to a b c fault h within took more f
     (same, inl (is, part)) =
-    subst (λ n. Stopped key max i n held (moved from to) (moved a c) fault) (sym same)
-    (subst (Stopped key max i j held (moved from to) (moved a c)) (sym is)
+    subst (λ n. Stopped key max i n held (flow from to) (moved a c) fault) (sym same)
+    (subst (Stopped key max i j held (flow from to) (moved a c)) (sym is)
     (stopped-write key max i j held text now piece full next from mid to a b c h took more f part))
 stopped-full key max i j k held text now piece full next from mid to a b c fault h within took more f
     (same, inr (is, many, none)) =
-    subst (λ n. Stopped key max i n held (moved from to) (moved a c) fault) (sym same)
-    (subst (Stopped key max i j held (moved from to) (moved a c)) (sym is)
+    subst (λ n. Stopped key max i n held (flow from to) (moved a c) fault) (sym same)
+    (subst (Stopped key max i j held (flow from to) (moved a c)) (sym is)
     (stopped-many key max i j held text now piece full next from mid to a b c h within many took more f none))
 
 -- a buffer that was filled up to the byte after a full chunk
-pub full-is : (held n : ℕ) (bytes filled : Bytes) (a b : Known) → 65536 < n → n ≤ 65537 → held ≤ 65536
+pub full-is : (held n : ℕ) (bytes filled : Bytes) (a b : Seen) → 65536 < n → n ≤ 65537 → held ≤ 65536
     → length bytes ≡ 65553 → length filled ≡ 65553
-    → (f : Filled held n bytes filled (moved a b))
+    → (f : Filled held n bytes filled (flow a b))
     → IsFull (take held bytes) f.piece (take 65536 filled) (take 1 (drop 65536 filled))
 full-is held n bytes filled a b low high le size full_size f =
     let is : n ≡ 65536 + 1 = omega arith in
@@ -284,14 +277,14 @@ unkept None p = p
 unkept (Some f) p = tt
 
 -- all was taken
-pub takes-ok : (u : Unit {0}) (now : SealerState) (from to a b : Known) (key : Bytes) (max i j len n : ℕ)
+pub takes-ok : (u : Unit {0}) (now : SealerState) (from to : Seen) (a b : Known) (key : Bytes) (max i j len n : ℕ)
     (old slice bytes items : Bytes) (fault : Option StreamFault)
     → parts key max i len old fault ≡ now → fault ≡ None → slice ≡ old → length bytes ≡ 65553 → items ≡ bytes
     → n ≤ 65536 → j < max
-    → IsFed key i j (take len slice) (take n bytes) (moved from to) (moved a b) × IsAtEnd to
-    → IfNone now.fault (TakesAll {A = Unit {0}} now (parts key max j n items fault) (moved from to) (moved a b) (Ok u))
+    → IsFed key i j (take len slice) (take n bytes) (flow from to) (moved a b) × IsAtEnd to.to_come
+    → IfNone now.fault (TakesAll {A = Unit {0}} now (parts key max j n items fault) (flow from to) (moved a b) (Ok u))
 takes-ok u now from to a b key max i j len n old slice bytes items fault view none same size all le within (fed, end) =
-    subst (λ s. IfNone s.fault (TakesAll s (parts key max j n items fault) (moved from to) (moved a b) (Ok u))) view
+    subst (λ s. IfNone s.fault (TakesAll s (parts key max j n items fault) (flow from to) (moved a b) (Ok u))) view
     (unkept fault (
       refl,
       refl,
@@ -299,27 +292,27 @@ takes-ok u now from to a b key max i j len n old slice bytes items fault view no
         none,
         omega (arith, length-take-le n items (omega (arith, ap length all))),
         within,
-        subst (λ t. IsFed key i j (take len t) (take n items) (moved from to) (moved a b)) same
-            (subst (λ t. IsFed key i j (take len slice) (take n t) (moved from to) (moved a b)) (sym all) fed),
+        subst (λ t. IsFed key i j (take len t) (take n items) (flow from to) (moved a b)) same
+            (subst (λ t. IsFed key i j (take len slice) (take n t) (flow from to) (moved a b)) (sym all) fed),
         end,
       ),
     ))
 
 -- a fault was met
-pub takes-err : (now : SealerState) (from to a b : Known) (key : Bytes) (max i j len : ℕ) (old slice items : Bytes)
+pub takes-err : (now : SealerState) (from to : Seen) (a b : Known) (key : Bytes) (max i j len : ℕ) (old slice items : Bytes)
     (kept : Option StreamFault) (fault : StreamFault)
     → parts key max i len old kept ≡ now → slice ≡ old
-    → Stopped key max i j (take len slice) (moved from to) (moved a b) fault
+    → Stopped key max i j (take len slice) (flow from to) (moved a b) fault
     → IfNone now.fault
-    (TakesAll {A = Unit {0}} now (parts key max j len items (Some fault)) (moved from to) (moved a b) (Err fault))
+    (TakesAll {A = Unit {0}} now (parts key max j len items (Some fault)) (flow from to) (moved a b) (Err fault))
 takes-err now from to a b key max i j len old slice items kept fault view same stopped =
     subst
     (λ s. IfNone s.fault
-    (TakesAll {A = Unit {0}} s (parts key max j len items (Some fault)) (moved from to) (moved a b)
+    (TakesAll {A = Unit {0}} s (parts key max j len items (Some fault)) (flow from to) (moved a b)
     (Err fault))) view (unkept kept (
       refl,
       refl,
-      (refl, subst (λ t. Stopped key max i j (take len t) (moved from to) (moved a b) fault) same stopped),
+      (refl, subst (λ t. Stopped key max i j (take len t) (flow from to) (moved a b) fault) same stopped),
     ))
 
 -- ---- a whole payload
@@ -343,21 +336,20 @@ count-all key i j held text now a b f =
     let one : length (sealed_after key j now []) ≡ 1 = refl in
     omega (arith, l, one, f.count)
 
-pub seals-ok : (s t : SealerState) (u : Unit {0}) (from to a b c : Known) (done : StreamDone) → s.fault ≡ None
-    → IfNone s.fault (TakesAll s t (moved from to) (moved a b) (Ok u))
+pub seals-ok : (s t : SealerState) (u : Unit {0}) (from to : Seen) (a b c : Known) (done : StreamDone) → s.fault ≡ None
+    → IfNone s.fault (TakesAll s t (flow from to) (moved a b) (Ok u))
     → IfNone t.fault (FinishesBy t (moved b c) (Ok done))
-    → SealsAll s (moved from to) (moved a c) (Ok done)
+    → SealsAll s (flow from to) (moved a c) (Ok done)
 seals-ok s t u from to a b c done none takes finishes =
-    let h = subst (λ (x : Option StreamFault). IfNone x (TakesAll s t (moved from to) (moved a b) (Ok u))) none takes in
+    let h = subst (λ (x : Option StreamFault). IfNone x (TakesAll s t (flow from to) (moved a b) (Ok u))) none takes in
     let e = subst (λ (x : Option StreamFault). IfNone x (FinishesBy t (moved b c) (Ok done))) h.2.0 finishes in
     let fed = h.2.3 in
     let last : Appends b c (concat (sealed_after s.key t.index t.held [])) =
     subst (λ k. Appends b c (concat (sealed_after k t.index t.held []))) h.0 e.0 in
     let count : s.index + length (cut_into 65536 s.held fed.text) ≡ t.index + 1 =
     count-all s.key s.index t.index s.held fed.text t.held a b fed.fed in
-    let fits : t.index < s.max_chunks = subst (λ m. t.index < m) h.1 h.2.2 in (
-      fed.text,
-      fed.may,
+    let fits : t.index < s.max_chunks = subst (λ m. t.index < m) h.1 h.2.2 in
+    of-ended from to fed.text _ fed.took h.2.4 (
       subst (Appends a c) (sym (answer-all s.key s.index t.index s.held fed.text t.held a b fed.fed))
           (Appends-trans a b c (concat fed.fed.gone) _ fed.fed.written last),
       omega (arith, count, fits),
@@ -365,12 +357,12 @@ seals-ok s t u from to a b c done none takes finishes =
       e.2 ∙ sym count,
     )
 
-pub seals-last : (s t : SealerState) (u : Unit {0}) (from to a b c : Known) (fault : StreamFault) → s.fault ≡ None
-    → IfNone s.fault (TakesAll s t (moved from to) (moved a b) (Ok u))
+pub seals-last : (s t : SealerState) (u : Unit {0}) (from to : Seen) (a b c : Known) (fault : StreamFault) → s.fault ≡ None
+    → IfNone s.fault (TakesAll s t (flow from to) (moved a b) (Ok u))
     → IfNone t.fault (FinishesBy t (moved b c) (Err fault))
-    → SealsAll s (moved from to) (moved a c) (Err fault)
+    → SealsAll s (flow from to) (moved a c) (Err fault)
 seals-last s t u from to a b c fault none takes finishes =
-    let h = subst (λ (x : Option StreamFault). IfNone x (TakesAll s t (moved from to) (moved a b) (Ok u))) none takes in
+    let h = subst (λ (x : Option StreamFault). IfNone x (TakesAll s t (flow from to) (moved a b) (Ok u))) none takes in
     let e = subst (λ (x : Option StreamFault). IfNone x (FinishesBy t (moved b c) (Err fault))) h.2.0 finishes in
     let fed = h.2.3 in
     let part : WritesPart (moved b c) (concat (sealed_after s.key t.index t.held [])) =
@@ -378,30 +370,29 @@ seals-last s t u from to a b c fault none takes finishes =
     let done = done-fed s.key s.index t.index s.held fed.text t.held fed.text (sealed_after s.key t.index t.held []) a b
     fed.fed (chunks-all s.key s.index t.index s.held fed.text t.held a b fed.fed) in (
       t.index,
-      subst (Stopped s.key s.max_chunks s.index t.index s.held (moved from to) (moved a c)) (sym e.0) (record {
-        text = fed.text;
-        may = fed.may;
-        stops = done_part a b c _ _ (concat (sealed_after s.key t.index t.held [])) [] done (sym (append-nil _)) part;
+      subst (Stopped s.key s.max_chunks s.index t.index s.held (flow from to) (moved a c)) (sym e.0) (record {
+        stops = of-ended from to fed.text _ fed.took h.2.4
+            (done_part a b c _ _ (concat (sealed_after s.key t.index t.held [])) [] done (sym (append-nil _)) part);
         wrote = wrote-fed s.key s.index t.index s.held fed.text t.held
             (take part.0 (concat (sealed_after s.key t.index t.held []))) a b c fed.fed part.1;
         gave = inr (fed.text, fed.took, omega (arith, fed.fed.bytes, fed.fed.count, h.2.1));
       }),
     )
 
-pub seals-finish : (s t : SealerState) (u : Unit {0}) (from to a b c : Known) (r : Result StreamDone StreamFault)
-    → s.fault ≡ None → IfNone s.fault (TakesAll s t (moved from to) (moved a b) (Ok u))
+pub seals-finish : (s t : SealerState) (u : Unit {0}) (from to : Seen) (a b c : Known) (r : Result StreamDone StreamFault)
+    → s.fault ≡ None → IfNone s.fault (TakesAll s t (flow from to) (moved a b) (Ok u))
     → IfNone t.fault (FinishesBy t (moved b c) r)
-    → SealsAll s (moved from to) (moved a c) r
+    → SealsAll s (flow from to) (moved a c) r
 seals-finish s t u from to a b c (Ok done) none takes finishes = seals-ok s t u from to a b c done none takes finishes
 seals-finish s t u from to a b c (Err fault) none takes finishes =
     seals-last s t u from to a b c fault none takes finishes
 
-pub seals-err : (s t : SealerState) (from to a b : Known) (fault : StreamFault) → s.fault ≡ None
-    → IfNone s.fault (TakesAll {A = Unit {0}} s t (moved from to) (moved a b) (Err fault))
-    → SealsAll s (moved from to) (moved a b) (Err fault)
+pub seals-err : (s t : SealerState) (from to : Seen) (a b : Known) (fault : StreamFault) → s.fault ≡ None
+    → IfNone s.fault (TakesAll {A = Unit {0}} s t (flow from to) (moved a b) (Err fault))
+    → SealsAll s (flow from to) (moved a b) (Err fault)
 seals-err s t from to a b fault none takes =
     let h = subst
-    (λ (x : Option StreamFault). IfNone x (TakesAll {A = Unit {0}} s t (moved from to) (moved a b) (Err fault)))
+    (λ (x : Option StreamFault). IfNone x (TakesAll {A = Unit {0}} s t (flow from to) (moved a b) (Err fault)))
     none
     takes in
     (t.index, h.2.1)
@@ -418,66 +409,61 @@ cut-held : (x more : Bytes) → length x ≤ 65536 → cut_into 65536 [] (x ++ m
 cut-held x more fits = cut-fits 65536 [] x more (omega (arith, fits))
 
 -- a sealer that was filled seals what came and what comes
-pub filled-seals : (key : Bytes) (max : ℕ) (t : SealerState) (more : Bool) (from mid to a c : Known)
+pub filled-seals : (key : Bytes) (max : ℕ) (t : SealerState) (more : Bool) (from mid to : Seen) (a c : Known)
     (r : Result StreamDone StreamFault)
-    → Fills (at_start key max) t (moved from mid) (Ok more) → SealsAll t (moved mid to) (moved a c) r
-    → SealsAll (at_start key max) (moved from to) (moved a c) r
+    → Fills (at_start key max) t (flow from mid) (Ok more) → SealsAll t (flow mid to) (moved a c) r
+    → SealsAll (at_start key max) (flow from to) (moved a c) r
 filled-seals key max t more from mid to a c r (x, took, is, fits, full, ended) seals =
-    go r (subst (λ (u : SealerState). SealsAll u (moved mid to) (moved a c) r) is seals)
+    go r (subst (λ (u : SealerState). SealsAll u (flow mid to) (moved a c) r) is seals)
   where
     le : length x ≤ 65536
     le = subst (λ (u : SealerState). length u.held ≤ 65536) is fits
 
     go : (q : Result StreamDone StreamFault)
-        → SealsAll (record (at_start key max) { held = x }) (moved mid to) (moved a c) q
-        → SealsAll (at_start key max) (moved from to) (moved a c) q
-    go (Ok done) (text, may, put, within, bytes, count) =
+        → SealsAll (record (at_start key max) { held = x }) (flow mid to) (moved a c) q
+        → SealsAll (at_start key max) (flow from to) (moved a c) q
+    go (Ok done) h = of-then from mid to x _ _ took h (λ text q.
         let same : cut_into 65536 [] (x ++ text) ≡ cut_into 65536 x text = cut-held x text le in (
-          x ++ text,
-          may-more from mid x text took may,
-          subst (λ cs. Appends a c (concat (sealed_from key 0 cs))) (sym same) put,
-          subst (λ (cs : List Bytes). 0 + length cs ≤ max) (sym same) within,
-          omega (arith, bytes, length-append x text),
-          subst (λ (cs : List Bytes). done.chunks ≡ 0 + length cs) (sym same) count,
-        )
+          subst (λ cs. Appends a c (concat (sealed_from key 0 cs))) (sym same) q.0,
+          subst (λ (cs : List Bytes). 0 + length cs ≤ max) (sym same) q.1,
+          omega (arith, q.2, length-append x text),
+          subst (λ (cs : List Bytes). done.chunks ≡ 0 + length cs) (sym same) q.3,
+        ))
     go (Err fault) (j, s) = (
       j,
       record {
-        text = x ++ s.text;
-        may = may-more from mid x s.text took s.may;
-        stops = stops fault s.stops;
+        stops = of-then from mid to x _ _ took s.stops (λ text h. stops text fault h);
         wrote = s.wrote;
         gave = gave s.gave;
       },
     )
       where
-        same : cut_into 65536 [] (x ++ s.text) ≡ cut_into 65536 x s.text
-        same = cut-held x s.text le
-
-        stops : (f : StreamFault) → StopsIn key max 0 x s.text (moved a c) f
-            → StopsIn key max 0 [] (x ++ s.text) (moved a c) f
-        stops Read h = subst (λ cs. WritesPart (moved a c) (concat (sealed_from key 0 cs))) (sym same) h
-        stops Write h = subst (λ cs. WritesPart (moved a c) (concat (sealed_from key 0 cs))) (sym same) h
-        stops TooManyChunks h =
+        stops : (text : Bytes) (f : StreamFault) → StopsIn key max 0 x text (moved a c) f
+            → StopsIn key max 0 [] (x ++ text) (moved a c) f
+        stops text Read h =
+            subst (λ cs. WritesPart (moved a c) (concat (sealed_from key 0 cs))) (sym (cut-held x text le)) h
+        stops text Write h =
+            subst (λ cs. WritesPart (moved a c) (concat (sealed_from key 0 cs))) (sym (cut-held x text le)) h
+        stops text TooManyChunks h =
             subst (λ (cs : List Bytes). (max < 0 + length cs)
-            × Appends a c (concat (take (max - 1 - 0) (sealed_from key 0 cs)))) (sym same) h
-        stops _ h = absurd h
+            × Appends a c (concat (take (max - 1 - 0) (sealed_from key 0 cs)))) (sym (cut-held x text le)) h
+        stops text _ h = absurd h
 
-        gave : (fault ≡ Read) ⊎ GaveAtMost (65536 * (j + 1 - 0) + 1 - length x) (moved mid to)
-            → (fault ≡ Read) ⊎ GaveAtMost (65536 * (j + 1 - 0) + 1 - 0) (moved from to)
+        gave : (fault ≡ Read) ⊎ GaveAtMost (65536 * (j + 1 - 0) + 1 - length x) (flow mid to)
+            → (fault ≡ Read) ⊎ GaveAtMost (65536 * (j + 1 - 0) + 1 - 0) (flow from to)
         gave (inl e) = inl e
         gave (inr g) = inr (
           x ++ g.0,
-          Consumes-trans from mid to x g.0 took g.1,
+          gave-then from mid to x g.0 took g.1,
           omega (arith, length-append x g.0, g.2, le),
         )
 
 -- a sealer that was filled with all that came seals it as the last chunk
-pub filled-finishes : (key : Bytes) (max : ℕ) (t : SealerState) (from to a c : Known)
+pub filled-finishes : (key : Bytes) (max : ℕ) (t : SealerState) (from mid to : Seen) (a c : Known)
     (r : Result StreamDone StreamFault) → 1 ≤ max
-    → Fills (at_start key max) t (moved from to) (Ok false) → FinishesBy t (moved a c) r
-    → SealsAll (at_start key max) (moved from to) (moved a c) r
-filled-finishes key max t from to a c r some (x, took, is, fits, full, ended) finishes =
+    → Fills (at_start key max) t (flow from mid) (Ok false) → Gave (flow mid to) [] → FinishesBy t (moved a c) r
+    → SealsAll (at_start key max) (flow from to) (moved a c) r
+filled-finishes key max t from mid to a c r some (x, took, is, fits, full, ended) still finishes =
     go r (subst (λ (u : SealerState). FinishesBy u (moved a c) r) is finishes)
   where
     le : length x ≤ 65536
@@ -487,23 +473,20 @@ filled-finishes key max t from to a c r some (x, took, is, fits, full, ended) fi
     same = ap (cut_into 65536 []) (sym (append-nil x)) ∙ cut-held x [] le
 
     go : (q : Result StreamDone StreamFault) → FinishesBy (record (at_start key max) { held = x }) (moved a c) q
-        → SealsAll (at_start key max) (moved from to) (moved a c) q
-    go (Ok done) (put, bytes, count) = (
-      x,
-      may-end from to x took (ended refl),
+        → SealsAll (at_start key max) (flow from to) (moved a c) q
+    go (Ok done) (put, bytes, count) = of-still from mid to _ (of-ended from mid x _ took (ended refl) (
       subst (λ cs. Appends a c (concat (sealed_from key 0 cs))) (sym same) put,
       subst (λ (cs : List Bytes). 0 + length cs ≤ max) (sym same) (omega (arith, some)),
       omega (arith, bytes),
       subst (λ (cs : List Bytes). done.chunks ≡ 0 + length cs) (sym same) (omega (arith, count)),
-    )
+    )) still.grew
     go (Err fault) (write, part) = (
       0,
       record {
-        text = x;
-        may = may-end from to x took (ended refl);
-        stops = subst (λ f. StopsIn key max 0 [] x (moved a c) f) (sym write)
-            (subst (λ cs. WritesPart (moved a c) (concat (sealed_from key 0 cs))) (sym same) part);
+        stops = of-still from mid to _ (of-ended from mid x _ took (ended refl)
+            (subst (λ f. StopsIn key max 0 [] x (moved a c) f) (sym write)
+            (subst (λ cs. WritesPart (moved a c) (concat (sealed_from key 0 cs))) (sym same) part))) still.grew;
         wrote = (_, part.1, omega arith);
-        gave = inr (x, took, omega (arith, le));
+        gave = inr (x ++ [], gave-then from mid to x [] took still, omega (arith, le, length-append x []));
       },
     )

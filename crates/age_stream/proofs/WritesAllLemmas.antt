@@ -2,17 +2,17 @@
 use Rattle.std.proofs.Common.{◌≡◌, ◌⊎◌, ◌∙◌, ◌++◌, ◌+◌, ◌-◌, ◌*◌, ◌<◌, ◌≤◌, ℕ, [], length, take, drop, ap, sym, subst, arith, append-nil, append_assoc, length-append, refl, Option, Some, None, Bool, true, false, inl, inr, Result, Ok, Err, nat_le, cond, Fits}
 use Rattle.std.specs.Prelude.{IfNone, IfSome, IsErrOf}
 use Rattle.std.specs.Int.{w128}
-use Rattle.std.specs.Io.KnownBytes.{Appends}
-use Rattle.std.proofs.KnownBytes.{Appends-trans, Appends-nil, Consumes-nil}
+use Rattle.std.specs.Io.KnownBytes.{Appends, IsAtEnd}
+use Rattle.std.proofs.KnownBytes.{Appends-trans, Appends-nil}
 use Rattle.std.proofs.lemmas.Bool.{le-leb, lt-leb, cases_lt}
-use Rattle.std.proofs.lemmas.List.{take_all}
+use Rattle.std.proofs.lemmas.List.{drop-append-le, take_all, take-append-le}
 use Rattle.age_kdf.specs.Bytes.{Bytes}
-use Rattle.age_header.specs.Device.{GaveAtMost, MayGive, WritesPart, Known, moved}
-use Rattle.age_header.proofs.DeviceLemmas.{gave-more, may-some, done_part}
+use Rattle.age_header.specs.Device.{Gave, Grew, Known, Seen, WritesPart, flow, moved}
+use Rattle.age_header.proofs.DeviceLemmas.{gave-none, gave-then, of-any, of-more, of-still, of-then, done_part}
 use Rattle.age_stream.specs.declared.done.Done.{Done}
 use Rattle.age_stream.specs.declared.fault.StreamFault.{StreamFault}
 use Rattle.age_stream.specs.declared.fault.StreamFault.TheVariants.{ChunkShort, EmptyFinal, BadChunk, TooManyChunks, Read, Write}
-use Rattle.age_stream.specs.Opening.{Advances, EndsAt, IsAtPiece, OpenerState, OpensNext, WritesAll, WritesReading, ahead_len, left_of, pieces_left, reading_left}
+use Rattle.age_stream.specs.Opening.{Advances, EndsAt, IsAtPiece, IsFilled, Loses, OpenerState, OpensNext, WritesAll, WritesReading, left_of, pieces_left, reading_left}
 use Rattle.age_stream.specs.Payload.{pieces}
 use Rattle.age_stream.specs.Reading.{Reading, after_first, first_outcome, outcome, reading_from, stops}
 use Rattle.age_stream.proofs.ReadingLemmas.{count-last, count-more, then_read, reading-last, reading-more}
@@ -67,8 +67,51 @@ first-err key max i c fault is = elim (cases_lt 65552 (length c)) [
       (ap (λ b. outcome key max i b (take 65552 c)) (sym (lt-leb (length c) 65552 lt)) ∙ is)
 ]
 
--- the openings of the pieces so far, and whatever comes what is left of the payload
-pub record Opened (s t : OpenerState) (bytes : ℕ) (from now old new : Known) : Type 0 where
+-- what the first piece gives, where more follows it or nothing is added
+first-on : (key : Bytes) (max i : ℕ) (c d : Bytes) → (65552 < length c) ⊎ (d ≡ [])
+    → first_outcome key max i (c ++ d) ≡ first_outcome key max i c
+first-on key max i c d (inl lt) =
+    let l : length (c ++ d) ≡ length c + length d = length-append c d in
+    let no : nat_le (length c) 65552 ≡ false = lt-leb (length c) 65552 lt in
+    let far : nat_le (length (c ++ d)) 65552 ≡ false = lt-leb (length (c ++ d)) 65552 (omega arith) in
+    ap (λ b. outcome key max i b (take 65552 (c ++ d))) far
+    ∙ ap (outcome key max i false) (take-append-le 65552 c d (omega arith))
+    ∙ ap (λ b. outcome key max i b (take 65552 c)) (sym no)
+first-on key max i c d (inr none) = ap (first_outcome key max i) (ap (λ t. c ++ t) none ∙ append-nil c)
+
+-- what follows the first piece, with what comes after it
+after-on : (c d : Bytes) (left : Known) → left ≡ after_first c → IfNone left (d ≡ [])
+    → ((65552 < length c) ⊎ (d ≡ [])) × (left_of left d ≡ after_first (c ++ d))
+after-on c d left is fits = elim (cases_lt 65552 (length c)) [
+  | inr le ↦
+      let none : after_first c ≡ None =
+      ap (λ b. cond b None (Some (drop 65552 c))) (le-leb (length c) 65552 le) in
+      let e : d ≡ [] = subst (λ (x : Known). IfNone x (d ≡ [])) (is ∙ none) fits in (
+        inr e,
+        ap (λ (x : Known). left_of x d) (is ∙ none) ∙ sym none
+            ∙ ap after_first (sym (ap (λ t. c ++ t) e ∙ append-nil c)),
+      )
+  | inl lt ↦
+      let l : length (c ++ d) ≡ length c + length d = length-append c d in
+      let some : after_first c ≡ Some (drop 65552 c) =
+      ap (λ b. cond b None (Some (drop 65552 c))) (lt-leb (length c) 65552 lt) in
+      let far : after_first (c ++ d) ≡ Some (drop 65552 (c ++ d)) =
+      ap (λ b. cond b None (Some (drop 65552 (c ++ d)))) (lt-leb (length (c ++ d)) 65552 (omega arith)) in (
+        inl lt,
+        ap (λ (x : Known). left_of x d) (is ∙ some) ∙ sym (far ∙ ap Some (drop-append-le 65552 c d (omega arith))),
+      )
+]
+
+-- of what was given: the openings of the pieces so far, and what is left, whatever comes
+abbrev IsOpenedIn : (s t : OpenerState) (front given d : Bytes) → Type 0
+IsOpenedIn s t front given d =
+    (reading_left s.key s.max_chunks s.index (left_of s.held (given ++ d))
+    ≡ before front (reading_left s.key s.max_chunks t.index (left_of t.held d)))
+    × (s.index + length (pieces_left (left_of s.held (given ++ d)))
+    ≡ t.index + length (pieces_left (left_of t.held d)))
+
+-- the openings of the pieces so far
+pub record Opened (s t : OpenerState) (bytes : ℕ) (from now : Seen) (old new : Known) : Type 0 where
   pub front : Bytes
   pub len : bytes ≡ length front
   pub key : t.key ≡ s.key
@@ -78,13 +121,13 @@ pub record Opened (s t : OpenerState) (bytes : ℕ) (from now old new : Known) :
   pub written : Appends old new front
   pub bound : length front ≤ 65536 * (t.index - s.index)
   pub full : IfSome t.held (λ ahead. length front ≡ 65536 * (t.index - s.index))
-  pub gave : IfSome t.held (λ ahead. GaveAtMost (65552 * (t.index - s.index) + length ahead) (moved from now))
-  pub reads : (d : Bytes) → MayGive now d → (c : Bytes) × MayGive from c
-      × (reading_left s.key s.max_chunks s.index (left_of s.held c)
-      ≡ before front (reading_left s.key s.max_chunks t.index (left_of t.held d)))
-      × (s.index + length (pieces_left (left_of s.held c)) ≡ t.index + length (pieces_left (left_of t.held d)))
+  pub given : Bytes
+  pub gave : Gave (flow from now) given
+  pub size : IfSome t.held (λ ahead. length given ≤ 65552 * (t.index - s.index) + length ahead)
+  pub ended : IfNone t.held (IfSome s.held (λ ahead. IsAtEnd now.to_come))
+  pub reads : (d : Bytes) → IfNone t.held (d ≡ []) → IsOpenedIn s t front given d
 
-pub opened-none : (s : OpenerState) (from old : Known) → s.fault ≡ None → Opened s s 0 from from old old
+pub opened-none : (s : OpenerState) (from : Seen) (old : Known) → s.fault ≡ None → Opened s s 0 from from old old
 opened-none s from old none = record {
   front = [];
   len = refl;
@@ -95,18 +138,24 @@ opened-none s from old none = record {
   written = Appends-nil old;
   bound = omega arith;
   full = full s.held;
-  gave = gave s.held;
-  reads = λ d may. (d, may, refl, refl);
+  given = [];
+  gave = gave-none from;
+  size = size s.held;
+  ended = ended s.held;
+  reads = λ d fits. (refl, refl);
 }
   where
     full : (held : Known) → IfSome held (λ ahead. 0 ≡ 65536 * (s.index - s.index))
     full None = tt
     full (Some h) = omega arith
 
-    gave : (held : Known)
-        → IfSome held (λ ahead. GaveAtMost (65552 * (s.index - s.index) + length ahead) (moved from from))
-    gave None = tt
-    gave (Some h) = ([], Consumes-nil from, omega arith)
+    size : (held : Known) → IfSome held (λ ahead. 0 ≤ 65552 * (s.index - s.index) + length ahead)
+    size None = tt
+    size (Some h) = omega arith
+
+    ended : (held : Known) → IfNone held (IfSome held (λ ahead. IsAtEnd from.to_come))
+    ended None = tt
+    ended (Some h) = tt
 
 true-not-false : ◌≡◌ {A = Result Bool StreamFault} (Ok true) (Ok false) → ⊥
 true-not-false e = cc
@@ -120,20 +169,17 @@ ok-not-err fault some e = cc
 false-not-true : false ≡ true → ⊥
 false-not-true e = cc
 
--- a piece opens only where one is left
-held-some : (t u : OpenerState) (now next : Known) → Advances t u (moved now next) (Ok true) → (h : Bytes)
-    × (t.held ≡ Some h)
-held-some t u now next adv = go t.held refl
+-- a call that did not find the end had a piece
+held-some : (t u : OpenerState) (now next : Seen) (r : Result Bool StreamFault) → (r ≡ Ok false → ⊥)
+    → Advances t u (flow now next) r → (h : Bytes) × (t.held ≡ Some h)
+held-some t u now next r not adv = go t.held refl
   where
     go : (held : Known) → t.held ≡ held → (h : Bytes) × (t.held ≡ Some h)
     go (Some h) e = (h, e)
     go None e =
-        let d = may-some next in
-        let o = adv.opens d.0 d.1 in
-        let none : OpensNext t.key t.max_chunks t.index None (left_of u.held d.0) u.text (Ok true) =
-        subst (λ (x : Known). OpensNext t.key t.max_chunks t.index (left_of x o.0) (left_of u.held d.0) u.text
-        (Ok true)) e o.2 in
-        absurd (true-not-false none.0)
+        let none : OpensNext t.key t.max_chunks t.index None u.held u.text r =
+        subst (λ (x : Known). OpensNext t.key t.max_chunks t.index (left_of x adv.given) u.held u.text r) e adv.opens in
+        absurd (not none.0)
 
 at-some : (P : Bytes → Type 0) (held : Known) (h : Bytes) → held ≡ Some h → IfSome held P → P h
 at-some P held h is p = subst (λ (x : Known). IfSome x P) is p
@@ -167,47 +213,104 @@ under t key max left rest text r k m o =
     subst (λ x. OpensNext x max t.index left rest text r) k
     (subst (λ x. OpensNext t.key x t.index left rest text r) m o)
 
--- whatever comes, so much was opened when the next piece is
-next-reads : (s t u : OpenerState) (n : ℕ) (from now next old new : Known) (o : Opened s t n from now old new)
-    (adv : Advances t u (moved now next) (Ok true)) (d : Bytes) → MayGive next d
-    → (c : Bytes) × MayGive from c
-    × (reading_left s.key s.max_chunks s.index (left_of s.held c)
-    ≡ before (o.front ++ u.text) (reading_left s.key s.max_chunks (t.index + 1) (left_of u.held d)))
-    × (s.index + length (pieces_left (left_of s.held c)) ≡ t.index + 1 + length (pieces_left (left_of u.held d)))
-next-reads s t u n from now next old new o adv d may =
-    let h = held-some t u now next adv in
-    let one = adv.opens d may in
-    let opens = under t s.key s.max_chunks (left_of t.held one.0) (left_of u.held d) u.text (Ok true) o.key o.max_chunks
-    one.2 in
-    let past = o.reads one.0 one.1 in
-    let more = step-count s.key s.max_chunks t.index t.held (left_of u.held d) h.0 one.0 u.text h.1 opens in (
-      past.0,
-      past.1,
-      step-reads s.key s.max_chunks t.index t.held (left_of u.held d) h.0 one.0 u.text o.front _ h.1 opens past.2,
-      omega (arith, past.3, more),
+-- the next piece, whatever comes
+opens-on : (key : Bytes) (max i : ℕ) (held left : Known) (h g d text : Bytes) → held ≡ Some h → IfNone left (d ≡ [])
+    → OpensNext key max i (left_of held g) left text (Ok true)
+    → OpensNext key max i (left_of held (g ++ d)) (left_of left d) text (Ok true)
+opens-on key max i held left h g d text is fits opens =
+    let o : OpensNext key max i (Some (h ++ g)) left text (Ok true) =
+    subst (λ (x : Known). OpensNext key max i (left_of x g) left text (Ok true)) is opens in
+    let more = after-on (h ++ g) d left o.2 fits in
+    let first : first_outcome key max i ((h ++ g) ++ d) ≡ Ok text = first-on key max i (h ++ g) d more.0 ∙ o.1 in
+    subst (λ (x : Known). OpensNext key max i (left_of x (g ++ d)) (left_of left d) text (Ok true)) (sym is) (
+      refl,
+      subst (λ z. first_outcome key max i z ≡ Ok text) (append_assoc h g d) first,
+      subst (λ z. left_of left d ≡ after_first z) (append_assoc h g d) more.1,
     )
 
-gave-next : (s t u : OpenerState) (n : ℕ) (from now next old new : Known) → Opened s t n from now old new
-    → Advances t u (moved now next) (Ok true) → GaveAtMost (65552 * (t.index - s.index + 1) + 1) (moved from next)
-gave-next s t u n from now next old new o adv =
-    let h = held-some t u now next adv in
-    let past : GaveAtMost (65552 * (t.index - s.index) + length h.0) (moved from now) = at-some _ t.held h.0 h.1 o.gave
-    in
-    let short : length h.0 ≤ 1 = subst (λ (x : Known). ahead_len x ≤ 1) h.1 adv.ahead in
-    let one : GaveAtMost (65553 - length h.0) (moved now next) =
-    subst (λ (x : Known). GaveAtMost (65553 - ahead_len x) (moved now next)) h.1 adv.gave in
-    let all = gave-more from now next _ _ past one in
-    (all.0, all.1, omega (arith, all.2))
+some-fits : (P : Type 0) (held : Known) (h : Bytes) → held ≡ Some h → IfNone held P
+some-fits P held h is = subst (λ (x : Known). IfNone x P) (sym is) tt
 
-pub opened-more : (s t u : OpenerState) (n : ℕ) (from now next a b c : Known) → Opened s t n from now a b
-    → Advances t u (moved now next) (Ok true) → length u.text ≤ 65536 → Appends b c u.text
+-- so much was opened when the next piece is
+next-reads : (s t u : OpenerState) (n : ℕ) (from now next : Seen) (old new : Known) (o : Opened s t n from now old new)
+    (adv : Advances t u (flow now next) (Ok true)) (d : Bytes) → IfNone u.held (d ≡ [])
+    → (reading_left s.key s.max_chunks s.index (left_of s.held ((o.given ++ adv.given) ++ d))
+    ≡ before (o.front ++ u.text) (reading_left s.key s.max_chunks (t.index + 1) (left_of u.held d)))
+    × (s.index + length (pieces_left (left_of s.held ((o.given ++ adv.given) ++ d)))
+    ≡ t.index + 1 + length (pieces_left (left_of u.held d)))
+next-reads s t u n from now next old new o adv d fits =
+    let h = held-some t u now next (Ok true) true-not-false adv in
+    let g : Bytes = adv.given in
+    let opens = under t s.key s.max_chunks (left_of t.held (g ++ d)) (left_of u.held d) u.text (Ok true) o.key
+    o.max_chunks (opens-on t.key t.max_chunks t.index t.held u.held h.0 g d u.text h.1 fits adv.opens) in
+    let past = o.reads (g ++ d) (some-fits (g ++ d ≡ []) t.held h.0 h.1) in
+    let more = step-count s.key s.max_chunks t.index t.held (left_of u.held d) h.0 (g ++ d) u.text h.1 opens in
+    subst (λ z. (reading_left s.key s.max_chunks s.index (left_of s.held z)
+    ≡ before (o.front ++ u.text) (reading_left s.key s.max_chunks (t.index + 1) (left_of u.held d)))
+    × (s.index + length (pieces_left (left_of s.held z)) ≡ t.index + 1 + length (pieces_left (left_of u.held d))))
+    (sym (append_assoc o.given g d)) (
+      step-reads s.key s.max_chunks t.index t.held (left_of u.held d) h.0 (g ++ d) u.text o.front _ h.1 opens past.0,
+      omega (arith, past.1, more),
+    )
+
+gave-all : (s t u : OpenerState) (n : ℕ) (from now next : Seen) (old new : Known) (r : Result Bool StreamFault)
+    (o : Opened s t n from now old new) (adv : Advances t u (flow now next) r)
+    → Gave (flow from next) (o.given ++ adv.given)
+gave-all s t u n from now next old new r o adv = gave-then from now next o.given adv.given o.gave adv.gave
+
+gave-len : (s t u : OpenerState) (n : ℕ) (from now next : Seen) (old new : Known) (r : Result Bool StreamFault)
+    (o : Opened s t n from now old new) (adv : Advances t u (flow now next) r) → (r ≡ Ok false → ⊥)
+    → length (o.given ++ adv.given) ≤ 65552 * (t.index - s.index + 1) + 1
+gave-len s t u n from now next old new r o adv not =
+    let h = held-some t u now next r not adv in
+    let past : length o.given ≤ 65552 * (t.index - s.index) + length h.0 = at-some _ t.held h.0 h.1 o.size in
+    let filled : IsFilled (Some h.0) adv.given next.to_come =
+    subst (λ (x : Known). IsFilled x adv.given next.to_come) h.1 adv.filled in
+    omega (arith, past, filled.0, length-append o.given adv.given)
+
+-- the last piece is opened only at the end of the source
+ended-by : (key : Bytes) (max i : ℕ) (left : Known) (h g text : Bytes) (next : Known)
+    → OpensNext key max i (Some (h ++ g)) left text (Ok true) → (length h + length g < 65553 → IsAtEnd next)
+    → IfNone left (IsAtEnd next)
+ended-by key max i (Some a) h g text next o end = tt
+ended-by key max i None h g text next o end = elim (cases_lt 65552 (length (h ++ g))) [
+  | inl lt ↦
+      let some : after_first (h ++ g) ≡ Some (drop 65552 (h ++ g)) =
+      ap (λ b. cond b None (Some (drop 65552 (h ++ g)))) (lt-leb (length (h ++ g)) 65552 lt) in
+      absurd (none-some (drop 65552 (h ++ g)) (o.2 ∙ some))
+  | inr le ↦ end (omega (arith, le, length-append h g))
+]
+  where
+    none-some : (x : Bytes) → ◌≡◌ {A = Known} None (Some x) → ⊥
+    none-some x e = cc
+
+ended-next : (t u : OpenerState) (now next : Seen) → Advances t u (flow now next) (Ok true)
+    → IfNone u.held (IsAtEnd next.to_come)
+ended-next t u now next adv =
+    let h = held-some t u now next (Ok true) true-not-false adv in
+    let filled : IsFilled (Some h.0) adv.given next.to_come =
+    subst (λ (x : Known). IsFilled x adv.given next.to_come) h.1 adv.filled in
+    ended-by t.key t.max_chunks t.index u.held h.0 adv.given u.text next.to_come
+    (subst (λ (x : Known). OpensNext t.key t.max_chunks t.index (left_of x adv.given) u.held u.text (Ok true)) h.1
+    adv.opens) filled.1
+
+none-map : {P Q : Type 0} (held : Known) → (P → Q) → IfNone held P → IfNone held Q
+none-map None f p = f p
+none-map (Some h) f p = tt
+
+some-const : {P : Type 0} (held : Known) → P → IfSome held (λ h. P)
+some-const None p = tt
+some-const (Some h) p = p
+
+pub opened-more : (s t u : OpenerState) (n : ℕ) (from now next : Seen) (a b c : Known) → Opened s t n from now a b
+    → Advances t u (flow now next) (Ok true) → length u.text ≤ 65536 → Appends b c u.text
     → Opened s u (n + length u.text) from next a c
 opened-more s t u n from now next a b c o adv le put =
-    let h = held-some t u now next adv in
+    let h = held-some t u now next (Ok true) true-not-false adv in
     let up : u.index ≡ t.index + 1 = adv.keeps.1 in
     let full : length o.front ≡ 65536 * (t.index - s.index) = at-some _ t.held h.0 h.1 o.full in
     let l : length (o.front ++ u.text) ≡ length o.front + length u.text = length-append o.front u.text in
-    let gave = gave-next s t u n from now next a b o adv in
+    let size = gave-len s t u n from now next a b (Ok true) o adv true-not-false in
     record {
       front = o.front ++ u.text;
       len = omega (arith, o.len, l);
@@ -218,12 +321,16 @@ opened-more s t u n from now next a b c o adv le put =
       written = Appends-trans a b c o.front u.text o.written put;
       bound = omega (arith, o.index);
       full = next_full u.held adv.keeps.3 up full l o.index;
-      gave = next_gave u.held adv.keeps.3 up gave o.index;
-      reads = λ d may. subst (λ k. (c : Bytes) × MayGive from c
-          × (reading_left s.key s.max_chunks s.index (left_of s.held c)
+      given = o.given ++ adv.given;
+      gave = gave-all s t u n from now next a b (Ok true) o adv;
+      size = next_size u.held adv.keeps.3 up size o.index;
+      ended = none-map u.held (some-const s.held) (ended-next t u now next adv);
+      reads = λ d fits. subst (λ k. (reading_left s.key s.max_chunks s.index
+          (left_of s.held ((o.given ++ adv.given) ++ d))
           ≡ before (o.front ++ u.text) (reading_left s.key s.max_chunks k (left_of u.held d)))
-          × (s.index + length (pieces_left (left_of s.held c)) ≡ k + length (pieces_left (left_of u.held d)))) (sym up)
-          (next-reads s t u n from now next a b o adv d may);
+          × (s.index + length (pieces_left (left_of s.held ((o.given ++ adv.given) ++ d)))
+          ≡ k + length (pieces_left (left_of u.held d)))) (sym up)
+          (next-reads s t u n from now next a b o adv d fits);
     }
   where
     next_full : (held : Known) → IfSome held (λ ahead. (length ahead ≡ 1) × (length u.text ≡ 65536))
@@ -233,42 +340,74 @@ opened-more s t u n from now next a b c o adv le put =
     next_full None k up full l le = tt
     next_full (Some x) k up full l le = omega (arith, k.1)
 
-    next_gave : (held : Known) → IfSome held (λ ahead. (length ahead ≡ 1) × (length u.text ≡ 65536))
-        → u.index ≡ t.index + 1 → GaveAtMost (65552 * (t.index - s.index + 1) + 1) (moved from next)
+    next_size : (held : Known) → IfSome held (λ ahead. (length ahead ≡ 1) × (length u.text ≡ 65536))
+        → u.index ≡ t.index + 1 → length (o.given ++ adv.given) ≤ 65552 * (t.index - s.index + 1) + 1
         → s.index ≤ t.index
-        → IfSome held (λ ahead. GaveAtMost (65552 * (u.index - s.index) + length ahead) (moved from next))
-    next_gave None k up gave le = tt
-    next_gave (Some x) k up gave le = (gave.0, gave.1, omega (arith, gave.2, k.0))
+        → IfSome held (λ ahead. length (o.given ++ adv.given) ≤ 65552 * (u.index - s.index) + length ahead)
+    next_size None k up size le = tt
+    next_size (Some x) k up size le = omega (arith, size, k.0)
+
+-- what was opened, and what comes where the source is not at its end
+reads-on : (s t : OpenerState) (n : ℕ) (from now : Seen) (a b : Known) (o : Opened s t n from now a b) (d : Bytes)
+    → (IsAtEnd now.to_come → d ≡ []) → IsOpenedIn s t o.front o.given d
+reads-on s t n from now a b o d end = go s.held refl t.held refl
+  where
+    go : (first : Known) → s.held ≡ first → (held : Known) → t.held ≡ held → IsOpenedIn s t o.front o.given d
+    go first e (Some h) is = o.reads d (some-fits (d ≡ []) t.held h is)
+    go (Some k) e None is =
+        let ended : IfSome s.held (λ ahead. IsAtEnd now.to_come) =
+        subst (λ (x : Known). IfNone x (IfSome s.held (λ ahead. IsAtEnd now.to_come))) is o.ended in
+        o.reads d (none-fits (end (at-some (λ ahead. IsAtEnd now.to_come) s.held k e ended)))
+      where
+        none-fits : d ≡ [] → IfNone t.held (d ≡ [])
+        none-fits e = subst (λ (x : Known). IfNone x (d ≡ [])) (sym is) e
+    go None e None is =
+        let old = o.reads [] (subst (λ (x : Known). IfNone x (◌≡◌ {A = Bytes} [] [])) (sym is) refl) in
+        let same : left_of s.held (o.given ++ []) ≡ left_of s.held (o.given ++ d) =
+        ap (λ (x : Known). left_of x (o.given ++ [])) e ∙ ap (λ (x : Known). left_of x (o.given ++ d)) (sym e) in
+        let rest : left_of t.held [] ≡ left_of t.held d =
+        ap (λ (x : Known). left_of x []) is ∙ ap (λ (x : Known). left_of x d) (sym is) in
+        subst (λ (x : Known). (reading_left s.key s.max_chunks s.index x
+        ≡ before o.front (reading_left s.key s.max_chunks t.index (left_of t.held d)))
+        × (s.index + length (pieces_left x) ≡ t.index + length (pieces_left (left_of t.held d)))) same
+        (subst (λ (x : Known). (reading_left s.key s.max_chunks s.index (left_of s.held (o.given ++ []))
+        ≡ before o.front (reading_left s.key s.max_chunks t.index x))
+        × (s.index + length (pieces_left (left_of s.held (o.given ++ []))) ≡ t.index + length (pieces_left x))) rest old)
 
 -- ---- the ends
 
 -- nothing is left
-pub writes-done : (s t u : OpenerState) (n : ℕ) (from now next a b : Known) (done : Done) → Opened s t n from now a b
-    → Advances t u (moved now next) (Ok false)
-    → done.bytes ≡ n → done.chunks ≡ t.index - s.index → WritesAll s from (moved a b) (Ok done)
-writes-done s t u n from now next a b done o adv bytes chunks =
-    let d = may-some next in
-    let one = adv.opens d.0 d.1 in
-    let none = no-left (left_of t.held one.0) (left_of u.held d.0) u.text one.2 in
-    let past = o.reads one.0 one.1 in
-    let all = past.2 ∙ ap (λ (x : Known). before o.front (reading_left s.key s.max_chunks t.index x)) none in
-    let front : (reading_left s.key s.max_chunks s.index (left_of s.held past.0)).front ≡ o.front =
-    ap (λ (r : Reading StreamFault). r.front) all ∙ append-nil o.front in
-    let count : length (pieces_left (left_of t.held one.0)) ≡ 0 = ap (λ (x : Known). length (pieces_left x)) none in (
-      past.0,
-      past.1,
-      (
-        ap (λ (r : Reading StreamFault). r.fault) all,
-        subst (Appends a b) (sym front) o.written,
-        bytes ∙ o.len ∙ ap length (sym front),
-        chunks ∙ omega (arith, past.3, count),
-      ),
-    )
+pub writes-done : (s t u : OpenerState) (n : ℕ) (from now next : Seen) (a b : Known) (done : Done)
+    → Opened s t n from now a b → Advances t u (flow now next) (Ok false)
+    → done.bytes ≡ n → done.chunks ≡ t.index - s.index → WritesAll s (flow from next) (moved a b) (Ok done)
+writes-done s t u n from now next a b done o adv bytes chunks = go t.held refl
   where
-    no-left : (left rest : Known) (text : Bytes) → OpensNext t.key t.max_chunks t.index left rest text (Ok false)
-        → left ≡ None
-    no-left None rest text e = refl
-    no-left (Some c) rest text e = absurd (false-not-true e.0)
+    writes : t.held ≡ None → (d : Bytes) → (IsAtEnd now.to_come → d ≡ [])
+        → WritesReading (reading_left s.key s.max_chunks s.index (left_of s.held (o.given ++ d)))
+        (length (pieces_left (left_of s.held (o.given ++ d)))) (moved a b) (Ok done)
+    writes is d end =
+        let past = reads-on s t n from now a b o d end in
+        let none : left_of t.held d ≡ None = ap (λ (x : Known). left_of x d) is in
+        let all = past.0 ∙ ap (λ (x : Known). before o.front (reading_left s.key s.max_chunks t.index x)) none in
+        let front : (reading_left s.key s.max_chunks s.index (left_of s.held (o.given ++ d))).front ≡ o.front =
+        ap (λ (r : Reading StreamFault). r.front) all ∙ append-nil o.front in
+        let count : length (pieces_left (left_of t.held d)) ≡ 0 = ap (λ (x : Known). length (pieces_left x)) none in (
+          ap (λ (r : Reading StreamFault). r.fault) all,
+          subst (Appends a b) (sym front) o.written,
+          bytes ∙ o.len ∙ ap length (sym front),
+          chunks ∙ omega (arith, past.1, count),
+        )
+
+    go : (held : Known) → t.held ≡ held → WritesAll s (flow from next) (moved a b) (Ok done)
+    go (Some h) is =
+        let some : OpensNext t.key t.max_chunks t.index (Some (h ++ adv.given)) u.held u.text (Ok false) =
+        subst (λ (x : Known). OpensNext t.key t.max_chunks t.index (left_of x adv.given) u.held u.text (Ok false)) is
+        adv.opens in
+        absurd (false-not-true some.0)
+    go None is =
+        let none : adv.given ≡ [] = subst (λ (x : Known). IsFilled x adv.given next.to_come) is adv.filled in
+        of-still from now next _ (of-more from now o.given _ o.gave (writes is))
+        (subst (λ x. Grew (flow now next) x) none adv.gave.grew)
 
 -- a prefix of a reading was written
 part-of : (all rest : Reading StreamFault) (front part : Bytes) (a b c : Known) → all ≡ before front rest
@@ -279,40 +418,49 @@ part-of all rest front part a b c is put more cut wrote =
     (record { prefix = front; took = put; is = ap (λ (r : Reading StreamFault). r.front) is }) cut wrote
 
 -- a read failed
-pub writes-read : (s t : OpenerState) (n : ℕ) (from now a b : Known) → Opened s t n from now a b
-    → WritesAll s from (moved a b) (Err Read)
-writes-read s t n from now a b o =
-    let d = may-some now in
-    let past = o.reads d.0 d.1 in (
-      past.0,
-      past.1,
-      part-of _ (reading_left s.key s.max_chunks t.index (left_of t.held d.0)) o.front [] a b b past.2
-          o.written _ refl (0, Appends-nil b),
-    )
+pub writes-read : (s t : OpenerState) (n : ℕ) (from now next : Seen) (a b : Known) → Opened s t n from now a b
+    → Loses t.held (flow now next) → WritesAll s (flow from next) (moved a b) (Err Read)
+writes-read s t n from now next a b o lost = go t.held refl
+  where
+    begins : (h : Bytes) → t.held ≡ Some h → (d : Bytes)
+        → WritesPart (moved a b) (reading_left s.key s.max_chunks s.index (left_of s.held (o.given ++ d))).front
+    begins h is d =
+        let past = o.reads d (some-fits (d ≡ []) t.held h is) in
+        part-of _ (reading_left s.key s.max_chunks t.index (left_of t.held d)) o.front [] a b b past.0
+        o.written _ refl (0, Appends-nil b)
+
+    go : (held : Known) → t.held ≡ held → WritesAll s (flow from next) (moved a b) (Err Read)
+    go None is = absurd (subst (λ (x : Known). Loses x (flow now next)) is lost)
+    go (Some h) is =
+        of-then from now next o.given _ _ o.gave
+        (of-any now next
+        (λ d. WritesPart (moved a b) (reading_left s.key s.max_chunks s.index (left_of s.held (o.given ++ d))).front)
+        (subst (λ (x : Known). Loses x (flow now next)) is lost) (begins h is)) (λ d part. part)
 
 -- a write failed
-pub writes-write : (s t u : OpenerState) (n : ℕ) (from now next a b c : Known) → Opened s t n from now a b
-    → Advances t u (moved now next) (Ok true) → WritesPart (moved b c) u.text → WritesAll s from (moved a c) (Err Write)
+pub writes-write : (s t u : OpenerState) (n : ℕ) (from now next : Seen) (a b c : Known) → Opened s t n from now a b
+    → Advances t u (flow now next) (Ok true) → WritesPart (moved b c) u.text
+    → WritesAll s (flow from next) (moved a c) (Err Write)
 writes-write s t u n from now next a b c o adv part =
-    let d = may-some next in
-    let past = next-reads s t u n from now next a b o adv d.0 d.1 in
-    let rest = reading_left s.key s.max_chunks (t.index + 1) (left_of u.held d.0) in
-    let all = past.2 ∙ ap (λ f. record { front = f; fault = rest.fault }) (append_assoc o.front u.text rest.front) in
-    (past.0, past.1, part-of _ (before u.text rest) o.front u.text a b c all o.written rest.front refl part)
+    of-more from next (o.given ++ adv.given) _ (gave-all s t u n from now next a b (Ok true) o adv) (λ d end.
+    let past = next-reads s t u n from now next a b o adv d (none-map u.held end (ended-next t u now next adv)) in
+    let rest = reading_left s.key s.max_chunks (t.index + 1) (left_of u.held d) in
+    let all = past.0 ∙ ap (λ f. record { front = f; fault = rest.fault }) (append_assoc o.front u.text rest.front) in
+    part-of _ (before u.text rest) o.front u.text a b c all o.written rest.front refl part)
 
-pub ends-write : (s t u : OpenerState) (n : ℕ) (from now next a b c : Known) → Opened s t n from now a b
-    → Advances t u (moved now next) (Ok true) → WritesPart (moved b c) u.text
-    → EndsAt s.max_chunks 0 (moved from next) (moved a c) Write
+pub ends-write : (s t u : OpenerState) (n : ℕ) (from now next : Seen) (a b c : Known) → Opened s t n from now a b
+    → Advances t u (flow now next) (Ok true) → WritesPart (moved b c) u.text
+    → EndsAt s.max_chunks 0 (flow from next) (moved a c) Write
 ends-write s t u n from now next a b c o adv part =
-    let h = held-some t u now next adv in
+    let h = held-some t u now next (Ok true) true-not-false adv in
     let full : length o.front ≡ 65536 * (t.index - s.index) = at-some _ t.held h.0 h.1 o.full in
-    let gave = gave-next s t u n from now next a b o adv in
+    let len = gave-len s t u n from now next a b (Ok true) o adv true-not-false in
     record {
       piece = t.index - s.index;
       text = o.front ++ take part.0 u.text;
       written = Appends-trans a b c o.front (take part.0 u.text) o.written part.1;
       at = inl (refl, omega (arith, length-append o.front (take part.0 u.text)));
-      gave = (gave.0, gave.1, omega (arith, gave.2));
+      gave = (o.given ++ adv.given, gave-all s t u n from now next a b (Ok true) o adv, omega (arith, len));
     }
 
 -- a piece's fault
@@ -325,103 +473,105 @@ stops-writes reading n max i a b (BadChunk j) at f w = (f, w)
 stops-writes reading n max i a b TooManyChunks at f w = (f, w)
 stops-writes reading n max i a b _ at f w = absurd at
 
-pub writes-stop : (s t u : OpenerState) (n : ℕ) (from now next a b : Known) (fault : StreamFault)
-    → Opened s t n from now a b → Advances t u (moved now next) (Err fault) → WritesAll s from (moved a b) (Err fault)
+pub writes-stop : (s t u : OpenerState) (n : ℕ) (from now next : Seen) (a b : Known) (fault : StreamFault)
+    → Opened s t n from now a b → Advances t u (flow now next) (Err fault)
+    → WritesAll s (flow from next) (moved a b) (Err fault)
 writes-stop s t u n from now next a b fault o adv =
-    let d = may-some next in
-    let one = adv.opens d.0 d.1 in
-    let stop = left-stops (left_of t.held one.0) (left_of u.held d.0) u.text
-    (under t s.key s.max_chunks (left_of t.held one.0) (left_of u.held d.0) u.text (Err fault) o.key o.max_chunks
-    one.2) in
-    let past = o.reads one.0 one.1 in
-    let all = past.2 ∙ ap (before o.front) stop in
-    let front : (reading_left s.key s.max_chunks s.index (left_of s.held past.0)).front ≡ o.front =
-    ap (λ (r : Reading StreamFault). r.front) all ∙ append-nil o.front in (
-      past.0,
-      past.1,
-      stops-writes (reading_left s.key s.max_chunks s.index (left_of s.held past.0))
-          (length (pieces_left (left_of s.held past.0))) t.max_chunks t.index a b fault adv.keeps.2
-          (ap (λ (r : Reading StreamFault). r.fault) all) (subst (Appends a b) (sym front) o.written),
-    )
+    let h = held-some t u now next (Err fault) (err-not-ok fault false) adv in
+    let g : Bytes = adv.given in
+    let filled : IsFilled (Some h.0) g next.to_come =
+    subst (λ (x : Known). IsFilled x g next.to_come) h.1 adv.filled in
+    let met : OpensNext s.key s.max_chunks t.index (Some (h.0 ++ g)) u.held u.text (Err fault) =
+    under t s.key s.max_chunks (Some (h.0 ++ g)) u.held u.text (Err fault) o.key o.max_chunks
+    (subst (λ (x : Known). OpensNext t.key t.max_chunks t.index (left_of x g) u.held u.text (Err fault)) h.1 adv.opens)
+    in
+    of-more from next (o.given ++ g) _ (gave-all s t u n from now next a b (Err fault) o adv) (λ d end.
+    let past = o.reads (g ++ d) (some-fits (g ++ d ≡ []) t.held h.0 h.1) in
+    let same : o.given ++ (g ++ d) ≡ (o.given ++ g) ++ d = sym (append_assoc o.given g d) in
+    let stop = stops-on h.0 g d (at-end h.0 g d filled.1 end) met in
+    let left : left_of t.held (g ++ d) ≡ Some (h.0 ++ (g ++ d)) = ap (λ (x : Known). left_of x (g ++ d)) h.1 in
+    let all = ap (λ z. reading_left s.key s.max_chunks s.index (left_of s.held z)) (sym same) ∙ past.0
+    ∙ ap (λ (x : Known). before o.front (reading_left s.key s.max_chunks t.index x)) left ∙ ap (before o.front) stop in
+    let front : (reading_left s.key s.max_chunks s.index (left_of s.held ((o.given ++ g) ++ d))).front ≡ o.front =
+    ap (λ (r : Reading StreamFault). r.front) all ∙ append-nil o.front in
+    stops-writes (reading_left s.key s.max_chunks s.index (left_of s.held ((o.given ++ g) ++ d)))
+    (length (pieces_left (left_of s.held ((o.given ++ g) ++ d)))) t.max_chunks t.index a b fault adv.keeps.2
+    (ap (λ (r : Reading StreamFault). r.fault) all) (subst (Appends a b) (sym front) o.written))
   where
-    left-stops : (left rest : Known) (text : Bytes) → OpensNext s.key s.max_chunks t.index left rest text (Err fault)
-        → reading_left s.key s.max_chunks t.index left ≡ stops fault
-    left-stops None rest text e = absurd (err-not-ok fault false e.0)
-    left-stops (Some c) rest text e = first-err s.key s.max_chunks t.index c fault e
+    at-end : (h g d : Bytes) → (length h + length g < 65553 → IsAtEnd next.to_come) → (IsAtEnd next.to_come → d ≡ [])
+        → (65552 < length (h ++ g)) ⊎ (d ≡ [])
+    at-end h g d short end = elim (cases_lt 65552 (length (h ++ g))) [
+      | inl lt ↦ inl lt
+      | inr le ↦ inr (end (short (omega (arith, le, length-append h g))))
+    ]
 
-pub ends-stop : (s t u : OpenerState) (n : ℕ) (from now next a b : Known) (fault : StreamFault)
-    → Opened s t n from now a b → Advances t u (moved now next) (Err fault)
-    → EndsAt s.max_chunks 0 (moved from next) (moved a b) fault
-ends-stop s t u n from now next a b fault o adv = record {
-  piece = t.index;
-  text = o.front;
-  written = o.written;
-  at = inr (subst (λ m. IsAtPiece m t.index fault) o.max_chunks adv.keeps.2);
-  gave = gave t.held refl;
-}
-  where
-    gave : (held : Known) → t.held ≡ held → GaveAtMost (0 + (65552 * (t.index + 1) + 1)) (moved from next)
-    gave (Some h) e =
-        let past : GaveAtMost (65552 * (t.index - s.index) + length h) (moved from now) = at-some _ t.held h e o.gave in
-        let short : length h ≤ 1 = subst (λ (x : Known). ahead_len x ≤ 1) e adv.ahead in
-        let one : GaveAtMost (65553 - length h) (moved now next) =
-        subst (λ (x : Known). GaveAtMost (65553 - ahead_len x) (moved now next)) e adv.gave in
-        let all = gave-more from now next _ _ past one in
-        (all.0, all.1, omega (arith, all.2))
-    gave None e =
-        let d = may-some next in
-        let one = adv.opens d.0 d.1 in
-        let none : OpensNext t.key t.max_chunks t.index None (left_of u.held d.0) u.text (Err fault) =
-        subst (λ (x : Known). OpensNext t.key t.max_chunks t.index (left_of x one.0) (left_of u.held d.0) u.text
-        (Err fault)) e one.2 in
-        absurd (err-not-ok fault false none.0)
+    stops-on : (h g d : Bytes) → (65552 < length (h ++ g)) ⊎ (d ≡ [])
+        → first_outcome s.key s.max_chunks t.index (h ++ g) ≡ Err fault
+        → reading_left s.key s.max_chunks t.index (Some (h ++ (g ++ d))) ≡ stops fault
+    stops-on h g d full met = first-err s.key s.max_chunks t.index (h ++ (g ++ d)) fault
+        (ap (first_outcome s.key s.max_chunks t.index) (sym (append_assoc h g d))
+        ∙ first-on s.key s.max_chunks t.index (h ++ g) d full ∙ met)
+
+pub ends-stop : (s t u : OpenerState) (n : ℕ) (from now next : Seen) (a b : Known) (fault : StreamFault)
+    → Opened s t n from now a b → Advances t u (flow now next) (Err fault)
+    → EndsAt s.max_chunks 0 (flow from next) (moved a b) fault
+ends-stop s t u n from now next a b fault o adv =
+    let len = gave-len s t u n from now next a b (Err fault) o adv (err-not-ok fault false) in
+    record {
+      piece = t.index;
+      text = o.front;
+      written = o.written;
+      at = inr (subst (λ m. IsAtPiece m t.index fault) o.max_chunks adv.keeps.2);
+      gave = (o.given ++ adv.given, gave-all s t u n from now next a b (Err fault) o adv, omega (arith, len));
+    }
 
 -- of the clause of a call what it says where no fault was kept, and no read failed
-pub advanced : {r : Result Bool StreamFault} (t u : OpenerState) (now next : Known) → t.fault ≡ None
-    → IfNone t.fault (IsErrOf r Read ⊎ Advances t u (moved now next) r) → IsErrOf r Read
-    ⊎ Advances t u (moved now next) r
+pub advanced : {r : Result Bool StreamFault} (t u : OpenerState) (now next : Seen) → t.fault ≡ None
+    → IfNone t.fault (IsErrOf r Read ⊎ Advances t u (flow now next) r) → IsErrOf r Read
+    ⊎ Advances t u (flow now next) r
 advanced {r} t u now next none h = subst
-    (λ (x : Option StreamFault). IfNone x (IsErrOf r Read ⊎ Advances t u (moved now next) r)) none h
+    (λ (x : Option StreamFault). IfNone x (IsErrOf r Read ⊎ Advances t u (flow now next) r)) none h
 
 same-fault : (fault : StreamFault) → IsErrOf {T = Bool} (Err fault) Read → fault ≡ Read
 same-fault fault e = cc
 
-pub advanced-ok : (some : Bool) (t u : OpenerState) (now next : Known) → t.fault ≡ None
-    → IfNone t.fault (IsErrOf (Ok some) Read ⊎ Advances t u (moved now next) (Ok some))
-    → Advances t u (moved now next) (Ok some)
+pub advanced-ok : (some : Bool) (t u : OpenerState) (now next : Seen) → t.fault ≡ None
+    → IfNone t.fault (IsErrOf (Ok some) Read ⊎ Advances t u (flow now next) (Ok some))
+    → Advances t u (flow now next) (Ok some)
 advanced-ok some t u now next none h = go (advanced t u now next none h)
   where
-    go : IsErrOf (Ok some) Read ⊎ Advances t u (moved now next) (Ok some) → Advances t u (moved now next) (Ok some)
+    go : IsErrOf (Ok some) Read ⊎ Advances t u (flow now next) (Ok some) → Advances t u (flow now next) (Ok some)
     go (inl e) = absurd (ok-not-err Read some e)
     go (inr a) = a
 
 -- the fault of a call, of a read or of a piece
-pub failed-writes : (s t u : OpenerState) (n : ℕ) (from now next a b : Known) (fault : StreamFault)
+pub failed-writes : (s t u : OpenerState) (n : ℕ) (from now next : Seen) (a b : Known) (fault : StreamFault)
     → Opened s t n from now a b
-    → IfNone t.fault (IsErrOf {T = Bool} (Err fault) Read ⊎ Advances t u (moved now next) (Err fault))
-    → WritesAll s from (moved a b) (Err fault)
-failed-writes s t u n from now next a b fault o h = go (advanced t u now next o.none h)
+    → IfNone t.fault (IsErrOf {T = Bool} (Err fault) Read ⊎ Advances t u (flow now next) (Err fault))
+    → IfNone t.fault (Loses t.held (flow now next)) → WritesAll s (flow from next) (moved a b) (Err fault)
+failed-writes s t u n from now next a b fault o h lost = go (advanced t u now next o.none h)
   where
-    go : IsErrOf {T = Bool} (Err fault) Read ⊎ Advances t u (moved now next) (Err fault)
-        → WritesAll s from (moved a b) (Err fault)
-    go (inl e) = subst (λ f. WritesAll s from (moved a b) (Err f)) (sym (same-fault fault e))
-        (writes-read s t n from now a b o)
+    go : IsErrOf {T = Bool} (Err fault) Read ⊎ Advances t u (flow now next) (Err fault)
+        → WritesAll s (flow from next) (moved a b) (Err fault)
+    go (inl e) = subst (λ f. WritesAll s (flow from next) (moved a b) (Err f)) (sym (same-fault fault e))
+        (writes-read s t n from now next a b o
+        (subst (λ (x : Option StreamFault). IfNone x (Loses t.held (flow now next))) o.none lost))
     go (inr adv) = writes-stop s t u n from now next a b fault o adv
 
-pub failed-ends : (s t u : OpenerState) (n : ℕ) (from now next a b : Known) (fault : StreamFault)
+pub failed-ends : (s t u : OpenerState) (n : ℕ) (from now next : Seen) (a b : Known) (fault : StreamFault)
     → Opened s t n from now a b
-    → IfNone t.fault (IsErrOf {T = Bool} (Err fault) Read ⊎ Advances t u (moved now next) (Err fault))
-    → (fault ≡ Read) ⊎ EndsAt s.max_chunks 0 (moved from next) (moved a b) fault
+    → IfNone t.fault (IsErrOf {T = Bool} (Err fault) Read ⊎ Advances t u (flow now next) (Err fault))
+    → (fault ≡ Read) ⊎ EndsAt s.max_chunks 0 (flow from next) (moved a b) fault
 failed-ends s t u n from now next a b fault o h = go (advanced t u now next o.none h)
   where
-    go : IsErrOf {T = Bool} (Err fault) Read ⊎ Advances t u (moved now next) (Err fault)
-        → (fault ≡ Read) ⊎ EndsAt s.max_chunks 0 (moved from next) (moved a b) fault
+    go : IsErrOf {T = Bool} (Err fault) Read ⊎ Advances t u (flow now next) (Err fault)
+        → (fault ≡ Read) ⊎ EndsAt s.max_chunks 0 (flow from next) (moved a b) fault
     go (inl e) = inl (same-fault fault e)
     go (inr adv) = inr (ends-stop s t u n from now next a b fault o adv)
 
 -- the count of bytes has room for one more text
-pub opened-room : (s t u : OpenerState) (n : ℕ) (from now next a b : Known) (len : ℕ) → Opened s t n from now a b
-    → Advances t u (moved now next) (Ok true) → len ≤ 65536 → Fits w128 (n + len)
+pub opened-room : (s t u : OpenerState) (n : ℕ) (from now next : Seen) (a b : Known) (len : ℕ) → Opened s t n from now a b
+    → Advances t u (flow now next) (Ok true) → len ≤ 65536 → Fits w128 (n + len)
 opened-room s t u n from now next a b len o adv le =
     let within : t.index < t.max_chunks = adv.keeps.2 refl in
     omega (arith, o.len, o.bound, adv.small)

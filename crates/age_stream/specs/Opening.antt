@@ -1,8 +1,9 @@
 -- An opener of pieces between two calls, and what a call does.
-use Rattle.std.specs.Prelude.{ℕ, List, [], ◌++◌, ◌≡◌, ◌≤◌, ◌<◌, ◌+◌, ◌-◌, ◌*◌, ◌⊎◌, ⊤, length, take, drop, option_map, IfSome, Bool, true, false, Option, Some, None, Result, Ok, Err, if◌then◌else◌}
+use Rattle.std.specs.Prelude.{ℕ, List, [], ◌++◌, ◌≡◌, ◌≤◌, ◌<◌, ◌+◌, ◌*◌, ◌⊎◌, length, take, drop, option_map, IfSome, Bool, true, false, Option, Some, None, Result, Ok, Err, if◌then◌else◌}
 use Rattle.age_cipher.specs.Bytes.{Key}
 use Rattle.age_kdf.specs.Bytes.{Bytes}
-use Rattle.age_header.specs.Device.{Known, GaveAtMost, MayGive, WritesPart, Moved, Took}
+use Rattle.age_header.specs.Device.{Known, Flow, Gave, GaveAtMost, GaveSome, OfGiven, WritesPart, Moved, Took}
+use Rattle.std.specs.Io.KnownBytes.{IsAtEnd}
 use Rattle.age_recipient.specs.declared.key.FileKey.{FileKey}
 use Rattle.age_stream.specs.declared.done.Done.{Done}
 use Rattle.age_stream.specs.declared.fault.StreamFault.{StreamFault}
@@ -75,32 +76,44 @@ KeepsState old new (Err fault) =
 abbrev pub IsSpent : OpenerState → Type 0
 IsSpent s = (s.text ≡ []) × (s.held ≡ None)
 
--- One call of an opener that keeps no fault, and what the source gave. For each d that the source
--- may still give, there is a c that it may have given before the call, such that the first piece of
--- what was held and c was opened, and what is left is what is now held and d.
-pub record Advances (old new : OpenerState) (source : Moved)
+-- what was given after the bytes that were held fills the buffer, or is all up to the end of the
+-- source; after the last piece nothing was given
+abbrev pub IsFilled : (held : Option Bytes) (given : Bytes) (left : Known) → Type 0
+IsFilled None given left = given ≡ []
+IsFilled (Some ahead) given left =
+    (length ahead + length given ≤ chunk_buf_size)
+    × (length ahead + length given < chunk_buf_size → IsAtEnd left)
+
+-- a piece was left, and the source gave some bytes
+abbrev pub Loses : (held : Option Bytes) (source : Flow) → Type 0
+Loses None source = ⊥
+Loses (Some ahead) source = GaveSome source
+
+-- One call of an opener that keeps no fault: the bytes that the source gave, after those that were
+-- held, are a piece, which was opened, and what is now held.
+pub record Advances (old new : OpenerState) (source : Flow)
     (r : Result Bool StreamFault) : Type 0 where
   pub key : new.key ≡ old.key
   pub max_chunks : new.max_chunks ≡ old.max_chunks
   pub small : old.max_chunks ≤ most_chunks
   pub keeps : KeepsState old new r
   pub ahead : ahead_len old.held ≤ 1
-  pub gave : GaveAtMost (chunk_buf_size - ahead_len old.held) source
-  pub opens : (d : Bytes) → MayGive source.after d → (c : Bytes) × MayGive source.before c
-      × OpensNext old.key old.max_chunks old.index (left_of old.held c) (left_of new.held d)
-      new.text r
+  pub given : Bytes
+  pub gave : Gave source given
+  pub filled : IsFilled old.held given source.after.to_come
+  pub opens : OpensNext old.key old.max_chunks old.index (left_of old.held given) new.held new.text
+      r
 
--- the nonce that was read, where the source could give it
-abbrev pub GivesNonce : (source : Moved) (result : Result Bytes StreamFault) → Type 0
-GivesNonce source (Ok nonce) =
-    (d : Bytes) → MayGive source.after d → MayGive source.before (nonce ++ d)
-GivesNonce source (Err Read) = ⊤
+-- the nonce that was read, or the source gave less
+abbrev pub GivesNonce : (source : Flow) (result : Result Bytes StreamFault) → Type 0
+GivesNonce source (Ok nonce) = Gave source nonce
+GivesNonce source (Err Read) = GaveSome source
 GivesNonce source (Err fault) =
-    (fault ≡ NonceTruncated) × ((c : Bytes) × MayGive source.before c × (length c < nonce_size))
+    (fault ≡ NonceTruncated) × OfGiven source (λ c. length c < nonce_size)
 
 -- the start of a payload was read: its nonce, under which piece 0 is the opener's next; or there is
 -- no whole nonce
-abbrev pub Starts : (file_key : FileKey) (max : ℕ) (source : Moved)
+abbrev pub Starts : (file_key : FileKey) (max : ℕ) (source : Flow)
     (result : Result OpenerState StreamFault) → Type 0
 Starts file_key max source (Ok opener) =
     (nonce : Bytes) × (length nonce ≡ nonce_size)
@@ -128,18 +141,18 @@ WritesReading reading n sink (Err Read) = WritesPart sink reading.front
 WritesReading reading n sink (Err Write) = WritesPart sink reading.front
 WritesReading reading n sink (Err fault) = (reading.fault ≡ Some fault) × Took sink reading.front
 
--- the reading of what the source may have given was written
-abbrev pub WritesAll : (s : OpenerState) (from : Known) (sink : Moved) (r : Result Done StreamFault)
-    → Type 0
-WritesAll s from sink r =
-    (c : Bytes) × MayGive from c
-    × WritesReading (reading_left s.key s.max_chunks s.index (left_of s.held c))
-    (length (pieces_left (left_of s.held c))) sink r
+-- the reading of what was held and then of what the source gave was written
+abbrev pub WritesAll : (s : OpenerState) (source : Flow) (sink : Moved)
+    (r : Result Done StreamFault) → Type 0
+WritesAll s source sink r =
+    OfGiven source (λ c. WritesReading (reading_left s.key s.max_chunks s.index (left_of s.held c))
+    (length (pieces_left (left_of s.held c))) sink r)
 
 -- A fault of a piece or of a write: at which piece it was met, what had been written, and how much
 -- of the source had been read. `before` bytes were read before the pieces: 16 where the nonce
 -- counts.
-pub record EndsAt (max before : ℕ) (source sink : Moved) (fault : StreamFault) : Type 0 where
+pub record EndsAt (max before : ℕ) (source : Flow) (sink : Moved)
+    (fault : StreamFault) : Type 0 where
   pub piece : ℕ
   pub text : Bytes
   pub written : Took sink text
@@ -153,10 +166,18 @@ GivesText outcome after (Ok n) = (outcome ≡ Ok (take n after)) × (n ≤ lengt
 GivesText outcome after (Err fault) = outcome ≡ Err fault
 
 -- the first piece of c, as piece i, opens to the text at the start of the buffer, and what follows
--- it is left; or its fault is returned
-abbrev pub OpensPiece : (key : Key) (max i : ℕ) (c after d : Bytes)
+-- it is at the end; or its fault is returned
+abbrev pub OpensPiece : (key : Key) (max i : ℕ) (c after : Bytes)
     (result : Result Piece StreamFault) → Type 0
-OpensPiece key max i c after d (Ok p) =
+OpensPiece key max i c after (Ok p) =
     (first_outcome key max i c ≡ Ok (take p.len after)) × (p.len ≤ length after)
-    × (left_of (held_of p.more (drop sealed_chunk_size after)) d ≡ after_first c)
-OpensPiece key max i c after d (Err fault) = first_outcome key max i c ≡ Err fault
+    × (held_of p.more (drop sealed_chunk_size after) ≡ after_first c)
+OpensPiece key max i c after (Err fault) = first_outcome key max i c ≡ Err fault
+
+-- the same of these bytes and those that the source gave after them
+pub record ReadsPiece (key : Key) (max i : ℕ) (ahead after : Bytes) (source : Flow)
+    (result : Result Piece StreamFault) : Type 0 where
+  pub given : Bytes
+  pub gave : Gave source given
+  pub filled : IsFilled (Some ahead) given source.after.to_come
+  pub opens : OpensPiece key max i (ahead ++ given) after result

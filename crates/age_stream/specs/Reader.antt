@@ -1,7 +1,7 @@
 -- A reader of a payload: what its constructors and its calls do.
 use Rattle.std.specs.Prelude.{ℕ, ◌≡◌, ◌⊎◌, IfErr, IsErrOf, Bool, true, false, Option, None, Some, Result, Ok, Err}
 use denote.Ref.{MutBor}
-use Rattle.age_header.specs.Device.{CountsFaultIf, CountsIf, GaveAtMost, Known, Moved, moved_by}
+use Rattle.age_header.specs.Device.{Bytes, CountsFaultIf, CountsIf, Flow, GaveAtMost, Known, flow_by}
 use Rattle.age_recipient.specs.declared.key.FileKey.{FileKey}
 use Rattle.age_stream.specs.declared.fault.StreamFault.{StreamFault}
 use Rattle.age_stream.specs.declared.fault.StreamFault.TheVariants.{Read}
@@ -13,7 +13,7 @@ use Rattle.age_stream.specs.Writer.{IsRefusedMemory}
 
 -- the nonce was not read: the source gave fewer than 16 bytes, or failed, and then one failure more
 -- was counted
-abbrev pub MissesNonce : (file_key : FileKey) (max : ℕ) (source : Moved) (before after : ℕ)
+abbrev pub MissesNonce : (file_key : FileKey) (max : ℕ) (source : Flow) (before after : ℕ)
     (fault : StreamFault) → Type 0
 MissesNonce file_key max source before after fault =
     Starts file_key max source (Err fault) × CountsFaultIf is_read before after fault
@@ -21,14 +21,15 @@ MissesNonce file_key max source before after fault =
 
 -- what was made of a source, and what became of it: the nonce was read, and piece 0 is the opener's
 -- next; or memory was refused, and nothing was read; or the nonce was not read
-abbrev pub StartsReader : {S : Type 0} (to_come : S → Known) (failed : S → ℕ) (file_key : FileKey)
-    (max : ℕ) (old new : S) (r : Result OpenerState StreamFault) → Type 0
-StartsReader to_come failed file_key max old new (Ok opener) =
-    Starts file_key max (moved_by to_come old new) (Ok opener)
-    × GaveAtMost nonce_size (moved_by to_come old new) × (failed new ≡ failed old)
-StartsReader to_come failed file_key max old new (Err fault) =
+abbrev pub StartsReader : {S : Type 0} (to_come : S → Known) (gave : S → Bytes → Type 0)
+    (failed : S → ℕ) (file_key : FileKey) (max : ℕ) (old new : S)
+    (r : Result OpenerState StreamFault) → Type 0
+StartsReader to_come gave failed file_key max old new (Ok opener) =
+    Starts file_key max (flow_by to_come gave old new) (Ok opener)
+    × GaveAtMost nonce_size (flow_by to_come gave old new) × (failed new ≡ failed old)
+StartsReader to_come gave failed file_key max old new (Err fault) =
     IsRefusedMemory old new fault
-    ⊎ MissesNonce file_key max (moved_by to_come old new) (failed old) (failed new) fault
+    ⊎ MissesNonce file_key max (flow_by to_come gave old new) (failed old) (failed new) fault
 
 -- the result as a Bool: true if a chunk was lent, false after the last
 abbrev pub is_lent : {A : Type 0} → Result (Option A) StreamFault → Result Bool StreamFault
@@ -38,7 +39,7 @@ is_lent (Err fault) = Err fault
 
 -- One call of a reader that keeps no fault: a failed read is counted, and a fault is kept. Unless
 -- the fault is Read, its opener made the step `Advances`.
-abbrev pub Lends : (old new : OpenerState) (source : Moved) (before after : ℕ)
+abbrev pub Lends : (old new : OpenerState) (source : Flow) (before after : ℕ)
     (r : Result Bool StreamFault) → Type 0
 Lends old new source before after r =
     IfErr r (λ fault. new.fault ≡ Some fault) × CountsIf is_read before after r

@@ -1,11 +1,11 @@
 -- A sealer of chunks between two calls, and what a call does.
-use Rattle.std.specs.Prelude.{ℕ, List, [], ◌++◌, ◌≡◌, ◌⊎◌, ◌≤◌, ◌<◌, ◌+◌, ◌-◌, ◌*◌, length, take, drop, Bool, true, false, MatchResult, Option, Some, None, Result, Ok, Err}
+use Rattle.std.specs.Prelude.{ℕ, List, [], ◌++◌, ◌≡◌, ◌⊎◌, ◌≤◌, ◌<◌, ◌+◌, ◌-◌, ◌*◌, length, take, drop, Bool, true, false, IfSome, MatchResult, Option, Some, None, Result, Ok, Err}
 use Rattle.std.specs.Io.KnownBytes.{IsAtEnd}
 use Rattle.std.specs.List.{concat}
 use Rattle.age_cipher.specs.Bytes.{Key}
 use Rattle.age_kdf.specs.Bytes.{Bytes}
 use Rattle.age_cipher.specs.Sealing.{sealed}
-use Rattle.age_header.specs.Device.{GaveAtMost, MayGive, WritesPart, Moved, Gave, Took}
+use Rattle.age_header.specs.Device.{Flow, GaveAtMost, GaveSome, OfGiven, WritesPart, Moved, Gave, Took}
 use Rattle.age_stream.specs.declared.done.Done.{Done}
 use Rattle.age_stream.specs.declared.fault.StreamFault.{StreamFault}
 use Rattle.age_stream.specs.declared.fault.StreamFault.TheVariants.{Read, Write, TooManyChunks}
@@ -61,41 +61,41 @@ StopsIn key max i held text sink TooManyChunks =
     × Took sink (concat (take (max - 1 - i) (sealed_after key i held text)))
 StopsIn key max i held text sink _ = ⊥
 
--- a text that the source may have given was read
-pub record IsFed (key : Key) (i j : ℕ) (held now : Bytes) (source sink : Moved) : Type 0 where
+-- all that the source gives was read
+pub record IsFed (key : Key) (i j : ℕ) (held now : Bytes) (source : Flow)
+    (sink : Moved) : Type 0 where
   pub text : Bytes
   pub took : Gave source text
-  pub may : MayGive source.before text
+  pub all : IfSome source.before.to_come (λ told. told ≡ text)
   pub fed : Fed key i j held text now sink
 
--- a fault was met in a text that the source may have given, with chunk j the next to be written; so
--- much of the source was read
-pub record Stopped (key : Key) (max i j : ℕ) (held : Bytes) (source sink : Moved)
+-- a fault was met in the text that the source gave, with chunk j the next to be written; so much of
+-- the source was read
+pub record Stopped (key : Key) (max i j : ℕ) (held : Bytes) (source : Flow) (sink : Moved)
     (fault : StreamFault) : Type 0 where
-  pub text : Bytes
-  pub may : MayGive source.before text
-  pub stops : StopsIn key max i held text sink fault
+  pub stops : OfGiven source (λ text. StopsIn key max i held text sink fault)
   pub wrote : WroteAtLeast (sealed_chunk_size * (j - i)) sink
   pub gave : (fault ≡ Read) ⊎ GaveAtMost (chunk_size * (j + 1 - i) + 1 - length held) source
 
 -- a sealer that keeps no fault holds a full chunk, and the source may give more; or it holds all
 -- that the source gave, with what it held before; or a read failed
-abbrev pub Fills : (s t : SealerState) (source : Moved) (result : Result Bool StreamFault) → Type 0
+abbrev pub Fills : (s t : SealerState) (source : Flow) (result : Result Bool StreamFault) → Type 0
 Fills s t source (Ok more) =
     (text : Bytes) × Gave source text × (t ≡ record s { held = s.held ++ text })
     × (length t.held ≤ chunk_size) × (more ≡ true → length t.held ≡ chunk_size)
-    × (more ≡ false → IsAtEnd source.after)
+    × (more ≡ false → IsAtEnd source.after.to_come)
 Fills s t source (Err fault) =
-    (fault ≡ Read) × (t.key ≡ s.key) × (t.max_chunks ≡ s.max_chunks) × (t.fault ≡ Some Read)
+    (fault ≡ Read) × GaveSome source × (t.key ≡ s.key) × (t.max_chunks ≡ s.max_chunks)
+    × (t.fault ≡ Some Read)
 
 -- all that a source gives was read by a sealer that keeps no fault
-abbrev pub TakesAll : {A : Type 0} (s t : SealerState) (source sink : Moved)
+abbrev pub TakesAll : {A : Type 0} (s t : SealerState) (source : Flow) (sink : Moved)
     (r : Result A StreamFault) → Type 0
 TakesAll s t source sink r =
     (t.key ≡ s.key) × (t.max_chunks ≡ s.max_chunks)
     × MatchResult r
     (λ _. (t.fault ≡ None) × (length t.held ≤ chunk_size) × (t.index < t.max_chunks)
-    × IsFed s.key s.index t.index s.held t.held source sink × IsAtEnd source.after)
+    × IsFed s.key s.index t.index s.held t.held source sink × IsAtEnd source.after.to_come)
     (λ fault. (t.fault ≡ Some fault)
     × Stopped s.key s.max_chunks s.index t.index s.held source sink fault)
 
@@ -108,13 +108,13 @@ FinishesBy s sink (Err fault) = (fault ≡ Write) × WritesPart sink (sealed_res
 
 -- all that a source gives was sealed and written by a sealer that keeps no fault; or a fault was
 -- met
-abbrev pub SealsAll : (s : SealerState) (source sink : Moved) (result : Result Done StreamFault)
-    → Type 0
+abbrev pub SealsAll : (s : SealerState) (source : Flow) (sink : Moved)
+    (result : Result Done StreamFault) → Type 0
 SealsAll s source sink (Ok done) =
-    (text : Bytes) × MayGive source.before text × Took sink (sealed_rest s text)
+    OfGiven source (λ text. Took sink (sealed_rest s text)
     × (s.index + length (cut_into chunk_size s.held text) ≤ s.max_chunks)
     × (done.bytes ≡ chunk_size * s.index + length s.held + length text)
-    × (done.chunks ≡ s.index + length (cut_into chunk_size s.held text))
+    × (done.chunks ≡ s.index + length (cut_into chunk_size s.held text)))
 SealsAll s source sink (Err fault) =
     (chunk : ℕ) × Stopped s.key s.max_chunks s.index chunk s.held source sink fault
 

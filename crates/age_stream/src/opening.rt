@@ -3,9 +3,9 @@ ghost use Rattle.std.specs.Prelude.{◌≡◌, ◌≢◌, ◌⊎◌, ◌<◌, �
 ghost use Rattle.std.specs.Bool.{OnTrue, OnFalse};
 ghost use Rattle.age_kdf.specs.Bytes.{Bytes};
 ghost use Rattle.age_cipher.specs.Sealing.{opened};
-ghost use Rattle.age_header.specs.Device.{CountsIf, GaveAtMost, MayGive, moved_by};
+ghost use Rattle.age_header.specs.Device.{CountsIf, GaveAtMost, GaveSome, flow_by, moved_by};
 ghost use Rattle.age_stream.specs.Counts.{is_read, is_write};
-ghost use Rattle.age_stream.specs.Opening.{Advances, EndsAt, GivesNonce, GivesText, IsAtPiece, IsSpent, OpensPiece, Starts, WritesAll};
+ghost use Rattle.age_stream.specs.Opening.{Advances, EndsAt, GivesNonce, GivesText, IsAtPiece, IsSpent, Loses, ReadsPiece, Starts, WritesAll};
 ghost use Rattle.age_stream.specs.Reading.{outcome};
 ghost use Rattle.age_stream.specs.Sizes.{chunk_size, sealed_chunk_size, most_chunks, nonce_size, tag_size, chunk_buf_size};
 
@@ -68,10 +68,10 @@ impl ChunkOpener {
         buf: ChunkBuf,
     ) -> Result<ChunkOpener, StreamFault>
         requires { max_chunks ≤ most_chunks }
-        ensures starts { Starts key.now max_chunks (moved_by S.to_come source.old source.new)
+        ensures starts { Starts key.now max_chunks (flow_by S.to_come S.gave source.old source.new)
             result }
         ensures gave { IsErrOf result StreamFault.Read
-            ⊎ GaveAtMost nonce_size (moved_by S.to_come source.old source.new) }
+            ⊎ GaveAtMost nonce_size (flow_by S.to_come S.gave source.old source.new) }
         ensures count { CountsIf is_read (S.failed source.old) (S.failed source.new) result }
     {
         let nonce = match read_nonce(source) {
@@ -114,7 +114,10 @@ impl ChunkOpener {
         ensures count { IfNone self.old.fault
             (CountsIf is_read (S.failed source.old) (S.failed source.new) result) }
         ensures opens { IfNone self.old.fault (IsErrOf result StreamFault.Read
-            ⊎ Advances self.old self.new (moved_by S.to_come source.old source.new) result) }
+            ⊎ Advances self.old self.new (flow_by S.to_come S.gave source.old source.new) result) }
+        ensures lost { IfNone self.old.fault
+            (OnErr result (Loses self.old.held
+            (flow_by S.to_come S.gave source.old source.new))) }
         ensures blank { IfNone self.old.fault (MatchResult result
             (λ some. OnFalse some (IsSpent self.new)) (λ _. IsSpent self.new)) }
     {
@@ -157,10 +160,10 @@ impl ChunkOpener {
         out: &mut W,
     ) -> Result<Done, StreamFault>
         requires { self.fault ≡ None }
-        ensures writes_all { WritesAll self (S.to_come source.old)
+        ensures writes_all { WritesAll self (flow_by S.to_come S.gave source.old source.new)
             (moved_by W.taken out.old out.new) result }
         ensures ends { IfErr result (λ f. (f ≡ StreamFault.Read)
-            ⊎ EndsAt self.max_chunks 0 (moved_by S.to_come source.old source.new)
+            ⊎ EndsAt self.max_chunks 0 (flow_by S.to_come S.gave source.old source.new)
             (moved_by W.taken out.old out.new) f) }
         ensures reads { CountsIf is_read (S.failed source.old) (S.failed source.new) result }
         ensures writes { CountsIf is_write (W.failed out.old) (W.failed out.new) result }
@@ -209,12 +212,9 @@ fn next_piece<S: Source>(
     ensures len { length bytes.new ≡ chunk_buf_size }
     ensures count { CountsIf is_read (S.failed source.old) (S.failed source.new) result }
     ensures opens { IsErrOf result StreamFault.Read
-        ⊎ ((d : Bytes) → MayGive (S.to_come source.new) d
-        → (c : Bytes) × MayGive (S.to_come source.old) c
-        × OpensPiece key.now max i (take ahead (drop sealed_chunk_size bytes.old) ++ c) bytes.new d
-        result) }
-    ensures gave { IsErrOf result StreamFault.Read
-        ⊎ GaveAtMost (chunk_buf_size - ahead) (moved_by S.to_come source.old source.new) }
+        ⊎ ReadsPiece key.now max i (take ahead (drop sealed_chunk_size bytes.old)) bytes.new
+        (flow_by S.to_come S.gave source.old source.new) result }
+    ensures lost { OnErr result (GaveSome (flow_by S.to_come S.gave source.old source.new)) }
     ensures at { IfErr result (λ f. (f ≡ StreamFault.Read) ⊎ IsAtPiece max i f) }
     ensures size { IfOk result
         (λ piece. (piece.len ≤ chunk_size) × (piece.more ≡ true → piece.len ≡ chunk_size)) }
@@ -239,9 +239,9 @@ fn next_piece<S: Source>(
 
 /// The 16 bytes of a payload's nonce.
 fn read_nonce<S: Source>(source: &mut S) -> Result<[u8; 16], StreamFault>
-    ensures nonce { GivesNonce (moved_by S.to_come source.old source.new) result }
+    ensures nonce { GivesNonce (flow_by S.to_come S.gave source.old source.new) result }
     ensures gave { IsErrOf result StreamFault.Read
-        ⊎ GaveAtMost nonce_size (moved_by S.to_come source.old source.new) }
+        ⊎ GaveAtMost nonce_size (flow_by S.to_come S.gave source.old source.new) }
     ensures count { CountsIf is_read (S.failed source.old) (S.failed source.new) result }
 {
     let mut nonce = [0; NONCE_SIZE];

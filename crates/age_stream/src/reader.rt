@@ -1,7 +1,7 @@
 //! Reading a payload chunk by chunk from a caller's source.
 ghost use Rattle.std.specs.Prelude.{◌≡◌, ◌⊎◌, ◌≤◌, [], Ok, Err, Some, None, IfOk, IfErr, IfSome, IfNone, IsErrOf, ⊤};
 ghost use Rattle.std.specs.Borrow.{sem, follows_so};
-ghost use Rattle.age_header.specs.Device.{CountsIf, moved_by};
+ghost use Rattle.age_header.specs.Device.{CountsIf, flow_by, moved_by};
 ghost use Rattle.age_stream.specs.Counts.{is_read, is_write};
 ghost use Rattle.age_stream.specs.Opening.{Advances, EndsAt, WritesAll};
 ghost use Rattle.age_stream.specs.Reader.{Lends, StartsReader, is_lent};
@@ -54,12 +54,12 @@ impl<'a, S: Source> StreamReader<'a, S> {
         requires { max_chunks ≤ most_chunks }
         ensures same_reference { IfOk result
             (λ reader. reader.input.ghost_name ≡ input.entry.ghost_name) }
-        ensures starts { IfOk result (λ reader. StartsReader S.to_come S.failed key.now max_chunks
-            input.old reader.input.now (Ok reader.opener)) }
+        ensures starts { IfOk result (λ reader. StartsReader S.to_come S.gave S.failed key.now
+            max_chunks input.old reader.input.now (Ok reader.opener)) }
         ensures handed_back { IfErr result
             (λ refused. refused.device.ghost_name ≡ input.entry.ghost_name) }
-        ensures misses { IfErr result (λ refused. StartsReader S.to_come S.failed key.now max_chunks
-            input.old refused.device.now (Err refused.fault)) }
+        ensures misses { IfErr result (λ refused. StartsReader S.to_come S.gave S.failed key.now
+            max_chunks input.old refused.device.now (Err refused.fault)) }
     {
         let Ok(buf) = ChunkBuf::new(alloc) else {
             return Err(Refused::of(input, StreamFault::Memory));
@@ -85,10 +85,10 @@ impl<'a, S: Source> StreamReader<'a, S> {
         requires { max_chunks ≤ most_chunks }
         ensures same_reference { IfOk result
             (λ reader. reader.input.ghost_name ≡ input.entry.ghost_name) }
-        ensures starts { IfOk result (λ reader. StartsReader S.to_come S.failed key.now max_chunks
-            input.old reader.input.now (Ok reader.opener)) }
-        ensures misses { IfErr result (λ fault. (last : S) × StartsReader S.to_come S.failed key.now
-            max_chunks input.old last (Err fault)) }
+        ensures starts { IfOk result (λ reader. StartsReader S.to_come S.gave S.failed key.now
+            max_chunks input.old reader.input.now (Ok reader.opener)) }
+        ensures misses { IfErr result (λ fault. (last : S) × StartsReader S.to_come S.gave S.failed
+            key.now max_chunks input.old last (Err fault)) }
     {
         match StreamReader::started(alloc, key, input, max_chunks) {
             Ok(reader) => Ok(reader),
@@ -114,7 +114,7 @@ impl<'a, S: Source> StreamReader<'a, S> {
             (CountsIf is_read (S.failed self.old.input.now) (S.failed self.new.input.now) result) }
         ensures opens { IfNone self.old.opener.fault (IsErrOf result StreamFault.Read
             ⊎ Advances self.old.opener self.new.opener
-            (moved_by S.to_come self.old.input.now self.new.input.now) result) }
+            (flow_by S.to_come S.gave self.old.input.now self.new.input.now) result) }
     {
         self.opener.advance(self.input)
     }
@@ -139,7 +139,7 @@ impl<'a, S: Source> StreamReader<'a, S> {
             × IfSome self.old.opener.fault
             (λ f. (last.opener ≡ self.old.opener) × (last.input.now ≡ self.old.input.now))
             × IfNone self.old.opener.fault (Lends self.old.opener last.opener
-            (moved_by S.to_come self.old.input.now last.input.now)
+            (flow_by S.to_come S.gave self.old.input.now last.input.now)
             (S.failed self.old.input.now) (S.failed last.input.now) (is_lent result))
             × IfOk result (λ o. IfSome o (λ piece. piece.now ≡ last.opener.text)))) }
         ensures kept_fault { IfSome self.old.opener.fault (λ f. result ≡ Err f) }
@@ -161,10 +161,11 @@ impl<'a, S: Source> StreamReader<'a, S> {
         ensures kept_fault { IfSome self.entry.opener.fault (λ f.
             (result ≡ Err f) × (self.exit.0.now ≡ self.entry.input.now) × (out.new ≡ out.old)) }
         ensures writes_all { IfNone self.entry.opener.fault (WritesAll self.entry.opener
-            (S.to_come self.entry.input.now) (moved_by W.taken out.old out.new) result) }
+            (flow_by S.to_come S.gave self.entry.input.now self.exit.0.now)
+            (moved_by W.taken out.old out.new) result) }
         ensures ends { IfNone self.entry.opener.fault (IfErr result (λ f. (f ≡ StreamFault.Read)
             ⊎ EndsAt self.entry.opener.max_chunks 0
-            (moved_by S.to_come self.entry.input.now self.exit.0.now)
+            (flow_by S.to_come S.gave self.entry.input.now self.exit.0.now)
             (moved_by W.taken out.old out.new) f)) }
         ensures reads { IfNone self.entry.opener.fault
             (CountsIf is_read (S.failed self.entry.input.now) (S.failed self.exit.0.now) result) }

@@ -2,7 +2,7 @@
 ghost use Rattle.std.specs.Prelude.{◌≡◌, ◌⊎◌, ◌<◌, ◌≤◌, ◌+◌, ◌-◌, ◌^◌, ◌++◌, [], length, take, Some, None, Ok, Err, IfOk, OnOk, OnErr, IfErr, IfSome, IfNone, MatchResult};
 ghost use Rattle.std.specs.Io.KnownBytes.{Appends, IsAtEnd};
 ghost use Rattle.age_cipher.specs.Sealing.{sealed};
-ghost use Rattle.age_header.specs.Device.{Counts, CountsIf, Writes, moved_by};
+ghost use Rattle.age_header.specs.Device.{Counts, CountsIf, GaveSome, Writes, flow_by, moved_by};
 ghost use Rattle.age_header.specs.Filling.{Filled};
 ghost use Rattle.age_stream.specs.Counts.{is_read, is_write};
 ghost use Rattle.age_stream.specs.Sealing.{Fills, IsFed, PutsFull, Stopped, TakesAll, FinishesBy};
@@ -80,7 +80,7 @@ impl ChunkSealer {
         ensures kept_fault { IfSome self.old.fault (λ f. (result ≡ Err f) × (self.new ≡ self.old)
             × (plain.new ≡ plain.old)) }
         ensures fills { IfNone self.old.fault
-            (Fills self.old self.new (moved_by S.to_come plain.old plain.new) result) }
+            (Fills self.old self.new (flow_by S.to_come S.gave plain.old plain.new) result) }
         ensures reads { IfNone self.old.fault
             (CountsIf is_read (S.failed plain.old) (S.failed plain.new) result) }
     {
@@ -108,7 +108,8 @@ impl ChunkSealer {
         ensures kept_fault { IfSome self.old.fault (λ f. (result ≡ Err f) × (self.new ≡ self.old)
             × (plain.new ≡ plain.old) × (out.new ≡ out.old)) }
         ensures takes { IfNone self.old.fault (TakesAll self.old self.new
-            (moved_by S.to_come plain.old plain.new) (moved_by W.taken out.old out.new) result) }
+            (flow_by S.to_come S.gave plain.old plain.new) (moved_by W.taken out.old out.new)
+            result) }
         ensures reads { IfNone self.old.fault
             (CountsIf is_read (S.failed plain.old) (S.failed plain.new) result) }
         ensures writes { IfNone self.old.fault
@@ -188,10 +189,10 @@ fn feed<S: Source, W: Sink>(
     ensures len { IfOk result (λ n. n ≤ chunk_size) }
     ensures fed { MatchResult result
         (λ n. IsFed key.now index.old index.new (take len bytes.old) (take n bytes.new)
-        (moved_by S.to_come plain.old plain.new) (moved_by W.taken out.old out.new)
+        (flow_by S.to_come S.gave plain.old plain.new) (moved_by W.taken out.old out.new)
         × IsAtEnd (S.to_come plain.new))
         (Stopped key.now max index.old index.new (take len bytes.old)
-        (moved_by S.to_come plain.old plain.new) (moved_by W.taken out.old out.new)) }
+        (flow_by S.to_come S.gave plain.old plain.new) (moved_by W.taken out.old out.new)) }
     ensures reads { CountsIf is_read (S.failed plain.old) (S.failed plain.new) result }
     ensures writes { CountsIf is_write (W.failed out.old) (W.failed out.new) result }
 {
@@ -223,8 +224,9 @@ fn fill_up_to<S: Source>(
     requires most { most ≤ chunk_size + 1 }
     ensures size { length bytes.new ≡ chunk_buf_size }
     ensures bytes { IfOk result (λ n. (n ≤ most)
-        × Filled held n bytes.old bytes.new (moved_by S.to_come plain.old plain.new)) }
+        × Filled held n bytes.old bytes.new (flow_by S.to_come S.gave plain.old plain.new)) }
     ensures end { IfOk result (λ n. n < most → IsAtEnd (S.to_come plain.new)) }
+    ensures lost { OnErr result (GaveSome (flow_by S.to_come S.gave plain.old plain.new)) }
     ensures count { Counts (S.failed plain.old) (S.failed plain.new) result }
 {
     let (prefix, _) = bytes.split_at_mut(most);

@@ -1,6 +1,6 @@
 //! Writing a payload piece by piece to a caller's sink.
 ghost use Rattle.std.specs.Prelude.{◌≡◌, ◌⊎◌, ◌≤◌, Ok, Err, IfOk, IfErr, IfSome, IfNone};
-ghost use Rattle.age_header.specs.Device.{CountsIf, Writes, moved_by};
+ghost use Rattle.age_header.specs.Device.{CountsIf, Writes, flow_by, moved_by};
 ghost use Rattle.age_stream.specs.Counts.{is_read, is_write};
 ghost use Rattle.age_stream.specs.Sealing.{FinishesBy, SealsAll};
 ghost use Rattle.age_stream.specs.Writer.{IsRefusedMemory, StartsWriter, TakesPiece};
@@ -176,7 +176,7 @@ impl<'a, W: Sink> StreamWriter<'a, W> {
         ensures kept_fault { IfSome self.entry.sealer.fault (λ f.
             (result ≡ Err f) × (plain.new ≡ plain.old) × (self.exit.0.now ≡ self.entry.out.now)) }
         ensures seals { IfNone self.entry.sealer.fault (SealsAll self.entry.sealer
-            (moved_by S.to_come plain.old plain.new)
+            (flow_by S.to_come S.gave plain.old plain.new)
             (moved_by W.taken self.entry.out.now self.exit.0.now) result) }
         ensures reads { IfNone self.entry.sealer.fault
             (CountsIf is_read (S.failed plain.old) (S.failed plain.new) result) }

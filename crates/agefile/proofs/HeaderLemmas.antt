@@ -5,7 +5,7 @@ use Rattle.std.specs.Global.{Global}
 use Rattle.std.specs.String.{string_bytes}
 use Rattle.std.specs.List.{join_by}
 use Rattle.age_kdf.specs.Bytes.{Bytes}
-use Rattle.age_header.specs.Device.{CountsIf, Known, moved}
+use Rattle.age_header.specs.Device.{CountsIf, Flow}
 use Rattle.age_header.specs.declared.fault.HeaderFault.{HeaderFault}
 use Rattle.age_header.specs.declared.fault.HeaderFault.TheVariants as header
 use Rattle.age_header.specs.Header.{Head, HeaderParts, StanzaParts}
@@ -27,22 +27,22 @@ use Rattle.agefile.specs.Limits.{limits}
 use Rattle.agefile.proofs.FrontLemmas.{whole_verdict}
 
 -- what a reader returned
-of_answer : (b : Bytes) (after : Known) (r : Result HeaderParts Fault) (answer : Result HeaderParts HeaderFault)
+of_answer : (b : Bytes) (source : Flow) (r : Result HeaderParts Fault) (answer : Result HeaderParts HeaderFault)
     → r ≡ file_result answer
-    → CountsIf is_read 0 0 r → ReadsHeaderOf b (moved (Some b) after) limits.max_header answer → HeaderOf b r
-of_answer b after r (Ok h) same count (text, verdict, taken) = subst (HeaderOf b) (sym same) (text, verdict)
-of_answer b after r (Err header.Memory) same count h = subst (HeaderOf b) (sym same) (inl refl)
-of_answer b after r (Err header.Read) same count h = let rises = subst (CountsIf is_read 0 0) same count in
+    → CountsIf is_read 0 0 r → ReadsHeaderOf b source limits.max_header answer → HeaderOf b r
+of_answer b source r (Ok h) same count (text, verdict, taken) = subst (HeaderOf b) (sym same) (text, verdict)
+of_answer b source r (Err header.Memory) same count h = subst (HeaderOf b) (sym same) (inl refl)
+of_answer b source r (Err header.Read) same count h = let rises = subst (CountsIf is_read 0 0) same count in
     absurd (omega arith)
-of_answer b after r (Err reason) same count h = subst (HeaderOf b) (sym same) (inr (reason, h, refl))
+of_answer b source r (Err reason) same count h = subst (HeaderOf b) (sym same) (inr (reason, h, refl))
 
-pub header_found : (l : Bounds) (b : Bytes) (come after : Known) (r : Result HeaderParts Fault) → l ≡ limits
-    → come ≡ Some b
-    → CountsIf is_read 0 0 r → Inspects l (moved come after) r → HeaderOf b r
-header_found l b come after r at source count h =
-    let inspects = subst (λ (s : Known). Inspects limits (moved s after) r) source
-    (subst (λ bounds. Inspects bounds (moved come after) r) at h) in
-    of_answer b after r inspects.0 inspects.1 count (reads_known b after limits.max_header inspects.0 inspects.2)
+pub header_found : (l : Bounds) (b : Bytes) (source : Flow) (r : Result HeaderParts Fault) → l ≡ limits
+    → source.before.to_come ≡ Some b
+    → CountsIf is_read 0 0 r → Inspects l source r → HeaderOf b r
+header_found l b source r at come count h =
+    let inspects = subst (λ bounds. Inspects bounds source r) at h in
+    of_answer b source r inspects.0 inspects.1 count
+    (reads_known b source limits.max_header inspects.0 come inspects.2)
 
 -- the first 65,552 bytes of a file have its header
 whole_of : (b : Bytes) (r : Result HeaderParts Fault) → HeaderOf (take 65552 b) r → HeaderOf b r

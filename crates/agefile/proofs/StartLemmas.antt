@@ -1,9 +1,10 @@
 -- Where a file's chunks begin, from what its parts return.
-use Rattle.std.proofs.Common.{◌≡◌, ◌⊎◌, ◌+◌, ◌-◌, ◌<◌, ◌≤◌, List, [], ◌∷◌, map, ◌++◌, length, take, drop, nat_lt, sym, ◌∙◌, ap, refl, subst, arith, inl, inr, length-append, Some, Result, Ok, Err}
+use Rattle.std.proofs.Common.{◌≡◌, ◌⊎◌, ◌+◌, ◌-◌, ◌<◌, ◌≤◌, List, [], ◌∷◌, map, ◌++◌, length, take, drop, nat_lt, sym, ◌∙◌, ap, refl, subst, arith, inl, inr, length-append, Result, Ok, Err}
 use Rattle.std.proofs.lemmas.Bool.{le-ltb, lt-ltb, cond-false, cond-true}
 use Rattle.std.proofs.lemmas.List.{drop_at}
 use Rattle.age_kdf.specs.Bytes.{Bytes}
-use Rattle.age_header.specs.Device.{CountsFaultIf, Known, moved}
+use Rattle.age_header.specs.Device.{CountsFaultIf, Seen, flow}
+use Rattle.age_header.proofs.DeviceLemmas.{of_told}
 use Rattle.age_header.specs.declared.fault.HeaderFault.{HeaderFault}
 use Rattle.age_header.specs.declared.fault.HeaderFault.TheVariants as header
 use Rattle.age_header.specs.Header.{StanzaParts, HeaderParts}
@@ -31,8 +32,8 @@ faulty : (answers : Answering) (b : Bytes) (g : HeaderFault) → HeaderVerdict b
     → FindsStart answers b (Err (header_fault g))
 faulty answers b g verdict = inr (Err g, verdict, refl)
 
-pub start_none : (answers : Answering) (b : Bytes) (mid : Known) (fault : Fault)
-    → Inspects limits (moved (Some b) mid) (Err fault)
+pub start_none : (answers : Answering) (b : Bytes) (mid : Seen) (fault : Fault)
+    → Inspects limits (flow (of_told b) mid) (Err fault)
     → CountsFaultIf is_read 0 0 fault → FindsStart answers b (Err fault)
 start_none answers b mid fault (Ok parts, is, h) count = absurd (cc)
 start_none answers b mid fault (Err header.Read, is, h) count =
@@ -43,7 +44,7 @@ start_none answers b mid fault (Err header.Memory, is, h) count =
     inl (ap Err (err-err {A = HeaderParts} fault OutOfMemory is))
 start_none answers b mid fault (Err g, is, h) count =
     subst (λ f. FindsStart answers b (Err f)) (sym (err-err {A = HeaderParts} fault _ is))
-    (faulty answers b g (reads_known b mid limits.max_header (Err g) h))
+    (faulty answers b g (reads_known b (flow (of_told b) mid) limits.max_header (Err g) refl h))
 
 -- a header that was read, and what follows it
 pub record Fronts (b rest : Bytes) (h : HeaderParts) : Type 0 where
@@ -51,11 +52,11 @@ pub record Fronts (b rest : Bytes) (h : HeaderParts) : Type 0 where
   pub verdict : HeaderVerdict b 65536 (Ok (record { stanzas = h.stanzas; mac = h.mac; text = text }))
   pub front : b ≡ text ++ rest
 
-pub fronts : (b rest : Bytes) (h : HeaderParts) → Inspects limits (moved (Some b) (Some rest)) (Ok h) → Fronts b rest h
+pub fronts : (b rest : Bytes) (h : HeaderParts) → Inspects limits (flow (of_told b) (of_told rest)) (Ok h) → Fronts b rest h
 fronts b rest h (Err g, is, _) = absurd (cc)
 fronts b rest h (Ok parts, is, reads) =
-    let r = reads_known b (Some rest) limits.max_header (Ok parts) reads in
-    subst (Fronts b rest) (sym (ok-ok h parts is)) (record { text = r.0; verdict = r.1; front = r.2 })
+    let r = reads_known b (flow (of_told b) (of_told rest)) limits.max_header (Ok parts) refl reads in
+    subst (Fronts b rest) (sym (ok-ok h parts is)) (record { text = r.0; verdict = r.1; front = r.2.consumes })
 
 found-start : (answers : Answering) (b rest : Bytes) (h : HeaderParts) (f : Fronts b rest h)
     (start : Result Start Fault)
@@ -69,7 +70,7 @@ found-start answers b rest h f start is =
     )
 
 pub start_locked : (answers : Answering) (b rest : Bytes) (h : HeaderParts) (fault : Fault)
-    → Inspects limits (moved (Some b) (Some rest)) (Ok h)
+    → Inspects limits (flow (of_told b) (of_told rest)) (Ok h)
     → (◌≡◌ {A = Result FileKey Fault} (Err fault) (Err OutOfMemory)) ⊎ (Err fault ≡ unlocked answers h)
     → FindsStart answers b (Err fault)
 start_locked answers b rest h fault i (inl memory) = inl (ap Err (err-err {A = FileKey} fault OutOfMemory memory))
@@ -78,7 +79,7 @@ start_locked answers b rest h fault i (inr is) =
     found-start answers b rest h f (Err fault) (ap (start_under (length f.text) rest) is)
 
 pub start_cut : (answers : Answering) (b rest : Bytes) (h : HeaderParts) (k : FileKey)
-    → Inspects limits (moved (Some b) (Some rest)) (Ok h)
+    → Inspects limits (flow (of_told b) (of_told rest)) (Ok h)
     → (◌≡◌ {A = Result FileKey Fault} (Ok k) (Err OutOfMemory)) ⊎ (Ok k ≡ unlocked answers h) → length rest < 16
     → FindsStart answers b (Err NonceTruncated)
 start_cut answers b rest h k i (inl memory) short = absurd (cc)
@@ -89,7 +90,7 @@ start_cut answers b rest h k i (inr is) short =
     ∙ ap (start_under (length f.text) rest) is)
 
 pub start_found : (answers : Answering) (b rest nonce key : Bytes) (h : HeaderParts) (k : FileKey)
-    → Inspects limits (moved (Some b) (Some rest)) (Ok h)
+    → Inspects limits (flow (of_told b) (of_told rest)) (Ok h)
     → (◌≡◌ {A = Result FileKey Fault} (Ok k) (Err OutOfMemory)) ⊎ (Ok k ≡ unlocked answers h) → 16 ≤ length rest
     → nonce ≡ take 16 rest
     → key ≡ payload_key k nonce → FindsStart answers b (Ok (record { first = length b - length rest + 16; key = key }))

@@ -1,7 +1,8 @@
 -- Finding a file key, from what its parts return; and the verdict, by the file key.
-use Rattle.std.proofs.Common.{◌≡◌, ◌≢◌, ◌⊎◌, ℕ, ◌+◌, ◌-◌, List, [], ◌∷◌, map, length, take, drop, sym, ◌∙◌, ap, refl, subst, arith, inl, inr, length-append, Some, Result, Ok, Err}
+use Rattle.std.proofs.Common.{◌≡◌, ◌≢◌, ◌⊎◌, ℕ, ◌+◌, ◌-◌, List, [], ◌∷◌, map, length, take, drop, sym, ◌∙◌, ap, refl, subst, arith, inl, inr, length-append, Result, Ok, Err}
 use Rattle.age_kdf.specs.Bytes.{Bytes}
-use Rattle.age_header.specs.Device.{CountsFaultIf, Known, moved}
+use Rattle.age_header.specs.Device.{CountsFaultIf, Seen, flow}
+use Rattle.age_header.proofs.DeviceLemmas.{of_told}
 use Rattle.age_header.specs.declared.fault.HeaderFault.{HeaderFault}
 use Rattle.age_header.specs.declared.fault.HeaderFault.TheVariants as header
 use Rattle.age_header.specs.Header.{StanzaParts, HeaderParts}
@@ -34,8 +35,8 @@ faulty : (answers : Answering) (b : Bytes) (fault : Fault) (g : HeaderFault)
     → FindsKey answers b (Err fault)
 faulty answers b fault g is verdict = inr (Err g, verdict, ap Err (err-err {A = HeaderParts} fault (header_fault g) is))
 
-pub key_none : (answers : Answering) (b : Bytes) (mid : Known) (fault : Fault)
-    → Inspects limits (moved (Some b) mid) (Err fault)
+pub key_none : (answers : Answering) (b : Bytes) (mid : Seen) (fault : Fault)
+    → Inspects limits (flow (of_told b) mid) (Err fault)
     → CountsFaultIf is_read 0 0 fault → FindsKey answers b (Err fault)
 key_none answers b mid fault (Ok parts, is, h) count = absurd (cc)
 key_none answers b mid fault (Err header.Read, is, h) count =
@@ -45,10 +46,10 @@ key_none answers b mid fault (Err header.Read, is, h) count =
 key_none answers b mid fault (Err header.Memory, is, h) count =
     inl (ap Err (err-err {A = HeaderParts} fault OutOfMemory is))
 key_none answers b mid fault (Err g, is, h) count =
-    faulty answers b fault g is (reads_known b mid limits.max_header (Err g) h)
+    faulty answers b fault g is (reads_known b (flow (of_told b) mid) limits.max_header (Err g) refl h)
 
 pub key_locked : (answers : Answering) (b rest : Bytes) (h : HeaderParts) (fault : Fault)
-    → Inspects limits (moved (Some b) (Some rest)) (Ok h)
+    → Inspects limits (flow (of_told b) (of_told rest)) (Ok h)
     → (◌≡◌ {A = Result FileKey Fault} (Err fault) (Err OutOfMemory)) ⊎ (Err fault ≡ unlocked answers h)
     → FindsKey answers b (Err fault)
 key_locked answers b rest h fault i (inl memory) = inl (ap Err (err-err {A = FileKey} fault OutOfMemory memory))
@@ -57,7 +58,7 @@ key_locked answers b rest h fault i (inr is) =
     inr (Ok (record { stanzas = h.stanzas; mac = h.mac; text = f.text }), f.verdict, ap (with_len (length f.text)) is)
 
 pub key_found : (answers : Answering) (b rest : Bytes) (h : HeaderParts) (k : FileKey)
-    → Inspects limits (moved (Some b) (Some rest)) (Ok h)
+    → Inspects limits (flow (of_told b) (of_told rest)) (Ok h)
     → (◌≡◌ {A = Result FileKey Fault} (Ok k) (Err OutOfMemory)) ⊎ (Ok k ≡ unlocked answers h)
     → FindsKey answers b (Ok (record { header_len = length b - length rest; key = k }))
 key_found answers b rest h k i (inl memory) = absurd (cc)

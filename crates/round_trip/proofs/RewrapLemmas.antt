@@ -2,12 +2,12 @@
 use Rattle.std.proofs.Common.{◌≡◌, ◌∙◌, ◌^◌, ◌<◌, ◌≤◌, ℕ, List, [], ◌∷◌, length, map, sym, ap, subst, arith, refl, inl, inr, Some, Result, Ok, Err}
 use Rattle.std.specs.Prelude.{IfErr, IfOk}
 use Rattle.age_file.specs.Words.{Bytes}
-use Rattle.age_header.specs.Device.{CountsFaultIf, Known, moved}
+use Rattle.age_header.specs.Device.{CountsFaultIf, Known, Flow, moved}
 use Rattle.age_header.specs.declared.fault.HeaderFault.{HeaderFault}
 use Rattle.age_header.specs.Header.{StanzaParts}
 use Rattle.age_header.specs.Mac.{header_mac}
 use Rattle.age_header.specs.Verdict.{BeginsWith, Found, HeaderVerdict}
-use Rattle.age_header.proofs.DeviceLemmas.{may-known}
+use Rattle.age_header.proofs.DeviceLemmas.{of-known}
 use Rattle.age_header.proofs.VerdictUniqueLemmas as headers
 use Rattle.age_recipient.specs.declared.key.FileKey.{FileKey}
 use Rattle.age_recipient.specs.declared.labels.Labels.{Labels}
@@ -97,44 +97,39 @@ unrewrapped limits answers gathered k stanzas plain b fault old new short file c
 -- the same where identity and recipient stand alone in their lists
 pub unrewrapped_one : {X Y : Type 0} (limits : Bounds) (meaning : X → List StanzaParts → Unwrapped) (xs : List X)
     (x : X) (wraps : Y → FileKey → Result (List StanzaParts) ℕ) (labels : Y → Labels) (ys : List Y) (y : Y)
-    (a b : Bytes) (fault : Fault) (old new : Known) → length b < 2 ^ 64 → xs ≡ x ∷ [] → ys ≡ y ∷ [] → a ≡ b
-    → CountsFaultIf is_read 0 0 fault
+    (b : Bytes) (fault : Fault) (old new : Known) → length b < 2 ^ 64 → xs ≡ x ∷ [] → ys ≡ y ∷ []
+    → CountsFaultIf is_read 0 0 fault → (source : Flow) → source.before.to_come ≡ Some b
     → Rewraps limits (λ s. map (λ i. meaning i s) xs) (λ key. Gathered (map (λ r. wraps r key) ys) (map labels ys))
-    (Some a) (moved old new) (Err fault)
+    source (moved old new) (Err fault)
     → (stanzas : List StanzaParts) (k : FileKey) (plain : Bytes) → AgeFile limits k stanzas plain b
     → meaning x stanzas ≡ Key k
     → IsUnwritten (IsRefusal limits k (Gathered (wraps y k ∷ []) (labels y ∷ []))) limits plain fault
-unrewrapped_one limits meaning xs x wraps labels ys y a b fault old new short list to come count h =
+unrewrapped_one limits meaning xs x wraps labels ys y b fault old new short list to count source come h =
     λ stanzas k plain file means.
     unrewrapped limits (λ s. meaning x s ∷ []) (λ key. Gathered (wraps y key ∷ []) (labels y ∷ [])) k stanzas plain b
     fault old new short file (ap (λ u. choice (u ∷ [])) means) count
-    (subst
-    (λ z. RewrapsText limits (λ s. meaning x s ∷ []) (λ key. Gathered (wraps y key ∷ []) (labels y ∷ [])) z
-    (moved old new) (Err fault)) come
-    (may-known (λ z. RewrapsText limits (λ s. meaning x s ∷ []) (λ key. Gathered (wraps y key ∷ []) (labels y ∷ [])) z
-    (moved old new) (Err fault)) a
+    (of-known (λ z. RewrapsText limits (λ s. meaning x s ∷ []) (λ key. Gathered (wraps y key ∷ []) (labels y ∷ [])) z
+    (moved old new) (Err fault)) source b come
     (subst (λ z. Rewraps limits (λ s. meaning x s ∷ []) (λ key. Gathered (map (λ r. wraps r key) z) (map labels z))
-    (Some a) (moved old new) (Err fault)) to
+    source (moved old new) (Err fault)) to
     (subst (λ z. Rewraps limits (λ s. map (λ i. meaning i s) z)
-    (λ key. Gathered (map (λ r. wraps r key) ys) (map labels ys)) (Some a) (moved old new) (Err fault)) list h))))
+    (λ key. Gathered (map (λ r. wraps r key) ys) (map labels ys)) source (moved old new) (Err fault)) list h)))
 
 -- what was written of one recipient
 pub rewrapped_one : {X Y : Type 0} (limits : Bounds) (meaning : X → List StanzaParts → Unwrapped) (xs : List X) (x : X)
     (wraps : Y → FileKey → Result (List StanzaParts) ℕ) (labels : Y → Labels) (ys : List Y) (y : Y)
-    (a b c : Bytes) → xs ≡ x ∷ [] → ys ≡ y ∷ [] → a ≡ b
+    (b c : Bytes) → xs ≡ x ∷ [] → ys ≡ y ∷ [] → (source : Flow) → source.before.to_come ≡ Some b
     → Rewraps limits (λ s. map (λ i. meaning i s) xs) (λ key. Gathered (map (λ r. wraps r key) ys) (map labels ys))
-    (Some a) (moved (Some []) (Some c)) (Ok tt)
+    source (moved (Some []) (Some c)) (Ok tt)
     → (is : Rewrapped limits (λ s. meaning x s ∷ []) b c) × (wraps y is.key ≡ Ok is.stanzas)
-rewrapped_one limits meaning xs x wraps labels ys y a b c list to come h =
-    let t = subst (λ z. RewrapsText limits (λ s. meaning x s ∷ []) (λ key. Gathered (wraps y key ∷ []) (labels y ∷ []))
-    z (moved (Some []) (Some c)) (Ok tt)) come
-    (may-known (λ z. RewrapsText limits (λ s. meaning x s ∷ []) (λ key. Gathered (wraps y key ∷ []) (labels y ∷ [])) z
-    (moved (Some []) (Some c)) (Ok tt)) a
+rewrapped_one limits meaning xs x wraps labels ys y b c list to source come h =
+    let t = of-known
+    (λ z. RewrapsText limits (λ s. meaning x s ∷ []) (λ key. Gathered (wraps y key ∷ []) (labels y ∷ [])) z
+    (moved (Some []) (Some c)) (Ok tt)) source b come
     (subst (λ z. Rewraps limits (λ s. meaning x s ∷ []) (λ key. Gathered (map (λ r. wraps r key) z) (map labels z))
-    (Some a) (moved (Some []) (Some c)) (Ok tt)) to
+    source (moved (Some []) (Some c)) (Ok tt)) to
     (subst (λ z. Rewraps limits (λ s. map (λ i. meaning i s) z)
-    (λ key. Gathered (map (λ r. wraps r key) ys) (map labels ys)) (Some a) (moved (Some []) (Some c)) (Ok tt)) list h)))
-    in
+    (λ key. Gathered (map (λ r. wraps r key) ys) (map labels ys)) source (moved (Some []) (Some c)) (Ok tt)) list h)) in
     let is : c ≡ t.0 = t.2 in
     subst (λ z. (is : Rewrapped limits (λ s. meaning x s ∷ []) b z) × (wraps y is.key ≡ Ok is.stanzas)) (sym is)
     (t.1.0, gathered_one (wraps y t.1.0.key) (labels y ∷ []) t.1.0.stanzas t.1.1)

@@ -3,8 +3,8 @@ use Rattle.std.proofs.Common.{◌≡◌, ◌∙◌, ℕ, List, [], ◌∷◌, �
 use Rattle.std.specs.Prelude.{IfErr}
 use Rattle.std.proofs.lemmas.List.{append-nil}
 use Rattle.std.proofs.lemmas.Option.{none-some}
-use Rattle.age_header.specs.Device.{CountsFaultIf, moved}
-use Rattle.age_header.proofs.DeviceLemmas.{may-known}
+use Rattle.age_header.specs.Device.{CountsFaultIf, Flow, moved}
+use Rattle.age_header.proofs.DeviceLemmas.{of-known}
 use Rattle.age_file.specs.declared.fault.Fault.{Fault}
 use Rattle.age_file.specs.declared.fault.Fault.TheVariants.{TooManyChunks, Read, Write, OutOfMemory}
 use Rattle.age_file.specs.declared.limits.Fresh.{Fresh}
@@ -28,12 +28,13 @@ gathered_one (Err code) meant stanzas (place, apart, e) = cc
 
 pub file_of_one : (limits : Bounds) (fresh : Fresh) (wrapped : Result (List StanzaParts) ℕ) (meant : List Labels)
     (plain file : Bytes) (done : Done)
-    → EncryptsGiven limits fresh (Gathered (wrapped ∷ []) meant) (Some plain) (moved (Some []) (Some file)) (Ok done)
+    → (source : Flow) → source.before.to_come ≡ Some plain
+    → EncryptsGiven limits fresh (Gathered (wrapped ∷ []) meant) source (moved (Some []) (Some file)) (Ok done)
     → (stanzas : List StanzaParts) × (wrapped ≡ Ok stanzas) × AgeFile limits fresh.file_key stanzas plain file
-file_of_one limits fresh wrapped meant plain file done given =
-    let h = may-known
+file_of_one limits fresh wrapped meant plain file done source come given =
+    let h = of-known
     (λ x. EncryptsText limits fresh (Gathered (wrapped ∷ []) meant) x (moved (Some []) (Some file)) (Ok done))
-    plain given in
+    source plain come given in
     let is : file ≡ h.0 = h.2 in (
       h.1.stanzas,
       gathered_one wrapped meant h.1.stanzas h.1.heading.gives,
@@ -47,10 +48,12 @@ IsOnce limits answers b = (v w : Reading Fault) → IsVerdict limits answers b v
 pub text_of_whole : (limits : Bounds) (answers : Answering) (b plain text : Bytes) (done : Done)
     → IsOnce limits answers b
     → IsVerdict limits answers b (whole plain)
-    → Decrypts limits answers (Some b) (moved (Some []) (Some text)) (Ok done)
+    → (source : Flow) → source.before.to_come ≡ Some b
+    → Decrypts limits answers source (moved (Some []) (Some text)) (Ok done)
     → text ≡ plain
-text_of_whole limits answers b plain text done once is decrypts =
-    let h = may-known (λ x. DecryptsText limits answers x (moved (Some []) (Some text)) (Ok done)) b decrypts in
+text_of_whole limits answers b plain text done once is source come decrypts =
+    let h = of-known (λ x. DecryptsText limits answers x (moved (Some []) (Some text)) (Ok done)) source b come decrypts
+    in
     h.3 ∙ ap (λ (v : Reading Fault). v.front) (once h.0 (whole plain) h.1 is)
 
 -- what is read whole has no fault
@@ -72,16 +75,16 @@ lost_of_whole limits answers b plain fault old new once is count h =
 
 -- the same where the identity stands alone in a list
 pub lost_of_one : {X : Type 0} (limits : Bounds) (meaning : X → List StanzaParts → Unwrapped) (xs : List X) (x : X)
-    (a b plain : Bytes) (fault : Fault)
-    (old new : Known) → xs ≡ x ∷ [] → a ≡ b → IsOnce limits (λ s. meaning x s ∷ []) b
+    (b plain : Bytes) (fault : Fault)
+    (old new : Known) → xs ≡ x ∷ [] → IsOnce limits (λ s. meaning x s ∷ []) b
     → IsVerdict limits (λ s. meaning x s ∷ []) b (whole plain)
     → CountsFaultIf is_read 0 0 fault
-    → Decrypts limits (λ s. map (λ i. meaning i s) xs) (Some a) (moved old new) (Err fault) → IsMemoryFault fault
-lost_of_one limits meaning xs x a b plain fault old new list come once is count h =
+    → (source : Flow) → source.before.to_come ≡ Some b
+    → Decrypts limits (λ s. map (λ i. meaning i s) xs) source (moved old new) (Err fault) → IsMemoryFault fault
+lost_of_one limits meaning xs x b plain fault old new list once is count source come h =
     lost_of_whole limits (λ s. meaning x s ∷ []) b plain fault old new once is count
-    (may-known (λ z. DecryptsText limits (λ s. meaning x s ∷ []) z (moved old new) (Err fault)) b
-    (subst (λ z. Decrypts limits (λ s. meaning x s ∷ []) (Some z) (moved old new) (Err fault)) come
-    (subst (λ z. Decrypts limits (λ s. map (λ i. meaning i s) z) (Some a) (moved old new) (Err fault)) list h)))
+    (of-known (λ z. DecryptsText limits (λ s. meaning x s ∷ []) z (moved old new) (Err fault)) source b come
+    (subst (λ z. Decrypts limits (λ s. map (λ i. meaning i s) z) source (moved old new) (Err fault)) list h))
 
 -- why no file was written from memory
 unwritten : (limits : Bounds) (fresh : Fresh) (gathered : Gathering) (plain : Bytes) (fault : Fault) (old new : Known)
@@ -97,21 +100,19 @@ unwritten limits fresh gathered plain _ old new count refused h = inr (inr refus
 
 -- the same where the recipient stands alone in a list
 pub unwritten_of_one : {X : Type 0} (limits : Bounds) (fresh : Fresh) (wraps : X → Result (List StanzaParts) ℕ)
-    (labels : X → Labels) (xs : List X) (x : X) (a plain : Bytes) (fault : Fault)
-    (old new : Known) → xs ≡ x ∷ [] → a ≡ plain → CountsFaultIf is_read 0 0 fault
+    (labels : X → Labels) (xs : List X) (x : X) (plain : Bytes) (fault : Fault)
+    (old new : Known) → xs ≡ x ∷ [] → CountsFaultIf is_read 0 0 fault
     → RefusesFirst limits fresh.file_key (Gathered (map wraps xs) (map labels xs)) fault
-    → EncryptsGiven limits fresh (Gathered (map wraps xs) (map labels xs)) (Some a) (moved old new) (Err fault)
+    → (source : Flow) → source.before.to_come ≡ Some plain
+    → EncryptsGiven limits fresh (Gathered (map wraps xs) (map labels xs)) source (moved old new) (Err fault)
     → IsUnwritten (IsRefusal limits fresh.file_key (Gathered (wraps x ∷ []) (labels x ∷ []))) limits plain fault
-unwritten_of_one limits fresh wraps labels xs x a plain fault old new list come count refused h =
+unwritten_of_one limits fresh wraps labels xs x plain fault old new list count refused source come h =
     unwritten limits fresh (Gathered (wraps x ∷ []) (labels x ∷ [])) plain fault old new count
     (subst (λ z. RefusesFirst limits fresh.file_key (Gathered (map wraps z) (map labels z)) fault) list refused)
-    (subst (λ z. EncryptsText limits fresh (Gathered (wraps x ∷ []) (labels x ∷ [])) z (moved old new) (Err fault)) come
-    (may-known (λ z. EncryptsText limits fresh (Gathered (wraps x ∷ []) (labels x ∷ [])) z (moved old new) (Err fault))
-    a
-    (subst
-    (λ z. EncryptsGiven limits fresh (Gathered (map wraps z) (map labels z)) (Some a) (moved old new) (Err fault))
-    list
-    h)))
+    (of-known (λ z. EncryptsText limits fresh (Gathered (wraps x ∷ []) (labels x ∷ [])) z (moved old new) (Err fault))
+    source plain come
+    (subst (λ z. EncryptsGiven limits fresh (Gathered (map wraps z) (map labels z)) source (moved old new) (Err fault))
+    list h))
 
 -- a loss where no header is refused
 pub no_refusal : (refuses : Fault → Type 0) (limits : Bounds) (plain : Bytes) (fault : Fault)

@@ -1,6 +1,7 @@
 use Rattle.std.proofs.Common.{◌∙◌, ap}
 use denote.Param.Object.{read_made}
-use Rattle.age_header.proofs.DeviceLemmas.{may-some}
+use Rattle.age_header.proofs.DeviceLemmas.{of-any, some-none}
+use Rattle.age_header.specs.Device.{seen_by}
 use Rattle.age_commands.specs.Secret.{unwraps_of}
 use Rattle.age_commands.proofs.SecretLemmas.{decrypting_meant}
 use Rattle.age_commands.proofs.decrypt.decrypt.Goals as goal
@@ -14,8 +15,8 @@ returns-in-Ok-new-clause-decrypts g c =
 
 pub returns-in_default-clause-decrypts : goal.returns-in_default-clause-decrypts
 returns-in_default-clause-decrypts g c =
-    let b = may-some (g.S.Source.to_come c.args.input.now) in (b.0, b.1, tt)
+    of-any _ _ _ (some-none (seen_by g.S.Source.to_come g.S.Source.gave c.args.input.now)) (λ b. tt)
 
 pub returns-clause-decrypts : goal.returns-clause-decrypts
 returns-clause-decrypts g c =
-    let b = may-some (g.S.Source.to_come c.args.input.now) in (b.0, b.1, tt)
+    of-any _ _ _ (some-none (seen_by g.S.Source.to_come g.S.Source.gave c.args.input.now)) (λ b. tt)

@@ -1,5 +1,6 @@
 use Rattle.std.proofs.Common.{rules}
-use Rattle.age_header.proofs.DeviceLemmas.{may-some}
+use Rattle.age_header.proofs.DeviceLemmas.{of-any, some-none}
+use Rattle.age_header.specs.Device.{seen_by}
 use Rattle.age_commands.proofs.SecretLemmas.{decrypts_alone}
 use Rattle.age_commands.proofs.decrypt.decrypt_by.Goals as goal
 
@@ -11,4 +12,4 @@ returns-in-Ok-clause-decrypts g c =
 
 pub returns-clause-decrypts : goal.returns-clause-decrypts
 returns-clause-decrypts g c =
-    let b = may-some (g.S.Source.to_come c.args.input.now) in (b.0, b.1, tt)
+    of-any _ _ _ (some-none (seen_by g.S.Source.to_come g.S.Source.gave c.args.input.now)) (λ b. tt)

@@ -1,6 +1,7 @@
 use Rattle.std.proofs.Common.{◌∙◌, ap}
 use denote.Param.Object.{read_made}
-use Rattle.age_header.proofs.DeviceLemmas.{may-some}
+use Rattle.age_header.proofs.DeviceLemmas.{of-any, some-none}
+use Rattle.age_header.specs.Device.{seen_by}
 use Rattle.age_commands.specs.Secret.{labels_of, wraps_of}
 use Rattle.age_commands.proofs.SecretLemmas.{encrypting_meant}
 use Rattle.age_commands.proofs.encrypt.encrypt.Goals as goal
@@ -17,8 +18,8 @@ returns-in-Ok-new-clause-encrypts g c =
 
 pub returns-in_default-clause-encrypts : goal.returns-in_default-clause-encrypts
 returns-in_default-clause-encrypts g c =
-    let b = may-some (g.S.Source.to_come c.args.input.now) in ((b.0, b.1, tt), tt)
+    (of-any _ _ _ (some-none (seen_by g.S.Source.to_come g.S.Source.gave c.args.input.now)) (λ b. tt), tt)
 
 pub returns-clause-encrypts : goal.returns-clause-encrypts
 returns-clause-encrypts g c =
-    let b = may-some (g.S.Source.to_come c.args.input.now) in ((b.0, b.1, tt), tt)
+    (of-any _ _ _ (some-none (seen_by g.S.Source.to_come g.S.Source.gave c.args.input.now)) (λ b. tt), tt)

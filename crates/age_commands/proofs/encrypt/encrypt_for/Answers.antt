@@ -1,6 +1,7 @@
-use Rattle.age_header.proofs.DeviceLemmas.{may-some}
+use Rattle.age_header.proofs.DeviceLemmas.{of-any, some-none}
+use Rattle.age_header.specs.Device.{seen_by}
 use Rattle.age_commands.proofs.encrypt.encrypt_for.Goals as goal
 
 pub returns-clause-encrypts : goal.returns-clause-encrypts
 returns-clause-encrypts g c =
-    let b = may-some (g.S.Source.to_come c.args.input.now) in ((b.0, b.1, tt), tt)
+    (of-any _ _ _ (some-none (seen_by g.S.Source.to_come g.S.Source.gave c.args.input.now)) (λ b. tt), tt)

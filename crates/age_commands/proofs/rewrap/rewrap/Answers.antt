@@ -1,6 +1,7 @@
 use Rattle.std.proofs.Common.{◌∙◌, ap}
 use denote.Param.Object.{read_made}
-use Rattle.age_header.proofs.DeviceLemmas.{may-some}
+use Rattle.age_header.proofs.DeviceLemmas.{of-any, some-none}
+use Rattle.age_header.specs.Device.{seen_by}
 use Rattle.age_commands.specs.Secret.{labels_of, unwraps_of, wraps_of}
 use Rattle.age_commands.proofs.SecretLemmas.{rewrapping_meant}
 use Rattle.age_commands.proofs.rewrap.rewrap.Goals as goal
@@ -19,16 +20,16 @@ returns-in-Ok-new-3-clause-rewraps g c =
 
 pub returns-in_default-clause-rewraps : goal.returns-in_default-clause-rewraps
 returns-in_default-clause-rewraps g c =
-    let b = may-some (g.S.Source.to_come c.args.input.now) in (b.0, b.1, tt)
+    of-any _ _ _ (some-none (seen_by g.S.Source.to_come g.S.Source.gave c.args.input.now)) (λ b. tt)
 
 pub returns-in_default-new-clause-rewraps : goal.returns-in_default-new-clause-rewraps
 returns-in_default-new-clause-rewraps g c =
-    let b = may-some (g.S.Source.to_come c.args.input.now) in (b.0, b.1, tt)
+    of-any _ _ _ (some-none (seen_by g.S.Source.to_come g.S.Source.gave c.args.input.now)) (λ b. tt)
 
 pub returns-in_default-new-2-clause-rewraps : goal.returns-in_default-new-2-clause-rewraps
 returns-in_default-new-2-clause-rewraps g c =
-    let b = may-some (g.S.Source.to_come c.args.input.now) in (b.0, b.1, tt)
+    of-any _ _ _ (some-none (seen_by g.S.Source.to_come g.S.Source.gave c.args.input.now)) (λ b. tt)
 
 pub returns-in-Err-clause-rewraps : goal.returns-in-Err-clause-rewraps
 returns-in-Err-clause-rewraps g c =
-    let b = may-some (g.S.Source.to_come c.args.input.now) in (b.0, b.1, tt)
+    of-any _ _ _ (some-none (seen_by g.S.Source.to_come g.S.Source.gave c.args.input.now)) (λ b. tt)

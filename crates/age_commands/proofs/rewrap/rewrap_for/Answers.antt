@@ -1,5 +1,6 @@
 use Rattle.std.proofs.Common.{rules}
-use Rattle.age_header.proofs.DeviceLemmas.{may-some}
+use Rattle.age_header.proofs.DeviceLemmas.{of-any, some-none}
+use Rattle.age_header.specs.Device.{seen_by}
 use Rattle.age_commands.proofs.SecretLemmas.{rewraps_alone}
 use Rattle.age_commands.proofs.rewrap.rewrap_for.Goals as goal
 
@@ -14,8 +15,8 @@ returns-clause-rewraps g c =
 
 pub returns-in_default-clause-rewraps : goal.returns-in_default-clause-rewraps
 returns-in_default-clause-rewraps g c =
-    let b = may-some (g.S.Source.to_come c.args.input.now) in (b.0, b.1, tt)
+    of-any _ _ _ (some-none (seen_by g.S.Source.to_come g.S.Source.gave c.args.input.now)) (λ b. tt)
 
 pub returns-in_default-vec-clause-rewraps : goal.returns-in_default-vec-clause-rewraps
 returns-in_default-vec-clause-rewraps g c =
-    let b = may-some (g.S.Source.to_come c.args.input.now) in (b.0, b.1, tt)
+    of-any _ _ _ (some-none (seen_by g.S.Source.to_come g.S.Source.gave c.args.input.now)) (λ b. tt)

@@ -1,4 +1,5 @@
 use Rattle.std.proofs.Common.{◌∙◌}
+use Rattle.age_header.proofs.DeviceLemmas.{some-then}
 use Rattle.age_header.proofs.FillingLemmas.{filled-more}
 use Rattle.age_header.proofs.filling.fill_from.Goals as goal
 
@@ -9,3 +10,6 @@ loop-at-preserved g c = record {
       c.loop-at.invariant.size c.loop-at.invariant.filled c.in-Ok.ensures.bytes;
   count = c.in-Ok.ensures.count ∙ c.loop-at.invariant.count;
 }
+
+pub returns-in-Err-clause-lost : goal.returns-in-Err-clause-lost
+returns-in-Err-clause-lost g c = some-then _ _ _ _ c.loop-at.invariant.filled.bytes c.in-Err.ensures.lost

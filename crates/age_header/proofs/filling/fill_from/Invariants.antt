@@ -1,12 +1,12 @@
 use Rattle.std.proofs.Common.{◌≡◌, ◌-◌, length}
 use Rattle.age_header.specs.Filling.{Filled}
 use Rattle.age_header.proofs.filling.fill_from.Given as goal
-use Rattle.age_header.specs.Device.{moved_by}
+use Rattle.age_header.specs.Device.{flow_by}
 
 abbrev pub invariant-loop-at : goal.invariant-loop-at
 invariant-loop-at g l = record {
   size : length l.buf ≡ length l.fn.buf;
-  filled : Filled l.start l.at l.fn.buf l.buf (moved_by g.S.Source.to_come l.fn.input l.input);
+  filled : Filled l.start l.at l.fn.buf l.buf (flow_by g.S.Source.to_come g.S.Source.gave l.fn.input l.input);
   count : g.S.Source.failed l.input ≡ g.S.Source.failed l.fn.input;
 }
 

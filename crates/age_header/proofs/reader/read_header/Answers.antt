@@ -4,23 +4,32 @@ use Rattle.std.proofs.lemmas.Grind.{common_steps}
 use Rattle.age_kdf.specs.Bytes.{Bytes}
 use Rattle.age_header.specs.Base64.{IsBase64}
 use Rattle.age_header.specs.Steps.{Step}
-use Rattle.age_header.proofs.DeviceLemmas.{may-some}
+use Rattle.age_header.proofs.DeviceLemmas.{gave-some, of-any, some-then}
 use Rattle.age_header.proofs.ReaderLemmas.{outside}
-use Rattle.age_header.proofs.VerdictLaterLinesLemmas.{path_truncated, path_too_large, path_header, path_bad, path_more, path_lines}
+use Rattle.age_header.proofs.VerdictLaterLinesLemmas.{path_truncated, path_too_large, path_header, path_bad, path_more, path_lines, path_start}
 use Rattle.age_header.proofs.reader.read_header.Goals as goal
 use Rattle.age_header.proofs.reader.read_header.Goals.{then-is_whole+in-Ok-None, else-is_whole}
+
+pub lines-init : goal.lines-init
+lines-init g c = record {
+  count = c.in_ok-read_version.ensures.count;
+  path = rw c.new-progress.ensures
+      (path_start _ _ c.args.max c.in_ok-read_version.ensures.ok.0 c.in_ok-read_version.ensures.ok.1);
+}
 
 pub returns-in_err-text-clause-verdict : goal.returns-in_err-text-clause-verdict
 returns-in_err-text-clause-verdict g c =
     let is : c.from_residual-in_err-text.result ≡ Err c.in_err-text.field-0.0 = search rules in
-    rw is (outside _ (g.S.Source.to_come c.read_line.new.input) c.args.max c.in_err-text.field-0.0
-    c.in_err-text.ensures.err)
+    rw is (outside _ _ c.args.max c.in_err-text.field-0.0 c.in_err-text.ensures.err
+    (some-then _ _ _ _ c.lines.invariant.path.read c.in_err-text.ensures.lost))
 
 pub returns-in-Err-clause-verdict : goal.returns-in-Err-clause-verdict
-returns-in-Err-clause-verdict g c = let b = may-some (g.S.Source.to_come c.args.input.now) in (b.0, b.1, tt)
+returns-in-Err-clause-verdict g c =
+    of-any _ _ _ (some-then _ _ _ _ c.lines.invariant.path.read (gave-some _ _ _ c.in_ok-text.ensures.bytes)) (λ b. tt)
 
 pub returns-in-Err-step-clause-verdict : goal.returns-in-Err-step-clause-verdict
-returns-in-Err-step-clause-verdict g c = let b = may-some (g.S.Source.to_come c.args.input.now) in (b.0, b.1, tt)
+returns-in-Err-step-clause-verdict g c =
+    of-any _ _ _ (some-then _ _ _ _ c.lines.invariant.path.read (gave-some _ _ _ c.in_ok-text.ensures.bytes)) (λ b. tt)
 
 pub returns-in-Input-clause-verdict : goal.returns-in-Input-clause-verdict
 returns-in-Input-clause-verdict g c =

@@ -1,42 +1,49 @@
 use Rattle.std.proofs.Common.{rules, arith, ◌≡◌, ◌∙◌, ◌++◌, ap, sym, length, take, drop, inr}
 use Rattle.std.proofs.lemmas.List.{drop-drop, length-take-le, take_all}
 use Rattle.age_kdf.specs.Bytes.{Bytes}
-use Rattle.age_header.proofs.DeviceLemmas.{may-end, may-more}
-use Rattle.age_stream.proofs.OpeningLemmas.{counts-piece, outcome-last, after-last, outcome-more, after-more}
+use Rattle.age_stream.proofs.OpeningLemmas.{counts-piece, is-filled, outcome-last, after-last, outcome-more, after-more}
 use Rattle.age_stream.proofs.opening.next_piece.Goals as goal
 
 pub returns-in-Ok-open_chunk-clause-opens : goal.returns-in-Ok-open_chunk-clause-opens
-returns-in-Ok-open_chunk-clause-opens g c = inr (λ d may.
+returns-in-Ok-open_chunk-clause-opens g c =
     let f = c.in-Ok.ensures.bytes in
     let filled : Bytes = c.fill_from.new.buf in
     let ahead : Bytes = take c.args.ahead (drop 65552 c.args.bytes.now) in
     let l : length (take c.in-Ok.n filled) ≡ c.in-Ok.n = length-take-le c.in-Ok.n filled (search rules) in
-    let is : take c.in-Ok.n filled ≡ ahead ++ f.piece = f.is ∙ ap (λ t. t ++ f.piece) c.carry.ensures.prefix in (
-      f.piece,
-      may-end _ _ f.piece f.bytes (c.in-Ok.ensures.end (search rules)),
-      (
+    let is : take c.in-Ok.n filled ≡ ahead ++ f.piece = f.is ∙ ap (λ t. t ++ f.piece) c.carry.ensures.prefix in
+    inr (record {
+      given = f.piece;
+      gave = f.bytes;
+      filled = is-filled c.args.ahead c.in-Ok.n c.args.bytes.now f.piece _ c.requires.size c.requires.ahead f.len
+          (omega (arith, f.room, c.carry.ensures.len))
+          (λ low. c.in-Ok.ensures.end (omega (arith, low, c.carry.ensures.len)));
+      opens = (
         outcome-last c.args.key.now c.args.max c.args.i ahead f.piece (take c.in-Ok.n filled) (omega arith) is
             ∙ c.in-Ok-open_chunk.ensures.text.0,
         c.in-Ok-open_chunk.ensures.text.1,
         sym (after-last ahead f.piece (take c.in-Ok.n filled) (omega arith) is),
-      ),
-    ))
+      );
+    })
 
 pub returns-in-Err-clause-opens : goal.returns-in-Err-clause-opens
-returns-in-Err-clause-opens g c = inr (λ d may.
+returns-in-Err-clause-opens g c =
     let f = c.in-Ok.ensures.bytes in
     let filled : Bytes = c.fill_from.new.buf in
     let ahead : Bytes = take c.args.ahead (drop 65552 c.args.bytes.now) in
     let l : length (take c.in-Ok.n filled) ≡ c.in-Ok.n = length-take-le c.in-Ok.n filled (search rules) in
-    let is : take c.in-Ok.n filled ≡ ahead ++ f.piece = f.is ∙ ap (λ t. t ++ f.piece) c.carry.ensures.prefix in (
-      f.piece,
-      may-end _ _ f.piece f.bytes (c.in-Ok.ensures.end (search rules)),
-      outcome-last c.args.key.now c.args.max c.args.i ahead f.piece (take c.in-Ok.n filled) (omega arith) is
-          ∙ c.in-Err.ensures.text,
-    ))
+    let is : take c.in-Ok.n filled ≡ ahead ++ f.piece = f.is ∙ ap (λ t. t ++ f.piece) c.carry.ensures.prefix in
+    inr (record {
+      given = f.piece;
+      gave = f.bytes;
+      filled = is-filled c.args.ahead c.in-Ok.n c.args.bytes.now f.piece _ c.requires.size c.requires.ahead f.len
+          (omega (arith, f.room, c.carry.ensures.len))
+          (λ low. c.in-Ok.ensures.end (omega (arith, low, c.carry.ensures.len)));
+      opens = outcome-last c.args.key.now c.args.max c.args.i ahead f.piece (take c.in-Ok.n filled) (omega arith) is
+          ∙ c.in-Err.ensures.text;
+    })
 
 pub returns-in-Ok-open_chunk-2-clause-opens : goal.returns-in-Ok-open_chunk-2-clause-opens
-returns-in-Ok-open_chunk-2-clause-opens g c = inr (λ d may.
+returns-in-Ok-open_chunk-2-clause-opens g c =
     let f = c.in-Ok.ensures.bytes in
     let filled : Bytes = c.fill_from.new.buf in
     let ahead : Bytes = take c.args.ahead (drop 65552 c.args.bytes.now) in
@@ -45,29 +52,38 @@ returns-in-Ok-open_chunk-2-clause-opens g c = inr (λ d may.
     let is : filled ≡ ahead ++ f.piece = sym all ∙ f.is ∙ ap (λ t. t ++ f.piece) c.carry.ensures.prefix in
     let rest : drop 65552 c.open_chunk-else-n-le-SEALED_CHUNK_SIZE.new.bytes ≡ drop 65552 filled =
     sym (drop-drop 16 65536 c.open_chunk-else-n-le-SEALED_CHUNK_SIZE.new.bytes)
-    ∙ ap (drop 16) c.in-Ok-open_chunk-2.ensures.rest ∙ drop-drop 16 65536 filled in (
-      f.piece ++ d,
-      may-more _ _ f.piece d f.bytes may,
-      (
-        outcome-more c.args.key.now c.args.max c.args.i ahead f.piece d filled size is
+    ∙ ap (drop 16) c.in-Ok-open_chunk-2.ensures.rest ∙ drop-drop 16 65536 filled in
+    inr (record {
+      given = f.piece;
+      gave = f.bytes;
+      filled = is-filled c.args.ahead c.in-Ok.n c.args.bytes.now f.piece _ c.requires.size c.requires.ahead f.len
+          (omega (arith, f.room, c.carry.ensures.len))
+          (λ low. c.in-Ok.ensures.end (omega (arith, low, c.carry.ensures.len)));
+      opens = (
+        outcome-more c.args.key.now c.args.max c.args.i ahead f.piece filled size is
             ∙ c.in-Ok-open_chunk-2.ensures.text.0,
         c.in-Ok-open_chunk-2.ensures.text.1,
-        rw rest (sym (after-more ahead f.piece d filled size is)),
-      ),
-    ))
+        rw rest (sym (after-more ahead f.piece filled size is)),
+      );
+    })
 
 pub returns-in-Err-open_chunk-clause-opens : goal.returns-in-Err-open_chunk-clause-opens
-returns-in-Err-open_chunk-clause-opens g c = inr (λ d may.
+returns-in-Err-open_chunk-clause-opens g c =
     let f = c.in-Ok.ensures.bytes in
     let filled : Bytes = c.fill_from.new.buf in
     let ahead : Bytes = take c.args.ahead (drop 65552 c.args.bytes.now) in
     let size : length filled ≡ 65553 = search rules in
     let all : take c.in-Ok.n filled ≡ filled = take_all c.in-Ok.n filled (omega arith) in
-    let is : filled ≡ ahead ++ f.piece = sym all ∙ f.is ∙ ap (λ t. t ++ f.piece) c.carry.ensures.prefix in (
-      f.piece ++ d,
-      may-more _ _ f.piece d f.bytes may,
-      outcome-more c.args.key.now c.args.max c.args.i ahead f.piece d filled size is ∙ c.in-Err-open_chunk.ensures.text,
-    ))
+    let is : filled ≡ ahead ++ f.piece = sym all ∙ f.is ∙ ap (λ t. t ++ f.piece) c.carry.ensures.prefix in
+    inr (record {
+      given = f.piece;
+      gave = f.bytes;
+      filled = is-filled c.args.ahead c.in-Ok.n c.args.bytes.now f.piece _ c.requires.size c.requires.ahead f.len
+          (omega (arith, f.room, c.carry.ensures.len))
+          (λ low. c.in-Ok.ensures.end (omega (arith, low, c.carry.ensures.len)));
+      opens = outcome-more c.args.key.now c.args.max c.args.i ahead f.piece filled size is
+          ∙ c.in-Err-open_chunk.ensures.text;
+    })
 
 pub returns-in-Err-clause-count : goal.returns-in-Err-clause-count
 returns-in-Err-clause-count g c = counts-piece c.args.max c.args.i _ _ c.in-Err.fault c.in-Err.ensures.at
@@ -76,8 +92,3 @@ returns-in-Err-clause-count g c = counts-piece c.args.max c.args.i _ _ c.in-Err.
 pub returns-in-Err-open_chunk-clause-count : goal.returns-in-Err-open_chunk-clause-count
 returns-in-Err-open_chunk-clause-count g c =
     counts-piece c.args.max c.args.i _ _ c.in-Err-open_chunk.fault c.in-Err-open_chunk.ensures.at c.in-Ok.ensures.count
-
-pub returns-in-Err-open_chunk-clause-gave : goal.returns-in-Err-open_chunk-clause-gave
-returns-in-Err-open_chunk-clause-gave g c =
-    let f = c.in-Ok.ensures.bytes in
-    inr (f.piece, f.bytes, omega (arith, f.len, f.room, c.carry.ensures.len))

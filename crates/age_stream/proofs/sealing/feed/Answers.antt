@@ -1,6 +1,6 @@
 use Rattle.std.proofs.Common.{rules, arith, ◌≡◌, ◌++◌, ◌∙◌, refl, [], length, take, drop}
 use Rattle.std.proofs.lemmas.List.{length-take-le}
-use Rattle.std.proofs.KnownBytes.{Consumes-nil, Consumes-trans}
+use Rattle.age_header.proofs.DeviceLemmas.{gave-none, gave-then}
 use Rattle.age_kdf.specs.Bytes.{Bytes}
 use Rattle.age_stream.proofs.SealingLemmas.{fed-end, fed-next, fed-none, full-is, stopped-full, stopped-read}
 use Rattle.age_stream.proofs.sealing.feed.Goals as goal
@@ -12,14 +12,14 @@ loop-n-init g c = record {
   within = c.requires.within;
   reads = refl;
   writes = refl;
-  fed = ([], Consumes-nil _, fed-none c.args.key.now c.args.index.now (take c.args.len c.args.bytes.now) _);
+  fed = ([], gave-none _, fed-none c.args.key.now c.args.index.now (take c.args.len c.args.bytes.now) _);
 }
 
 pub returns-in-Err-clause-fed : goal.returns-in-Err-clause-fed
 returns-in-Err-clause-fed g c =
     let inv = c.loop-n.invariant.fed in
     stopped-read c.args.key.now c.args.max c.args.index.now c.loop-n.index (take c.args.len c.args.bytes.now) inv.0 _ _
-    _ _ _ _ inv.1 inv.2
+    _ _ _ _ inv.1 c.in-Err.ensures.lost inv.2
 
 pub returns-then-n-le-CHUNK_SIZE-clause-fed : goal.returns-then-n-le-CHUNK_SIZE-clause-fed
 returns-then-n-le-CHUNK_SIZE-clause-fed g c =
@@ -61,7 +61,7 @@ loop-n-preserved g c =
       writes = c.in_default.ensures.writes ∙ c.loop-n.invariant.writes;
       fed = (
         inv.0 ++ f.piece,
-        Consumes-trans _ _ _ inv.0 f.piece inv.1 f.bytes,
+        gave-then _ _ _ inv.0 f.piece inv.1 f.bytes,
         fed-next c.args.key.now c.args.index.now c.loop-n.index c.put_full.new.index (take c.args.len c.args.bytes.now)
             inv.0 (take c.loop-n.held c.loop-n.bytes) f.piece
             (take 65536 filled) (take 1 (drop 65536 filled)) (take 1 c.put_full.new.bytes) _ _ _ h inv.2 puts.0 puts.2

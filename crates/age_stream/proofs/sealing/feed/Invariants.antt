@@ -1,10 +1,9 @@
 use Rattle.std.proofs.Common.{◌≡◌, ◌≤◌, ◌<◌, ◌-◌, length, take}
-use Rattle.std.specs.Io.KnownBytes.{Consumes}
 use Rattle.age_kdf.specs.Bytes.{Bytes}
 use Rattle.age_stream.specs.Sealing.{Fed}
 use Rattle.age_stream.specs.Sizes.{chunk_size, chunk_buf_size}
 use Rattle.age_stream.proofs.sealing.feed.Given as goal
-use Rattle.age_header.specs.Device.{moved_by}
+use Rattle.age_header.specs.Device.{Gave, flow_by, moved_by}
 
 abbrev pub invariant-loop-n : goal.invariant-loop-n
 invariant-loop-n g l = record {
@@ -14,7 +13,7 @@ invariant-loop-n g l = record {
   reads : g.S.Source.failed l.plain ≡ g.S.Source.failed l.fn.plain;
   writes : g.W.Sink.failed l.out ≡ g.W.Sink.failed l.fn.out;
   fed : (text : Bytes)
-      × Consumes (g.S.Source.to_come l.fn.plain) (g.S.Source.to_come l.plain) text
+      × Gave (flow_by g.S.Source.to_come g.S.Source.gave l.fn.plain l.plain) text
       × Fed l.key l.fn.index l.index (take l.len l.fn.bytes) text (take l.held l.bytes)
       (moved_by g.W.Sink.taken l.fn.out l.out);
 }

@@ -1,4 +1,4 @@
-use Rattle.std.proofs.Common.{◌≡◌, ◌-◌, length, take, ◌∙◌, ap, subst, sym, arith, Some, Err}
+use Rattle.std.proofs.Common.{◌≡◌, ◌-◌, length, take, ◌∙◌, ap, subst, sym, arith, Err}
 use Rattle.age_file.specs.declared.fault.Fault.TheVariants.{BadLine}
 use Rattle.agefile.specs.Inspect.{HeaderOf}
 use Rattle.agefile.proofs.HeaderLemmas.{header_found}
@@ -10,7 +10,7 @@ pub returns-in-Err : goal.returns-in-Err
 returns-in-Err c stanzas is =
     mac_none stanzas _ c.in-Err.fault _ c.in_text.ensures
     (subst (λ b. HeaderOf b (Err c.in-Err.fault)) is
-    (header_found _ _ _ (Some c.inspect.new.input.rest.now) _ c.limits.ensures c.new-source.ensures
+    (header_found _ _ _ _ c.limits.ensures c.new-source.ensures
     c.in-Err.ensures.reads c.in-Err.ensures.verdict))
 
 pub returns-then-rest-gt0 : goal.returns-then-rest-gt0

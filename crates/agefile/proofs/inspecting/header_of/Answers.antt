@@ -1,12 +1,11 @@
-use Rattle.std.proofs.Common.{Some}
 use Rattle.agefile.proofs.HeaderLemmas.{found_whole, header_found}
 use Rattle.agefile.proofs.inspecting.header_of.Goals as goal
 
 pub returns-clause-front : goal.returns-clause-front
-returns-clause-front c = header_found _ _ _ (Some c.inspect.new.input.rest.now) _ c.limits.ensures c.new.ensures
+returns-clause-front c = header_found _ _ _ _ c.limits.ensures c.new.ensures
     c.inspect.ensures.reads c.inspect.ensures.verdict
 
 pub returns-clause-file : goal.returns-clause-file
 returns-clause-file c b same =
-    found_whole b _ _ same (header_found _ _ _ (Some c.inspect.new.input.rest.now) _ c.limits.ensures c.new.ensures
+    found_whole b _ _ same (header_found _ _ _ _ c.limits.ensures c.new.ensures
     c.inspect.ensures.reads c.inspect.ensures.verdict)

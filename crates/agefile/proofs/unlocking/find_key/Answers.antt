@@ -1,5 +1,6 @@
-use Rattle.std.proofs.Common.{List, map, ◌≡◌, Some}
+use Rattle.std.proofs.Common.{List, map, ◌≡◌}
 use Rattle.age_header.specs.Header.{StanzaParts}
+use Rattle.age_header.proofs.DeviceLemmas.{of_told}
 use Rattle.agefile.proofs.UnlockLemmas.{key_found, key_locked, key_none}
 use Rattle.agefile.proofs.unlocking.find_key.Goals as goal
 
@@ -9,7 +10,7 @@ returns-in-Err g c =
     key_none
     (λ (s : List StanzaParts). map (λ i. (goal.Identity-dyn g (i.vtable, i.value)).meaning i.value s)
     c.args.identities.now)
-    _ (Some c.inspect.new.input.rest.now) _ (rw (c.limits.ensures, come) at c.in-Err.ensures.verdict)
+    _ (of_told c.inspect.new.input.rest.now) _ (rw (c.limits.ensures, come) at c.in-Err.ensures.verdict)
     c.in-Err.ensures.reads
 
 pub returns-in-Err-unlock_header : goal.returns-in-Err-unlock_header

@@ -1,4 +1,4 @@
-use Rattle.std.proofs.Common.{◌≡◌, [], ◌∷◌, Some, rules}
+use Rattle.std.proofs.Common.{◌≡◌, [], ◌∷◌, Some, ap, rules}
 use Rattle.round_trip.proofs.TripLemmas.{file_of_one, unwritten_of_one}
 use Rattle.round_trip.proofs.file.encrypted.Goals as goal
 
@@ -11,7 +11,7 @@ returns-in-Ok-clause-file g c =
     file_of_one c.args.limits.now c.args.fresh.now _
     ((goal.Recipient-dyn g (c.args.recipient.vtable, c.args.recipient.value)).the_labels c.args.recipient.value
     ∷ []) c.args.plain.now c.into_vec.result.items c.in-Ok.field-0
-    (rw (list, come, empty, out) at c.in-Ok.ensures.encrypts)
+    _ (ap Some come) (rw (list, empty, out) at c.in-Ok.ensures.encrypts)
 
 pub returns-clause-lost : goal.returns-clause-lost
 returns-clause-lost g c =
@@ -20,6 +20,6 @@ returns-clause-lost g c =
     unwritten_of_one c.args.limits.now c.args.fresh.now
     (λ r. (goal.Recipient-dyn g (r.vtable, r.value)).wraps r.value c.args.fresh.now.file_key)
     (λ r. (goal.Recipient-dyn g (r.vtable, r.value)).the_labels r.value) c.as_slice.result.now c.args.recipient
-    c.new-source.result.rest.now c.args.plain.now c.in-Err.fault
-    (Some c.new-file.result.out.items) (Some c.encrypt.new.out.out.items) list come c.in-Err.ensures.reads
-    c.in-Err.ensures.refused c.in-Err.ensures.encrypts
+    c.args.plain.now c.in-Err.fault
+    (Some c.new-file.result.out.items) (Some c.encrypt.new.out.out.items) list c.in-Err.ensures.reads
+    c.in-Err.ensures.refused _ (ap Some come) c.in-Err.ensures.encrypts

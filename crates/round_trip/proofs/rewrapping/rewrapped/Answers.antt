@@ -1,4 +1,4 @@
-use Rattle.std.proofs.Common.{◌≡◌, [], ◌∷◌, Some, rules}
+use Rattle.std.proofs.Common.{◌≡◌, [], ◌∷◌, Some, ap, rules}
 use Rattle.round_trip.proofs.RewrapLemmas.{rewrapped_one, unrewrapped_one}
 use Rattle.round_trip.proofs.rewrapping.rewrapped.Goals as goal
 
@@ -13,7 +13,7 @@ returns-in-Ok-clause-file g c =
     c.as_slice.result.now c.args.identity
     (λ r. (goal.Recipient-dyn g (r.vtable, r.value)).wraps r.value)
     (λ r. (goal.Recipient-dyn g (r.vtable, r.value)).the_labels r.value) c.as_slice-2.result.now c.args.recipient
-    c.new-source.result.rest.now c.args.file.now c.into_vec.result.items list to come
+    c.args.file.now c.into_vec.result.items list to _ (ap Some come)
     (rw (empty, out) at c.in-Ok.ensures.rewraps)
 
 pub returns-clause-lost : goal.returns-clause-lost
@@ -25,5 +25,6 @@ returns-clause-lost g c =
     c.as_slice.result.now c.args.identity
     (λ r. (goal.Recipient-dyn g (r.vtable, r.value)).wraps r.value)
     (λ r. (goal.Recipient-dyn g (r.vtable, r.value)).the_labels r.value) c.as_slice-2.result.now c.args.recipient
-    c.new-source.result.rest.now c.args.file.now c.in-Err.fault (Some c.new-new.result.out.items)
-    (Some c.rewrap.new.out.out.items) (search rules) list to come c.in-Err.ensures.reads c.in-Err.ensures.rewraps
+    c.args.file.now c.in-Err.fault (Some c.new-new.result.out.items)
+    (Some c.rewrap.new.out.out.items) (search rules) list to c.in-Err.ensures.reads _ (ap Some come)
+    c.in-Err.ensures.rewraps

@@ -20,6 +20,7 @@ returns-in-Ok-false-clause-writes_all g c =
 pub returns-in-Err-clause-writes_all : goal.returns-in-Err-clause-writes_all
 returns-in-Err-clause-writes_all g c =
     failed-writes _ _ c.advance.new.self _ _ _ _ _ _ c.in-Err.fault c.loop-done.invariant.opened c.in-Err.ensures.opens
+    c.in-Err.ensures.lost
 
 pub returns-in-Err-clause-ends : goal.returns-in-Err-clause-ends
 returns-in-Err-clause-ends g c =
