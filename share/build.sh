@@ -71,20 +71,21 @@ library() {
 }
 
 # Proves and builds the libraries up to age_file, or with the word age_cli up to that, lowest first.
-# Two of them depend on no other: they are proved in parallel with the others.
+# age_cipher, and age_job with age_words above it, depend on none of the others: they are proved in
+# parallel with them.
 libraries() {
     library age_cipher --jobs 1 &
     cipher=$!
     words=
     if [ "$1" = age_cli ]; then
-        library age_words --jobs 1 &
+        { library age_job --jobs 1 && library age_words --jobs 1; } &
         words=$!
     fi
     # shellcheck disable=SC2086
     trap 'kill "$cipher" $words 2>/dev/null; exit 130' INT TERM
     if library age_kdf && library age_header && wait "$cipher" && library age_recipient &&
-        library age_stream && library age_file && [ -n "$words" ] && wait "$words"; then
-        library age_commands && library age_cli || :
+        library age_stream && library age_file && [ -n "$words" ]; then
+        library age_commands && wait "$words" && library age_cli || :
     fi
     wait
     trap - INT TERM

@@ -35,11 +35,11 @@ def texts_of_code():
         code = text_of(f"{crates}/{source}")
         for text, name in re.findall(r'#\[error\("(.*)"\)\]\s+(\w+)', code):
             yield name, text
-    shown = text_of(crates + "/age_cli/src/fault.rt").split("impl fmt::Display for Fault")[1]
+    shown = text_of(crates + "/age_job/src/fault.rt").split("impl fmt::Display for Fault")[1]
     for name, text in re.findall(r'Fault::(\w+)[^"]*"(.*)"', shown):
         if name != "AgeFile":
             yield name, numbered(text)
-    roles = text_of(crates + "/age_cli/src/file_names.rt")
+    roles = text_of(crates + "/age_job/src/file_names.rt")
     for name, text in re.findall(r'Role::(\w+) => "(.*)"', roles):
         yield name, text if name == "Input" else f"the {text}"
 

@@ -1,5 +1,5 @@
 -- What a job that is done has written, where input and output are known.
-use Rattle.std.proofs.Common.{◌≡◌, ◌∙◌, ◌++◌, ap, inl, inr, refl, subst, List, None, Some, Result, Ok, Err}
+use Rattle.std.proofs.Common.{◌≡◌, ◌∙◌, ◌++◌, ◌^◌, ℕ, ap, inl, inr, refl, subst, List, None, Some, Result, Ok, Err}
 use Rattle.std.specs.Prelude.{⊤, ◌↔◌}
 use Rattle.std.specs.Io.KnownBytes.{Appends, Keeps}
 use Rattle.age_header.specs.Device.{Bytes, Known, moved}
@@ -15,13 +15,15 @@ use Rattle.age_file.specs.AgeFile.{AgeFile, Bounds}
 use Rattle.age_file.specs.Decrypt.{Decrypts, DecryptsText}
 use Rattle.age_file.specs.NewFile.{EncryptsText, Gathering}
 use Rattle.age_file.specs.Verdict.{Answering, IsVerdict}
-use Rattle.age_words.specs.declared.job.Command.{Command}
-use Rattle.age_words.specs.declared.job.Command.TheVariants as command
-use Rattle.age_words.specs.declared.job.Job.{Job}
+use Rattle.age_job.specs.declared.job.Command.{Command}
+use Rattle.age_job.specs.declared.job.Command.TheVariants as command
+use Rattle.age_job.specs.declared.job.Job.{Job}
 use Rattle.age_commands.specs.declared.task.Task.{Task}
 use Rattle.age_commands.specs.declared.task.Task.TheVariants as task
-use Rattle.age_cli.specs.Output.{Ends}
-use Rattle.age_cli.specs.Program.{Finishes, IsTaskOf, Works}
+use Rattle.age_commands.specs.Output.{Ends}
+use Rattle.age_words.specs.JobOf.{IsPiped}
+use Rattle.age_words.proofs.PipedLemmas.{piped}
+use Rattle.age_cli.specs.Program.{Finishes, FinishesWords, IsTaskOf, Works, word_limits}
 use Rattle.age_commands.specs.Secret.{answers_of, limits_of}
 use Rattle.age_commands.specs.Task.{Encrypting, unseen, without_counts}
 
@@ -108,3 +110,18 @@ pub done_encrypt : (job : Job) (plain xs : Bytes) (new : Known) → job.command 
     → Finishes job (Some plain) (moved (Some xs) new) → Made (limits_of job) plain xs new
 done_encrypt job plain xs new one (task, is, w) =
     encrypt_done job plain xs new task (subst (λ (x : Command). IsTaskOf x task) one is) w
+
+-- the same from the words
+pub words_decrypt : OkIsAgeFile → (words : List Bytes) (b xs : Bytes) (new : Known) → IsPiped command.Decrypt words
+    → FinishesWords words (Some b) (moved (Some xs) new) → Gained (word_limits words) b xs new
+words_decrypt law words b xs new pipe (job, makes, done) =
+    let p = piped command.Decrypt words job pipe makes in
+    subst (λ (n : ℕ). Gained (record { max_header = n; max_chunks = 2 ^ 88 }) b xs new) p.max_header
+    (done_decrypt law job b xs new p.is (done p.input p.output))
+
+pub words_encrypt : (words : List Bytes) (plain xs : Bytes) (new : Known) → IsPiped command.Encrypt words
+    → FinishesWords words (Some plain) (moved (Some xs) new) → Made (word_limits words) plain xs new
+words_encrypt words plain xs new pipe (job, makes, done) =
+    let p = piped command.Encrypt words job pipe makes in
+    subst (λ (n : ℕ). Made (record { max_header = n; max_chunks = 2 ^ 88 }) plain xs new) p.max_header
+    (done_encrypt job plain xs new p.is (done p.input p.output))

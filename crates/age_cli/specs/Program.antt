@@ -1,16 +1,20 @@
 -- What a job comes to, from its input to its output.
-use Rattle.std.specs.Prelude.{◌≡◌, ◌⊎◌, ⊤, Result, Ok, Err}
-use Rattle.age_header.specs.Device.{Known, Moved, moved, Stays}
+use Rattle.std.specs.Prelude.{◌≡◌, ◌≤◌, ◌⊎◌, ◌^◌, ℕ, ⊤, List, None, Result, Ok, Err}
+use Rattle.age_header.specs.Device.{Bytes, Known, Moved, moved, Stays}
+use Rattle.age_file.specs.AgeFile.{Bounds}
 use Rattle.age_file.specs.declared.fault.Fault.{Fault as FileFault}
 use Rattle.age_file.specs.declared.fault.Fault.TheVariants.{OutOfMemory}
-use Rattle.age_words.specs.declared.job.Command.{Command}
-use Rattle.age_words.specs.declared.job.Command.TheVariants as command
-use Rattle.age_words.specs.declared.job.Job.{Job}
+use Rattle.age_job.specs.declared.job.Command.{Command}
+use Rattle.age_job.specs.declared.job.Command.TheVariants as command
+use Rattle.age_job.specs.declared.job.Job.{Job}
+use Rattle.age_words.specs.declared.fault.WordsFault.{WordsFault}
+use Rattle.age_words.specs.declared.fault.WordsFault.TheVariants.{Memory, Refused}
+use Rattle.age_words.specs.JobOf.{IsShown, Makes, header_limit}
 use Rattle.age_cli.specs.declared.failure.Failure.{Failure}
-use Rattle.age_cli.specs.declared.fault.Fault.TheVariants.{AgeFile}
+use Rattle.age_cli.specs.declared.failure.Fault.TheVariants.{AgeFile}
 use Rattle.age_commands.specs.declared.task.Task.{Task}
 use Rattle.age_commands.specs.declared.task.Task.TheVariants as task
-use Rattle.age_cli.specs.Output.{Ends}
+use Rattle.age_commands.specs.Output.{Ends}
 use Rattle.age_commands.specs.Task.{Performs, PerformsQuietly}
 
 -- a task of this command
@@ -55,3 +59,26 @@ abbrev pub Completes : (job : Job) (from : Known) (sink : Moved) (result : Resul
     → Type 0
 Completes job from sink (Ok _) = Finishes job from sink
 Completes job from sink (Err failure) = Begins job from sink
+
+-- the words make a job, and it is done where it reads the input and writes the output
+abbrev pub FinishesWords : (words : List Bytes) (from : Known) (sink : Moved) → Type 0
+FinishesWords words from sink =
+    (job : Job) × Makes words job
+    × (job.input ≡ None → job.output ≡ None → Finishes job from sink)
+
+-- the limits that the words set
+abbrev pub word_limits : (words : List Bytes) → Bounds
+word_limits words = record { max_header = header_limit words; max_chunks = 2 ^ 88 }
+
+-- the words make a job, and it ended with a fault
+abbrev pub BeginsWords : (words : List Bytes) (from : Known) (sink : Moved) → Type 0
+BeginsWords words from sink =
+    (job : Job) × Makes words job
+    × (job.input ≡ None → job.output ≡ None → Begins job from sink)
+
+-- How a refusal is answered: memory by status 1, a text that was asked for by 0, or 1 if it was not
+-- written, and wrong words by 2. But for the text nothing is written.
+abbrev pub AnswersRefusal : (fault : WordsFault) (status : ℕ) (unwritten : Type 0) → Type 0
+AnswersRefusal Memory status unwritten = (status ≡ 1) × unwritten
+AnswersRefusal (Refused error) status unwritten =
+    ((status ≤ 1) × IsShown error) ⊎ ((status ≡ 2) × unwritten × (IsShown error → ⊥))

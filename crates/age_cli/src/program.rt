@@ -1,19 +1,19 @@
 //! The program, over a reader and two writers.
-ghost use Rattle.std.specs.Prelude.{◌≡◌, ◌≢◌, ◌≤◌, None, IfOk};
-ghost use Rattle.age_words.specs.Job.{IsInRange};
-ghost use Rattle.age_cli.specs.Program.{Begins, Completes, Finishes, IsTaskOf, PerformsTo};
-ghost use Rattle.age_header.specs.Device.{moved_by};
+ghost use Rattle.std.specs.Prelude.{◌≡◌, ◌≢◌, ◌≤◌, ◌⊎◌, None, map, IfOk};
+ghost use Rattle.age_job.specs.Job.{IsInRange};
+ghost use Rattle.age_words.specs.JobOf.{AreWrong, AskForText};
+ghost use Rattle.age_cli.specs.Program.{AnswersRefusal, Begins, BeginsWords, FinishesWords};
+ghost use Rattle.age_cli.specs.Program.{Completes, Finishes, IsTaskOf, PerformsTo};
+ghost use Rattle.age_header.specs.Device.{Stays, moved_by};
 
 use crate::failure::Failure;
-use crate::fault::Fault;
-use crate::file_names::{Lines, Role};
-use crate::files::{NamedFile, open, open_seekable, read_just, refuse_shared_input};
-use crate::output::create;
-use crate::secret::{new_secret_files, read_new_secret, read_secret, read_seed, secret_files};
-use crate::watched::Watched;
 use crate::work::{kept_prefix, perform_to, range_to};
-use age_commands::{Secret, Task};
-use age_words::{Command, Job, WordsFault, read_words};
+use age_commands::{Seed, Task, seed_of};
+use age_job::{
+    Command, Job, Lines, SEED_LEN, Watched, create, open, open_seekable, read_encrypt_secrets,
+    read_file_key, read_rewrap_secrets, read_secret, refuse_terminal,
+};
+use age_words::{WordsFault, read_words};
 use std::alloc::Global;
 use std::fmt::Display;
 use std::io::{IsTerminal, Read, Write};
@@ -41,8 +41,16 @@ pub fn run<F: Files + AllocGlobal, R: Read, W: Write + IsTerminal, E: Write>(
     err: &mut E,
 ) -> u8
     ensures status { result ≤ 2 }
-    ensures refused { result ≡ 2 → (input.new ≡ input.old) × (out.new ≡ out.old) }
+    ensures refused { result ≡ 2 → (input.new ≡ input.old) × (out.new ≡ out.old)
+        × AreWrong (map (λ word. word.now) words.now) }
     ensures quiet { result ≡ 0 → err.new ≡ err.old }
+    ensures finishes { result ≡ 0 → AskForText (map (λ word. word.now) words.now)
+        ⊎ FinishesWords (map (λ word. word.now) words.now) (R.remaining input.old)
+        (moved_by W.contents out.old out.new) }
+    ensures begins { result ≡ 1 → AskForText (map (λ word. word.now) words.now)
+        ⊎ (Stays (moved_by W.contents out.old out.new)
+        ⊎ BeginsWords (map (λ word. word.now) words.now) (R.remaining input.old)
+        (moved_by W.contents out.old out.new)) }
 {
     match read_words(rt.alloc(), words) {
         Ok(job) => run_job(rt, &job, input, out, err),
@@ -100,76 +108,31 @@ fn perform<'a, F: Files + AllocGlobal, R: Read, W: Write + IsTerminal>(
 }
 
 /// The task of a job that reads its input from the start to the end.
-fn task_of<'a, F: Files + AllocGlobal>(rt: &F, job: &'a Job) -> Result<Task, Failure<'a>>
+fn task_of<'a, F: Files + AllocGlobal>(rt: &F, job: &'a Job) -> Result<Task, age_job::Failure<'a>>
     requires { job.now.command ≢ Command.Range }
     ensures { IfOk result (IsTaskOf job.now.command) }
 {
     match job.command {
-        Command::Encrypt => encrypt_task(rt, job),
-        Command::Decrypt => Ok(Task::Decrypt(read_only_secret(rt, job)?)),
-        Command::Rewrap => rewrap_task(rt, job),
+        Command::Encrypt => {
+            let (secret, seed) = read_encrypt_secrets(rt, job)?;
+            Ok(Task::Encrypt(secret, seed_from(&seed)))
+        }
+        Command::Decrypt => Ok(Task::Decrypt(read_secret(rt, job)?)),
+        Command::Rewrap => {
+            let (old, new, seed) = read_rewrap_secrets(rt, job)?;
+            Ok(Task::Rewrap(old, new, seed_from(&seed).salt))
+        }
         Command::Inspect => Ok(Task::Inspect(read_file_key(rt, job)?)),
         Command::Range => unreachable!(),
     }
 }
 
-/// Refuses to write an age file, which is no text, to a terminal.
-fn refuse_terminal<'a, W: IsTerminal>(job: &Job, out: &W) -> Result<(), Fault<'a>> {
-    match job.command {
-        Command::Encrypt | Command::Rewrap if job.output.is_none() && out.is_terminal() => {
-            Err(Fault::OutputIsTerminal)
-        }
-        _ => Ok(()),
-    }
-}
-
-/// The secret and the seed of a new file.
-fn encrypt_task<'a, F: Files + AllocGlobal>(rt: &F, job: &'a Job) -> Result<Task, Failure<'a>>
-    ensures { IfOk result (IsTaskOf Command.Encrypt) }
-{
-    let files = secret_files(job)?;
-    refuse_shared_input(rt, job)?;
-    let secret = read_new_secret(rt, job, files)?;
-    Ok(Task::Encrypt(secret, read_seed(rt, job)?))
-}
-
-/// The secret of a command that has no other.
-fn read_only_secret<'a, F: Files + AllocGlobal>(
-    rt: &F,
-    job: &'a Job,
-) -> Result<Secret, Failure<'a>> {
-    let files = secret_files(job)?;
-    refuse_shared_input(rt, job)?;
-    read_secret(rt, job, files)
-}
-
-/// The old secret and the new one, whose files the arguments must name, and the salt.
-fn rewrap_task<'a, F: Files + AllocGlobal>(rt: &F, job: &'a Job) -> Result<Task, Failure<'a>>
-    ensures { IfOk result (IsTaskOf Command.Rewrap) }
-{
-    let old = secret_files(job)?;
-    let new = new_secret_files(job)?;
-    refuse_shared_input(rt, job)?;
-    let old = read_secret(rt, job, old)?;
-    let new = read_new_secret(rt, job, new)?;
-    Ok(Task::Rewrap(old, new, read_seed(rt, job)?.salt))
-}
-
-/// The file key under which the header is to be checked.
-fn read_file_key<'a, F: Files + AllocGlobal>(
-    rt: &F,
-    job: &'a Job,
-) -> Result<Option<[u8; 16]>, Failure<'a>> {
-    match &job.file_key {
-        Some(name) if !job.raw => {
-            let named = NamedFile {
-                role: Role::FileKey,
-                name: name.as_str(),
-            };
-            Ok(Some(read_just(rt, job, named, Fault::FileKeyLength)?))
-        }
-        _ => Ok(None),
-    }
+/// The parts of a seed.
+fn seed_from(bytes: &[u8; SEED_LEN]) -> Seed {
+    let Some(seed) = seed_of(bytes) else {
+        unreachable!();
+    };
+    seed
 }
 
 /// Like `perform`, for a range, whose input is read at offsets.
@@ -181,7 +144,7 @@ fn perform_range<'a, F: Files + AllocGlobal, W: Write>(
     requires range { IsInRange job.now }
     requires command { job.now.command ≡ Command.Range }
 {
-    let secret = read_only_secret(rt, job)?;
+    let secret = read_secret(rt, job)?;
     let Some(name) = &job.input else {
         unreachable!();
     };
@@ -191,7 +154,7 @@ fn perform_range<'a, F: Files + AllocGlobal, W: Write>(
         Some(name) => {
             let mut output = create(rt, job, name.as_str())?;
             range_to(rt.alloc(), job, secret, &mut input, &mut output)?;
-            output.finish(name.as_str())
+            Ok(output.finish(name.as_str())?)
         }
         None => range_to(rt.alloc(), job, secret, &mut input, out),
     }
@@ -214,7 +177,7 @@ fn perform_on<'a, F: Files + AllocGlobal, R: Read, W: Write>(
         Some(name) => {
             let mut output = create(rt, job, name.as_str())?;
             perform_to(rt.alloc(), job, task, &mut input, &mut output)?;
-            output.finish(name.as_str())
+            Ok(output.finish(name.as_str())?)
         }
         None => perform_to(rt.alloc(), job, task, &mut input, out),
     }
@@ -258,8 +221,7 @@ fn answer_refusal<W: Write, E: Write>(
     out: &mut W,
     err: &mut E,
 ) -> u8
-    ensures status { result ≤ 2 }
-    ensures refused { result ≡ 2 → out.new ≡ out.old }
+    ensures answers { AnswersRefusal fault.now result (out.new ≡ out.old) }
     ensures quiet { result ≡ 0 → err.new ≡ err.old }
 {
     match fault {
@@ -269,22 +231,16 @@ fn answer_refusal<W: Write, E: Write>(
             }
             match write!(out, "{error}").and_then(|()| out.flush()) {
                 Ok(()) => DONE,
-                Err(_) => report(
-                    alloc,
-                    &Failure::from(Fault::AgeFile(age_file::Fault::Write)),
-                    false,
-                    err,
-                ),
+                Err(_) => report(alloc, &Failure::from(age_file::Fault::Write), false, err),
             }
         }
         WordsFault::Memory => {
             report(
                 alloc,
-                &Failure::from(Fault::AgeFile(age_file::Fault::OutOfMemory)),
+                &Failure::from(age_file::Fault::OutOfMemory),
                 false,
                 err,
             )
         }
-        WordsFault::Lost => refuse(alloc, &"agep: bad command line\n", err),
     }
 }

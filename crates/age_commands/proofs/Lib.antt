@@ -1,4 +1,5 @@
 mod InspectLemmas
+mod OutputLemmas
 mod RangeLemmas
 mod SecretLemmas
 mod TaskLemmas

@@ -1,5 +1,5 @@
 pub mod Inspect
-pub mod Passphrase
+pub mod Output
 pub mod Range
 pub mod Secret
 pub mod Task

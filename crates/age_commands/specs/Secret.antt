@@ -13,13 +13,13 @@ use Rattle.age_recipient.specs.PassphraseHolders.{pass_unwraps, pass_wraps}
 use Rattle.age_file.specs.AgeFile.{Bounds}
 use Rattle.age_file.specs.NewFile.{Gathered, Gathering}
 use Rattle.age_file.specs.Verdict.{Answering}
-use Rattle.age_words.specs.declared.job.Job.{Job}
+use Rattle.age_job.specs.declared.job.Job.{Job}
 use Rattle.age_commands.specs.declared.identity.SecretIdentity.{SecretIdentity}
 use Rattle.age_commands.specs.declared.identity.SecretIdentity.TheVariants as identity
 use Rattle.age_commands.specs.declared.recipient.SecretRecipient.{SecretRecipient}
 use Rattle.age_commands.specs.declared.recipient.SecretRecipient.TheVariants as recipient
-use Rattle.age_commands.specs.declared.secret.Secret.{Secret}
-use Rattle.age_commands.specs.declared.secret.Secret.TheVariants.{Passphrase, Keys}
+use Rattle.age_job.specs.declared.secret.Secret.{Secret}
+use Rattle.age_job.specs.declared.secret.Secret.TheVariants.{Passphrase, Keys}
 
 -- the job's limit of a header, and the default limit of chunks
 abbrev pub limits_of : Job → Bounds

@@ -10,7 +10,7 @@ use Rattle.age_file.specs.Decrypt.{Decrypts}
 use Rattle.age_file.specs.Device.{IsQuiet}
 use Rattle.age_file.specs.NewFile.{EncryptsGiven, Gathering, RefusesFirst}
 use Rattle.age_file.specs.Rewrap.{Rewraps}
-use Rattle.age_words.specs.declared.job.Job.{Job}
+use Rattle.age_job.specs.declared.job.Job.{Job}
 use Rattle.age_commands.specs.declared.task.Task.{Task}
 use Rattle.age_commands.specs.declared.task.Task.TheVariants.{Encrypt, Decrypt, Rewrap, Inspect}
 use Rattle.age_commands.specs.Inspect.{Inspecting}

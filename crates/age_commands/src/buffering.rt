@@ -1,10 +1,10 @@
 //! A job's limits, and the sources over its input.
 ghost use Rattle.std.specs.Prelude.{◌≡◌, ◌<◌, None, IfOk, IfErr};
-ghost use Rattle.age_words.specs.Job.{IsInRange};
+ghost use Rattle.age_job.specs.Job.{IsInRange};
 ghost use Rattle.age_commands.specs.Secret.{limits_of};
 
 use age_file::{BUFFER_SIZE, Fault, FileAt, Limits, MOST_CHUNKS, ReadAt, ReadSource, Source};
-use age_words::Job;
+use age_job::Job;
 use std::alloc::Global;
 use std::io::{BufReader, Read, Seek};
 

@@ -2,15 +2,14 @@
 ghost use Rattle.std.specs.Prelude.{◌∷◌, []};
 ghost use Rattle.age_file.specs.Decrypt.{Decrypts};
 ghost use Rattle.age_file.specs.Device.{IsQuiet};
-ghost use Rattle.age_words.specs.Job.{IsInRange};
+ghost use Rattle.age_job.specs.Job.{IsInRange};
 ghost use Rattle.age_commands.specs.Secret.{answers_of, limits_of};
 ghost use Rattle.age_header.specs.Device.{flow_by, moved_by};
 
 use crate::buffering::limits_of;
 use crate::identity::SecretIdentity;
-use crate::secret::Secret;
 use age_file::{Done, Fault, Identity, Sink, Source};
-use age_words::Job;
+use age_job::{Job, Secret};
 use std::alloc::Global;
 
 /// Decrypts the source to the sink, with the identity of this secret, as `age_file::decrypt` does.

@@ -2,16 +2,16 @@
 ghost use Rattle.std.specs.Prelude.{◌∷◌, []};
 ghost use Rattle.age_file.specs.Device.{IsQuiet};
 ghost use Rattle.age_file.specs.NewFile.{Gathered};
-ghost use Rattle.age_words.specs.Job.{IsInRange};
+ghost use Rattle.age_job.specs.Job.{IsInRange};
 ghost use Rattle.age_commands.specs.Secret.{gathering_of, limits_of};
 ghost use Rattle.age_commands.specs.Task.{Encrypting};
 ghost use Rattle.age_header.specs.Device.{flow_by, moved_by};
 
 use crate::buffering::limits_of;
 use crate::recipient::SecretRecipient;
-use crate::secret::{Secret, Seed};
+use crate::seed::Seed;
 use age_file::{Done, Fault, Fresh, Recipient, Sink, Source};
-use age_words::Job;
+use age_job::{Job, Secret};
 use std::alloc::Global;
 
 /// Encrypts the source to the sink, for the recipient of this secret, as `age_file::encrypt` does.

@@ -1,11 +1,10 @@
 //! The identity of a secret.
 ghost use Rattle.std.specs.Prelude.{◌≡◌, IfOk};
-ghost use Rattle.age_words.specs.Job.{IsInRange};
+ghost use Rattle.age_job.specs.Job.{IsInRange};
 ghost use Rattle.age_commands.specs.Secret.{identity_of, keys_unwrap};
 
-use crate::secret::Secret;
 use age_file::{Identity, KeyIdentity, PassError, PassIdentity, Stanza, Unwrapped};
-use age_words::Job;
+use age_job::{Job, Secret};
 use std::alloc::{AllocError, Global};
 
 /// The identity of a secret: that of its passphrase, or those of its keys, asked in order.

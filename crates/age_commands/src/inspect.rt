@@ -4,13 +4,13 @@ ghost use Rattle.std.specs.String.{string_bytes};
 ghost use Rattle.std.specs.Io.KnownBytes.{Appends};
 ghost use Rattle.age_header.specs.Device.{Bytes, flow_by, moved_by};
 ghost use Rattle.age_file.specs.Device.{IsQuiet};
-ghost use Rattle.age_words.specs.Job.{IsInRange};
+ghost use Rattle.age_job.specs.Job.{IsInRange};
 ghost use Rattle.age_commands.specs.Inspect.{Inspecting, IsTable, Shows, check_of, row, rows, spaced};
 ghost use Rattle.age_commands.specs.Secret.{limits_of};
 
 use crate::buffering::limits_of;
 use age_file::{Fault, Header, Sink, Source, Stanza, mac_of, write_all, write_header};
-use age_words::Job;
+use age_job::Job;
 use std::alloc::{AllocError, Global};
 use std::io::Write;
 use std::{fmt, io};

@@ -1,30 +1,35 @@
-//! The commands of `agep`, from any source to any sink.
+//! The commands of `agep`, from any source to any sink. It also has the sink that buffers what a
+//! command writes, and what helps with a file that a command could not read.
 //!
 //! ```
 //! let task = Task::Decrypt(Secret::Passphrase(passphrase));
 //! let result = age_commands::perform_between(alloc, &job, task, &mut input, &mut out);
 //! ```
 //!
-//! `secret` has the secrets and the random bytes of a command, and how each is made of the bytes of
-//! a small file. A command with its secrets is a `task`, and each command has a module of its own.
-//! `recipient` and `identity` say what a secret means to it, and `buffering` has a job's limits and
-//! the sources over its input.
+//! A command with its secrets is a `task`, and each command has a module of its own. `seed` has the
+//! random bytes of a new file, `recipient` and `identity` say what a secret means to a command, and
+//! `buffering` has a job's limits and the sources over its input. `buffered_sink` is a sink over
+//! any writer, and `hint` has what the input tells of a fault.
 //!
 //! No file is opened here, and nothing is printed: the crate `age_cli` does both.
 #![tactic(auto)]
 
+mod buffered_sink;
 mod buffering;
 mod decrypt;
 mod encrypt;
+mod hint;
 mod identity;
 mod inspect;
 mod range;
 mod recipient;
 mod rewrap;
-mod secret;
+mod seed;
 mod task;
 
+pub use buffered_sink::{BufferedSink, Finished, Parts, Start, new_buffer};
 pub use buffering::{limits_of, source_at_offsets};
+pub use hint::{Hint, header_of, hint_at};
 pub use range::range_of;
-pub use secret::{SEED_LEN, Secret, Seed, exactly, seed_of, without_line_end};
+pub use seed::{Seed, seed_of};
 pub use task::{Task, perform_between};

@@ -2,17 +2,16 @@
 ghost use Rattle.std.specs.Prelude.{◌≤◌, ◌<◌, ◌≡◌, ◌+◌, ◌-◌, ◌^◌, ◌%◌, ◌∷◌, [], length, min, IfOk};
 ghost use Rattle.age_stream.specs.Ranges.{IsSound, chunks_of, range_len, source_at_of};
 ghost use Rattle.age_stream.specs.Sizes.{chunk_size};
-ghost use Rattle.age_words.specs.Job.{IsInRange};
-ghost use Rattle.age_words.specs.declared.options.TheConstants.{MOST_OFFSET};
+ghost use Rattle.age_job.specs.Job.{IsInRange};
+ghost use Rattle.age_job.specs.declared.ranges.TheConstants.{MOST_OFFSET};
 ghost use Rattle.age_commands.specs.Range.{Ranging, WritesNext, WritesRange};
 ghost use Rattle.age_commands.specs.Secret.{answers_of, limits_of};
 ghost use Rattle.age_header.specs.Device.{moved_by};
 
 use crate::buffering::limits_of;
 use crate::identity::SecretIdentity;
-use crate::secret::Secret;
 use age_file::{CHUNK_SIZE, Fault, Identity, RangeReader, ReadAt, Sink, open_ranges, write_all};
-use age_words::Job;
+use age_job::{Job, Secret};
 use std::alloc::Global;
 
 /// Writes the plaintext of the source from the job's offset on to the sink, at most as many bytes

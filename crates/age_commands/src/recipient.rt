@@ -2,14 +2,13 @@
 ghost use Rattle.std.specs.Prelude.{◌≡◌, Ok, map, IfOk};
 ghost use Rattle.age_recipient.specs.KeyedStanza.{keyed_stanza};
 ghost use Rattle.age_recipient.specs.Wrap.{WrapsAs};
-ghost use Rattle.age_words.specs.Job.{IsInRange};
+ghost use Rattle.age_job.specs.Job.{IsInRange};
 ghost use Rattle.age_commands.specs.Secret.{recipient_of};
 
-use crate::secret::Secret;
 use age_file::{
     FileKey, KeyRecipient, LabelSet, Labels, PassError, PassRecipient, Recipient, Stanza, WrapFault,
 };
-use age_words::Job;
+use age_job::{Job, Secret};
 use std::alloc::{AllocError, Global};
 
 /// The recipient of a secret: that of its passphrase, or those of its keys in order, all with one

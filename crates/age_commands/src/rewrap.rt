@@ -3,16 +3,15 @@ ghost use Rattle.std.specs.Prelude.{◌∷◌, []};
 ghost use Rattle.age_file.specs.Device.{IsQuiet};
 ghost use Rattle.age_file.specs.NewFile.{Gathered};
 ghost use Rattle.age_file.specs.Rewrap.{Rewraps};
-ghost use Rattle.age_words.specs.Job.{IsInRange};
+ghost use Rattle.age_job.specs.Job.{IsInRange};
 ghost use Rattle.age_commands.specs.Secret.{answers_of, gathering_of, limits_of};
 ghost use Rattle.age_header.specs.Device.{flow_by, moved_by};
 
 use crate::buffering::limits_of;
 use crate::identity::SecretIdentity;
 use crate::recipient::SecretRecipient;
-use crate::secret::Secret;
 use age_file::{Fault, Identity, Recipient, Sink, Source};
-use age_words::Job;
+use age_job::{Job, Secret};
 use std::alloc::Global;
 
 /// Copies the source to the sink with a new header, for the recipient of the new secret, if the old

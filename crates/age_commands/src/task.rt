@@ -1,6 +1,6 @@
 //! A command with its secrets, and its work from an input to a sink.
 ghost use Rattle.std.specs.Prelude.{◌≡◌};
-ghost use Rattle.age_words.specs.Job.{IsInRange};
+ghost use Rattle.age_job.specs.Job.{IsInRange};
 ghost use Rattle.age_commands.specs.Task.{Performs, PerformsQuietly, without_counts};
 ghost use Rattle.age_header.specs.Device.{moved_by};
 
@@ -9,9 +9,9 @@ use crate::decrypt::decrypt;
 use crate::encrypt::encrypt;
 use crate::inspect::inspect;
 use crate::rewrap::rewrap;
-use crate::secret::{Secret, Seed};
+use crate::seed::Seed;
 use age_file::{Done, Fault, ReadSource, Sink};
-use age_words::Job;
+use age_job::{Job, Secret};
 use std::alloc::Global;
 use std::io::Read;
 

@@ -1,6 +1,6 @@
 -- The laws of the pairs: what the recipient wraps the identity unwraps. They are here since an
 -- impl names the proof of its law.
-use Rattle.std.proofs.Common.{inl, inr, ◌≡◌, ◌∙◌, ℕ, zero, suc, ◌+◌, ◌<◌, ◌≤◌, ◌&&◌, Bool, true, List, [], ◌∷◌, length, map, nat_eq, nat_le, nat_lt, refl, sym, ap, subst, Ok, Err, Some}
+use Rattle.std.proofs.Common.{inl, inr, ◌≡◌, ◌∙◌, ℕ, zero, suc, ◌+◌, ◌<◌, ◌≤◌, ◌&&◌, Bool, true, List, [], ◌∷◌, length, map, nat_eq, nat_le, refl, sym, ap, subst, Ok, Err, Some}
 use Rattle.std.proofs.lemmas.Bool.{and_parts, eqb-true, eq-eqb, le-leb, cases_lt}
 use Rattle.std.proofs.Math.Dec.{lit≤}
 use Rattle.std.proofs.Math.Nat.{le_antisymm, le_trans, lt_of_le_of_lt, not-le_of_lt, not-suc-le-zero}

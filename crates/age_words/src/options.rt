@@ -1,6 +1,9 @@
 //! The commands and options that `clap` parses. An option's id is its long name.
-ghost use Rattle.std.specs.Prelude.{◌≡◌, true, false, IfOk};
-ghost use Rattle.clap.specs.Words.{app_of};
+ghost use Rattle.std.specs.Prelude.{◌≡◌, false, IfOk};
+ghost use Rattle.clap.specs.Simple.{new_shape};
+ghost use Rattle.clap.specs.Words.{app_of, rule_of, shape_of};
+ghost use Rattle.age_words.specs.CommandLine as line;
+ghost use Rattle.age_words.specs.CommandLine.{IsArg};
 
 use crate::texts::{
     DECRYPT_END, ENCRYPT_END, ENCRYPTED_OUTPUT_HELP, FILE_KEY_HELP, INPUT_HELP, INSPECT_END,
@@ -8,6 +11,7 @@ use crate::texts::{
     PLAIN_OUTPUT_HELP, RANGE_END, REWRAP_END, SALT_HELP, SEED_HELP, SEEKABLE_INPUT_HELP,
     VERBOSE_HELP, WHOLE_END, WORK_HELP,
 };
+use age_job::{DEFAULT_SEED, LEAST_HEADER, LEAST_WORK, MOST_HEADER, MOST_OFFSET, MOST_WORK};
 use clap::{Arg, ArgAction, Command, value_parser};
 use std::alloc::{AllocError, Global};
 
@@ -41,11 +45,6 @@ pub(crate) const LEN: &str = "len";
 
 pub(crate) const VERBOSE: &str = "verbose";
 
-pub(crate) const LEAST_WORK: u64 = 1;
-
-/// The greatest work factor.
-pub const MOST_WORK: u64 = 30;
-
 /// The work factor that `encrypt` and `rewrap` write if the arguments name none, as `clap` takes
 /// it.
 pub(crate) const DEFAULT_WORK_TEXT: &str = "18";
@@ -60,16 +59,11 @@ pub(crate) const DEFAULT_MAX_WORK_TEXT: &str = "22";
 /// The same as a number, which the job of a command without this option holds.
 pub(crate) const DEFAULT_MAX_WORK: u8 = 22;
 
-pub(crate) const LEAST_HEADER: u64 = 1024;
+/// The maximum size of a header if the arguments name none, as `clap` takes it.
+pub(crate) const DEFAULT_MAX_HEADER_TEXT: &str = "65536";
 
-/// The greatest limit of a header, in bytes.
-pub const MOST_HEADER: u64 = 16_777_216;
-
-/// The greatest offset of a range, and its greatest length, in bytes: 2^63 - 1.
-pub const MOST_OFFSET: u64 = 9_223_372_036_854_775_807;
-
-/// The seed file if the command line names none.
-pub const DEFAULT_SEED: &str = "/dev/urandom";
+/// The same as a number.
+pub(crate) const DEFAULT_MAX_HEADER: u64 = 65536;
 
 const ABOUT: &str = "Encrypt and decrypt files in the age v1 format";
 
@@ -79,8 +73,7 @@ const VERSION: &str = "0.4.0";
 
 /// The whole command line.
 pub(crate) fn whole_command<'a>(alloc: Global) -> Result<Command<'a>, AllocError>
-    ensures required { IfOk result (λ command. (app_of command).top.subcommand_required ≡ true) }
-    ensures plain { IfOk result (λ command. (app_of command).top.is_plain ≡ true) }
+    ensures { IfOk result (λ command. app_of command ≡ line.agep) }
 {
     let command = bare_command(alloc)
         .subcommand(encrypt_command(alloc)?)?
@@ -93,7 +86,7 @@ pub(crate) fn whole_command<'a>(alloc: Global) -> Result<Command<'a>, AllocError
 
 /// The program, without its commands.
 fn bare_command<'a>(alloc: Global) -> Command<'a>
-    ensures { (app_of result).top.is_plain ≡ true }
+    ensures { app_of result ≡ line.bare }
 {
     Command::new(alloc, "agep")
         .about(ABOUT)
@@ -109,7 +102,7 @@ fn bare_subcommand<'a>(
     about: &'a str,
     end: &'a str,
 ) -> Result<Command<'a>, AllocError>
-    ensures { IfOk result (λ command. (app_of command).top.is_plain ≡ true) }
+    ensures { IfOk result (λ command. shape_of command ≡ new_shape name.entry.now) }
 {
     Command::new(alloc, name)
         .about(about)
@@ -117,18 +110,17 @@ fn bare_subcommand<'a>(
         .display_name("agep")
 }
 
-/// The command with one more option or word. Each command adds its own by this, so that another one
-/// changes no proof.
+/// The command with one more option or word.
 fn with_arg<'a>(command: Command<'a>, arg: Arg<'a>) -> Result<Command<'a>, AllocError>
-    requires plain { (app_of command).top.is_plain ≡ true }
-    requires own { arg.global ≡ false }
-    ensures { IfOk result (λ command. (app_of command).top.is_plain ≡ true) }
+    requires { arg.global ≡ false }
+    ensures { IfOk result
+        (λ more. shape_of more ≡ line.with_rule (shape_of command.entry) (rule_of arg.entry)) }
 {
     command.arg(arg)
 }
 
 fn encrypt_command<'a>(alloc: Global) -> Result<Command<'a>, AllocError>
-    ensures { IfOk result (λ command. (app_of command).top.is_plain ≡ true) }
+    ensures { IfOk result (λ command. shape_of command ≡ line.encrypt) }
 {
     let command = bare_subcommand(
         alloc,
@@ -147,7 +139,7 @@ fn encrypt_command<'a>(alloc: Global) -> Result<Command<'a>, AllocError>
 }
 
 fn decrypt_command<'a>(alloc: Global) -> Result<Command<'a>, AllocError>
-    ensures { IfOk result (λ command. (app_of command).top.is_plain ≡ true) }
+    ensures { IfOk result (λ command. shape_of command ≡ line.decrypt) }
 {
     let command = bare_subcommand(
         alloc,
@@ -165,8 +157,8 @@ fn with_opening_options<'a>(
     command: Command<'a>,
     output_help: &'a str,
 ) -> Result<Command<'a>, AllocError>
-    requires { (app_of command).top.is_plain ≡ true }
-    ensures { IfOk result (λ command. (app_of command).top.is_plain ≡ true) }
+    ensures { IfOk result
+        (λ more. shape_of more ≡ line.with_rules (shape_of command.entry) line.opening) }
 {
     let command = with_arg(command, pass_option(alloc))?;
     let command = with_arg(command, key_option(alloc))?;
@@ -177,7 +169,7 @@ fn with_opening_options<'a>(
 }
 
 fn inspect_command<'a>(alloc: Global) -> Result<Command<'a>, AllocError>
-    ensures { IfOk result (λ command. (app_of command).top.is_plain ≡ true) }
+    ensures { IfOk result (λ command. shape_of command ≡ line.inspect) }
 {
     let raw = flag(
         alloc,
@@ -200,7 +192,7 @@ fn inspect_command<'a>(alloc: Global) -> Result<Command<'a>, AllocError>
 }
 
 fn range_command<'a>(alloc: Global) -> Result<Command<'a>, AllocError>
-    ensures { IfOk result (λ command. (app_of command).top.is_plain ≡ true) }
+    ensures { IfOk result (λ command. shape_of command ≡ line.range) }
 {
     let command = bare_subcommand(
         alloc,
@@ -215,17 +207,15 @@ fn range_command<'a>(alloc: Global) -> Result<Command<'a>, AllocError>
         "The offset of the first byte in the plaintext, from 0",
     );
     let len = offset_word(alloc, LEN, "LEN", "The maximum number of bytes to write");
+    let input = required_word(alloc, INPUT, "IN", SEEKABLE_INPUT_HELP);
     let command = with_opening_options(alloc, command, PLAIN_OUTPUT_HELP)?;
     let command = with_arg(command, at)?;
     let command = with_arg(command, len)?;
-    with_arg(
-        command,
-        required_word(alloc, INPUT, "IN", SEEKABLE_INPUT_HELP),
-    )
+    with_arg(command, input)
 }
 
 fn rewrap_command<'a>(alloc: Global) -> Result<Command<'a>, AllocError>
-    ensures { IfOk result (λ command. (app_of command).top.is_plain ≡ true) }
+    ensures { IfOk result (λ command. shape_of command ≡ line.rewrap) }
 {
     let command = bare_subcommand(
         alloc,
@@ -233,12 +223,10 @@ fn rewrap_command<'a>(alloc: Global) -> Result<Command<'a>, AllocError>
         "Give a file a new passphrase or key without encrypting it again",
         REWRAP_END,
     )?;
+    let new_pass = text_option(alloc, NEW_PASS, 'P', "FILE", NEW_PASS_HELP);
     let new_key = text_option(alloc, NEW_KEY, 'K', "FILE", NEW_KEY_HELP).action(ArgAction::Append);
     let command = with_opening_options(alloc, command, ENCRYPTED_OUTPUT_HELP)?;
-    let command = with_arg(
-        command,
-        text_option(alloc, NEW_PASS, 'P', "FILE", NEW_PASS_HELP),
-    )?;
+    let command = with_arg(command, new_pass)?;
     let command = with_arg(command, new_key)?;
     let command = with_arg(command, work_option(alloc))?;
     let command = with_arg(command, seed_option(alloc, SALT_HELP))?;
@@ -246,19 +234,19 @@ fn rewrap_command<'a>(alloc: Global) -> Result<Command<'a>, AllocError>
 }
 
 fn pass_option<'a>(alloc: Global) -> Arg<'a>
-    ensures { result.global ≡ false }
+    ensures { IsArg line.pass result }
 {
     text_option(alloc, PASS, 'p', "FILE", PASS_HELP)
 }
 
 fn key_option<'a>(alloc: Global) -> Arg<'a>
-    ensures { result.global ≡ false }
+    ensures { IsArg line.key result }
 {
     text_option(alloc, KEY, 'k', "FILE", KEY_HELP).action(ArgAction::Append)
 }
 
 fn work_option<'a>(alloc: Global) -> Arg<'a>
-    ensures { result.global ≡ false }
+    ensures { IsArg line.work result }
 {
     text_option(alloc, WORK, 'w', "N", WORK_HELP)
         .value_parser(value_parser!(u64).range(LEAST_WORK as i64..=MOST_WORK as i64))
@@ -266,13 +254,13 @@ fn work_option<'a>(alloc: Global) -> Arg<'a>
 }
 
 fn seed_option<'a>(alloc: Global, help: &'a str) -> Arg<'a>
-    ensures { result.global ≡ false }
+    ensures { IsArg line.seed result }
 {
     text_option(alloc, SEED, 's', "SEED", help).default_value(DEFAULT_SEED)
 }
 
 fn max_work_option<'a>(alloc: Global) -> Arg<'a>
-    ensures { result.global ≡ false }
+    ensures { IsArg line.max_work result }
 {
     text_option(alloc, MAX_WORK, 'm', "N", MAX_WORK_HELP)
         .value_parser(value_parser!(u64).range(LEAST_WORK as i64..=MOST_WORK as i64))
@@ -280,27 +268,27 @@ fn max_work_option<'a>(alloc: Global) -> Arg<'a>
 }
 
 fn max_header_option<'a>(alloc: Global) -> Arg<'a>
-    ensures { result.global ≡ false }
+    ensures { IsArg line.max_header result }
 {
     text_option(alloc, MAX_HEADER, 'H', "N", MAX_HEADER_HELP)
         .value_parser(value_parser!(u64).range(LEAST_HEADER as i64..=MOST_HEADER as i64))
-        .default_value("65536")
+        .default_value(DEFAULT_MAX_HEADER_TEXT)
 }
 
 fn verbose_option<'a>(alloc: Global) -> Arg<'a>
-    ensures { result.global ≡ false }
+    ensures { IsArg line.verbose result }
 {
     flag(alloc, VERBOSE, 'v', VERBOSE_HELP)
 }
 
 fn output_option<'a>(alloc: Global, help: &'a str) -> Arg<'a>
-    ensures { result.global ≡ false }
+    ensures { IsArg line.output result }
 {
     text_option(alloc, OUTPUT, 'o', "OUT", help)
 }
 
 fn input_word<'a>(alloc: Global) -> Arg<'a>
-    ensures { result.global ≡ false }
+    ensures { IsArg line.input result }
 {
     Arg::new(alloc, INPUT)
         .value_name("IN")
@@ -309,7 +297,7 @@ fn input_word<'a>(alloc: Global) -> Arg<'a>
 }
 
 fn offset_word<'a>(alloc: Global, id: &'a str, value_name: &'a str, help: &'a str) -> Arg<'a>
-    ensures { result.global ≡ false }
+    ensures { IsArg (line.offset id.entry.now) result }
 {
     required_word(alloc, id, value_name, help).value_parser(value_parser!(u64).range(
         0..=MOST_OFFSET as i64,
@@ -317,7 +305,7 @@ fn offset_word<'a>(alloc: Global, id: &'a str, value_name: &'a str, help: &'a st
 }
 
 fn required_word<'a>(alloc: Global, id: &'a str, value_name: &'a str, help: &'a str) -> Arg<'a>
-    ensures { result.global ≡ false }
+    ensures { IsArg (line.required (line.word id.entry.now)) result }
 {
     Arg::new(alloc, id)
         .value_name(value_name)
@@ -327,7 +315,7 @@ fn required_word<'a>(alloc: Global, id: &'a str, value_name: &'a str, help: &'a 
 }
 
 fn flag<'a>(alloc: Global, id: &'a str, short: char, help: &'a str) -> Arg<'a>
-    ensures { result.global ≡ false }
+    ensures { IsArg (line.flag short id.entry.now) result }
 {
     Arg::new(alloc, id)
         .short(short)
@@ -343,7 +331,7 @@ fn text_option<'a>(
     value_name: &'a str,
     help: &'a str,
 ) -> Arg<'a>
-    ensures { result.global ≡ false }
+    ensures { IsArg (line.option short id.entry.now) result }
 {
     Arg::new(alloc, id)
         .short(short)

@@ -1,13 +1,18 @@
 //! Parsing the arguments of the command line to a job.
-ghost use Rattle.std.specs.Prelude.{◌≡◌, IfOk};
-ghost use Rattle.age_words.specs.Job.{IsBetween, IsInRange, NamesInput};
+ghost use Rattle.std.specs.Prelude.{◌≡◌, ℕ, List, codes, drop, map, option_map, true, unwrap_or, IfOk, IfSome};
+ghost use Rattle.std.specs.String.{string_bytes};
+ghost use Rattle.clap.specs.Values.{IsUnsignedIn};
+ghost use Rattle.clap.specs.Words.{first_of, found_of, one_of, rows_of};
+ghost use Rattle.clap.specs.Walk.{texts};
+ghost use Rattle.age_job.specs.Job.{IsInRange};
+ghost use Rattle.age_words.specs.JobOf.{AsksForHelp, IsTaken, JobOf, Reads, is_set, name_of, number_or, rest_of};
 
-use crate::job::{Command, Job, WordsFault};
+use crate::fault::WordsFault;
 use crate::options::{
-    AT, DEFAULT_MAX_WORK, DEFAULT_SEED, DEFAULT_WORK, FILE_KEY, INPUT, KEY, LEAST_HEADER,
-    LEAST_WORK, LEN, MAX_HEADER, MAX_WORK, MOST_HEADER, MOST_OFFSET, MOST_WORK, NEW_KEY, NEW_PASS,
-    OUTPUT, PASS, RAW, SEED, VERBOSE, WORK, whole_command,
+    AT, DEFAULT_MAX_HEADER, DEFAULT_MAX_WORK, DEFAULT_WORK, FILE_KEY, INPUT, KEY, LEN, MAX_HEADER,
+    MAX_WORK, NEW_KEY, NEW_PASS, OUTPUT, PASS, RAW, SEED, VERBOSE, WORK, whole_command,
 };
+use age_job::{Command, DEFAULT_SEED, Job};
 use clap::ArgMatches;
 use std::alloc::{AllocError, Global};
 
@@ -17,9 +22,9 @@ use std::alloc::{AllocError, Global};
 ///
 /// # Errors
 /// `Refused` with `clap`'s own text for arguments that make no job, and for help and the version;
-/// `Memory` if an allocation was refused; `Lost` if `clap` accepted the arguments and then had no
-/// value in range for one of them, or another subcommand.
+/// `Memory` if an allocation was refused.
 pub fn read_words(alloc: Global, words: &[&str]) -> Result<Job, WordsFault>
+    ensures reads { Reads (texts words.now) result }
     ensures ranges { IfOk result IsInRange }
 {
     if asks_for_help(words) {
@@ -29,205 +34,119 @@ pub fn read_words(alloc: Global, words: &[&str]) -> Result<Job, WordsFault>
 }
 
 fn parse(alloc: Global, words: &[&str]) -> Result<Job, WordsFault>
+    ensures reads { Reads (texts words.now) result }
     ensures ranges { IfOk result IsInRange }
 {
     let matches = whole_command(alloc)?.try_get_matches_from(words)?;
-    match matches.subcommand() {
-        Some(("encrypt", matches)) => encrypt_job(alloc, matches),
-        Some(("decrypt", matches)) => decrypt_job(alloc, matches),
-        Some(("inspect", matches)) => inspect_job(alloc, matches),
-        Some(("range", matches)) => range_job(alloc, matches),
-        Some(("rewrap", matches)) => rewrap_job(alloc, matches),
-        // `clap` adds a subcommand `help`, and does not promise that it is never entered
-        Some(_) => Err(WordsFault::Lost),
-        None => unreachable!(),
-    }
+    let Some((name, matches)) = matches.subcommand() else {
+        unreachable!();
+    };
+    Ok(job_of(alloc, command_named(name), matches)?)
 }
 
 /// Whether help is asked how to use it. `clap` takes such an option for the name of a command.
-fn asks_for_help(words: &[&str]) -> bool {
+fn asks_for_help(words: &[&str]) -> bool
+    ensures { result ≡ true → AsksForHelp (texts words.now) }
+{
     words.len() == 3 && words[1] == "help" && (words[2] == "--help" || words[2] == "-h")
 }
 
-fn encrypt_job(alloc: Global, matches: &ArgMatches<'_>) -> Result<Job, WordsFault>
+fn command_named(name: &str) -> Command
+    requires { (command : Command) × (name.now ≡ name_of command) }
+    ensures { name.now ≡ name_of result }
+{
+    match name {
+        "encrypt" => Command::Encrypt,
+        "decrypt" => Command::Decrypt,
+        "inspect" => Command::Inspect,
+        "range" => Command::Range,
+        "rewrap" => Command::Rewrap,
+        _ => unreachable!(),
+    }
+}
+
+/// The job of this command. An option that the command lacks has no value here, and then its field
+/// has its default, or none.
+fn job_of(alloc: Global, command: Command, matches: &ArgMatches<'_>) -> Result<Job, AllocError>
+    requires { IsTaken command (rows_of (found_of matches.now)) }
+    ensures command { IfOk result (λ job. job.command ≡ command) }
+    ensures job { IfOk result (JobOf (rows_of (found_of matches.now))) }
     ensures ranges { IfOk result IsInRange }
-{
-    let mut job = common_job(
-        alloc,
-        Command::Encrypt,
-        text_of(alloc, matches, INPUT)?,
-        matches,
-    )?;
-    job.pass = text_of(alloc, matches, PASS)?;
-    (job.key, job.more_keys) = texts_of(alloc, matches, KEY)?;
-    job.work = work_of(matches, WORK)?;
-    job.seed = seed_of(alloc, matches)?;
-    job.output = text_of(alloc, matches, OUTPUT)?;
-    Ok(job)
-}
-
-fn decrypt_job(alloc: Global, matches: &ArgMatches<'_>) -> Result<Job, WordsFault>
-    ensures ranges { IfOk result IsInRange }
-{
-    opening_job(
-        alloc,
-        Command::Decrypt,
-        text_of(alloc, matches, INPUT)?,
-        matches,
-    )
-}
-
-fn inspect_job(alloc: Global, matches: &ArgMatches<'_>) -> Result<Job, WordsFault>
-    ensures ranges { IfOk result IsInRange }
-{
-    let mut job = common_job(
-        alloc,
-        Command::Inspect,
-        text_of(alloc, matches, INPUT)?,
-        matches,
-    )?;
-    job.raw = matches.get_flag(RAW);
-    job.file_key = text_of(alloc, matches, FILE_KEY)?;
-    Ok(job)
-}
-
-fn range_job(alloc: Global, matches: &ArgMatches<'_>) -> Result<Job, WordsFault>
-    ensures ranges { IfOk result IsInRange }
-{
-    let Some(input) = matches.get_str(INPUT) else {
-        return Err(WordsFault::Lost);
-    };
-    let input = Some(String::from_str(alloc, input)?);
-    let mut job = opening_job(alloc, Command::Range, input, matches)?;
-    job.at = number_in(matches, AT, 0, MOST_OFFSET)?;
-    job.len = number_in(matches, LEN, 0, MOST_OFFSET)?;
-    Ok(job)
-}
-
-fn rewrap_job(alloc: Global, matches: &ArgMatches<'_>) -> Result<Job, WordsFault>
-    ensures ranges { IfOk result IsInRange }
-{
-    let mut job = opening_job(
-        alloc,
-        Command::Rewrap,
-        text_of(alloc, matches, INPUT)?,
-        matches,
-    )?;
-    job.new_pass = text_of(alloc, matches, NEW_PASS)?;
-    (job.new_key, job.more_new_keys) = texts_of(alloc, matches, NEW_KEY)?;
-    job.work = work_of(matches, WORK)?;
-    job.seed = seed_of(alloc, matches)?;
-    Ok(job)
-}
-
-/// A job of this command and input, with the options of the commands that find a file's key.
-fn opening_job(
-    alloc: Global,
-    command: Command,
-    input: Option<String>,
-    matches: &ArgMatches<'_>,
-) -> Result<Job, WordsFault>
-    requires { NamesInput command input }
-    ensures { IfOk result (λ job. (job.command ≡ command) × IsInRange job) }
-{
-    let mut job = common_job(alloc, command, input, matches)?;
-    job.pass = text_of(alloc, matches, PASS)?;
-    (job.key, job.more_keys) = texts_of(alloc, matches, KEY)?;
-    job.max_work = work_of(matches, MAX_WORK)?;
-    job.output = text_of(alloc, matches, OUTPUT)?;
-    Ok(job)
-}
-
-/// A job of this command and input, with the options that every command has, and the defaults of
-/// all others.
-fn common_job(
-    alloc: Global,
-    command: Command,
-    input: Option<String>,
-    matches: &ArgMatches<'_>,
-) -> Result<Job, WordsFault>
-    requires { NamesInput command input }
-    ensures { IfOk result (λ job. (job.command ≡ command) × IsInRange job) }
 {
     Ok(Job {
         command,
-        pass: None,
-        key: None,
-        more_keys: Vec::new(alloc),
-        new_pass: None,
-        new_key: None,
-        more_new_keys: Vec::new(alloc),
-        work: DEFAULT_WORK,
-        seed: String::from_str(alloc, DEFAULT_SEED)?,
-        max_work: DEFAULT_MAX_WORK,
-        max_header: max_header_of(matches)?,
-        output: None,
-        raw: false,
-        file_key: None,
-        input,
-        at: 0,
-        len: 0,
-        verbose: matches.get_flag(VERBOSE),
+        pass: text_of(alloc, matches, PASS)?,
+        key: text_of(alloc, matches, KEY)?,
+        more_keys: rest_of(alloc, matches, KEY)?,
+        new_pass: text_of(alloc, matches, NEW_PASS)?,
+        new_key: text_of(alloc, matches, NEW_KEY)?,
+        more_new_keys: rest_of(alloc, matches, NEW_KEY)?,
+        work: number_or(matches, WORK, u64::from(DEFAULT_WORK)) as u8,
+        seed: seed_of(alloc, matches)?,
+        max_work: number_or(matches, MAX_WORK, u64::from(DEFAULT_MAX_WORK)) as u8,
+        max_header: number_or(matches, MAX_HEADER, DEFAULT_MAX_HEADER) as usize,
+        output: text_of(alloc, matches, OUTPUT)?,
+        raw: is_set(matches, RAW),
+        file_key: text_of(alloc, matches, FILE_KEY)?,
+        input: text_of(alloc, matches, INPUT)?,
+        at: number_or(matches, AT, 0),
+        len: number_or(matches, LEN, 0),
+        verbose: is_set(matches, VERBOSE),
     })
 }
 
-fn seed_of(alloc: Global, matches: &ArgMatches<'_>) -> Result<String, WordsFault> {
-    match matches.get_str(SEED) {
-        Some(seed) => Ok(String::from_str(alloc, seed)?),
-        None => Err(WordsFault::Lost),
-    }
-}
-
-/// The maximum size of a header in bytes.
-fn max_header_of(matches: &ArgMatches<'_>) -> Result<usize, WordsFault>
-    ensures { IfOk result (IsBetween LEAST_HEADER MOST_HEADER) }
+fn seed_of(alloc: Global, matches: &ArgMatches<'_>) -> Result<String, AllocError>
+    ensures { IfOk result (λ seed. string_bytes seed
+        ≡ unwrap_or (first_of (codes "seed") (rows_of (found_of matches.now))) DEFAULT_SEED.now) }
 {
-    let max_header = number_in(matches, MAX_HEADER, LEAST_HEADER, MOST_HEADER)?;
-    Ok(max_header as usize)
+    String::from_str(alloc, matches.get_str(SEED).unwrap_or(DEFAULT_SEED))
 }
 
-/// The work factor that this option names.
-fn work_of(matches: &ArgMatches<'_>, id: &str) -> Result<u8, WordsFault>
-    ensures { IfOk result (IsBetween LEAST_WORK MOST_WORK) }
+/// The number of this option, or `default` where the command lacks the option.
+fn number_or(matches: &ArgMatches<'_>, id: &str, default: u64) -> u64
+    requires { IfSome (one_of id.now (rows_of (found_of matches.now)))
+        (λ text. (least most : ℕ) × IsUnsignedIn least most text) }
+    ensures { result ≡ number_or default id.now (rows_of (found_of matches.now)) }
 {
-    let work = number_in(matches, id, LEAST_WORK, MOST_WORK)?;
-    Ok(work as u8)
+    matches.get_one(id).unwrap_or(default)
 }
 
-/// The number of an option, which is tested again: `clap` promises the values of the command line's
-/// own arguments, and none of a subcommand's. No command line is known that is refused here.
-fn number_in(matches: &ArgMatches<'_>, id: &str, least: u64, most: u64) -> Result<u64, WordsFault>
-    ensures { IfOk result (IsBetween least most) }
+/// Whether this flag is set.
+fn is_set(matches: &ArgMatches<'_>, id: &str) -> bool
+    ensures { result ≡ is_set id.now (rows_of (found_of matches.now)) }
 {
-    match matches.get_one::<u64>(id) {
-        Some(n) if least <= n && n <= most => Ok(n),
-        _ => Err(WordsFault::Lost),
-    }
+    matches.get_one(id).unwrap_or(false)
 }
 
-fn text_of(
-    alloc: Global,
-    matches: &ArgMatches<'_>,
-    id: &str,
-) -> Result<Option<String>, AllocError> {
+/// The first value of this option.
+fn text_of(alloc: Global, matches: &ArgMatches<'_>, id: &str) -> Result<Option<String>, AllocError>
+    ensures { IfOk result
+        (λ text. option_map string_bytes text ≡ first_of id.now (rows_of (found_of matches.now))) }
+{
     match matches.get_str(id) {
         Some(text) => Ok(Some(String::from_str(alloc, text)?)),
         None => Ok(None),
     }
 }
 
-/// The first value of this option, and those after it.
-fn texts_of(
-    alloc: Global,
-    matches: &ArgMatches<'_>,
-    id: &str,
-) -> Result<(Option<String>, Vec<String>), AllocError> {
-    let mut more = Vec::new(alloc);
-    let Some((first, rest)) = matches.get_strs(id).and_then(|texts| texts.split_first()) else {
-        return Ok((None, more));
-    };
-    for text in rest {
-        more.push(String::from_str(alloc, text)?)?;
+/// The values of this option after the first.
+fn rest_of(alloc: Global, matches: &ArgMatches<'_>, id: &str) -> Result<Vec<String>, AllocError>
+    ensures { IfOk result (λ rest. map string_bytes rest.items
+        ≡ rest_of id.now (rows_of (found_of matches.now))) }
+{
+    match matches.get_strs(id).unwrap_or(&[]).split_first() {
+        Some((_, rest)) => copied(alloc, rest),
+        None => Ok(Vec::new(alloc)),
     }
-    Ok((Some(String::from_str(alloc, first)?), more))
+}
+
+/// Copies these texts.
+fn copied(alloc: Global, texts: &[&str]) -> Result<Vec<String>, AllocError>
+    ensures { IfOk result (λ copies. map string_bytes copies.items ≡ map (λ t. t.now) texts.now) }
+{
+    let mut copies = Vec::with_capacity(alloc, texts.len())?;
+    for text in texts {
+        copies.push(String::from_str(alloc, text)?)?;
+    }
+    Ok(copies)
 }

@@ -1,0 +1,11 @@
+use Rattle.std.proofs.Common.{rules}
+use Rattle.age_commands.proofs.OutputLemmas.{prefix_left, prefix_flushed}
+use Rattle.age_commands.proofs.buffered_sink.flush.Goals as goal
+
+pub returns-in_err-write_held-clause-part : goal.returns-in_err-write_held-clause-part
+returns-in_err-write_held-clause-part g c =
+    let prefix = prefix_left _ _ _ _ c.write_held.ensures.bytes in
+    search rules
+
+pub returns-in-Err-clause-part : goal.returns-in-Err-clause-part
+returns-in-Err-clause-part g c = prefix_flushed _ _ _ _ _ c.write_held.ensures.bytes c.flush.ensures.bytes

@@ -1,0 +1,242 @@
+//! What helps with a file that could not be read as an age file: what its first bytes, its header
+//! and its size tell.
+
+ghost use Rattle.age_job.specs.Job.{IsInRange};
+
+use crate::buffering::limits_of;
+use age_file::{
+    CHUNK_SIZE, Fault, Header, MemSource, NONCE_SIZE, SEALED_CHUNK_SIZE, Stanza, StanzaFault,
+    TAG_SIZE, inspect,
+};
+use age_job::{Job, MOST_HEADER, MOST_WORK, Watched};
+use std::alloc::Global;
+use std::fmt;
+use std::fmt::Write;
+
+/// How many types of stanzas a message names at most.
+const MOST_TYPES: usize = 5;
+
+/// What is known of a file beside its fault.
+#[derive(Drop)]
+pub enum Hint {
+    /// Nothing more.
+    None,
+    Empty,
+    /// The file ends within its header, after so many bytes.
+    EndsInHeader(u64),
+    Armor,
+    ByteOrderMark,
+    NoVersionLine,
+    /// The maximum size of a header in bytes.
+    HeaderLimit(usize),
+    /// No identity fits the stanzas of this header.
+    Stanzas(Header),
+    /// The work factor of this header is too high.
+    WorkFactor(Header),
+    /// The damaged chunk. The size of its plaintext is given if it is the last of the file.
+    Chunk(u128, Option<u128>),
+    /// The last chunk has so many bytes, fewer than a tag.
+    EndsInChunk(u128, u128),
+}
+
+/// What is known of the file that was read, after this fault.
+pub fn hint_at<R>(alloc: Global, job: &Job, fault: Fault, input: &Watched<R>) -> Hint
+    requires { IsInRange job.now }
+{
+    match fault {
+        Fault::HeaderTruncated if input.at() == 0 => Hint::Empty,
+        Fault::HeaderTruncated => Hint::EndsInHeader(input.at()),
+        Fault::NotAge => first_bytes(input.prefix()),
+        Fault::HeaderTooLarge => Hint::HeaderLimit(job.max_header),
+        Fault::NoMatch => match header_of(alloc, job, input) {
+            Some(header) => Hint::Stanzas(header),
+            None => Hint::None,
+        },
+        Fault::Malformed(StanzaFault::WorkFactorTooHigh) => match header_of(alloc, job, input) {
+            Some(header) => Hint::WorkFactor(header),
+            None => Hint::None,
+        },
+        Fault::BadChunk(index) | Fault::ChunkShort(index) => chunk(alloc, job, index, input),
+        _ => Hint::None,
+    }
+}
+
+/// What the first bytes of a file say that is no age file.
+fn first_bytes<'a>(prefix: &[u8]) -> Hint {
+    if prefix.starts_with(b"-----BEGIN AGE") {
+        return Hint::Armor;
+    }
+    if prefix.starts_with(b"\xef\xbb\xbf") {
+        return Hint::ByteOrderMark;
+    }
+    Hint::NoVersionLine
+}
+
+/// The header of the file that was read.
+pub fn header_of<R>(alloc: Global, job: &Job, input: &Watched<R>) -> Option<Header>
+    requires { IsInRange job.now }
+{
+    inspect(alloc, &mut MemSource::new(input.prefix()), &limits_of(job)).ok()
+}
+
+/// What is known of this chunk, from the size of the file and of its header.
+fn chunk<R>(alloc: Global, job: &Job, index: u128, input: &Watched<R>) -> Hint
+    requires { IsInRange job.now }
+{
+    let Some(header) = header_of(alloc, job, input) else {
+        return Hint::None;
+    };
+    match bytes_from(index, header.text_len(), input.end()) {
+        Some(left) if left < TAG_SIZE as u128 => Hint::EndsInChunk(index, left),
+        Some(left) if left <= SEALED_CHUNK_SIZE as u128 => {
+            Hint::Chunk(index, Some(left - TAG_SIZE as u128))
+        }
+        _ => Hint::Chunk(index, None),
+    }
+}
+
+/// How many bytes the file has from the start of this sealed chunk on, if its size is known.
+fn bytes_from(index: u128, header: u64, size: Option<u64>) -> Option<u128> {
+    let payload = (size? as u128).checked_sub(header as u128)?;
+    let chunks = payload.checked_sub(NONCE_SIZE as u128)?;
+    chunks.checked_sub(index.checked_mul(SEALED_CHUNK_SIZE as u128)?)
+}
+
+impl fmt::Display for Hint {
+    fn fmt<W: fmt::Write>(&self, f: &mut fmt::Formatter<W>) -> fmt::Result {
+        match self {
+            Hint::None => Ok(()),
+            Hint::Empty => f.write_str("the file is empty"),
+            Hint::EndsInHeader(len) => {
+                write!(f, "the file ends after {len} bytes, within its header")
+            }
+            Hint::Armor => f.write_str("ASCII armor stands at its start; age decrypts such a file"),
+            Hint::ByteOrderMark => f.write_str("a byte-order mark stands at its start"),
+            Hint::NoVersionLine => {
+                f.write_str("the first line of an age file is age-encryption.org/v1")
+            }
+            Hint::HeaderLimit(limit) => write!(
+                f,
+                "the header is longer than {limit} bytes; -H accepts up to {MOST_HEADER}"
+            ),
+            Hint::Stanzas(header) => write_stanzas(header.stanzas(), f),
+            Hint::WorkFactor(header) => write_work(header.stanzas(), f),
+            Hint::Chunk(index, len) => write_chunk(*index, *len, f),
+            Hint::EndsInChunk(index, len) => {
+                write!(
+                    f,
+                    "the file ends {len} bytes into chunk {index}, which starts at "
+                )?;
+                let first = first_byte(*index);
+                write!(f, "byte {first} of the plaintext")
+            }
+        }
+    }
+}
+
+/// The offset of this chunk in the plaintext. The index of a chunk is below 2^88.
+fn first_byte(index: u128) -> u128 {
+    index.saturating_mul(CHUNK_SIZE as u128)
+}
+
+/// Writes where this chunk is in the plaintext.
+fn write_chunk<W: fmt::Write>(
+    index: u128,
+    len: Option<u128>,
+    f: &mut fmt::Formatter<W>,
+) -> fmt::Result {
+    write!(f, "chunk {index} holds ")?;
+    let first = first_byte(index);
+    match len.unwrap_or(CHUNK_SIZE as u128).checked_sub(1) {
+        Some(more) => {
+            let last = first.saturating_add(more);
+            write!(f, "the plaintext from byte {first} to {last}")?;
+        }
+        None => f.write_str("no byte of the plaintext")?,
+    }
+    match len {
+        Some(_) => f.write_str("; it is the last chunk, so the file may be cut short"),
+        None => Ok(()),
+    }
+}
+
+/// The type of a stanza, which is its first argument.
+fn type_of(stanza: &Stanza) -> &str {
+    match stanza.args().first() {
+        Some(name) => name.as_str(),
+        None => "",
+    }
+}
+
+/// Writes the types of these stanzas, and who opens them.
+fn write_stanzas<W: fmt::Write>(stanzas: &[Stanza], f: &mut fmt::Formatter<W>) -> fmt::Result {
+    f.write_str("its stanzas are of type ")?;
+    let mut left = MOST_TYPES;
+    for (index, stanza) in stanzas.iter().enumerate() {
+        let name = type_of(stanza);
+        if has_type(&stanzas[..index], name) {
+            continue;
+        }
+        if left == 0 {
+            f.write_str(", ..")?;
+            break;
+        }
+        if left < MOST_TYPES {
+            f.write_str(", ")?;
+        }
+        f.write_str(name)?;
+        left -= 1;
+    }
+    f.write_str(if has_type(stanzas, "scrypt") {
+        "; -p opens it"
+    } else if has_type(stanzas, "example.org/key") {
+        "; -k opens it"
+    } else {
+        "; another tool opens it"
+    })
+}
+
+/// Whether one of these stanzas is of this type.
+fn has_type(stanzas: &[Stanza], name: &str) -> bool {
+    stanzas.iter().any(|stanza| type_of(stanza) == name)
+}
+
+/// Writes the work factor of the first of these stanzas, which is too high, and what accepts it.
+fn write_work<W: fmt::Write>(stanzas: &[Stanza], f: &mut fmt::Formatter<W>) -> fmt::Result {
+    let Some(digits) = stanzas.first().and_then(|stanza| stanza.args().get(2)) else {
+        return f.write_str("its work factor is too high");
+    };
+    match digits.as_str().parse::<u64>() {
+        Ok(work) if work <= MOST_WORK => {
+            write!(
+                f,
+                "its work factor is {work}; -m {work} accepts it and takes "
+            )?;
+            write_memory(work, f)
+        }
+        Ok(work) => {
+            write!(
+                f,
+                "its work factor is {work}; agep accepts at most {MOST_WORK}"
+            )
+        }
+        Err(_) => {
+            let len = digits.len();
+            write!(
+                f,
+                "its work factor has {len} digits; agep accepts at most {MOST_WORK}"
+            )
+        }
+    }
+}
+
+/// Writes how much memory scrypt takes with this work factor, 2^work KiB.
+fn write_memory<W: fmt::Write>(work: u64, f: &mut fmt::Formatter<W>) -> fmt::Result {
+    let (unit, exponent) = match work {
+        0..10 => ("KiB", work),
+        10..20 => ("MiB", work - 10),
+        _ => ("GiB", work - 20),
+    };
+    let size = 1u64 << (exponent % 64);
+    write!(f, "{size} {unit} of memory")
+}

@@ -1,0 +1,25 @@
+-- What holds of each job.
+use Rattle.std.specs.Prelude.{◌≤◌, ℕ, IsSome, ⊤}
+use Rattle.std.specs.declared.option.Option.{Option}
+use Rattle.age_job.specs.declared.job.Command.{Command}
+use Rattle.age_job.specs.declared.job.Command.TheVariants.{Range}
+use Rattle.age_job.specs.declared.job.Job.{Job}
+use Rattle.age_job.specs.declared.ranges.TheConstants.{LEAST_HEADER, LEAST_WORK, MOST_HEADER, MOST_OFFSET, MOST_WORK}
+
+-- n is at least `least` and at most `most`
+abbrev pub IsBetween : (least most n : ℕ) → Type 0
+IsBetween least most n = (least ≤ n) × (n ≤ most)
+
+-- a range names the file to read
+abbrev pub NamesInput : {A : Type 0} (command : Command) (input : Option A) → Type 0
+NamesInput Range input = IsSome input
+NamesInput _ input = ⊤
+
+-- each number is in its range
+pub record IsInRange (job : Job) : Type 0 where
+  pub work : IsBetween LEAST_WORK MOST_WORK job.work
+  pub max_work : IsBetween LEAST_WORK MOST_WORK job.max_work
+  pub max_header : IsBetween LEAST_HEADER MOST_HEADER job.max_header
+  pub at : job.at ≤ MOST_OFFSET
+  pub len : job.len ≤ MOST_OFFSET
+  pub input : NamesInput job.command job.input

@@ -1,0 +1,4 @@
+pub mod Job
+pub mod Mode
+pub mod Names
+pub mod Passphrase

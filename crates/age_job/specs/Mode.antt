@@ -1,0 +1,11 @@
+-- The modes of the files that the commands make.
+use Rattle.std.specs.Prelude.{ℕ}
+use Rattle.age_job.specs.declared.job.Command.{Command}
+use Rattle.age_job.specs.declared.job.Command.TheVariants as command
+use Rattle.age_job.specs.declared.output.TheConstants.{FILE_MODE, PLAINTEXT_MODE}
+
+-- a plaintext has a mode of its own
+abbrev pub new_mode : Command → ℕ
+new_mode command.Decrypt = PLAINTEXT_MODE
+new_mode command.Range = PLAINTEXT_MODE
+new_mode _ = FILE_MODE

@@ -1,0 +1,153 @@
+//! A fault of a job's files, and what `--verbose` prints after it.
+
+use crate::fault::Fault;
+use crate::file_names::{Name, Role};
+use crate::files::MOST_SMALL;
+use std::alloc::{AllocError, AllocFailed};
+use std::fmt::Write;
+use std::{fmt, io};
+
+/// Why a file was refused, or could not be used, and what more is known of it.
+#[derive(Drop)]
+pub struct Failure<'a> {
+    pub fault: Fault<'a>,
+    pub detail: Option<Detail<'a>>,
+}
+
+/// What more is known of a fault. Its text is what follows `agep: ` on the second line.
+#[derive(Drop)]
+pub enum Detail<'a> {
+    /// What was being done with this file, and the system's reason.
+    System(Doing, Name<'a>, io::Error),
+    /// The number of bytes in a small file.
+    Size(Role, Name<'a>, usize),
+    /// The passphrase file is empty.
+    NoPassphrase(Role, Name<'a>),
+}
+
+/// What was being done with a file.
+#[derive(Clone, Copy, Debug, PartialEq, Eq)]
+pub enum Doing {
+    Opening,
+    Creating,
+    Reading,
+    Writing,
+    Truncating,
+    Syncing,
+}
+
+impl<'a> Failure<'a> {
+    /// The fault, with what was being done and the system's reason.
+    pub fn of_system(
+        fault: Fault<'a>,
+        doing: Doing,
+        name: &'a str,
+        reason: io::Error,
+    ) -> Failure<'a> {
+        Failure::with(fault, Detail::System(doing, Name(name), reason))
+    }
+
+    pub fn with(fault: Fault<'a>, detail: Detail<'a>) -> Failure<'a> {
+        Failure {
+            fault,
+            detail: Some(detail),
+        }
+    }
+}
+
+impl<'a> From<Fault<'a>> for Failure<'a> {
+    fn from(fault: Fault<'a>) -> Failure<'a> {
+        Failure {
+            fault,
+            detail: None,
+        }
+    }
+}
+
+impl From<AllocError> for Failure<'_> {
+    fn from(error: AllocError) -> Self {
+        Failure::from(Fault::from(error))
+    }
+}
+
+impl<T: Drop> From<AllocFailed<T>> for Failure<'_> {
+    fn from(error: AllocFailed<T>) -> Self {
+        Failure::from(Fault::from(error))
+    }
+}
+
+impl fmt::Display for Doing {
+    fn fmt<W: fmt::Write>(&self, f: &mut fmt::Formatter<W>) -> fmt::Result {
+        f.write_str(match self {
+            Doing::Opening => "opening",
+            Doing::Creating => "creating",
+            Doing::Reading => "reading",
+            Doing::Writing => "writing",
+            Doing::Truncating => "truncating",
+            Doing::Syncing => "syncing",
+        })
+    }
+}
+
+impl fmt::Display for Detail<'_> {
+    fn fmt<W: fmt::Write>(&self, f: &mut fmt::Formatter<W>) -> fmt::Result {
+        match self {
+            Detail::System(doing, name, reason) => {
+                write!(f, "{doing} {name}: ")?;
+                let mut text = BeforeCode { f, ended: false };
+                write!(text, "{reason}")
+            }
+            Detail::Size(role, name, len) => write_size(*role, *name, *len, f),
+            Detail::NoPassphrase(role, name) => {
+                let words = role.words();
+                write!(f, "{words} {name}: no byte, or one LF alone")
+            }
+        }
+    }
+}
+
+/// Writes the size of a small file, and the size that it must have.
+fn write_size<W: fmt::Write>(
+    role: Role,
+    name: Name<'_>,
+    len: usize,
+    f: &mut fmt::Formatter<W>,
+) -> fmt::Result {
+    let words = role.words();
+    write!(f, "{words} {name}: ")?;
+    if len > MOST_SMALL {
+        write!(f, "more than {MOST_SMALL} bytes")?;
+    } else {
+        write!(f, "{len} bytes")?;
+    }
+    match role {
+        Role::Key | Role::NewKey => {
+            f.write_str("; a key file holds 32 raw bytes, no hexadecimal")
+        }
+        Role::FileKey => f.write_str("; a file key file holds 16 raw bytes, no hexadecimal"),
+        Role::Seed => f.write_str("; a seed file holds at least 48 bytes"),
+        Role::Input | Role::Passphrase | Role::NewPassphrase => Ok(()),
+    }
+}
+
+/// Writes a system's reason without the number of its error.
+#[derive(Drop)]
+struct BeforeCode<'a, W> {
+    f: &'a mut fmt::Formatter<W>,
+    ended: bool,
+}
+
+impl<W: fmt::Write> fmt::Write for BeforeCode<'_, W> {
+    fn write_str(&mut self, text: &str) -> fmt::Result {
+        if self.ended {
+            return Ok(());
+        }
+        match text.split_once(" (os error ") {
+            Some((reason, _code)) => {
+                self.ended = true;
+                self.f.write_str(reason)
+            }
+            None => self.f.write_str(text),
+        }
+    }
+}

@@ -1,0 +1,74 @@
+//! Why a file of a job was refused, or could not be used.
+
+use crate::file_names::{Name, Role};
+use std::alloc::{AllocError, AllocFailed};
+use std::fmt;
+
+/// Why a file of a job was refused, or could not be used. Its text is what follows `agep: ` on
+/// standard error.
+#[derive(Clone, Copy, Debug, Drop, PartialEq, Eq)]
+pub enum Fault<'a> {
+    /// A read failed.
+    Read,
+    /// A write failed.
+    Write,
+    /// An allocation was refused.
+    OutOfMemory,
+    /// The arguments name a passphrase file and a key file, or neither.
+    KeyChoice,
+    /// The arguments name a new passphrase file and a new key file, or neither.
+    NewKeyChoice,
+    CannotOpen(Name<'a>),
+    CannotCreate(Name<'a>),
+    /// The file to write is one that is read.
+    OutputIsRead(Role, Name<'a>),
+    /// Standard input has two roles.
+    StandardInputTwice(Role, Role),
+    KeyLength,
+    SeedLength,
+    FileKeyLength,
+    PassphraseLength,
+    /// A passphrase to encrypt with is empty.
+    NoPassphrase,
+    /// An age file would be written to a terminal.
+    OutputIsTerminal,
+}
+
+impl From<AllocError> for Fault<'_> {
+    fn from(_error: AllocError) -> Self {
+        Fault::OutOfMemory
+    }
+}
+
+impl<T: Drop> From<AllocFailed<T>> for Fault<'_> {
+    fn from(_error: AllocFailed<T>) -> Self {
+        Fault::OutOfMemory
+    }
+}
+
+impl fmt::Display for Fault<'_> {
+    fn fmt<W: fmt::Write>(&self, f: &mut fmt::Formatter<W>) -> fmt::Result {
+        match self {
+            Fault::Read => f.write_str("read failed"),
+            Fault::Write => f.write_str("write failed"),
+            Fault::OutOfMemory => f.write_str("out of memory"),
+            Fault::KeyChoice => f.write_str("give one of -p and -k"),
+            Fault::NewKeyChoice => f.write_str("give one of -P and -K"),
+            Fault::CannotOpen(name) => write!(f, "cannot open {name}"),
+            Fault::CannotCreate(name) => write!(f, "cannot create {name}"),
+            Fault::OutputIsRead(role, name) => write!(f, "OUT is also {role}: {name}"),
+            Fault::StandardInputTwice(one, other) if one == other => {
+                write!(f, "standard input cannot be {one} twice")
+            }
+            Fault::StandardInputTwice(one, other) => {
+                write!(f, "standard input cannot be both {one} and {other}")
+            }
+            Fault::KeyLength => f.write_str("key file must hold 32 bytes"),
+            Fault::SeedLength => f.write_str("seed file must hold 48 bytes"),
+            Fault::FileKeyLength => f.write_str("file key file must hold 16 bytes"),
+            Fault::PassphraseLength => f.write_str("passphrase file is too long"),
+            Fault::NoPassphrase => f.write_str("passphrase file is empty"),
+            Fault::OutputIsTerminal => f.write_str("standard output is a terminal"),
+        }
+    }
+}

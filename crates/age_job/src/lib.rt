@@ -1,0 +1,39 @@
+//! The job of a command line of `agep`: a command with its options, and the files that it names. It
+//! opens these files, reads the secrets in them and says what was wrong, and knows neither the
+//! format nor how a command line is read.
+//!
+//! ```
+//! let mut input = Watched::new(alloc, open(rt, name)?, 0);
+//! let mut out = create(rt, &job, name)?;
+//! ```
+//!
+//! `job` has the job, and `ranges` the ranges of its numbers. `files` opens the files that a job
+//! names for reading, `small_files` reads its secrets, each a `secret`, `output` is the file to
+//! write, and `watched` keeps what a failed read told. `fault` and `file_names` have the texts of
+//! errors, `failure` those of `--verbose`.
+//!
+//! Limits: no contract says what files hold, nor which of them are the same. The scripts under
+//! `tests/` show both.
+#![tactic(auto)]
+
+mod failure;
+mod fault;
+mod file_names;
+mod files;
+mod job;
+mod output;
+mod ranges;
+mod secret;
+mod small_files;
+mod watched;
+
+pub use failure::{Detail, Doing, Failure};
+pub use fault::Fault;
+pub use file_names::{Lines, Name, Role};
+pub use files::{open, open_seekable};
+pub use job::{Command, Job};
+pub use output::{Output, create, refuse_terminal};
+pub use ranges::{DEFAULT_SEED, LEAST_HEADER, LEAST_WORK, MOST_HEADER, MOST_OFFSET, MOST_WORK};
+pub use secret::{SEED_LEN, Secret, exactly};
+pub use small_files::{read_encrypt_secrets, read_file_key, read_rewrap_secrets, read_secret};
+pub use watched::Watched;

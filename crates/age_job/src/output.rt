@@ -1,0 +1,144 @@
+//! The file that the arguments name for writing.
+ghost use Rattle.std.specs.Prelude.{◌≡◌, ◌<◌, false, length, IfOk, IsOk};
+ghost use Rattle.age_job.specs.Mode.{new_mode};
+
+use crate::failure::{Doing, Failure};
+use crate::fault::Fault;
+use crate::file_names::Name;
+use crate::files::refuse_read_file;
+use crate::job::{Command, Job};
+use std::fs::{OpenFile, OpenOptions};
+use std::io;
+use std::io::{IsTerminal, Write};
+use std::os::unix::fs::OpenOptionsExt;
+use std::rt::Files;
+
+/// The mode of a new file that holds a plaintext, less the umask: only the owner can read it.
+const PLAINTEXT_MODE: u32 = 0o600;
+
+/// The mode of any other new file, less the umask.
+const FILE_MODE: u32 = 0o666;
+
+/// A file to write. A regular file keeps its contents until the first byte is written to it, or the
+/// command succeeds.
+#[derive(Drop)]
+pub struct Output<F> {
+    file: F,
+    is_regular: bool,
+    /// Whether it is a regular file that may still have its old contents.
+    is_stale: bool,
+}
+
+/// Opens the file of this name for writing, and creates it if it does not exist.
+pub fn create<'a, F: Files + AllocGlobal>(
+    rt: &F,
+    job: &'a Job,
+    name: &'a str,
+) -> Result<Output<F::File>, Failure<'a>> {
+    refuse_read_file(rt, job, name)?;
+    match open_output(rt, new_mode(job.command), name) {
+        Ok(output) => Ok(output),
+        Err(reason) => {
+            let fault = Fault::CannotCreate(Name(name));
+            Err(Failure::of_system(fault, Doing::Creating, name, reason))
+        }
+    }
+}
+
+/// Refuses to write an age file, which is no text, to a terminal.
+pub fn refuse_terminal<'a, W: IsTerminal>(job: &Job, out: &W) -> Result<(), Fault<'a>> {
+    match job.command {
+        Command::Encrypt | Command::Rewrap if job.output.is_none() && out.is_terminal() => {
+            Err(Fault::OutputIsTerminal)
+        }
+        _ => Ok(()),
+    }
+}
+
+fn open_output<F: Files>(rt: &F, mode: u32, name: &str) -> io::Result<Output<F::File>>
+    ensures { IfOk result (λ output. output.is_stale ≡ output.is_regular) }
+{
+    let mut options = OpenOptions::new();
+    options.write(true).create(true).mode(mode);
+    let file = options.open(rt, name)?;
+    let is_regular = file.metadata()?.is_file();
+    Ok(Output {
+        file,
+        is_regular,
+        is_stale: is_regular,
+    })
+}
+
+/// The mode of a file that this command creates, from which the system subtracts the umask.
+fn new_mode(command: Command) -> u32
+    ensures { result ≡ new_mode command }
+{
+    match command {
+        Command::Decrypt | Command::Range => PLAINTEXT_MODE,
+        Command::Encrypt | Command::Inspect | Command::Rewrap => FILE_MODE,
+    }
+}
+
+impl<F: OpenFile> Output<F> {
+    /// Truncates a file that may still have its old contents.
+    fn empty(&mut self) -> io::Result<()>
+        ensures emptied { IsOk result → self.new.is_stale ≡ false }
+        ensures same_file { self.new.file ≡ self.old.file }
+    {
+        if self.is_stale {
+            self.file.set_len(0)?;
+            self.is_stale = false;
+        }
+        Ok(())
+    }
+
+    /// Truncates the file before the first of these bytes is written to it.
+    fn make_room(&mut self, bytes: &[u8]) -> io::Result<()>
+        ensures waits { length bytes.now ≡ 0 → self.new.is_stale ≡ self.old.is_stale }
+        ensures emptied { IsOk result → 0 < length bytes.now → self.new.is_stale ≡ false }
+        ensures same_file { self.new.file ≡ self.old.file }
+    {
+        if !bytes.is_empty() {
+            self.empty()?;
+        }
+        Ok(())
+    }
+
+    /// Ends the output of this name after success: a regular file is then synced to its device.
+    pub fn finish<'a>(mut self, name: &'a str) -> Result<(), Failure<'a>>
+    where
+        F: Drop,
+    {
+        if let Err(reason) = self.empty() {
+            return Err(failed_write(Doing::Truncating, name, reason));
+        }
+        match self.sync() {
+            Ok(()) => Ok(()),
+            Err(reason) => Err(failed_write(Doing::Syncing, name, reason)),
+        }
+    }
+
+    fn sync(&self) -> io::Result<()> {
+        if self.is_regular {
+            return self.file.sync_all();
+        }
+        Ok(())
+    }
+}
+
+fn failed_write<'a>(doing: Doing, name: &'a str, reason: io::Error) -> Failure<'a> {
+    Failure::of_system(Fault::Write, doing, name, reason)
+}
+
+impl<F: Write + OpenFile> Write for Output<F> {
+    ghost contents = { λ output. F.contents output.file };
+
+    fn write(&mut self, buf: &[u8]) -> io::Result<usize> {
+        self.make_room(buf)?;
+        self.file.write(buf)
+    }
+
+    fn flush(&mut self) -> io::Result<()> {
+        self.file.flush()
+    }
+}

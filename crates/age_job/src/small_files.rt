@@ -1,0 +1,210 @@
+//! The small files that hold a job's secrets: passphrases, keys and seeds.
+
+use crate::failure::{Detail, Failure};
+use crate::fault::Fault;
+use crate::file_names::{Name, Role};
+use crate::files::{MOST_SMALL, NamedFile, open_small, read_prefix, refuse_shared_input};
+use crate::job::Job;
+use crate::ranges::DEFAULT_SEED;
+use crate::secret::{SEED_LEN, Secret, exactly, without_line_end};
+use std::fs::OpenFile;
+use std::os::unix::fs::FileTypeExt;
+use std::rt::Files;
+
+/// The secret of a command that has no other.
+pub fn read_secret<'a, F: Files + AllocGlobal>(
+    rt: &F,
+    job: &'a Job,
+) -> Result<Secret, Failure<'a>> {
+    let files = secret_files(job)?;
+    refuse_shared_input(rt, job)?;
+    read_from(rt, job, files)
+}
+
+/// The secret and the seed of a new file.
+pub fn read_encrypt_secrets<'a, F: Files + AllocGlobal>(
+    rt: &F,
+    job: &'a Job,
+) -> Result<(Secret, [u8; SEED_LEN]), Failure<'a>> {
+    let files = secret_files(job)?;
+    refuse_shared_input(rt, job)?;
+    let secret = read_new_from(rt, job, files)?;
+    Ok((secret, read_seed(rt, job)?))
+}
+
+/// The old secret and the new one, whose files the arguments must name, and the seed.
+pub fn read_rewrap_secrets<'a, F: Files + AllocGlobal>(
+    rt: &F,
+    job: &'a Job,
+) -> Result<(Secret, Secret, [u8; SEED_LEN]), Failure<'a>> {
+    let old = secret_files(job)?;
+    let new = new_secret_files(job)?;
+    refuse_shared_input(rt, job)?;
+    let old = read_from(rt, job, old)?;
+    let new = read_new_from(rt, job, new)?;
+    Ok((old, new, read_seed(rt, job)?))
+}
+
+/// The file key under which the header is to be checked.
+pub fn read_file_key<'a, F: Files + AllocGlobal>(
+    rt: &F,
+    job: &'a Job,
+) -> Result<Option<[u8; 16]>, Failure<'a>> {
+    match &job.file_key {
+        Some(name) if !job.raw => {
+            let named = NamedFile {
+                role: Role::FileKey,
+                name: name.as_str(),
+            };
+            Ok(Some(read_just(rt, job, named, Fault::FileKeyLength)?))
+        }
+        _ => Ok(None),
+    }
+}
+
+/// The files of a secret, which options name.
+#[derive(Clone, Copy, Drop)]
+enum SecretFiles<'a> {
+    Passphrase(NamedFile<'a>),
+    /// The first key's file, and the names of those after it.
+    Keys(NamedFile<'a>, &'a [String]),
+}
+
+/// The files of the job's passphrase or keys. It must name exactly one of the two: the format
+/// forbids another stanza beside that of a passphrase.
+fn secret_files<'a>(job: &'a Job) -> Result<SecretFiles<'a>, Fault<'a>> {
+    match (&job.pass, &job.key) {
+        (Some(name), None) => Ok(passphrase_file(Role::Passphrase, name)),
+        (None, Some(name)) => Ok(key_files(Role::Key, name, job.more_keys.as_slice())),
+        _ => Err(Fault::KeyChoice),
+    }
+}
+
+/// The same of the job's new passphrase or keys.
+fn new_secret_files<'a>(job: &'a Job) -> Result<SecretFiles<'a>, Fault<'a>> {
+    match (&job.new_pass, &job.new_key) {
+        (Some(name), None) => Ok(passphrase_file(Role::NewPassphrase, name)),
+        (None, Some(name)) => Ok(key_files(Role::NewKey, name, job.more_new_keys.as_slice())),
+        _ => Err(Fault::NewKeyChoice),
+    }
+}
+
+fn passphrase_file<'a>(role: Role, name: &'a String) -> SecretFiles<'a> {
+    let name = name.as_str();
+    SecretFiles::Passphrase(NamedFile { role, name })
+}
+
+fn key_files<'a>(role: Role, first: &'a String, more: &'a [String]) -> SecretFiles<'a> {
+    let name = first.as_str();
+    SecretFiles::Keys(NamedFile { role, name }, more)
+}
+
+/// The passphrase or the keys of these files, to open a file.
+fn read_from<'a, F: Files + AllocGlobal>(
+    rt: &F,
+    job: &'a Job,
+    files: SecretFiles<'a>,
+) -> Result<Secret, Failure<'a>> {
+    match files {
+        SecretFiles::Passphrase(named) => Ok(Secret::Passphrase(read_passphrase(rt, job, named)?)),
+        SecretFiles::Keys(first, more) => Ok(Secret::Keys(read_keys(rt, job, first, more)?)),
+    }
+}
+
+/// The same, to make a file. An empty passphrase is refused: it is what a command that failed
+/// wrote, and everybody could open the file.
+fn read_new_from<'a, F: Files + AllocGlobal>(
+    rt: &F,
+    job: &'a Job,
+    files: SecretFiles<'a>,
+) -> Result<Secret, Failure<'a>> {
+    let secret = read_from(rt, job, files)?;
+    match (&secret, files) {
+        (Secret::Passphrase(passphrase), SecretFiles::Passphrase(NamedFile { role, name }))
+            if passphrase.is_empty() => {
+            Err(Failure::with(Fault::NoPassphrase, Detail::NoPassphrase(role, Name(name))))
+        }
+        _ => Ok(secret),
+    }
+}
+
+/// The bytes of this file, without one LF at their end.
+fn read_passphrase<'a, F: Files + AllocGlobal>(
+    rt: &F,
+    job: &Job,
+    named: NamedFile<'a>,
+) -> Result<Vec<u8>, Failure<'a>> {
+    let NamedFile { role, name } = named;
+    let file = open_small(rt, job, named)?;
+    let bytes = read_prefix(rt.alloc(), name, file, MOST_SMALL + 1)?;
+    let len = bytes.len();
+    if len > MOST_SMALL {
+        return Err(Failure::with(Fault::PassphraseLength, Detail::Size(role, Name(name), len)));
+    }
+    Ok(without_line_end(bytes))
+}
+
+/// The keys of these files, in order, each once.
+fn read_keys<'a, F: Files + AllocGlobal>(
+    rt: &F,
+    job: &Job,
+    first: NamedFile<'a>,
+    more: &'a [String],
+) -> Result<Vec<[u8; 32]>, Failure<'a>> {
+    let mut keys = vec![in rt.alloc(); read_just(rt, job, first, Fault::KeyLength)?]?;
+    let role = first.role;
+    for name in more {
+        let name = name.as_str();
+        let key = read_just(rt, job, NamedFile { role, name }, Fault::KeyLength)?;
+        if !keys.contains(&key) {
+            keys.push(key)?;
+        }
+    }
+    Ok(keys)
+}
+
+/// The first 48 bytes of the job's seed file. The default must be a device: an ordinary file in its
+/// place would give every file the same keys.
+fn read_seed<'a, F: Files + AllocGlobal>(
+    rt: &F,
+    job: &'a Job,
+) -> Result<[u8; SEED_LEN], Failure<'a>> {
+    let name = job.seed.as_str();
+    let role = Role::Seed;
+    let file = open_small(rt, job, NamedFile { role, name })?;
+    if name == DEFAULT_SEED && !is_char_device(&file) {
+        return Err(Fault::CannotOpen(Name(name)).into());
+    }
+    let bytes = read_prefix(rt.alloc(), name, file, SEED_LEN)?;
+    match exactly(bytes.as_slice()) {
+        Some(seed) => Ok(seed),
+        None => Err(Failure::with(
+            Fault::SeedLength,
+            Detail::Size(role, Name(name), bytes.len()),
+        )),
+    }
+}
+
+/// Whether an open file is a character device.
+fn is_char_device<F: OpenFile>(file: &F) -> bool {
+    match file.metadata() {
+        Ok(found) => found.file_type().is_char_device(),
+        Err(_) => false,
+    }
+}
+
+/// Reads a small file, which must hold exactly N bytes; the fault `length` if it does not.
+fn read_just<'a, F: Files + AllocGlobal, const N: usize>(
+    rt: &F,
+    job: &Job,
+    named: NamedFile<'a>,
+    length: Fault<'a>,
+) -> Result<[u8; N], Failure<'a>> {
+    let NamedFile { role, name } = named;
+    let file = open_small(rt, job, named)?;
+    let bytes = read_prefix(rt.alloc(), name, file, MOST_SMALL + 1)?;
+    match exactly(bytes.as_slice()) {
+        Some(bytes) => Ok(bytes),
+        None => Err(Failure::with(length, Detail::Size(role, Name(name), bytes.len()))),
+    }
+}

@@ -1,0 +1,111 @@
+//! The input of a command, with what a message about it may need.
+ghost use Rattle.std.specs.Prelude.{◌≡◌};
+
+use std::alloc::Global;
+use std::io;
+use std::io::{Read, Seek, SeekFrom};
+
+/// A reader that keeps the reason of its last failed read, the first bytes that it gave, and where
+/// it ended.
+#[derive(Drop)]
+pub struct Watched<R> {
+    pub reader: R,
+    reason: Option<io::Error>,
+    prefix: Vec<u8>,
+    /// The maximum length of `prefix`.
+    most: usize,
+    /// The offset of the next byte.
+    at: u64,
+    /// The size of the file, if it was found.
+    end: Option<u64>,
+}
+
+impl<R> Watched<R> {
+    /// Watches this reader, which is at its first byte, and keeps at most so many bytes.
+    pub fn new(alloc: Global, reader: R, most: usize) -> Watched<R>
+        ensures { result.reader ≡ reader }
+    {
+        Watched {
+            reader,
+            reason: None,
+            prefix: Vec::new(alloc),
+            most,
+            at: 0,
+            end: None,
+        }
+    }
+
+    /// Why the last failed read failed.
+    pub fn reason(&self) -> Option<io::Error> {
+        self.reason
+    }
+
+    /// The first bytes.
+    pub fn prefix(&self) -> &[u8] {
+        self.prefix.as_slice()
+    }
+
+    /// The offset of the next byte.
+    pub fn at(&self) -> u64 {
+        self.at
+    }
+
+    /// The size of the file, if a read or a seek found its end.
+    pub fn end(&self) -> Option<u64> {
+        self.end
+    }
+
+    /// Takes note of these bytes, which a read gave, and whether there are no more. It keeps them
+    /// if they follow those that are kept, and keeps no more once memory is refused.
+    fn note(&mut self, bytes: &[u8], is_end: bool)
+        ensures { self.new.reader ≡ self.old.reader }
+    {
+        if is_end {
+            self.end = Some(self.at);
+        }
+        let len = self.prefix.len();
+        if self.at == len as u64 {
+            let n = self.most.saturating_sub(len).min(bytes.len());
+            if self.prefix.extend_from_slice(&bytes[..n]).is_err() {
+                self.most = 0;
+            }
+        }
+        self.at = self.at.saturating_add(bytes.len() as u64);
+    }
+}
+
+impl<R: Read> Read for Watched<R> {
+    ghost remaining = { λ watched. R.remaining watched.reader };
+
+    fn read(&mut self, buf: &mut [u8]) -> io::Result<usize> {
+        match self.reader.read(buf) {
+            Ok(n) => {
+                let is_end = n == 0 && !buf.is_empty();
+                self.note(&buf[..n], is_end);
+                Ok(n)
+            }
+            Err(reason) => {
+                self.reason = Some(reason);
+                Err(reason)
+            }
+        }
+    }
+}
+
+impl<R: Seek> Seek for Watched<R> {
+    fn seek(&mut self, pos: SeekFrom) -> io::Result<u64> {
+        match self.reader.seek(pos) {
+            Ok(at) => {
+                if pos == SeekFrom::End(0) {
+                    self.end = Some(at);
+                }
+                self.at = at;
+                Ok(at)
+            }
+            Err(reason) => {
+                self.reason = Some(reason);
+                Err(reason)
+            }
+        }
+    }
+}

@@ -1,0 +1,462 @@
+-- Where `clap` finds no fault in the words, a subcommand of the program was named, and its values
+-- make a job.
+use Rattle.std.proofs.Common.{◌≡◌, ◌∙◌, ◌<◌, ◌⊎◌, inl, inr, ℕ, Bool, cond, true, false, true≢false, not, ◌&&◌, ◌||◌, ◌==◌, refl, sym, ap, subst, List, [], ◌∷◌, ◌++◌, length, Option, Some, None, IfSome, codes, arith, nat_lt, length-append, unwrap_or, lt-ltb, ltb-true}
+use Rattle.std.proofs.lemmas.Bool.{eqb-true, ne_eqb}
+use Rattle.std.proofs.lemmas.Slice.Eq.{bytes_eq-Decides}
+use Rattle.std.specs.Prelude.{if◌then◌else◌, is_some, slice_get, option_and_then, option_map, ⊤}
+use Rattle.std.specs.List.{find, list_all, list_any}
+use Rattle.std.specs.Option.{option_map_or}
+use Rattle.std.specs.Str.{bytes_eq}
+use Rattle.clap.specs.Facts.{explicit_source, parser_of_value, unwrap_or_range}
+use Rattle.clap.specs.Faults.{action_fault, entered_fault, fault_of, is_simple_and_free, given_default_fault, level_fault, values_fault}
+use Rattle.clap.specs.Kinds.{Kinds, or_else, range_kinds, value_kinds, values_kinds}
+use Rattle.clap.specs.Simple.{Shape, argument_words, built, entered, is_simple, label_of, names_of, rows_at, subcommand_of}
+use Rattle.clap.specs.Takes.{is_given}
+use Rattle.clap.specs.Values.{IsUnsignedIn, is_request, refused_kind}
+use Rattle.clap.specs.ValueTests.{accepts}
+use Rattle.clap.specs.Walk.{Row, Rule, Text, action_of, answers_to, at_row, default_rows, first_of, is_empty, most_values, nothing_held, reading_by, row_text, rows_after, stop_after, used_as, values_or_missing, with_values, without, has_row, more_values}
+use Rattle.clap.proofs.ValueTestLemmas.{accepts-Accepts}
+use Rattle.clap.specs.declared.builder.action.ArgAction.{ArgAction}
+use Rattle.clap.specs.declared.builder.action.ArgAction.TheVariants.{Set, Append, SetTrue, SetFalse, Count}
+use Rattle.clap.specs.declared.builder.value_parser.Reading.{Reading}
+use Rattle.clap.specs.declared.builder.value_parser.Reading.TheVariants.{AsWritten}
+use Rattle.clap.specs.declared.builder.value_parser.ValueParser.{ValueParser}
+use Rattle.clap.specs.declared.builder.value_parser.ValueParser.TheVariants as vp
+use Rattle.clap.specs.declared.error.kind.ErrorKind.{ErrorKind}
+use Rattle.clap.specs.declared.parser.matches.ValueSource.{ValueSource}
+use Rattle.clap.specs.declared.parser.matches.ValueSource.TheVariants.{DefaultValue, CommandLine}
+use Rattle.age_words.specs.CommandLine.{agep}
+use Rattle.age_job.specs.Job.{NamesInput}
+use Rattle.age_words.specs.JobOf.{HasNumber, IsTaken, name_of}
+use Rattle.age_job.specs.declared.job.Command.{Command}
+use Rattle.age_job.specs.declared.job.Command.TheVariants.{Encrypt, Decrypt, Inspect, Range, Rewrap}
+use Rattle.age_job.specs.declared.ranges.TheConstants.{LEAST_HEADER, LEAST_WORK, MOST_HEADER, MOST_OFFSET, MOST_WORK}
+use Rattle.age_words.proofs.LevelLemmas.{DefaultsWell, Each, UsesWell, first_none, level_ok, second_none, test_fails}
+
+-- what the values of an option have to pass
+abbrev parser_for : Text → ValueParser
+parser_for id =
+    if bytes_eq id (codes "work") || bytes_eq id (codes "max-work") then vp.Unsigned LEAST_WORK MOST_WORK
+    else if bytes_eq id (codes "max-header") then vp.Unsigned LEAST_HEADER MOST_HEADER
+    else if bytes_eq id (codes "at") || bytes_eq id (codes "len") then vp.Unsigned 0 MOST_OFFSET
+    else vp.String
+
+abbrev Passes : Text → Text → Type 0
+Passes id v = accepts false (parser_for id) v ≡ true
+
+-- the values of a row pass, there is one, and it is read as it is written
+abbrev RowPasses : Row → Type 0
+RowPasses r = (r.reading ≡ AsWritten) × (0 < length r.values) × Each (Passes r.id) r.values
+
+-- ---- the rules of the command line, by a test
+
+abbrev covers : ValueParser → ValueParser → Bool
+covers vp.String q = true
+covers (vp.Unsigned a b) (vp.Unsigned x y) = a == x && b == y
+covers p q = false
+
+abbrev is_as_written : Reading → Bool
+is_as_written AsWritten = true
+is_as_written r = false
+
+abbrev is_count : ArgAction → Bool
+is_count Count = true
+is_count a = false
+
+abbrev has_value : Rule → Bool
+has_value a = is_request (action_of a) || (nat_lt 0 (unwrap_or_range a.range).start_inclusive || nat_lt 0 (length a.missing))
+
+abbrev is_good : Rule → Bool
+is_good a = covers (parser_for a.id) (parser_of_value a.parser)
+    && (not a.ignore_case && (is_as_written (reading_by a) && (not (is_count (action_of a)) && has_value a)))
+
+both : (a b : Bool) → (a && b) ≡ true → (a ≡ true) × (b ≡ true)
+both true b e = (refl, e)
+both false b e = absurd (true≢false (sym e))
+
+-- ---- lists
+
+each_append : {X : Type 0} (P : X → Type 0) (xs ys : List X) → Each P xs → Each P ys → Each P (xs ++ ys)
+each_append P [] ys p q = q
+each_append P (x ∷ xs) ys p q = (p.0, each_append P xs ys p.1 q)
+
+-- ---- one row more or less
+
+at_row_passes : (id : Text) (change : Row → List Row) (missing rows : List Row)
+    → ((r : Row) → bytes_eq r.id id ≡ true → RowPasses r → Each RowPasses (change r)) → Each RowPasses missing
+    → Each RowPasses rows → Each RowPasses (at_row id change missing rows)
+at_row_passes id change missing [] c m q = m
+at_row_passes id change missing (r ∷ rs) c m q = go (at_row_passes id change missing rs c m q.1) (bytes_eq r.id id) refl
+  where
+    go : Each RowPasses (at_row id change missing rs) → (b : Bool) → bytes_eq r.id id ≡ b
+        → Each RowPasses (cond b (change r ++ rs) (r ∷ at_row id change missing rs))
+    go rest true e = each_append RowPasses (change r) rs (c r e q.0) q.1
+    go rest false e = (q.0, rest)
+
+without_passes : (id : Text) (rows : List Row) → Each RowPasses rows → Each RowPasses (without id rows)
+without_passes id rows q = at_row_passes id (λ _. []) [] rows (λ r e p. tt) tt q
+
+with_values_passes : (id : Text) (how : Reading) (s : ValueSource) (values : List Text) (rows : List Row) → how ≡ AsWritten
+    → 0 < length values → Each (Passes id) values → Each RowPasses rows → Each RowPasses (with_values id how s values rows)
+with_values_passes id how s values rows written some pass q = at_row_passes id (more_values s values) _ rows more ((written, some, pass), tt) q
+  where
+    more : (r : Row) → bytes_eq r.id id ≡ true → RowPasses r → Each RowPasses (more_values s values r)
+    more r e p =
+        let same : id ≡ r.id = sym ((bytes_eq-Decides r.id id).0 e) in (
+          (
+            p.0,
+            omega (arith, p.1, length-append r.values values),
+            each_append (Passes r.id) r.values values p.2 (subst (λ (i : Text). Each (Passes i) values) same pass),
+          ),
+          tt,
+        )
+
+-- ---- one use
+
+accepts_too : (p q : ValueParser) (v : Text) → covers p q ≡ true → accepts false q v ≡ true → accepts false p v ≡ true
+accepts_too vp.String q v f h = refl
+accepts_too (vp.Unsigned a b) (vp.Unsigned x y) v f h =
+    let same = both (a == x) (b == y) f in
+    let first : a ≡ x = eqb-true a x same.0 in
+    let second : b ≡ y = eqb-true b y same.1 in
+    rw (first, second) h
+accepts_too p q v f h = absurd (true≢false (sym f))
+
+test_passes : (b : Bool) (k : ErrorKind) → cond b [] (k ∷ []) ≡ [] → b ≡ true
+test_passes true k f = refl
+test_passes false k f = cc
+
+values_pass : (id : Text) (parser : ValueParser) (values : List Text) → covers (parser_for id) parser ≡ true
+    → values_kinds false parser values ≡ [] → Each (Passes id) values
+values_pass id parser [] fits e = tt
+values_pass id parser (v ∷ vs) fits e = (
+  accepts_too (parser_for id) parser v fits (test_passes _ _ (first_none _ _ e)),
+  values_pass id parser vs fits (second_none _ _ e),
+)
+
+-- what the test says of a rule
+record IsGood (a : Rule) : Type 0 where
+  covered : covers (parser_for a.id) (parser_of_value a.parser) ≡ true
+  exact : a.ignore_case ≡ false
+  written : reading_by a ≡ AsWritten
+  no_count : is_count (action_of a) ≡ false
+  value : has_value a ≡ true
+
+not_true : (b : Bool) → not b ≡ true → b ≡ false
+not_true false e = refl
+not_true true e = cc
+
+reads : (r : Reading) → is_as_written r ≡ true → r ≡ AsWritten
+reads AsWritten e = refl
+reads r e = absurd (true≢false (sym e))
+
+good_of : (a : Rule) → is_good a ≡ true → IsGood a
+good_of a e =
+    let p = both _ _ e in
+    let q = both _ _ p.1 in
+    let r = both _ _ q.1 in
+    let t = both _ _ r.1 in
+    record {
+      covered = p.0;
+      exact = not_true _ q.0;
+      written = reads _ r.0;
+      no_count = not_true _ t.0;
+      value = t.1;
+    }
+
+faults_pass : (a : Rule) → IsGood a → (values : List Text) → values_fault a values ≡ [] → Each (Passes a.id) values
+faults_pass a g values e = values_pass a.id (parser_of_value a.parser) values g.covered (rw g.exact at e)
+
+stored : (again : Bool) (a : Rule) → IsGood a → (x : ArgAction) → is_count x ≡ false → (values : List Text) (rows : List Row)
+    → (is_request x || nat_lt 0 (length values)) ≡ true
+    → action_fault x again a values rows ≡ [] → Each RowPasses rows → Each RowPasses (used_as x a.id (reading_by a) values rows)
+stored again a g Set c values rows some e q =
+    with_values_passes a.id _ CommandLine values (without a.id rows) g.written (ltb-true _ _ some)
+    (faults_pass a g values (second_none _ _ e)) (without_passes a.id rows q)
+stored again a g SetTrue c values rows some e q =
+    with_values_passes a.id _ CommandLine values (without a.id rows) g.written (ltb-true _ _ some)
+    (faults_pass a g values (second_none _ _ e)) (without_passes a.id rows q)
+stored again a g SetFalse c values rows some e q =
+    with_values_passes a.id _ CommandLine values (without a.id rows) g.written (ltb-true _ _ some)
+    (faults_pass a g values (second_none _ _ e)) (without_passes a.id rows q)
+stored again a g Append c values rows some e q =
+    with_values_passes a.id _ CommandLine values rows g.written (ltb-true _ _ some) (faults_pass a g values e) q
+stored again a g Count c values rows some e q = absurd (true≢false c)
+stored again a g x c values rows some e q = q
+
+head_fails : (b : Bool) (k : ErrorKind) (rest : Kinds) → cond b (k ∷ []) rest ≡ [] → b ≡ false
+head_fails false k rest e = refl
+head_fails true k rest e = cc
+
+or_other : (b c : Bool) → (b || c) ≡ true → (b && true) ≡ false → c ≡ true
+or_other false c e f = e
+or_other true c e f = absurd (true≢false f)
+
+one_value : (a : Rule) (values : List Text) → (nat_lt 0 (unwrap_or_range a.range).start_inclusive || nat_lt 0 (length a.missing)) ≡ true
+    → range_kinds (unwrap_or_range a.range).start_inclusive (most_values a) (length values) ≡ [] → 0 < length (values_or_missing a values)
+one_value a (v ∷ vs) some e = omega arith
+one_value a [] some e = ltb-true _ _ (or_other _ _ some (head_fails _ _ _ e))
+
+some_value : (a : Rule) (values : List Text) (b : Bool)
+    → (b || (nat_lt 0 (unwrap_or_range a.range).start_inclusive || nat_lt 0 (length a.missing))) ≡ true
+    → range_kinds (unwrap_or_range a.range).start_inclusive (most_values a) (length values) ≡ []
+    → (b || nat_lt 0 (length (values_or_missing a values))) ≡ true
+some_value a values true h e = refl
+some_value a values false h e = lt-ltb _ _ (one_value a values h e)
+
+used_well : (again : Bool) (a : Rule) → is_good a ≡ true → UsesWell again RowPasses a
+used_well again a good values rows e q =
+    let g = good_of a good in
+    stored again a g (action_of a) g.no_count (values_or_missing a values) rows
+    (some_value a values (is_request (action_of a)) g.value (first_none _ _ e)) (second_none _ _ e) q
+
+defaults_well : (again : Bool) (a : Rule) → is_good a ≡ true → DefaultsWell again RowPasses a
+defaults_well again a good rows e q = go (has_row a.id rows) e
+  where
+    given : (values : List Text) → or_else (Rattle.clap.specs.Kinds.request_kinds (action_of a)) (values_fault a values) ≡ []
+        → Each RowPasses (default_rows a.id (reading_by a) values rows)
+    given [] f = q
+    given (v ∷ vs) f =
+        let g = good_of a good in
+        with_values_passes a.id _ DefaultValue (v ∷ vs) rows g.written (omega arith) (faults_pass a g (v ∷ vs) (second_none _ _ f)) q
+
+    tested : (values : List Text) → cond (is_empty values) [] (given_default_fault a values) ≡ []
+        → Each RowPasses (default_rows a.id (reading_by a) values rows)
+    tested [] f = q
+    tested (v ∷ vs) f = given (v ∷ vs) (rw (ne_eqb (length (v ∷ vs)) 0 (λ z. omega arith)) at f)
+
+    go : (b : Bool) → cond (b || is_empty a.defaults) [] (given_default_fault a a.defaults) ≡ []
+        → Each RowPasses (cond b rows (default_rows a.id (reading_by a) a.defaults rows))
+    go true f = q
+    go false f = tested a.defaults f
+
+-- ---- what the rows of a level give
+
+find_passes : (id : Text) (rows : List Row) → Each RowPasses rows
+    → IfSome (find (λ r. bytes_eq r.id id) rows) (λ r. (r.id ≡ id) × RowPasses r)
+find_passes id [] q = tt
+find_passes id (r ∷ rs) q = go (find_passes id rs q.1) (bytes_eq r.id id) refl
+  where
+    go : IfSome (find (λ r. bytes_eq r.id id) rs) (λ r. (r.id ≡ id) × RowPasses r) → (b : Bool) → bytes_eq r.id id ≡ b
+        → IfSome (cond b (Some r) (find (λ r. bytes_eq r.id id) rs)) (λ r. (r.id ≡ id) × RowPasses r)
+    go rest true e = ((bytes_eq-Decides r.id id).0 e, q.0)
+    go rest false e = rest
+
+has_number : (least most : ℕ) (id : Text) (rows : List Row) → parser_for id ≡ vp.Unsigned least most → Each RowPasses rows → HasNumber least most id rows
+has_number least most id rows p q = go (find (λ r. bytes_eq r.id id) rows) (find_passes id rows q)
+  where
+    first : (r : Row) (values : List Text) → r.reading ≡ AsWritten → Each (Passes id) values
+        → IfSome (option_map (Rattle.clap.specs.Values.read_as r.reading) (slice_get values 0)) (IsUnsignedIn least most)
+    first r [] w e = tt
+    first r (v ∷ vs) w e = rw w (accepts-Accepts false (vp.Unsigned least most) v (subst (λ (x : ValueParser). accepts false x v ≡ true) p e.0))
+
+    go : (o : Option Row) → IfSome o (λ r. (r.id ≡ id) × RowPasses r) → IfSome (option_and_then row_text o) (IsUnsignedIn least most)
+    go None h = tt
+    go (Some r) h = first r r.values h.1.0 (subst (λ (i : Text). Each (Passes i) r.values) h.0 h.1.2)
+
+-- ---- what is required is there
+
+neither : (a b : Bool) → (a || b) ≡ false → (a ≡ false) × (b ≡ false)
+neither false b e = (refl, e)
+neither true b e = absurd (true≢false e)
+
+not_false : (b : Bool) → not b ≡ false → b ≡ true
+not_false true e = refl
+not_false false e = absurd (true≢false e)
+
+wanted_given : (id : Text) (rules : List Rule) (rows : List Row) → list_any (λ a. a.required && not (is_given a.id rows)) rules ≡ false
+    → list_any (λ a. a.required && bytes_eq a.id id) rules ≡ true → is_given id rows ≡ true
+wanted_given id [] rows none some = absurd (true≢false (sym some))
+wanted_given id (a ∷ rest) rows none some = go (wanted_given id rest rows) a.required (bytes_eq a.id id) refl none some
+  where
+    go : (list_any (λ a. a.required && not (is_given a.id rows)) rest ≡ false
+        → list_any (λ a. a.required && bytes_eq a.id id) rest ≡ true → is_given id rows ≡ true)
+        → (r b : Bool) → bytes_eq a.id id ≡ b → (r && not (is_given a.id rows) || list_any (λ a. a.required && not (is_given a.id rows)) rest) ≡ false
+        → (r && b || list_any (λ a. a.required && bytes_eq a.id id) rest) ≡ true → is_given id rows ≡ true
+    go ih true true e n f = ap (λ (i : Text). is_given i rows) (sym ((bytes_eq-Decides a.id id).0 e)) ∙ not_false _ (neither _ _ n).0
+    go ih true false e n f = ih (neither _ _ n).1 f
+    go ih false b e n f = ih n f
+
+given_first : (id : Text) (rows : List Row) → Each RowPasses rows → is_given id rows ≡ true → is_some (first_of id rows) ≡ true
+given_first id rows q g = go (find (λ r. bytes_eq r.id id) rows) (find_passes id rows q) g
+  where
+    first : (values : List Text) → 0 < length values → is_some (slice_get values 0) ≡ true
+    first [] h = absurd (omega arith)
+    first (v ∷ vs) h = refl
+
+    go : (o : Option Row) → IfSome o (λ r. (r.id ≡ id) × RowPasses r) → option_map_or (λ r. explicit_source r.source) o false ≡ true
+        → is_some (option_and_then (λ r. slice_get r.values 0) o) ≡ true
+    go None h e = cc
+    go (Some r) h e = first r.values h.1.1
+
+wanted_kind : (a b c : Bool) → Rattle.clap.specs.Kinds.check_kinds a b c ≡ [] → c ≡ false
+wanted_kind true b c e = cc
+wanted_kind false true c e = cc
+wanted_kind false false c e = test_fails c _ _ e
+
+-- ---- a subcommand
+
+abbrev wants : Command → Shape → Bool
+wants Range s = list_any (λ a. a.required && bytes_eq a.id (codes "input")) s.rules
+wants command s = true
+
+abbrev is_good_for : Command → Shape → Bool
+is_good_for command s = not s.subcommand_negates_reqs && (list_all is_good s.rules && wants command s)
+
+-- the subcommand is `help`, or makes a job
+abbrev Makes : Shape → Type 0
+Makes s = (s.name ≡ codes "help") ⊎ ((command : Command) × (s.name ≡ name_of command) × (is_good_for command s ≡ true))
+
+all_make : Each (λ s. Makes s × (s.aliases ≡ [])) (built agep).subs
+all_make = (
+  (inr (Encrypt, refl, refl), refl),
+  (
+    (inr (Decrypt, refl, refl), refl),
+    (
+      (inr (Inspect, refl, refl), refl),
+      (
+        (inr (Range, refl, refl), refl),
+        (
+          (inr (Rewrap, refl, refl), refl),
+          ((inl refl, refl), tt),
+        ),
+      ),
+    ),
+  ),
+)
+
+each_of : {X : Type 0} (P : X → Type 0) (xs : List X) → ((x : X) → P x) → Each P xs
+each_of P [] p = tt
+each_of P (x ∷ xs) p = (p x, each_of P xs p)
+
+each_good : (P : Rule → Type 0) (rules : List Rule) → ((a : Rule) → is_good a ≡ true → P a) → list_all is_good rules ≡ true → Each P rules
+each_good P [] p e = tt
+each_good P (a ∷ rest) p e = let h = both _ _ e in (p a h.0, each_good P rest p h.1)
+
+found_where : {X : Type 0} (U : X → Type 0) (p : X → Bool) (xs : List X) → Each U xs → IfSome (find p xs) (λ x. (p x ≡ true) × U x)
+found_where U p [] h = tt
+found_where U p (x ∷ xs) h = go (p x) refl (found_where U p xs h.1)
+  where
+    go : (b : Bool) → p x ≡ b → IfSome (find p xs) (λ x. (p x ≡ true) × U x) → IfSome (cond b (Some x) (find p xs)) (λ x. (p x ≡ true) × U x)
+    go true e i = (e, h.0)
+    go false e i = i
+
+names_input : (command : Command) (s : Shape) (rows : List Row) → wants command s ≡ true → Each RowPasses rows
+    → list_any (λ a. a.required && not (is_given a.id rows)) s.rules ≡ false → NamesInput command (first_of (codes "input") rows)
+names_input Encrypt s rows w q n = tt
+names_input Decrypt s rows w q n = tt
+names_input Inspect s rows w q n = tt
+names_input Rewrap s rows w q n = tt
+names_input Range s rows w q n = given_first (codes "input") rows q (wanted_given (codes "input") s.rules rows n w)
+
+level_taken : (command : Command) (s : Shape) (words : List Text) → is_good_for command s ≡ true → level_fault s [] nothing_held words false [] ≡ []
+    → IsTaken command (rows_after s.rules [] words)
+level_taken command s words good e =
+    let g = both _ _ good in
+    let h = both _ _ g.1 in
+    let level = level_ok s [] RowPasses (λ _. ⊤) (each_good _ s.rules (used_well s.args_override_self) h.0)
+    (each_good _ s.rules (defaults_well s.args_override_self) h.0) (λ _ _. tt) words false [] e in
+    let wanted = wanted_kind _ _ _ level.2 in
+    let none = negated s.subcommand_negates_reqs _ (not_true _ g.0) wanted in
+    record {
+      work = has_number _ _ _ _ refl level.0;
+      max_work = has_number _ _ _ _ refl level.0;
+      max_header = has_number _ _ _ _ refl level.0;
+      at = has_number _ _ _ _ refl level.0;
+      len = has_number _ _ _ _ refl level.0;
+      input = names_input command s _ h.1 level.0 none;
+    }
+  where
+    negated : (b c : Bool) → b ≡ false → (not (b && false) && c) ≡ false → c ≡ false
+    negated false c e f = f
+    negated true c e f = absurd (true≢false e)
+
+abbrev pub Taken : Text → List Row → Type 0
+Taken name rows = (command : Command) × (name ≡ name_of command) × IsTaken command rows
+
+anything : (rows : List Row) → Each (λ (r : Row). ⊤) rows
+anything rows = each_of (λ _. ⊤) rows (λ _. tt)
+
+no_help : (words : List Text) (has : Bool) (below : Kinds)
+    → level_fault (built agep).top (names_of (built agep)) nothing_held words has below ≡ []
+    → IfSome (stop_after (built agep).top.rules (names_of (built agep)) words) (λ p. bytes_eq p.0 (codes "help") ≡ false)
+no_help words has below none =
+    (level_ok (built agep).top (names_of (built agep)) (λ _. ⊤) (λ name. bytes_eq name (codes "help") ≡ false)
+    (each_of (UsesWell (built agep).top.args_override_self (λ _. ⊤)) (built agep).top.rules (λ a values rows e q. anything _))
+    (each_of (DefaultsWell (built agep).top.args_override_self (λ _. ⊤)) (built agep).top.rules (λ a rows e q. anything _))
+    (λ name e. plain _ e) words has below none).1
+  where
+    plain : (b : Bool) → (b && true) ≡ false → b ≡ false
+    plain false e = refl
+    plain true e = e
+
+-- `help` is entered by its name alone
+is_help : (s : Shape) (word : Text) → s.name ≡ codes "help" → s.aliases ≡ [] → answers_to word (label_of s) ≡ true
+    → bytes_eq word (codes "help") ≡ true
+is_help s word name none e =
+    let plain : (bytes_eq (codes "help") word || false) ≡ true = subst (λ (l : Text × List Text). answers_to word l ≡ true) both_are e in
+    (bytes_eq-Decides word (codes "help")).1 (sym ((bytes_eq-Decides (codes "help") word).0 (one _ plain)))
+  where
+    both_are : label_of s ≡ (codes "help", [])
+    both_are = λ i. (name i, none i)
+
+    one : (b : Bool) → (b || false) ≡ true → b ≡ true
+    one true e = refl
+    one false e = e
+
+pair_same : (a b : Text) (x y : List Row) → ◌≡◌ {A = Option (Text × List Row)} (Some (a, x)) (Some (b, y)) → (a ≡ b) × (x ≡ y)
+pair_same a b x y e =
+    (ap (λ (o : Option (Text × List Row)). (unwrap_or o (a, x)).0) e, ap (λ (o : Option (Text × List Row)). (unwrap_or o (a, x)).1) e)
+
+at_shape : (name : Text) (rows : List Row) (p : Text × List Text) → bytes_eq p.0 (codes "help") ≡ false → (o : Option Shape)
+    → IfSome o (λ s. (answers_to p.0 (label_of s) ≡ true) × (Makes s × (s.aliases ≡ [])))
+    → option_map_or (λ s. level_fault s [] nothing_held p.1 false []) o [] ≡ []
+    → option_map (λ s. rows_at s p.1) o ≡ Some (name, rows) → Taken name rows
+at_shape name rows p not_help None h e f = cc
+at_shape name rows p not_help (Some s) h e f =
+    let same = pair_same s.name name (rows_after s.rules [] p.1) rows f in
+    elim h.1.0 [
+      | inl help ↦ absurd (true≢false (sym (is_help s p.0 help h.1.1 h.0) ∙ not_help))
+      | inr made ↦ (made.0, sym same.0 ∙ made.1, subst (IsTaken made.0) same.1 (level_taken made.0 s p.1 made.2 e))
+    ]
+
+at_stop : (name : Text) (rows : List Row) (o : Option (Text × List Text)) → IfSome o (λ p. bytes_eq p.0 (codes "help") ≡ false)
+    → entered_fault (built agep) o ≡ [] → entered (built agep) o ≡ Some (name, rows) → Taken name rows
+at_stop name rows None h e f = cc
+at_stop name rows (Some p) h e f =
+    at_shape name rows p h (find (λ s. answers_to p.0 (label_of s)) (built agep).subs) (found_where (λ s. Makes s × (s.aliases ≡ [])) (λ s. answers_to p.0 (label_of s)) (built agep).subs all_make) e f
+
+-- where there is no fault, the subcommand that was named is a command of the program, and its values
+-- make a job
+pub taken : (words : List Text) (name : Text) (rows : List Row) → fault_of agep words ≡ [] → subcommand_of agep words ≡ Some (name, rows) → Taken name rows
+taken words name rows none is =
+    at_stop name rows (stop_after (built agep).top.rules (names_of (built agep)) (argument_words agep words))
+    (no_help _ _ _ none) (first_none _ _ (second_none _ _ none)) is
+
+-- ---- the name of a command
+
+command_of : Text → Option Command
+command_of name =
+    if bytes_eq name (codes "encrypt") then Some Encrypt
+    else if bytes_eq name (codes "decrypt") then Some Decrypt
+    else if bytes_eq name (codes "inspect") then Some Inspect
+    else if bytes_eq name (codes "range") then Some Range
+    else if bytes_eq name (codes "rewrap") then Some Rewrap
+    else None
+
+known : (command : Command) → command_of (name_of command) ≡ Some command
+unfolding command_of
+known Encrypt = refl
+known Decrypt = refl
+known Inspect = refl
+known Range = refl
+known Rewrap = refl
+
+pub one_command : (a b : Command) → name_of a ≡ name_of b → a ≡ b
+one_command a b e = let same : Some a ≡ Some b = sym (known a) ∙ ap command_of e ∙ known b in cc
+
+pub agep_is_free : is_simple_and_free agep ≡ true
+agep_is_free = refl
+
+pub agep_is_simple : is_simple agep ≡ true
+agep_is_simple = refl

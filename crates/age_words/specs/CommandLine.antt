@@ -1,0 +1,134 @@
+-- The command line of the program: its commands, and the options and words of each.
+use Rattle.std.specs.Prelude.{◌≡◌, ℕ, List, [], ◌∷◌, ◌++◌, Some, true, false, codes, fold, slice_index}
+use Rattle.clap.specs.Simple.{new_shape}
+use Rattle.clap.specs.Words.{App, Rule, Shape, Text, new_rule, rule_of}
+use Rattle.clap.specs.declared.builder.action.ArgAction.TheVariants.{Set, Append, SetTrue}
+use Rattle.clap.specs.declared.builder.value_parser.ValueParser.TheVariants.{Unsigned}
+use Rattle.clap.specs.declared.builder.arg.Arg.{Arg}
+use Rattle.age_job.specs.declared.ranges.TheConstants.{LEAST_HEADER, LEAST_WORK, MOST_HEADER, MOST_OFFSET, MOST_WORK}
+
+-- the code of a letter
+abbrev pub letter : (text : Text) → ℕ
+letter text = slice_index text 0
+
+-- a word with a place of its own
+abbrev pub word : (name : Text) → Rule
+word name = record (new_rule name) { action = Some Set; value_names = 1 }
+
+-- an option with a value, given once: -s VALUE or --name VALUE, where s is a character's code
+abbrev pub option : (s : ℕ) (name : Text) → Rule
+option s name = record (word name) { long = Some name; short = Some s }
+
+-- an option without a value, -s or --name
+abbrev pub flag : (s : ℕ) (name : Text) → Rule
+flag s name = record (new_rule name) { long = Some name; short = Some s; action = Some SetTrue }
+
+-- may be given several times
+abbrev pub several : Rule → Rule
+several rule = record rule { action = Some Append }
+
+-- must be given
+abbrev pub required : Rule → Rule
+required rule = record rule { required = true }
+
+-- takes numbers of this range only
+abbrev pub number : (least most : ℕ) → Rule → Rule
+number least most rule = record rule { parser = Some (Unsigned least most) }
+
+-- has this value if it is not given
+abbrev pub default : (value : Text) → Rule → Rule
+default value rule = record rule { defaults = value ∷ [] }
+
+abbrev pub pass : Rule
+pass = option (letter (codes "p")) (codes "passphrase")
+
+abbrev pub key : Rule
+key = several (option (letter (codes "k")) (codes "key"))
+
+abbrev pub new_pass : Rule
+new_pass = option (letter (codes "P")) (codes "new-pass")
+
+abbrev pub new_key : Rule
+new_key = several (option (letter (codes "K")) (codes "new-key"))
+
+abbrev pub work : Rule
+work = default (codes "18") (number LEAST_WORK MOST_WORK (option (letter (codes "w")) (codes "work")))
+
+abbrev pub max_work : Rule
+max_work =
+    default (codes "22") (number LEAST_WORK MOST_WORK (option (letter (codes "m")) (codes "max-work")))
+
+abbrev pub max_header : Rule
+max_header = default (codes "65536")
+    (number LEAST_HEADER MOST_HEADER (option (letter (codes "H")) (codes "max-header")))
+
+abbrev pub seed : Rule
+seed = default (codes "/dev/urandom") (option (letter (codes "s")) (codes "seed"))
+
+abbrev pub output : Rule
+output = option (letter (codes "o")) (codes "output")
+
+abbrev pub raw : Rule
+raw = flag (letter (codes "r")) (codes "raw")
+
+abbrev pub file_key : Rule
+file_key = option (letter (codes "f")) (codes "file-key")
+
+abbrev pub verbose : Rule
+verbose = flag (letter (codes "v")) (codes "verbose")
+
+abbrev pub input : Rule
+input = word (codes "input")
+
+abbrev pub offset : (name : Text) → Rule
+offset name = number 0 MOST_OFFSET (required (word name))
+
+-- a command with one more option or word, and with several
+abbrev pub with_rule : (command : Shape) (rule : Rule) → Shape
+with_rule command rule = record command { rules = command.rules ++ rule ∷ [] }
+
+abbrev pub with_rules : (command : Shape) (rules : List Rule) → Shape
+with_rules command rules = fold with_rule command rules
+
+abbrev pub command : (name : Text) (rules : List Rule) → Shape
+command name rules = record (new_shape name) { rules = rules }
+
+-- the options of the commands that find a file's key
+abbrev pub opening : List Rule
+opening = pass ∷ key ∷ max_work ∷ max_header ∷ output ∷ verbose ∷ []
+
+abbrev pub encrypt : Shape
+encrypt = command (codes "encrypt")
+    (pass ∷ key ∷ work ∷ seed ∷ max_header ∷ output ∷ verbose ∷ input ∷ [])
+
+abbrev pub decrypt : Shape
+decrypt = command (codes "decrypt") (opening ++ input ∷ [])
+
+abbrev pub inspect : Shape
+inspect = command (codes "inspect") (raw ∷ file_key ∷ max_header ∷ verbose ∷ input ∷ [])
+
+abbrev pub range : Shape
+range = command (codes "range")
+    (opening ++ offset (codes "at") ∷ offset (codes "len") ∷ required input ∷ [])
+
+abbrev pub rewrap : Shape
+rewrap = command (codes "rewrap")
+    (opening ++ new_pass ∷ new_key ∷ work ∷ seed ∷ input ∷ [])
+
+-- the program without its commands
+abbrev pub bare : App
+bare = record {
+  top = record (new_shape (codes "agep")) { has_version = true; propagate_version = true };
+  subs = [];
+}
+
+-- the program with its commands, of which one is required; each has the program's version
+abbrev pub agep : App
+agep = record {
+  top = record bare.top { is_leaf = false; subcommand_required = true };
+  subs = encrypt ∷ decrypt ∷ inspect ∷ range ∷ rewrap ∷ [];
+}
+
+-- the argument has this rule, and no other command takes it
+abbrev pub IsArg : (rule : Rule) (arg : Arg) → Type 0
+IsArg rule arg = (rule_of arg ≡ rule) × (arg.global ≡ false)
