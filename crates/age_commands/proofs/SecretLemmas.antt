@@ -26,7 +26,8 @@ decrypts_alone m items x l limits source old new r one is h =
 
 pub decrypting_meant : (f g : List StanzaParts → Unwrapped) (limits : Bounds) (source : Flow) (old new : Known)
     (r : Result Done Fault) → f ≡ g
-    → Decrypts limits (λ s. f s ∷ []) source (moved old new) r → Decrypts limits (λ s. g s ∷ []) source (moved old new) r
+    → Decrypts limits (λ s. f s ∷ []) source (moved old new) r → Decrypts limits (λ s. g s ∷ []) source (moved old new)
+    r
 decrypting_meant f g limits source old new r same h =
     subst (λ (m : List StanzaParts → Unwrapped). Decrypts limits (λ s. m s ∷ []) source (moved old new) r) same h
 
@@ -42,13 +43,15 @@ encrypting_meant w v l m limits fresh source old new r same labels h =
 
 pub rewraps_alone : {X Y : Type 0} (m : X → List StanzaParts → Unwrapped)
     (w : Y → FileKey → Result (List StanzaParts) ℕ) (labels : Y → Labels)
-    (items : List X) (x : X) (others : List Y) (y : Y) (l limits : Bounds) (source : Flow) (old new : Known) (r : Result ⊤ Fault)
+    (items : List X) (x : X) (others : List Y) (y : Y) (l limits : Bounds) (source : Flow) (old new : Known)
+    (r : Result ⊤ Fault)
     → items ≡ x ∷ [] → others ≡ y ∷ [] → l ≡ limits
     → Rewraps l (λ s. map (λ i. m i s) items) (λ key. Gathered (map (λ o. w o key) others) (map (λ o. labels o) others))
     source (moved old new) r
     → Rewraps limits (λ s. m x s ∷ []) (λ key. Gathered (w y key ∷ []) (labels y ∷ [])) source (moved old new) r
 rewraps_alone m w labels items x others y l limits source old new r one other is h =
-    subst (λ b. Rewraps b (λ s. m x s ∷ []) (λ key. Gathered (w y key ∷ []) (labels y ∷ [])) source (moved old new) r) is
+    subst (λ b. Rewraps b (λ s. m x s ∷ []) (λ key. Gathered (w y key ∷ []) (labels y ∷ [])) source (moved old new) r)
+        is
     (subst (λ ys. Rewraps l (λ s. m x s ∷ []) (λ key. Gathered (map (λ o. w o key) ys) (map (λ o. labels o) ys)) source
     (moved old new) r) other
     (subst (λ xs. Rewraps l (λ s. map (λ i. m i s) xs)

@@ -188,7 +188,8 @@ sealed_filled key max t false from mid to a c r some fills (finishes, same) =
     filled-finishes key max t from mid to a c r some fills same finishes
 
 -- the payload after the header and the nonce
-encrypts_payload : (limits : Bounds) (fresh : Fresh) (gathered : Gathering) (text : Bytes) (from to : Seen) (a b c : Known)
+encrypts_payload : (limits : Bounds) (fresh : Fresh) (gathered : Gathering) (text : Bytes) (from to : Seen)
+    (a b c : Known)
     (r : Result Done StreamFault) → length fresh.nonce ≡ 16
     → Made limits fresh.file_key gathered text → Appends a b (text ++ fresh.nonce)
     → SealsAll (at_start (payload_key fresh.file_key fresh.nonce) limits.max_chunks) (flow from to) (moved b c) r
@@ -259,7 +260,8 @@ takes_begun limits fresh gathered stanzas mac key max t more from mid old new he
       gave = (x, gave, omega (arith, le));
     }
 
-took : (limits : Bounds) (fresh : Fresh) (gathered : Gathering) (text : Bytes) (from to : Seen) (a b c : Known) (chunk : ℕ)
+took : (limits : Bounds) (fresh : Fresh) (gathered : Gathering) (text : Bytes) (from to : Seen) (a b c : Known)
+    (chunk : ℕ)
     (fault : StreamFault) → length fresh.nonce ≡ 16
     → Made limits fresh.file_key gathered text → Appends a b (text ++ fresh.nonce)
     → Stopped (payload_key fresh.file_key fresh.nonce) limits.max_chunks 0 chunk [] (flow from to) (moved b c) fault
@@ -307,7 +309,8 @@ takes_payload limits fresh gathered text from to a b c stream.TooManyChunks sixt
 takes_payload limits fresh gathered text from to a b c _ sixteen m front s = tt
 
 -- a fault of the payload names no reason against the header, and comes late
-pub refuses_none : (limits : Bounds) (fresh : Fresh) (gathered : Gathering) (from to : Seen) (b c : Known) (fault : StreamFault)
+pub refuses_none : (limits : Bounds) (fresh : Fresh) (gathered : Gathering) (from to : Seen) (b c : Known)
+    (fault : StreamFault)
     → SealsAll (at_start (payload_key fresh.file_key fresh.nonce) limits.max_chunks) (flow from to) (moved b c)
     (Err fault)
     → RefusesFirst limits fresh.file_key gathered (stream_fault fault) × IsLate (stream_fault fault)

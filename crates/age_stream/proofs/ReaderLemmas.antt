@@ -14,7 +14,8 @@ not-read s (inl e) = absurd (cc)
 not-read s (inr x) = x
 
 -- a reader of the source from which an opener read the nonce
-pub starts-reader : {S : Type 0} (to_come : S → Known) (gave : S → Bytes → Type 0) (failed : S → ℕ) (k : FileKey) (max : ℕ) (old mid new : S)
+pub starts-reader : {S : Type 0} (to_come : S → Known) (gave : S → Bytes → Type 0) (failed : S → ℕ) (k : FileKey)
+    (max : ℕ) (old mid new : S)
     (s t : OpenerState) → new ≡ mid → t ≡ s → Starts k max (flow_by to_come gave old mid) (Ok s)
     → IsErrOf {T = OpenerState} (Ok s) Read ⊎ GaveAtMost nonce_size (flow_by to_come gave old mid)
     → failed mid ≡ failed old

@@ -143,7 +143,8 @@ pub stopped-read : (key : Bytes) (max i j : ℕ) (held text now : Bytes) (from m
 stopped-read key max i j held text now from mid to a b took lost f = record {
   stops = of-then from mid to text _ _ took (of-any mid to
       (λ d. WritesPart (moved a b) (concat (sealed_after key i held (text ++ d)))) lost (λ d. done_part a b b _ _ [] _
-      (done-fed key i j held text now (text ++ d) (sealed_after key j now d) a b f (f.chunks d)) refl (0, Appends-nil b)))
+      (done-fed key i j held text now (text ++ d) (sealed_after key j now d) a b f (f.chunks d)) refl
+      (0, Appends-nil b)))
       (λ d part. part);
   wrote = wrote-fed key i j held text now [] a b b f (Appends-nil b);
   gave = inl refl;
@@ -160,7 +161,8 @@ gave-full key i j held text now piece full next from mid to a b h f took more = 
 )
 
 -- a write failed
-pub stopped-write : (key : Bytes) (max i j : ℕ) (held text now piece full next : Bytes) (from mid to : Seen) (a b c : Known)
+pub stopped-write : (key : Bytes) (max i j : ℕ) (held text now piece full next : Bytes) (from mid to : Seen)
+    (a b c : Known)
     → IsFull now piece full next
     → Gave (flow from mid) text → Gave (flow mid to) piece → Fed key i j held text now (moved a b)
     → WritesPart (moved b c) (sealed key (chunk_nonce j false) [] full)
@@ -177,7 +179,8 @@ stopped-write key max i j held text now piece full next from mid to a b c h took
 }
 
 -- no chunk more is allowed
-pub stopped-many : (key : Bytes) (max i j : ℕ) (held text now piece full next : Bytes) (from mid to : Seen) (a b c : Known)
+pub stopped-many : (key : Bytes) (max i j : ℕ) (held text now piece full next : Bytes) (from mid to : Seen)
+    (a b c : Known)
     → IsFull now piece full next → j < max → max ≤ j + 1
     → Gave (flow from mid) text → Gave (flow mid to) piece → Fed key i j held text now (moved a b) → Appends b c []
     → Stopped key max i j held (flow from to) (moved a c) TooManyChunks
@@ -217,7 +220,8 @@ fed-end key i j held text now piece from mid to a b fits took more end f = recor
 }
 
 -- a chunk that did not go out
-pub stopped-full : (key : Bytes) (max i j k : ℕ) (held text now piece full next : Bytes) (from mid to : Seen) (a b c : Known)
+pub stopped-full : (key : Bytes) (max i j k : ℕ) (held text now piece full next : Bytes) (from mid to : Seen)
+    (a b c : Known)
     (fault : StreamFault) → IsFull now piece full next → j < max
     → Gave (flow from mid) text → Gave (flow mid to) piece → Fed key i j held text now (moved a b)
     → (k ≡ j) × (((fault ≡ Write) × WritesPart (moved b c) (sealed key (chunk_nonce j false) [] full))
@@ -299,7 +303,8 @@ takes-ok u now from to a b key max i j len n old slice bytes items fault view no
     ))
 
 -- a fault was met
-pub takes-err : (now : SealerState) (from to : Seen) (a b : Known) (key : Bytes) (max i j len : ℕ) (old slice items : Bytes)
+pub takes-err : (now : SealerState) (from to : Seen) (a b : Known) (key : Bytes) (max i j len : ℕ)
+    (old slice items : Bytes)
     (kept : Option StreamFault) (fault : StreamFault)
     → parts key max i len old kept ≡ now → slice ≡ old
     → Stopped key max i j (take len slice) (flow from to) (moved a b) fault
@@ -357,7 +362,8 @@ seals-ok s t u from to a b c done none takes finishes =
       e.2 ∙ sym count,
     )
 
-pub seals-last : (s t : SealerState) (u : Unit {0}) (from to : Seen) (a b c : Known) (fault : StreamFault) → s.fault ≡ None
+pub seals-last : (s t : SealerState) (u : Unit {0}) (from to : Seen) (a b c : Known) (fault : StreamFault)
+    → s.fault ≡ None
     → IfNone s.fault (TakesAll s t (flow from to) (moved a b) (Ok u))
     → IfNone t.fault (FinishesBy t (moved b c) (Err fault))
     → SealsAll s (flow from to) (moved a c) (Err fault)
@@ -379,7 +385,8 @@ seals-last s t u from to a b c fault none takes finishes =
       }),
     )
 
-pub seals-finish : (s t : SealerState) (u : Unit {0}) (from to : Seen) (a b c : Known) (r : Result StreamDone StreamFault)
+pub seals-finish : (s t : SealerState) (u : Unit {0}) (from to : Seen) (a b c : Known)
+    (r : Result StreamDone StreamFault)
     → s.fault ≡ None → IfNone s.fault (TakesAll s t (flow from to) (moved a b) (Ok u))
     → IfNone t.fault (FinishesBy t (moved b c) r)
     → SealsAll s (flow from to) (moved a c) r

@@ -372,7 +372,8 @@ reads-on s t n from now a b o d end = go s.held refl t.held refl
         × (s.index + length (pieces_left x) ≡ t.index + length (pieces_left (left_of t.held d)))) same
         (subst (λ (x : Known). (reading_left s.key s.max_chunks s.index (left_of s.held (o.given ++ []))
         ≡ before o.front (reading_left s.key s.max_chunks t.index x))
-        × (s.index + length (pieces_left (left_of s.held (o.given ++ []))) ≡ t.index + length (pieces_left x))) rest old)
+        × (s.index + length (pieces_left (left_of s.held (o.given ++ []))) ≡ t.index + length (pieces_left x))) rest
+        old)
 
 -- ---- the ends
 
@@ -570,7 +571,8 @@ failed-ends s t u n from now next a b fault o h = go (advanced t u now next o.no
     go (inr adv) = inr (ends-stop s t u n from now next a b fault o adv)
 
 -- the count of bytes has room for one more text
-pub opened-room : (s t u : OpenerState) (n : ℕ) (from now next : Seen) (a b : Known) (len : ℕ) → Opened s t n from now a b
+pub opened-room : (s t u : OpenerState) (n : ℕ) (from now next : Seen) (a b : Known) (len : ℕ)
+    → Opened s t n from now a b
     → Advances t u (flow now next) (Ok true) → len ≤ 65536 → Fits w128 (n + len)
 opened-room s t u n from now next a b len o adv le =
     let within : t.index < t.max_chunks = adv.keeps.2 refl in

@@ -19,7 +19,8 @@ pub record Piped (command : Command) (words : List Text) (job : Job) : Type 0 wh
   pub output : job.output ≡ None
   pub max_header : job.max_header ≡ header_limit words
 
-pub piped : (command : Command) (words : List Text) (job : Job) → IsPiped command words → Makes words job → Piped command words job
+pub piped : (command : Command) (words : List Text) (job : Job) → IsPiped command words → Makes words job
+    → Piped command words job
 piped command words job (rows, is, input, output) (faultless, of) =
     let made = subst (λ (o : Option (Text × List Row)). IsJobOf o job) is of in
     record {
@@ -27,5 +28,6 @@ piped command words job (rows, is, input, output) (faultless, of) =
       input = none_mapped _ _ (made.1.input ∙ input);
       output = none_mapped _ _ (made.1.output ∙ output);
       max_header = made.1.max_header ∙ ap (λ (o : Option (Text × List Row)).
-          option_map_or (λ named. number_or DEFAULT_MAX_HEADER (codes "max-header") named.1) o DEFAULT_MAX_HEADER) (sym is);
+          option_map_or (λ named. number_or DEFAULT_MAX_HEADER (codes "max-header") named.1) o DEFAULT_MAX_HEADER)
+              (sym is);
     }

@@ -20,8 +20,10 @@ among p k (x ∷ xs) (inr later) e = or_true (p x) _ (among p k xs later e)
 pub shown : (words : List Text) (error : Error) → Reads words (Err (Refused error)) → IsShown error → AskForText words
 shown words error h e = among shows (kind_of error) (fault_of agep words) h e
 
-pub wrong : (words : List Text) (error : Error) → Reads words (Err (Refused error)) → (IsShown error → ⊥) → AreWrong words
-wrong words error h e = among (λ k. not (shows k)) (kind_of error) (fault_of agep words) h (is_not (shows (kind_of error)) e)
+pub wrong : (words : List Text) (error : Error) → Reads words (Err (Refused error)) → (IsShown error → ⊥)
+    → AreWrong words
+wrong words error h e =
+    among (λ k. not (shows k)) (kind_of error) (fault_of agep words) h (is_not (shows (kind_of error)) e)
   where
     is_not : (b : Bool) → (b ≡ true → ⊥) → not b ≡ true
     is_not true f = absurd (f refl)

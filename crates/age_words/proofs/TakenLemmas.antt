@@ -64,7 +64,8 @@ is_count Count = true
 is_count a = false
 
 abbrev has_value : Rule → Bool
-has_value a = is_request (action_of a) || (nat_lt 0 (unwrap_or_range a.range).start_inclusive || nat_lt 0 (length a.missing))
+has_value a =
+    is_request (action_of a) || (nat_lt 0 (unwrap_or_range a.range).start_inclusive || nat_lt 0 (length a.missing))
 
 abbrev is_good : Rule → Bool
 is_good a = covers (parser_for a.id) (parser_of_value a.parser)
@@ -96,9 +97,12 @@ at_row_passes id change missing (r ∷ rs) c m q = go (at_row_passes id change m
 without_passes : (id : Text) (rows : List Row) → Each RowPasses rows → Each RowPasses (without id rows)
 without_passes id rows q = at_row_passes id (λ _. []) [] rows (λ r e p. tt) tt q
 
-with_values_passes : (id : Text) (how : Reading) (s : ValueSource) (values : List Text) (rows : List Row) → how ≡ AsWritten
-    → 0 < length values → Each (Passes id) values → Each RowPasses rows → Each RowPasses (with_values id how s values rows)
-with_values_passes id how s values rows written some pass q = at_row_passes id (more_values s values) _ rows more ((written, some, pass), tt) q
+with_values_passes : (id : Text) (how : Reading) (s : ValueSource) (values : List Text) (rows : List Row)
+    → how ≡ AsWritten
+    → 0 < length values → Each (Passes id) values → Each RowPasses rows
+    → Each RowPasses (with_values id how s values rows)
+with_values_passes id how s values rows written some pass q =
+    at_row_passes id (more_values s values) _ rows more ((written, some, pass), tt) q
   where
     more : (r : Row) → bytes_eq r.id id ≡ true → RowPasses r → Each RowPasses (more_values s values r)
     more r e p =
@@ -167,9 +171,11 @@ good_of a e =
 faults_pass : (a : Rule) → IsGood a → (values : List Text) → values_fault a values ≡ [] → Each (Passes a.id) values
 faults_pass a g values e = values_pass a.id (parser_of_value a.parser) values g.covered (rw g.exact at e)
 
-stored : (again : Bool) (a : Rule) → IsGood a → (x : ArgAction) → is_count x ≡ false → (values : List Text) (rows : List Row)
+stored : (again : Bool) (a : Rule) → IsGood a → (x : ArgAction) → is_count x ≡ false
+    → (values : List Text) (rows : List Row)
     → (is_request x || nat_lt 0 (length values)) ≡ true
-    → action_fault x again a values rows ≡ [] → Each RowPasses rows → Each RowPasses (used_as x a.id (reading_by a) values rows)
+    → action_fault x again a values rows ≡ [] → Each RowPasses rows
+    → Each RowPasses (used_as x a.id (reading_by a) values rows)
 stored again a g Set c values rows some e q =
     with_values_passes a.id _ CommandLine values (without a.id rows) g.written (ltb-true _ _ some)
     (faults_pass a g values (second_none _ _ e)) (without_passes a.id rows q)
@@ -192,8 +198,10 @@ or_other : (b c : Bool) → (b || c) ≡ true → (b && true) ≡ false → c �
 or_other false c e f = e
 or_other true c e f = absurd (true≢false f)
 
-one_value : (a : Rule) (values : List Text) → (nat_lt 0 (unwrap_or_range a.range).start_inclusive || nat_lt 0 (length a.missing)) ≡ true
-    → range_kinds (unwrap_or_range a.range).start_inclusive (most_values a) (length values) ≡ [] → 0 < length (values_or_missing a values)
+one_value : (a : Rule) (values : List Text)
+    → (nat_lt 0 (unwrap_or_range a.range).start_inclusive || nat_lt 0 (length a.missing)) ≡ true
+    → range_kinds (unwrap_or_range a.range).start_inclusive (most_values a) (length values) ≡ []
+    → 0 < length (values_or_missing a values)
 one_value a (v ∷ vs) some e = omega arith
 one_value a [] some e = ltb-true _ _ (or_other _ _ some (head_fails _ _ _ e))
 
@@ -213,12 +221,14 @@ used_well again a good values rows e q =
 defaults_well : (again : Bool) (a : Rule) → is_good a ≡ true → DefaultsWell again RowPasses a
 defaults_well again a good rows e q = go (has_row a.id rows) e
   where
-    given : (values : List Text) → or_else (Rattle.clap.specs.Kinds.request_kinds (action_of a)) (values_fault a values) ≡ []
+    given : (values : List Text) → or_else (Rattle.clap.specs.Kinds.request_kinds (action_of a))
+        (values_fault a values) ≡ []
         → Each RowPasses (default_rows a.id (reading_by a) values rows)
     given [] f = q
     given (v ∷ vs) f =
         let g = good_of a good in
-        with_values_passes a.id _ DefaultValue (v ∷ vs) rows g.written (omega arith) (faults_pass a g (v ∷ vs) (second_none _ _ f)) q
+        with_values_passes a.id _ DefaultValue (v ∷ vs) rows g.written (omega arith)
+            (faults_pass a g (v ∷ vs) (second_none _ _ f)) q
 
     tested : (values : List Text) → cond (is_empty values) [] (given_default_fault a values) ≡ []
         → Each RowPasses (default_rows a.id (reading_by a) values rows)
@@ -242,15 +252,20 @@ find_passes id (r ∷ rs) q = go (find_passes id rs q.1) (bytes_eq r.id id) refl
     go rest true e = ((bytes_eq-Decides r.id id).0 e, q.0)
     go rest false e = rest
 
-has_number : (least most : ℕ) (id : Text) (rows : List Row) → parser_for id ≡ vp.Unsigned least most → Each RowPasses rows → HasNumber least most id rows
+has_number : (least most : ℕ) (id : Text) (rows : List Row) → parser_for id ≡ vp.Unsigned least most
+    → Each RowPasses rows → HasNumber least most id rows
 has_number least most id rows p q = go (find (λ r. bytes_eq r.id id) rows) (find_passes id rows q)
   where
     first : (r : Row) (values : List Text) → r.reading ≡ AsWritten → Each (Passes id) values
-        → IfSome (option_map (Rattle.clap.specs.Values.read_as r.reading) (slice_get values 0)) (IsUnsignedIn least most)
+        → IfSome (option_map (Rattle.clap.specs.Values.read_as r.reading) (slice_get values 0))
+        (IsUnsignedIn least most)
     first r [] w e = tt
-    first r (v ∷ vs) w e = rw w (accepts-Accepts false (vp.Unsigned least most) v (subst (λ (x : ValueParser). accepts false x v ≡ true) p e.0))
+    first r (v ∷ vs) w e =
+        rw w (accepts-Accepts false (vp.Unsigned least most) v
+        (subst (λ (x : ValueParser). accepts false x v ≡ true) p e.0))
 
-    go : (o : Option Row) → IfSome o (λ r. (r.id ≡ id) × RowPasses r) → IfSome (option_and_then row_text o) (IsUnsignedIn least most)
+    go : (o : Option Row) → IfSome o (λ r. (r.id ≡ id) × RowPasses r)
+        → IfSome (option_and_then row_text o) (IsUnsignedIn least most)
     go None h = tt
     go (Some r) h = first r r.values h.1.0 (subst (λ (i : Text). Each (Passes i) r.values) h.0 h.1.2)
 
@@ -264,27 +279,32 @@ not_false : (b : Bool) → not b ≡ false → b ≡ true
 not_false true e = refl
 not_false false e = absurd (true≢false e)
 
-wanted_given : (id : Text) (rules : List Rule) (rows : List Row) → list_any (λ a. a.required && not (is_given a.id rows)) rules ≡ false
+wanted_given : (id : Text) (rules : List Rule) (rows : List Row)
+    → list_any (λ a. a.required && not (is_given a.id rows)) rules ≡ false
     → list_any (λ a. a.required && bytes_eq a.id id) rules ≡ true → is_given id rows ≡ true
 wanted_given id [] rows none some = absurd (true≢false (sym some))
 wanted_given id (a ∷ rest) rows none some = go (wanted_given id rest rows) a.required (bytes_eq a.id id) refl none some
   where
     go : (list_any (λ a. a.required && not (is_given a.id rows)) rest ≡ false
         → list_any (λ a. a.required && bytes_eq a.id id) rest ≡ true → is_given id rows ≡ true)
-        → (r b : Bool) → bytes_eq a.id id ≡ b → (r && not (is_given a.id rows) || list_any (λ a. a.required && not (is_given a.id rows)) rest) ≡ false
+        → (r b : Bool) → bytes_eq a.id id ≡ b
+        → (r && not (is_given a.id rows) || list_any (λ a. a.required && not (is_given a.id rows)) rest) ≡ false
         → (r && b || list_any (λ a. a.required && bytes_eq a.id id) rest) ≡ true → is_given id rows ≡ true
-    go ih true true e n f = ap (λ (i : Text). is_given i rows) (sym ((bytes_eq-Decides a.id id).0 e)) ∙ not_false _ (neither _ _ n).0
+    go ih true true e n f = ap (λ (i : Text). is_given i rows) (sym ((bytes_eq-Decides a.id id).0 e))
+        ∙ not_false _ (neither _ _ n).0
     go ih true false e n f = ih (neither _ _ n).1 f
     go ih false b e n f = ih n f
 
-given_first : (id : Text) (rows : List Row) → Each RowPasses rows → is_given id rows ≡ true → is_some (first_of id rows) ≡ true
+given_first : (id : Text) (rows : List Row) → Each RowPasses rows → is_given id rows ≡ true
+    → is_some (first_of id rows) ≡ true
 given_first id rows q g = go (find (λ r. bytes_eq r.id id) rows) (find_passes id rows q) g
   where
     first : (values : List Text) → 0 < length values → is_some (slice_get values 0) ≡ true
     first [] h = absurd (omega arith)
     first (v ∷ vs) h = refl
 
-    go : (o : Option Row) → IfSome o (λ r. (r.id ≡ id) × RowPasses r) → option_map_or (λ r. explicit_source r.source) o false ≡ true
+    go : (o : Option Row) → IfSome o (λ r. (r.id ≡ id) × RowPasses r)
+        → option_map_or (λ r. explicit_source r.source) o false ≡ true
         → is_some (option_and_then (λ r. slice_get r.values 0) o) ≡ true
     go None h e = cc
     go (Some r) h e = first r.values h.1.1
@@ -329,27 +349,32 @@ each_of : {X : Type 0} (P : X → Type 0) (xs : List X) → ((x : X) → P x) �
 each_of P [] p = tt
 each_of P (x ∷ xs) p = (p x, each_of P xs p)
 
-each_good : (P : Rule → Type 0) (rules : List Rule) → ((a : Rule) → is_good a ≡ true → P a) → list_all is_good rules ≡ true → Each P rules
+each_good : (P : Rule → Type 0) (rules : List Rule) → ((a : Rule) → is_good a ≡ true → P a)
+    → list_all is_good rules ≡ true → Each P rules
 each_good P [] p e = tt
 each_good P (a ∷ rest) p e = let h = both _ _ e in (p a h.0, each_good P rest p h.1)
 
-found_where : {X : Type 0} (U : X → Type 0) (p : X → Bool) (xs : List X) → Each U xs → IfSome (find p xs) (λ x. (p x ≡ true) × U x)
+found_where : {X : Type 0} (U : X → Type 0) (p : X → Bool) (xs : List X) → Each U xs
+    → IfSome (find p xs) (λ x. (p x ≡ true) × U x)
 found_where U p [] h = tt
 found_where U p (x ∷ xs) h = go (p x) refl (found_where U p xs h.1)
   where
-    go : (b : Bool) → p x ≡ b → IfSome (find p xs) (λ x. (p x ≡ true) × U x) → IfSome (cond b (Some x) (find p xs)) (λ x. (p x ≡ true) × U x)
+    go : (b : Bool) → p x ≡ b → IfSome (find p xs) (λ x. (p x ≡ true) × U x)
+        → IfSome (cond b (Some x) (find p xs)) (λ x. (p x ≡ true) × U x)
     go true e i = (e, h.0)
     go false e i = i
 
 names_input : (command : Command) (s : Shape) (rows : List Row) → wants command s ≡ true → Each RowPasses rows
-    → list_any (λ a. a.required && not (is_given a.id rows)) s.rules ≡ false → NamesInput command (first_of (codes "input") rows)
+    → list_any (λ a. a.required && not (is_given a.id rows)) s.rules ≡ false
+    → NamesInput command (first_of (codes "input") rows)
 names_input Encrypt s rows w q n = tt
 names_input Decrypt s rows w q n = tt
 names_input Inspect s rows w q n = tt
 names_input Rewrap s rows w q n = tt
 names_input Range s rows w q n = given_first (codes "input") rows q (wanted_given (codes "input") s.rules rows n w)
 
-level_taken : (command : Command) (s : Shape) (words : List Text) → is_good_for command s ≡ true → level_fault s [] nothing_held words false [] ≡ []
+level_taken : (command : Command) (s : Shape) (words : List Text) → is_good_for command s ≡ true
+    → level_fault s [] nothing_held words false [] ≡ []
     → IsTaken command (rows_after s.rules [] words)
 level_taken command s words good e =
     let g = both _ _ good in
@@ -379,11 +404,14 @@ anything rows = each_of (λ _. ⊤) rows (λ _. tt)
 
 no_help : (words : List Text) (has : Bool) (below : Kinds)
     → level_fault (built agep).top (names_of (built agep)) nothing_held words has below ≡ []
-    → IfSome (stop_after (built agep).top.rules (names_of (built agep)) words) (λ p. bytes_eq p.0 (codes "help") ≡ false)
+    → IfSome (stop_after (built agep).top.rules (names_of (built agep)) words)
+    (λ p. bytes_eq p.0 (codes "help") ≡ false)
 no_help words has below none =
     (level_ok (built agep).top (names_of (built agep)) (λ _. ⊤) (λ name. bytes_eq name (codes "help") ≡ false)
-    (each_of (UsesWell (built agep).top.args_override_self (λ _. ⊤)) (built agep).top.rules (λ a values rows e q. anything _))
-    (each_of (DefaultsWell (built agep).top.args_override_self (λ _. ⊤)) (built agep).top.rules (λ a rows e q. anything _))
+    (each_of (UsesWell (built agep).top.args_override_self (λ _. ⊤)) (built agep).top.rules
+    (λ a values rows e q. anything _))
+    (each_of (DefaultsWell (built agep).top.args_override_self (λ _. ⊤)) (built agep).top.rules
+    (λ a rows e q. anything _))
     (λ name e. plain _ e) words has below none).1
   where
     plain : (b : Bool) → (b && true) ≡ false → b ≡ false
@@ -404,11 +432,14 @@ is_help s word name none e =
     one true e = refl
     one false e = e
 
-pair_same : (a b : Text) (x y : List Row) → ◌≡◌ {A = Option (Text × List Row)} (Some (a, x)) (Some (b, y)) → (a ≡ b) × (x ≡ y)
+pair_same : (a b : Text) (x y : List Row) → ◌≡◌ {A = Option (Text × List Row)} (Some (a, x)) (Some (b, y)) → (a ≡ b)
+    × (x ≡ y)
 pair_same a b x y e =
-    (ap (λ (o : Option (Text × List Row)). (unwrap_or o (a, x)).0) e, ap (λ (o : Option (Text × List Row)). (unwrap_or o (a, x)).1) e)
+    (ap (λ (o : Option (Text × List Row)). (unwrap_or o (a, x)).0) e, ap
+    (λ (o : Option (Text × List Row)). (unwrap_or o (a, x)).1) e)
 
-at_shape : (name : Text) (rows : List Row) (p : Text × List Text) → bytes_eq p.0 (codes "help") ≡ false → (o : Option Shape)
+at_shape : (name : Text) (rows : List Row) (p : Text × List Text) → bytes_eq p.0 (codes "help") ≡ false
+    → (o : Option Shape)
     → IfSome o (λ s. (answers_to p.0 (label_of s) ≡ true) × (Makes s × (s.aliases ≡ [])))
     → option_map_or (λ s. level_fault s [] nothing_held p.1 false []) o [] ≡ []
     → option_map (λ s. rows_at s p.1) o ≡ Some (name, rows) → Taken name rows
@@ -420,15 +451,19 @@ at_shape name rows p not_help (Some s) h e f =
       | inr made ↦ (made.0, sym same.0 ∙ made.1, subst (IsTaken made.0) same.1 (level_taken made.0 s p.1 made.2 e))
     ]
 
-at_stop : (name : Text) (rows : List Row) (o : Option (Text × List Text)) → IfSome o (λ p. bytes_eq p.0 (codes "help") ≡ false)
+at_stop : (name : Text) (rows : List Row) (o : Option (Text × List Text))
+    → IfSome o (λ p. bytes_eq p.0 (codes "help") ≡ false)
     → entered_fault (built agep) o ≡ [] → entered (built agep) o ≡ Some (name, rows) → Taken name rows
 at_stop name rows None h e f = cc
 at_stop name rows (Some p) h e f =
-    at_shape name rows p h (find (λ s. answers_to p.0 (label_of s)) (built agep).subs) (found_where (λ s. Makes s × (s.aliases ≡ [])) (λ s. answers_to p.0 (label_of s)) (built agep).subs all_make) e f
+    at_shape name rows p h (find (λ s. answers_to p.0 (label_of s)) (built agep).subs)
+        (found_where (λ s. Makes s × (s.aliases ≡ [])) (λ s. answers_to p.0 (label_of s)) (built agep).subs all_make) e
+        f
 
 -- where there is no fault, the subcommand that was named is a command of the program, and its values
 -- make a job
-pub taken : (words : List Text) (name : Text) (rows : List Row) → fault_of agep words ≡ [] → subcommand_of agep words ≡ Some (name, rows) → Taken name rows
+pub taken : (words : List Text) (name : Text) (rows : List Row) → fault_of agep words ≡ []
+    → subcommand_of agep words ≡ Some (name, rows) → Taken name rows
 taken words name rows none is =
     at_stop name rows (stop_after (built agep).top.rules (names_of (built agep)) (argument_words agep words))
     (no_help _ _ _ none) (first_none _ _ (second_none _ _ none)) is

@@ -52,11 +52,12 @@ abbrev pub new_key : Rule
 new_key = several (option (letter (codes "K")) (codes "new-key"))
 
 abbrev pub work : Rule
-work = default (codes "18") (number LEAST_WORK MOST_WORK (option (letter (codes "w")) (codes "work")))
+work = default (codes "18")
+    (number LEAST_WORK MOST_WORK (option (letter (codes "w")) (codes "work")))
 
 abbrev pub max_work : Rule
-max_work =
-    default (codes "22") (number LEAST_WORK MOST_WORK (option (letter (codes "m")) (codes "max-work")))
+max_work = default (codes "22")
+    (number LEAST_WORK MOST_WORK (option (letter (codes "m")) (codes "max-work")))
 
 abbrev pub max_header : Rule
 max_header = default (codes "65536")

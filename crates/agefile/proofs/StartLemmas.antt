@@ -52,7 +52,8 @@ pub record Fronts (b rest : Bytes) (h : HeaderParts) : Type 0 where
   pub verdict : HeaderVerdict b 65536 (Ok (record { stanzas = h.stanzas; mac = h.mac; text = text }))
   pub front : b ≡ text ++ rest
 
-pub fronts : (b rest : Bytes) (h : HeaderParts) → Inspects limits (flow (of_told b) (of_told rest)) (Ok h) → Fronts b rest h
+pub fronts : (b rest : Bytes) (h : HeaderParts) → Inspects limits (flow (of_told b) (of_told rest)) (Ok h)
+    → Fronts b rest h
 fronts b rest h (Err g, is, _) = absurd (cc)
 fronts b rest h (Ok parts, is, reads) =
     let r = reads_known b (flow (of_told b) (of_told rest)) limits.max_header (Ok parts) refl reads in

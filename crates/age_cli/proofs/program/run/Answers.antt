@@ -6,20 +6,24 @@ pub returns-in-Ok-clause-finishes : goal.returns-in-Ok-clause-finishes
 returns-in-Ok-clause-finishes g c = λ done. inr (c.in-Ok.job, c.in-Ok.ensures.reads, c.run_job.ensures.finishes done)
 
 pub returns-in-Ok-clause-begins : goal.returns-in-Ok-clause-begins
-returns-in-Ok-clause-begins g c = λ failed. inr (inr (c.in-Ok.job, c.in-Ok.ensures.reads, c.run_job.ensures.begins failed))
+returns-in-Ok-clause-begins g c =
+    λ failed. inr (inr (c.in-Ok.job, c.in-Ok.ensures.reads, c.run_job.ensures.begins failed))
 
 pub returns-in-Err-clause-refused : goal.returns-in-Err-clause-refused
 returns-in-Err-clause-refused g c = λ two.
-    let r = refused (map (λ word. word.now) c.args.words.now) _ c.in-Err.fault c.answer_refusal.result c.in-Err.ensures.reads c.answer_refusal.ensures.answers two in
+    let r = refused (map (λ word. word.now) c.args.words.now) _ c.in-Err.fault c.answer_refusal.result
+        c.in-Err.ensures.reads c.answer_refusal.ensures.answers two in
     (refl, r.0, r.1)
 
 pub returns-in-Err-clause-finishes : goal.returns-in-Err-clause-finishes
 returns-in-Err-clause-finishes g c = λ none.
-    inl (answered (map (λ word. word.now) c.args.words.now) _ c.in-Err.fault c.answer_refusal.result c.in-Err.ensures.reads c.answer_refusal.ensures.answers none)
+    inl (answered (map (λ word. word.now) c.args.words.now) _ c.in-Err.fault c.answer_refusal.result
+        c.in-Err.ensures.reads c.answer_refusal.ensures.answers none)
 
 pub returns-in-Err-clause-begins : goal.returns-in-Err-clause-begins
 returns-in-Err-clause-begins g c = λ one.
-    elim (failed (map (λ word. word.now) c.args.words.now) _ c.in-Err.fault c.answer_refusal.result c.in-Err.ensures.reads c.answer_refusal.ensures.answers one) [
+    elim (failed (map (λ word. word.now) c.args.words.now) _ c.in-Err.fault c.answer_refusal.result
+        c.in-Err.ensures.reads c.answer_refusal.ensures.answers one) [
       | inl asks ↦ inl asks
       | inr same ↦ inr (inl (stays_known (ap g.W.Write.contents same)))
     ]

@@ -11,5 +11,6 @@ returns-clause-bytes g c =
     (search rules) (search rules) (search rules) c.read.ensures.bound c.read.ensures.bytes c.read.ensures.gave
 
 pub returns-clause-lost : goal.returns-clause-lost
-returns-clause-lost g c = got-lost c.read.result c.read.new.buf (seen_by g.S.Source.to_come g.S.Source.gave c.args.input.now)
+returns-clause-lost g c =
+    got-lost c.read.result c.read.new.buf (seen_by g.S.Source.to_come g.S.Source.gave c.args.input.now)
     (seen_by g.S.Source.to_come g.S.Source.gave c.read.new.self) c.read.ensures.gave
