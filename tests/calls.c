@@ -1,7 +1,8 @@
 // Loaded before the C library: makes a call of the process short or failing. CALL names its kind,
-// which is read, write, ftruncate, fsync or lseek, or message for a write to standard error. NUMBER
-// is its number among those of its kind, from 1, or 0 for all of them. DO is what becomes of it: it
-// moves "one" byte, or "half" of them, or "none", or fails with the error of this number. The empty
+// which is read, write, ftruncate, fsync, lseek or statx, or message for a write to standard error.
+// NUMBER is its number among those of its kind, from 1, or 0 for all of them. DO is what becomes of
+// it: it moves "one" byte, or "half" of them, or "none", or fails with the error of this number. The
+// empty
 // file "met" shows that it came. The file that TRACE names gets a line for each call: its kind, the
 // file that it is about, and what it returned. A read of the character device /dev/urandom gives
 // the bytes of the file that URANDOM names.
@@ -118,6 +119,14 @@ int fsync(int file)
     int result = allowed("fsync", &calls, 0) < 0 ? -1 : next(file);
     trace("fsync", file, result);
     return result;
+}
+
+int statx(int at, const char *path, int flags, unsigned mask, struct statx *found)
+{
+    static long calls;
+    int (*next)(int, const char *, int, unsigned, struct statx *) =
+        (int (*)(int, const char *, int, unsigned, struct statx *))real("statx");
+    return allowed("statx", &calls, 0) < 0 ? -1 : next(at, path, flags, mask, found);
 }
 
 off_t lseek(int file, off_t to, int from)

@@ -69,6 +69,7 @@ def files():
         "pass_1.age": for_passphrase(HELLO, work=1),
         "empty.age": for_keys(b"", KEY),
         "empty_pass.age": for_passphrase(b""),
+        "full.age": for_keys(two_chunks[:65536], KEY),
         "two.age": two_age,
         "two_pass.age": for_passphrase(two_chunks),
         "plain.age": for_keys(PLAIN, KEY),

@@ -208,6 +208,47 @@ class FailingCalls(CallCase):
                 self.each_call("fsync", IO_ERROR, job, "-o", is_unsynced)
                 self.each_call("fsync", NO_SPACE, job, "-o", is_unsynced)
 
+    def test_metadata(self):
+        """Where the system does not say which file is which, an OUT that was there stays as it was."""
+        names = ["pass", "key", "other.key", "seed", "plain", "key.age", "made", "standard input"]
+        lines = [fault(message("Unidentified", name)).encode() for name in names]
+
+        def judge(ran, job, form):
+            if ran.status == 0:
+                self.is_whole(ran, job, form)
+                return
+            self.assertIn(ran.err, lines)
+            self.assert_ended(ran, 1, ran.err, None)
+            self.assert_bytes(self.made, YESTERDAY, "OUT")
+
+        for job in self.jobs:
+            if job.has_out:
+                self.each_call("statx", IO_ERROR, job, "-o", judge)
+
+    def test_metadata_of_one_file(self):
+        """An OUT that is read too stays as it was, whichever question about files fails."""
+        for words, name, is_piped in (
+            ("encrypt -k key -o plain", "plain", False), ("encrypt -k key -o plain", "plain", True),
+            ("encrypt -k key -s seed -o seed", "seed", True), ("decrypt -k key -o key.age", "key.age", False),
+            ("decrypt -k key -o key.age", "key.age", True), ("rewrap -k key -P pass -o key.age", "key.age", True),
+            ("range -k key -o key.age 0 9", "key.age", False), ("range -k key -o key 0 9", "key", False),
+        ):
+            source = "key.age" if words.startswith("range") else "plain" if name == "seed" else name
+            old = read(name)
+            for number in range(1, 1000):
+                with self.subTest(f"{words}, {'<' if is_piped else ''}{source}, question {number}"):
+                    if os.path.exists("met"):
+                        os.remove("met")
+                    env = {"LD_PRELOAD": preload("calls"), "CALL": "statx", "NUMBER": str(number), "DO": IO_ERROR}
+                    with open(source, "rb") as stdin:
+                        more = () if is_piped else (source,)
+                        ran = self.run_agep(*words.split(), *more, env=env, input=stdin)
+                    self.assertEqual(ran.status, 1, ran.err)
+                    self.assert_file(name, old)
+                if not os.path.exists("met"):
+                    break
+            self.assertGreaterEqual(number, 3)
+
     def test_seeks(self):
         """Of the commands range alone seeks."""
         job = self.jobs[3]

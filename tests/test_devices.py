@@ -9,7 +9,7 @@ import time
 import unittest
 
 import fixture
-from fixture import HELLO, KEY
+from fixture import HELLO, KEY, PLAIN
 from messages import message
 from program import AGEP, ProgramCase, fault, read, write
 
@@ -40,6 +40,9 @@ class Terminals(ProgramCase):
         ):
             with self.subTest(words):
                 self.assertEqual(self.on_terminal(*words.split()), (1, b"", line))
+        for words, name in (("encrypt", "KeyChoice"), ("rewrap -p pass", "NewKeyChoice")):
+            with self.subTest(words):
+                self.assertEqual(self.on_terminal(*words.split()), (1, b"", fault(message(name))))
 
     def test_taken(self):
         """encrypt on a terminal to a file, and decrypt to a terminal."""
@@ -140,6 +143,27 @@ class SameInode(ProgramCase):
         status, out, err = self.mounted('mount --bind first second && "$1" encrypt -k key -o second first')
         self.assertEqual((status, out, err), (1, "", fault(message("OutputIsRead", "Input", "second"))))
         self.assert_file("first", HELLO)
+
+    def test_without_proc(self):
+        """Without /proc, where no name leads to standard input, an OUT that was there is refused,
+        and one that was not is made."""
+        write("in", PLAIN)
+        write("in.age", fixture.for_keys(PLAIN, KEY))
+        for words, name in (
+            ("encrypt -k key -s seed -o in", "in"), ("decrypt -k key -o in.age", "in.age"),
+            ("rewrap -k key -K key -s seed -o in.age", "in.age"),
+        ):
+            for hidden, line in (
+                ("/proc", message("Unidentified", "standard input")), ("/dev", message("OutputIsRead", "Input", name)),
+                ("/proc /dev", message("Unidentified", "standard input")),
+            ):
+                with self.subTest(f"{words}, without {hidden}"):
+                    hide = " && ".join(f"mount -t tmpfs none {folder}" for folder in hidden.split())
+                    old = read(name)
+                    self.assertEqual(self.mounted(f'{hide} && "$1" {words} <{name}'), (1, "", fault(line)))
+                    self.assert_file(name, old)
+                    self.assertEqual(self.mounted(f'{hide} && "$1" {words}.new <{name}'), (0, "", ""))
+                    os.remove(name + ".new")
 
 
 class SystemCalls(ProgramCase):

@@ -1,5 +1,6 @@
 """Headers of many forms: the table of inspect, headers that are refused, sizes at each limit."""
 
+import resource
 
 from fixture import PLAIN
 from messages import message
@@ -87,6 +88,35 @@ class Tables(ProgramCase):
         self.assert_ended(ran, 0, "", None)
         self.assertIn(b"\nstanzas 699000\n", ran.out)
         self.says(message("OutOfMemory"), "inspect", "-H", "16777216", "great", memory=8 << 20)
+
+    def processor_time(self, *words, input):
+        """The processor time of a run, the least of three, and what it said."""
+        times = []
+        for _ in range(3):
+            before = resource.getrusage(resource.RUSAGE_CHILDREN)
+            ran = self.run_agep(*words, input=input)
+            after = resource.getrusage(resource.RUSAGE_CHILDREN)
+            times.append(after.ru_utime + after.ru_stime - before.ru_utime - before.ru_stime)
+        return min(times), ran
+
+    def test_time(self):
+        """What -v says of a header of a mebibyte takes no longer than to read it."""
+        half = 1 << 20 >> 4
+        for title, stanzas, types in (
+            ("two types", "-> a\n\n" * half + "-> b\n\n" * half, "a, b"),
+            ("many types", "".join(f"-> {i:x}\n\n" for i in range(half)), "0, 1, 2, 3, 4, .."),
+            ("long types", "".join(f"-> {'a' * 60000}{i % 5}\n\n" for i in range(17)), None),
+        ):
+            with self.subTest(title):
+                header = header_of(stanzas)
+                words = ("decrypt", "-k", "key", "-H", "16777216")
+                short, ran = self.processor_time(*words, input=header)
+                self.assert_ended(ran, 1, fault(message("NoMatch")))
+                long, ran = self.processor_time(*words, "-v", input=header)
+                self.assertLess(long, 2 * short + 0.1)
+                if types:
+                    more = f"standard input: its stanzas are of type {types}; another tool opens it"
+                    self.assert_ended(ran, 1, fault(message("NoMatch"), more))
 
 
 class Refused(ProgramCase):

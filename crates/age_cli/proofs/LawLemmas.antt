@@ -1,5 +1,5 @@
 -- What a job that is done has written, where input and output are known.
-use Rattle.std.proofs.Common.{◌≡◌, ◌∙◌, ◌++◌, ◌^◌, ℕ, ap, inl, inr, refl, subst, List, None, Some, Result, Ok, Err}
+use Rattle.std.proofs.Common.{◌≡◌, ◌∙◌, ◌++◌, ◌^◌, ℕ, ap, inl, inr, refl, subst, sym, List, None, Some, Result, Ok, Err}
 use Rattle.std.specs.Prelude.{⊤, ◌↔◌}
 use Rattle.std.specs.Io.KnownBytes.{Appends, Keeps}
 use Rattle.age_header.specs.Device.{Bytes, Known, moved}
@@ -23,6 +23,7 @@ use Rattle.age_commands.specs.declared.task.Task.TheVariants as task
 use Rattle.age_commands.specs.Output.{Ends}
 use Rattle.age_words.specs.JobOf.{IsPiped}
 use Rattle.age_words.proofs.PipedLemmas.{piped}
+use Rattle.age_cli.proofs.ProgramLemmas.{alone}
 use Rattle.age_cli.specs.Program.{Finishes, FinishesWords, IsTaskOf, Works, word_limits}
 use Rattle.age_commands.specs.Secret.{answers_of, limits_of}
 use Rattle.age_commands.specs.Task.{Encrypting, unseen, without_counts}
@@ -94,7 +95,8 @@ encrypted limits fresh gathered plain xs taken new (Err fault) work is e (inl (e
 encrypted limits fresh gathered plain xs taken new (Err fault) work is e (inr (failed, rest)) = absurd (cc)
 encrypted limits fresh gathered plain xs taken new (Ok counts) work is e (inl (ended, keeps)) =
     encrypted_whole limits fresh gathered plain xs taken new counts
-    (of-known (λ x. EncryptsText limits fresh gathered x (moved (Some xs) taken) (Ok counts)) (unseen (Some plain)) plain
+    (of-known (λ x. EncryptsText limits fresh gathered x (moved (Some xs) taken) (Ok counts)) (unseen (Some plain))
+    plain
     refl e.0) keeps
 encrypted limits fresh gathered plain xs taken new (Ok counts) work is e (inr (failed, rest)) = absurd (cc)
 
@@ -111,17 +113,27 @@ pub done_encrypt : (job : Job) (plain xs : Bytes) (new : Known) → job.command 
 done_encrypt job plain xs new one (task, is, w) =
     encrypt_done job plain xs new task (subst (λ (x : Command). IsTaskOf x task) one is) w
 
+decrypts : command.Decrypt ≡ command.Range → ⊥
+decrypts e = cc
+
+encrypts : command.Encrypt ≡ command.Range → ⊥
+encrypts e = cc
+
 -- the same from the words
-pub words_decrypt : OkIsAgeFile → (words : List Bytes) (b xs : Bytes) (new : Known) → IsPiped command.Decrypt words
-    → FinishesWords words (Some b) (moved (Some xs) new) → Gained (word_limits words) b xs new
-words_decrypt law words b xs new pipe (job, makes, done) =
+pub words_decrypt : OkIsAgeFile → (F : Type 0) (remaining contents : F → Known) (words : List Bytes) (b xs : Bytes)
+    (new : Known) → IsPiped command.Decrypt words
+    → FinishesWords F remaining contents words (Some b) (moved (Some xs) new) → Gained (word_limits words) b xs new
+words_decrypt law F remaining contents words b xs new pipe (job, makes, done) =
     let p = piped command.Decrypt words job pipe makes in
     subst (λ (n : ℕ). Gained (record { max_header = n; max_chunks = 2 ^ 88 }) b xs new) p.max_header
-    (done_decrypt law job b xs new p.is (done p.input p.output))
+    (done_decrypt law job b xs new p.is
+    (alone F remaining contents job _ _ p.input p.output (done (λ range. absurd (decrypts (sym p.is ∙ range))))))
 
-pub words_encrypt : (words : List Bytes) (plain xs : Bytes) (new : Known) → IsPiped command.Encrypt words
-    → FinishesWords words (Some plain) (moved (Some xs) new) → Made (word_limits words) plain xs new
-words_encrypt words plain xs new pipe (job, makes, done) =
+pub words_encrypt : (F : Type 0) (remaining contents : F → Known) (words : List Bytes) (plain xs : Bytes) (new : Known)
+    → IsPiped command.Encrypt words → FinishesWords F remaining contents words (Some plain) (moved (Some xs) new)
+    → Made (word_limits words) plain xs new
+words_encrypt F remaining contents words plain xs new pipe (job, makes, done) =
     let p = piped command.Encrypt words job pipe makes in
     subst (λ (n : ℕ). Made (record { max_header = n; max_chunks = 2 ^ 88 }) plain xs new) p.max_header
-    (done_encrypt job plain xs new p.is (done p.input p.output))
+    (done_encrypt job plain xs new p.is
+    (alone F remaining contents job _ _ p.input p.output (done (λ range. absurd (encrypts (sym p.is ∙ range))))))

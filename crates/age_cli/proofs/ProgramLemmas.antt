@@ -1,7 +1,8 @@
 -- What a job comes to, from what its task comes to.
-use Rattle.std.proofs.Common.{◌≡◌, ◌⊎◌, ℕ, List, arith, inl, inr, refl, subst, sym, None, Some, Result, Ok, Err}
+use Rattle.std.proofs.Common.{◌≡◌, ◌⊎◌, ℕ, List, arith, inl, inr, refl, subst, sym, Option, None, Some, Result, Ok, Err}
 use Rattle.std.specs.Prelude.{⊤}
-use Rattle.age_header.specs.Device.{Bytes, Known, Stays, moved}
+use Rattle.age_header.specs.Device.{Bytes, Known, Moved, Stays, moved}
+use Rattle.age_file.specs.declared.fault.Fault.{Fault as FileFault}
 use Rattle.age_job.specs.declared.job.Job.{Job}
 use Rattle.age_words.specs.declared.fault.WordsFault.{WordsFault}
 use Rattle.age_words.specs.declared.fault.WordsFault.TheVariants.{Memory, Refused}
@@ -9,29 +10,92 @@ use Rattle.age_words.specs.JobOf.{AreWrong, AskForText, Reads}
 use Rattle.age_words.proofs.RefusalLemmas.{shown, wrong}
 use Rattle.age_cli.specs.declared.failure.Failure.{Failure}
 use Rattle.age_commands.specs.declared.task.Task.{Task}
-use Rattle.age_cli.specs.Program.{AnswersRefusal, Completes, IsTaskOf, PerformsTo}
+use Rattle.age_cli.specs.Program.{AnswersRefusal, Begins, Completes, Finishes, FinishesOn, IsInput, IsOutput, IsTaskOf, PerformsOn, PerformsTo, Works}
 
-pub completes : (job : Job) (task : Task) (from old new : Known) (r : Result ⊤ Failure) → IsTaskOf job.command task
-    → PerformsTo job task from (moved old new) r → Completes job from (moved old new) r
-completes job task from old new (Ok u) is h = (task, is, h)
-completes job task from old new (Err failure) is (fault, named, inl (refused, keeps)) = inl keeps
-completes job task from old new (Err failure) is (fault, named, inr h) = inr (task, is, fault, h)
+-- IN is a file that was opened, or standard input
+pub file_input : {A : Type 0} (F : Type 0) (remaining : F → Known) (o : Option A) (name : A) (standard : Known)
+    (file : F)
+    → o ≡ Some name → IsInput F remaining o standard (remaining file)
+file_input F remaining None name standard file e = absurd (cc)
+file_input F remaining (Some other) name standard file e = (file, refl)
+
+pub standard_input : {A : Type 0} (F : Type 0) (remaining : F → Known) (o : Option A) (standard : Known) → o ≡ None
+    → IsInput F remaining o standard standard
+standard_input F remaining None standard e = refl
+standard_input F remaining (Some name) standard e = absurd (cc)
+
+input_is : {A : Type 0} (F : Type 0) (remaining : F → Known) (o : Option A) (standard from : Known) → o ≡ None
+    → IsInput F remaining o standard from → from ≡ standard
+input_is F remaining None standard from e h = h
+input_is F remaining (Some name) standard from e h = absurd (cc)
+
+-- the same of OUT
+pub file_output : {A : Type 0} (F : Type 0) (contents : F → Known) (o : Option A) (name : A) (standard : Moved)
+    (old new : F)
+    → o ≡ Some name → IsOutput F contents o standard (moved (contents old) (contents new))
+file_output F contents None name standard old new e = absurd (cc)
+file_output F contents (Some other) name standard old new e = (old, new, refl)
+
+pub standard_output : {A : Type 0} (F : Type 0) (contents : F → Known) (o : Option A) (standard : Moved) → o ≡ None
+    → IsOutput F contents o standard standard
+standard_output F contents None standard e = refl
+standard_output F contents (Some name) standard e = absurd (cc)
+
+output_is : {A : Type 0} (F : Type 0) (contents : F → Known) (o : Option A) (standard sink : Moved) → o ≡ None
+    → IsOutput F contents o standard sink → sink ≡ standard
+output_is F contents None standard sink e h = h
+output_is F contents (Some name) standard sink e h = absurd (cc)
+
+-- what the task comes to on standard output, or on a file
+pub performs : (F : Type 0) (contents : F → Known) (job : Job) (task : Task) (from : Known) (standard sink : Moved)
+    (r : Result ⊤ Failure) → IsOutput F contents job.output standard sink → PerformsTo job task from sink r
+    → PerformsOn F contents job task from standard r
+performs F contents job task from standard sink (Ok u) o h = (sink, o, h)
+performs F contents job task from standard sink (Err failure) o (fault, named, inl (refused, keeps)) = λ silent.
+    inl (subst (λ (s : Moved). Stays s) (output_is F contents job.output standard sink silent o) keeps)
+performs F contents job task from standard sink (Err failure) o (fault, named, inr h) = λ silent.
+    inr (fault, subst (λ (s : Moved). Works job task from s (Err fault))
+    (output_is F contents job.output standard sink silent o) h)
+
+begins : (job : Job) (task : Task) (from : Known) (sink : Moved) → IsTaskOf job.command task
+    → Stays sink ⊎ ((fault : FileFault) × Works job task from sink (Err fault)) → Begins job from sink
+begins job task from sink is (inl keeps) = inl keeps
+begins job task from sink is (inr (fault, h)) = inr (task, is, fault, h)
+
+pub completes : (F : Type 0) (remaining contents : F → Known) (job : Job) (task : Task) (from source : Known)
+    (sink : Moved) (r : Result ⊤ Failure) → IsTaskOf job.command task → IsInput F remaining job.input from source
+    → PerformsOn F contents job task source sink r → Completes F remaining contents job from sink r
+completes F remaining contents job task from source sink (Ok u) is i (target, o, w) = λ other.
+    (source, i, (target, o, (task, is, w)))
+completes F remaining contents job task from source sink (Err failure) is i h = λ none silent.
+    subst (λ (k : Known). Begins job k sink) (input_is F remaining job.input from source none i)
+    (begins job task source sink is (h silent))
+
+-- what is done from standard input to standard output
+pub alone : (F : Type 0) (remaining contents : F → Known) (job : Job) (from : Known) (sink : Moved) → job.input ≡ None
+    → job.output ≡ None → FinishesOn F remaining contents job from sink → Finishes job from sink
+alone F remaining contents job from sink none silent (source, i, (target, o, h)) =
+    subst (λ (k : Known). Finishes job k sink) (input_is F remaining job.input from source none i)
+    (subst (λ (s : Moved). Finishes job source s) (output_is F contents job.output sink target silent o) h)
 
 -- what the status after a refusal says of the words
 module _ (words : List Bytes) (unwritten : Type 0) where
-  pub refused : (fault : WordsFault) (status : ℕ) → Reads words (Err fault) → AnswersRefusal fault status unwritten → status ≡ 2
+  pub refused : (fault : WordsFault) (status : ℕ) → Reads words (Err fault) → AnswersRefusal fault status unwritten
+      → status ≡ 2
       → unwritten × AreWrong words
   refused Memory status h a two = absurd (omega arith)
   refused (Refused error) status h (inl (low, is)) two = absurd (omega arith)
   refused (Refused error) status h (inr (is, stays, hidden)) two = (stays, wrong words error h hidden)
 
-  pub answered : (fault : WordsFault) (status : ℕ) → Reads words (Err fault) → AnswersRefusal fault status unwritten → status ≡ 0
+  pub answered : (fault : WordsFault) (status : ℕ) → Reads words (Err fault) → AnswersRefusal fault status unwritten
+      → status ≡ 0
       → AskForText words
   answered Memory status h a none = absurd (omega arith)
   answered (Refused error) status h (inl (low, is)) none = shown words error h is
   answered (Refused error) status h (inr (two, stays, hidden)) none = absurd (omega arith)
 
-  pub failed : (fault : WordsFault) (status : ℕ) → Reads words (Err fault) → AnswersRefusal fault status unwritten → status ≡ 1
+  pub failed : (fault : WordsFault) (status : ℕ) → Reads words (Err fault) → AnswersRefusal fault status unwritten
+      → status ≡ 1
       → AskForText words ⊎ unwritten
   failed Memory status h a one = inr a.1
   failed (Refused error) status h (inl (low, is)) one = inl (shown words error h is)

@@ -1,5 +1,5 @@
 -- What a job comes to, from its input to its output.
-use Rattle.std.specs.Prelude.{◌≡◌, ◌≤◌, ◌⊎◌, ◌^◌, ℕ, ⊤, List, None, Result, Ok, Err}
+use Rattle.std.specs.Prelude.{◌≡◌, ◌≢◌, ◌≤◌, ◌⊎◌, ◌^◌, ℕ, ⊤, List, Option, None, Some, Result, Ok, Err}
 use Rattle.age_header.specs.Device.{Bytes, Known, Moved, moved, Stays}
 use Rattle.age_file.specs.AgeFile.{Bounds}
 use Rattle.age_file.specs.declared.fault.Fault.{Fault as FileFault}
@@ -42,6 +42,30 @@ PerformsTo job task from sink (Err failure) =
     (fault : FileFault) × (failure.fault ≡ AgeFile fault)
     × (((fault ≡ OutOfMemory) × Stays sink) ⊎ Works job task from sink (Err fault))
 
+-- the bytes to come from IN: from standard input, or from a file that was opened
+abbrev pub IsInput : {A : Type 0} (F : Type 0) (remaining : F → Known) (name : Option A)
+    (standard from : Known) → Type 0
+IsInput F remaining None standard from = from ≡ standard
+IsInput F remaining (Some name) standard from = (file : F) × (from ≡ remaining file)
+
+-- what OUT had before the work and after it: standard output, or a file that was opened
+abbrev pub IsOutput : {A : Type 0} (F : Type 0) (contents : F → Known) (name : Option A)
+    (standard sink : Moved) → Type 0
+IsOutput F contents None standard sink = sink ≡ standard
+IsOutput F contents (Some name) standard sink =
+    (old new : F) × (sink ≡ moved (contents old) (contents new))
+
+-- What a task comes to that writes to OUT: it is done. Or it failed: then standard output is as it
+-- was, or has what the task wrote. Of a file nothing is said then.
+abbrev pub PerformsOn : (F : Type 0) (contents : F → Known) (job : Job) (task : Task)
+    (from : Known) (sink : Moved) (result : Result ⊤ Failure) → Type 0
+PerformsOn F contents job task from sink (Ok _) =
+    (target : Moved) × IsOutput F contents job.output sink target
+    × Works job task from target (Ok tt)
+PerformsOn F contents job task from sink (Err failure) =
+    job.output ≡ None
+    → Stays sink ⊎ ((fault : FileFault) × Works job task from sink (Err fault))
+
 -- a task of the job's command is done
 abbrev pub Finishes : (job : Job) (from : Known) (sink : Moved) → Type 0
 Finishes job from sink =
@@ -54,17 +78,28 @@ Begins job from sink =
     ⊎ ((task : Task) × IsTaskOf job.command task × (fault : FileFault)
     × Works job task from sink (Err fault))
 
--- what the job's work comes to
-abbrev pub Completes : (job : Job) (from : Known) (sink : Moved) (result : Result ⊤ Failure)
-    → Type 0
-Completes job from sink (Ok _) = Finishes job from sink
-Completes job from sink (Err failure) = Begins job from sink
+-- A task of the job's command is done, from its IN to its OUT. F has the files, with what they are
+-- known to give and to have taken.
+abbrev pub FinishesOn : (F : Type 0) (remaining contents : F → Known) (job : Job) (from : Known)
+    (sink : Moved) → Type 0
+FinishesOn F remaining contents job from sink =
+    (source : Known) × IsInput F remaining job.input from source
+    × ((target : Moved) × IsOutput F contents job.output sink target × Finishes job source target)
 
--- the words make a job, and it is done where it reads the input and writes the output
-abbrev pub FinishesWords : (words : List Bytes) (from : Known) (sink : Moved) → Type 0
-FinishesWords words from sink =
+-- what the job's work comes to, but for `range`
+abbrev pub Completes : (F : Type 0) (remaining contents : F → Known) (job : Job) (from : Known)
+    (sink : Moved) (result : Result ⊤ Failure) → Type 0
+Completes F remaining contents job from sink (Ok _) =
+    job.command ≢ command.Range → FinishesOn F remaining contents job from sink
+Completes F remaining contents job from sink (Err failure) =
+    job.input ≡ None → job.output ≡ None → Begins job from sink
+
+-- the words make a job, and it is done
+abbrev pub FinishesWords : (F : Type 0) (remaining contents : F → Known) (words : List Bytes)
+    (from : Known) (sink : Moved) → Type 0
+FinishesWords F remaining contents words from sink =
     (job : Job) × Makes words job
-    × (job.input ≡ None → job.output ≡ None → Finishes job from sink)
+    × (job.command ≢ command.Range → FinishesOn F remaining contents job from sink)
 
 -- the limits that the words set
 abbrev pub word_limits : (words : List Bytes) → Bounds

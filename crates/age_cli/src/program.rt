@@ -3,15 +3,15 @@ ghost use Rattle.std.specs.Prelude.{◌≡◌, ◌≢◌, ◌≤◌, ◌⊎◌, 
 ghost use Rattle.age_job.specs.Job.{IsInRange};
 ghost use Rattle.age_words.specs.JobOf.{AreWrong, AskForText};
 ghost use Rattle.age_cli.specs.Program.{AnswersRefusal, Begins, BeginsWords, FinishesWords};
-ghost use Rattle.age_cli.specs.Program.{Completes, Finishes, IsTaskOf, PerformsTo};
+ghost use Rattle.age_cli.specs.Program.{Completes, FinishesOn, IsTaskOf, PerformsOn};
 ghost use Rattle.age_header.specs.Device.{Stays, moved_by};
 
 use crate::failure::Failure;
 use crate::work::{kept_prefix, perform_to, range_to};
 use age_commands::{Seed, Task, seed_of};
 use age_job::{
-    Command, Job, Lines, SEED_LEN, Watched, create, open, open_seekable, read_encrypt_secrets,
-    read_file_key, read_rewrap_secrets, read_secret, refuse_terminal,
+    Command, Job, Lines, ReadFiles, SEED_LEN, Watched, create, read_encrypt_secrets, read_file_key,
+    read_rewrap_secrets, read_secret,
 };
 use age_words::{WordsFault, read_words};
 use std::alloc::Global;
@@ -45,7 +45,8 @@ pub fn run<F: Files + AllocGlobal, R: Read, W: Write + IsTerminal, E: Write>(
         × AreWrong (map (λ word. word.now) words.now) }
     ensures quiet { result ≡ 0 → err.new ≡ err.old }
     ensures finishes { result ≡ 0 → AskForText (map (λ word. word.now) words.now)
-        ⊎ FinishesWords (map (λ word. word.now) words.now) (R.remaining input.old)
+        ⊎ FinishesWords F.File ⟦<F::File as Read>⟧.remaining ⟦<F::File as Write>⟧.contents
+        (map (λ word. word.now) words.now) (R.remaining input.old)
         (moved_by W.contents out.old out.new) }
     ensures begins { result ≡ 1 → AskForText (map (λ word. word.now) words.now)
         ⊎ (Stays (moved_by W.contents out.old out.new)
@@ -69,8 +70,11 @@ pub fn run_job<F: Files + AllocGlobal, R: Read, W: Write + IsTerminal, E: Write>
     requires { IsInRange job.now }
     ensures status { result ≤ 1 }
     ensures quiet { result ≡ 0 → err.new ≡ err.old }
-    ensures finishes { result ≡ 0 → job.now.input ≡ None → job.now.output ≡ None
-        → Finishes job.now (R.remaining input.old) (moved_by W.contents out.old out.new) }
+    ensures finishes { result ≡ 0 → job.now.command ≢ Command.Range
+        → FinishesOn F.File ⟦<F::File as Read>⟧.remaining ⟦<F::File as Write>⟧.contents job.now
+        (R.remaining input.old) (moved_by W.contents out.old out.new) }
+    ensures input { job.now.input ≢ None → input.new ≡ input.old }
+    ensures output { job.now.output ≢ None → out.new ≡ out.old }
     ensures begins { result ≡ 1 → job.now.input ≡ None → job.now.output ≡ None
         → Begins job.now (R.remaining input.old) (moved_by W.contents out.old out.new) }
 {
@@ -89,40 +93,50 @@ fn perform<'a, F: Files + AllocGlobal, R: Read, W: Write + IsTerminal>(
     out: &mut W,
 ) -> Result<(), Failure<'a>>
     requires { IsInRange job.now }
-    ensures { job.now.input ≡ None → job.now.output ≡ None
-        → Completes job.now (R.remaining input.old) (moved_by W.contents out.old out.new)
-        result }
+    ensures completes { Completes F.File ⟦<F::File as Read>⟧.remaining
+        ⟦<F::File as Write>⟧.contents job.now (R.remaining input.old)
+        (moved_by W.contents out.old out.new) result }
+    ensures input { job.now.input ≢ None → input.new ≡ input.old }
+    ensures output { job.now.output ≢ None → out.new ≡ out.old }
 {
-    refuse_terminal(job, out)?;
+    let mut read = ReadFiles::new(rt, job);
     if job.command == Command::Range {
-        return perform_range(rt, job, out);
+        return perform_range(rt, job, &mut read, out);
     }
-    let task = task_of(rt, job)?;
+    let task = task_of(rt, job, &mut read, out)?;
     match &job.input {
         Some(name) => {
-            let mut file = open(rt, name.as_str())?;
-            perform_on(rt, job, task, &mut file, out)
+            let mut file = read.open_input(rt, name.as_str())?;
+            perform_on(rt, job, &read, task, &mut file, out)
         }
-        None => perform_on(rt, job, task, input, out),
+        None => {
+            read.add_standard_input()?;
+            perform_on(rt, job, &read, task, input, out)
+        }
     }
 }
 
 /// The task of a job that reads its input from the start to the end.
-fn task_of<'a, F: Files + AllocGlobal>(rt: &F, job: &'a Job) -> Result<Task, age_job::Failure<'a>>
+fn task_of<'a, F: Files + AllocGlobal, W: IsTerminal>(
+    rt: &F,
+    job: &'a Job,
+    read: &mut ReadFiles<'a>,
+    out: &W,
+) -> Result<Task, age_job::Failure<'a>>
     requires { job.now.command ≢ Command.Range }
     ensures { IfOk result (IsTaskOf job.now.command) }
 {
     match job.command {
         Command::Encrypt => {
-            let (secret, seed) = read_encrypt_secrets(rt, job)?;
+            let (secret, seed) = read_encrypt_secrets(rt, job, read, out)?;
             Ok(Task::Encrypt(secret, seed_from(&seed)))
         }
-        Command::Decrypt => Ok(Task::Decrypt(read_secret(rt, job)?)),
+        Command::Decrypt => Ok(Task::Decrypt(read_secret(rt, job, read)?)),
         Command::Rewrap => {
-            let (old, new, seed) = read_rewrap_secrets(rt, job)?;
+            let (old, new, seed) = read_rewrap_secrets(rt, job, read, out)?;
             Ok(Task::Rewrap(old, new, seed_from(&seed).salt))
         }
-        Command::Inspect => Ok(Task::Inspect(read_file_key(rt, job)?)),
+        Command::Inspect => Ok(Task::Inspect(read_file_key(rt, job, read)?)),
         Command::Range => unreachable!(),
     }
 }
@@ -139,24 +153,29 @@ fn seed_from(bytes: &[u8; SEED_LEN]) -> Seed {
 fn perform_range<'a, F: Files + AllocGlobal, W: Write>(
     rt: &F,
     job: &'a Job,
+    read: &mut ReadFiles<'a>,
     out: &mut W,
 ) -> Result<(), Failure<'a>>
     requires range { IsInRange job.now }
     requires command { job.now.command ≡ Command.Range }
+    ensures output { job.now.output ≢ None → out.new ≡ out.old }
 {
-    let secret = read_secret(rt, job)?;
+    let secret = read_secret(rt, job, read)?;
     let Some(name) = &job.input else {
         unreachable!();
     };
-    let file = open_seekable(rt, name.as_str())?;
+    let file = read.open_seekable(rt, name.as_str())?;
     let mut input = Watched::new(rt.alloc(), file, kept_prefix(job));
     match &job.output {
         Some(name) => {
-            let mut output = create(rt, job, name.as_str())?;
+            let mut output = create(rt, job, read, name.as_str())?;
             range_to(rt.alloc(), job, secret, &mut input, &mut output)?;
             Ok(output.finish(name.as_str())?)
         }
-        None => range_to(rt.alloc(), job, secret, &mut input, out),
+        None => {
+            read.refuse_standard_output()?;
+            range_to(rt.alloc(), job, secret, &mut input, out)
+        }
     }
 }
 
@@ -164,22 +183,27 @@ fn perform_range<'a, F: Files + AllocGlobal, W: Write>(
 fn perform_on<'a, F: Files + AllocGlobal, R: Read, W: Write>(
     rt: &F,
     job: &'a Job,
+    read: &ReadFiles<'a>,
     task: Task,
     input: &mut R,
     out: &mut W,
 ) -> Result<(), Failure<'a>>
     requires { IsInRange job.now }
-    ensures { job.now.output ≡ None → PerformsTo job.now task (R.remaining input.old)
-        (moved_by W.contents out.old out.new) result }
+    ensures performs { PerformsOn F.File ⟦<F::File as Write>⟧.contents job.now task
+        (R.remaining input.old) (moved_by W.contents out.old out.new) result }
+    ensures output { job.now.output ≢ None → out.new ≡ out.old }
 {
     let mut input = Watched::new(rt.alloc(), input, kept_prefix(job));
     match &job.output {
         Some(name) => {
-            let mut output = create(rt, job, name.as_str())?;
+            let mut output = create(rt, job, read, name.as_str())?;
             perform_to(rt.alloc(), job, task, &mut input, &mut output)?;
             Ok(output.finish(name.as_str())?)
         }
-        None => perform_to(rt.alloc(), job, task, &mut input, out),
+        None => {
+            read.refuse_standard_output()?;
+            perform_to(rt.alloc(), job, task, &mut input, out)
+        }
     }
 }
 

@@ -171,21 +171,24 @@ fn type_of(stanza: &Stanza) -> &str {
 /// Writes the types of these stanzas, and who opens them.
 fn write_stanzas<W: fmt::Write>(stanzas: &[Stanza], f: &mut fmt::Formatter<W>) -> fmt::Result {
     f.write_str("its stanzas are of type ")?;
-    let mut left = MOST_TYPES;
-    for (index, stanza) in stanzas.iter().enumerate() {
+    // No type is empty, so an empty name is a free place.
+    let mut named = [""; MOST_TYPES];
+    let mut count = 0usize;
+    for stanza in stanzas {
         let name = type_of(stanza);
-        if has_type(&stanzas[..index], name) {
+        if named.contains(&name) {
             continue;
         }
-        if left == 0 {
+        let Some(free) = named.get_mut(count) else {
             f.write_str(", ..")?;
             break;
-        }
-        if left < MOST_TYPES {
+        };
+        *free = name;
+        if count > 0 {
             f.write_str(", ")?;
         }
         f.write_str(name)?;
-        left -= 1;
+        count = count.saturating_add(1);
     }
     f.write_str(if has_type(stanzas, "scrypt") {
         "; -p opens it"

@@ -29,6 +29,7 @@ pub enum Detail<'a> {
 #[derive(Clone, Copy, Debug, PartialEq, Eq)]
 pub enum Doing {
     Opening,
+    Identifying,
     Creating,
     Reading,
     Writing,
@@ -80,6 +81,7 @@ impl fmt::Display for Doing {
     fn fmt<W: fmt::Write>(&self, f: &mut fmt::Formatter<W>) -> fmt::Result {
         f.write_str(match self {
             Doing::Opening => "opening",
+            Doing::Identifying => "identifying",
             Doing::Creating => "creating",
             Doing::Reading => "reading",
             Doing::Writing => "writing",

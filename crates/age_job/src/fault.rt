@@ -20,6 +20,8 @@ pub enum Fault<'a> {
     NewKeyChoice,
     CannotOpen(Name<'a>),
     CannotCreate(Name<'a>),
+    /// The system does not say which file this is, so it may be one that is written or read too.
+    Unidentified(Name<'a>),
     /// The file to write is one that is read.
     OutputIsRead(Role, Name<'a>),
     /// Standard input has two roles.
@@ -56,6 +58,7 @@ impl fmt::Display for Fault<'_> {
             Fault::NewKeyChoice => f.write_str("give one of -P and -K"),
             Fault::CannotOpen(name) => write!(f, "cannot open {name}"),
             Fault::CannotCreate(name) => write!(f, "cannot create {name}"),
+            Fault::Unidentified(name) => write!(f, "cannot tell which file {name} is"),
             Fault::OutputIsRead(role, name) => write!(f, "OUT is also {role}: {name}"),
             Fault::StandardInputTwice(one, other) if one == other => {
                 write!(f, "standard input cannot be {one} twice")

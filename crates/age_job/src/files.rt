@@ -1,21 +1,17 @@
-//! The files that the arguments name for reading, and which of them are the same.
+//! The files that a job reads, and which of them are the same.
 
-ghost use Rattle.std.specs.Prelude.{◌≡◌, ◌&&◌, nat_eq};
+ghost use Rattle.std.specs.Prelude.{◌≡◌, take, IfOk, IfSome};
 
 use crate::failure::{Doing, Failure};
 use crate::fault::Fault;
 use crate::file_names::{Name, Role};
+use crate::inode::{Inode, STANDARD_INPUT, STANDARD_OUTPUT};
 use crate::job::Job;
 use std::alloc::{AllocError, Global};
-use std::fs::Metadata;
+use std::fs::OpenFile;
 use std::io::{ErrorKind, Read, Seek, SeekFrom};
-use std::os::unix::fs::{FileTypeExt, MetadataExt};
 use std::rt::Files;
 use std::{fs, io};
-
-/// The name of a process's standard input. By it the file is found: the standard library has no
-/// metadata of a standard stream for code that is generic over its reader.
-const STANDARD_INPUT: &str = "/dev/stdin";
 
 /// The maximum size of a small file in bytes.
 pub(crate) const MOST_SMALL: usize = 65_536;
@@ -27,46 +23,180 @@ pub(crate) struct NamedFile<'a> {
     pub(crate) name: &'a str,
 }
 
-/// Opens the file of this name for reading. A folder opens, and its read fails.
-pub fn open<'a, F: Files>(rt: &F, name: &'a str) -> Result<F::File, Failure<'a>> {
-    match fs::open(rt, name) {
-        Ok(file) => Ok(file),
-        Err(reason) => Err(cannot_open(name, reason)),
-    }
+/// The files that a job has opened to read. What is to be written is compared with them.
+#[derive(Drop)]
+pub struct ReadFiles<'a> {
+    /// Each file, and which one it is, if the system says so. IN is the first.
+    files: Vec<(NamedFile<'a>, Option<Inode>)>,
+    /// Which files standard input and output were at first, if the system says so: not of one that
+    /// is closed, or where /proc is missing.
+    standard: Option<Inode>,
+    standard_output: Option<Inode>,
+    /// The role of standard input, if it has one.
+    standard_role: Option<Role>,
 }
 
 fn cannot_open<'a>(name: &'a str, reason: io::Error) -> Failure<'a> {
     Failure::of_system(Fault::CannotOpen(Name(name)), Doing::Opening, name, reason)
 }
 
-/// Opens the file of this name to be read at offsets, which a pipe or a terminal cannot be.
-pub fn open_seekable<'a, F: Files>(rt: &F, name: &'a str) -> Result<F::File, Failure<'a>> {
-    let mut file = open(rt, name)?;
-    match file.seek(SeekFrom::Start(0)) {
-        Ok(_) => Ok(file),
+pub(crate) fn unidentified<'a>(name: &'a str, reason: io::Error) -> Failure<'a> {
+    Failure::of_system(Fault::Unidentified(Name(name)), Doing::Identifying, name, reason)
+}
+
+impl<'a> ReadFiles<'a> {
+    /// The files of a job of which none was opened yet.
+    pub fn new<F: Files + AllocGlobal>(rt: &F, job: &'a Job) -> ReadFiles<'a> {
+        let mut read = ReadFiles {
+            files: Vec::new(rt.alloc()),
+            standard: Inode::at(rt, STANDARD_INPUT),
+            standard_output: Inode::at(rt, STANDARD_OUTPUT),
+            standard_role: None,
+        };
+        let is_standard = match &job.input {
+            Some(name) => read.is_named_standard(rt, name.as_str()),
+            None => true,
+        };
+        if is_standard {
+            read.standard_role = Some(Role::Input);
+        }
+        read
+    }
+
+    /// Opens IN, the file of this name. A folder opens, and its read fails.
+    pub fn open_input<F: Files>(&mut self, rt: &F, name: &'a str) -> Result<F::File, Failure<'a>> {
+        let file = open(rt, name)?;
+        let inode = match file.metadata() {
+            Ok(found) => Some(Inode::of(&found)),
+            Err(_) => None,
+        };
+        self.add_input(name, inode)?;
+        Ok(file)
+    }
+
+    /// Opens IN to be read at offsets, which a pipe or a terminal cannot be.
+    pub fn open_seekable<F: Files>(
+        &mut self,
+        rt: &F,
+        name: &'a str,
+    ) -> Result<F::File, Failure<'a>> {
+        let mut file = self.open_input(rt, name)?;
+        match file.seek(SeekFrom::Start(0)) {
+            Ok(_) => Ok(file),
+            Err(reason) => Err(cannot_open(name, reason)),
+        }
+    }
+
+    /// IN is standard input.
+    pub fn add_standard_input(&mut self) -> Result<(), AllocError> {
+        self.add_input("standard input", self.standard)
+    }
+
+    fn add_input(&mut self, name: &'a str, inode: Option<Inode>) -> Result<(), AllocError> {
+        let role = Role::Input;
+        self.files.insert(0, (NamedFile { role, name }, inode))?;
+        Ok(())
+    }
+
+    /// Opens the small file that an option names. Standard input has one role at most: bytes read
+    /// as a small file would be missing in IN, or in another small file.
+    pub(crate) fn open_small<F: Files>(
+        &mut self,
+        rt: &F,
+        named: NamedFile<'a>,
+    ) -> Result<F::File, Failure<'a>> {
+        let NamedFile { role, name } = named;
+        if let Some(other) = self.standard_role && self.is_named_standard(rt, name) {
+            return Err(Fault::StandardInputTwice(other, role).into());
+        }
+        let file = open(rt, name)?;
+        let inode = match file.metadata() {
+            Ok(found) => Inode::of(&found),
+            Err(reason) => return Err(unidentified(name, reason)),
+        };
+        if self.is_standard(&inode) {
+            if let Some(other) = self.standard_role {
+                return Err(Fault::StandardInputTwice(other, role).into());
+            }
+            self.standard_role = Some(role);
+        }
+        self.files.push((named, Some(inode)))?;
+        Ok(file)
+    }
+
+    /// Whether a read of this file consumes standard input. A character device, such as
+    /// `/dev/null`, does not count, since one reader of it takes nothing from another.
+    fn is_standard(&self, inode: &Inode) -> bool {
+        match &self.standard {
+            Some(standard) => !inode.is_char_device && standard.is(inode),
+            None => false,
+        }
+    }
+
+    /// Whether the file of this name is standard input, by its name too.
+    fn is_named_standard<F: Files>(&self, rt: &F, name: &str) -> bool {
+        if matches!(name, "/dev/stdin" | "/dev/fd/0" | "/proc/self/fd/0") {
+            return true;
+        }
+        match Inode::at(rt, name) {
+            Some(inode) => self.is_standard(&inode),
+            None => false,
+        }
+    }
+
+    /// Refuses secrets of which two are standard input, before any is opened.
+    pub(crate) fn refuse_shared_input<F: Files + AllocGlobal>(
+        &self,
+        rt: &F,
+        job: &'a Job,
+    ) -> Result<(), Failure<'a>> {
+        let mut earlier = None;
+        for file in secrets_of(rt.alloc(), job)?.as_slice() {
+            if self.is_named_standard(rt, file.name) {
+                if let Some(role) = earlier {
+                    return Err(Fault::StandardInputTwice(role, file.role).into());
+                }
+                earlier = Some(file.role);
+            }
+        }
+        Ok(())
+    }
+
+    /// Refuses to write this file if it is regular and the job reads it, or may read it.
+    pub(crate) fn refuse(&self, out: &Inode, name: &'a str) -> Result<(), Fault<'a>> {
+        for (file, inode) in self.files.as_slice() {
+            if out.is_regular && inode.is_none() {
+                return Err(Fault::Unidentified(Name(file.name)));
+            }
+        }
+        self.refuse_same(out, name)
+    }
+
+    fn refuse_same(&self, out: &Inode, name: &'a str) -> Result<(), Fault<'a>> {
+        for (file, inode) in self.files.as_slice() {
+            match inode {
+                Some(inode) if out.is_regular && inode.is(out) => {
+                    return Err(Fault::OutputIsRead(file.role, Name(name)));
+                }
+                _ => {}
+            }
+        }
+        Ok(())
+    }
+
+    /// Refuses standard output if it is a regular file that the job reads: it would grow meanwhile.
+    pub fn refuse_standard_output(&self) -> Result<(), Fault<'a>> {
+        match &self.standard_output {
+            Some(out) => self.refuse_same(out, "standard output"),
+            None => Ok(()),
+        }
+    }
+}
+
+fn open<'a, F: Files>(rt: &F, name: &'a str) -> Result<F::File, Failure<'a>> {
+    match fs::open(rt, name) {
+        Ok(file) => Ok(file),
         Err(reason) => Err(cannot_open(name, reason)),
-    }
-}
-
-/// Opens the small file that an option names for reading. Standard input is refused if it is IN:
-/// bytes read as a small file would be missing in IN.
-pub(crate) fn open_small<'a, F: Files>(
-    rt: &F,
-    job: &Job,
-    named: NamedFile<'a>,
-) -> Result<F::File, Failure<'a>> {
-    let NamedFile { role, name } = named;
-    if reads_standard_input(rt, job) && is_standard_input(rt, name) {
-        return Err(Fault::StandardInputTwice(Role::Input, role).into());
-    }
-    open(rt, name)
-}
-
-/// Whether IN is standard input: not given, or named so.
-fn reads_standard_input<F: Files>(rt: &F, job: &Job) -> bool {
-    match &job.input {
-        Some(name) => is_standard_input(rt, name.as_str()),
-        None => true,
     }
 }
 
@@ -111,92 +241,6 @@ fn add_all<'a>(
     Ok(())
 }
 
-/// Refuses secrets of which two are standard input: bytes read for one would be missing in the
-/// other.
-pub(crate) fn refuse_shared_input<'a, F: Files + AllocGlobal>(
-    rt: &F,
-    job: &'a Job,
-) -> Result<(), Failure<'a>> {
-    let mut earlier = None;
-    for file in secrets_of(rt.alloc(), job)?.as_slice() {
-        if is_standard_input(rt, file.name) {
-            if let Some(role) = earlier {
-                return Err(Fault::StandardInputTwice(role, file.role).into());
-            }
-            earlier = Some(file.role);
-        }
-    }
-    Ok(())
-}
-
-/// Refuses to write a regular file of this name if the job reads it too.
-pub(crate) fn refuse_read_file<'a, F: Files + AllocGlobal>(
-    rt: &F,
-    job: &'a Job,
-    name: &'a str,
-) -> Result<(), Failure<'a>> {
-    match fs::metadata(rt, name) {
-        Ok(out) if out.is_file() => match role_of(rt, job, &out)? {
-            Some(role) => Err(Fault::OutputIsRead(role, Name(name)).into()),
-            None => Ok(()),
-        },
-        _ => Ok(()),
-    }
-}
-
-/// The role of this file in the job, if the job reads it.
-fn role_of<F: Files + AllocGlobal>(
-    rt: &F,
-    job: &Job,
-    file: &Metadata,
-) -> Result<Option<Role>, AllocError> {
-    if is_named(rt, file, &job.input) || job.input.is_none() && is_at(rt, file, STANDARD_INPUT) {
-        return Ok(Some(Role::Input));
-    }
-    for secret in secrets_of(rt.alloc(), job)?.as_slice() {
-        if is_at(rt, file, secret.name) {
-            return Ok(Some(secret.role));
-        }
-    }
-    Ok(None)
-}
-
-/// Whether there is a name, and it leads to this file.
-fn is_named<F: Files>(rt: &F, file: &Metadata, name: &Option<String>) -> bool {
-    match name {
-        Some(name) => is_at(rt, file, name.as_str()),
-        None => false,
-    }
-}
-
-/// Whether this name leads to this file, through links too.
-fn is_at<F: Files>(rt: &F, file: &Metadata, name: &str) -> bool {
-    match fs::metadata(rt, name) {
-        Ok(found) => is_same_inode((found.dev(), found.ino()), (file.dev(), file.ino())),
-        Err(_) => false,
-    }
-}
-
-/// Whether these pairs, of a device and the number of an inode on it, are one inode.
-fn is_same_inode(one: (u64, u64), other: (u64, u64)) -> bool
-    ensures { result ≡ (nat_eq one.0 other.0 && nat_eq one.1 other.1) }
-{
-    one.0 == other.0 && one.1 == other.1
-}
-
-/// Whether a read of the file of this name consumes standard input. A character device, such as
-/// `/dev/null`, counts as standard input only by its names, since one reader of it takes nothing
-/// from another.
-fn is_standard_input<F: Files>(rt: &F, name: &str) -> bool {
-    if name == STANDARD_INPUT || name == "/dev/fd/0" || name == "/proc/self/fd/0" {
-        return true;
-    }
-    match fs::metadata(rt, name) {
-        Ok(file) => !file.file_type().is_char_device() && is_at(rt, &file, STANDARD_INPUT),
-        Err(_) => false,
-    }
-}
-
 /// Reads this file, at most so many bytes of it. The standard library tries an interrupted read
 /// again here, and only here.
 pub(crate) fn read_prefix<'a, R: Read + Drop>(
@@ -204,7 +248,10 @@ pub(crate) fn read_prefix<'a, R: Read + Drop>(
     name: &'a str,
     file: R,
     most: usize,
-) -> Result<Vec<u8>, Failure<'a>> {
+) -> Result<Vec<u8>, Failure<'a>>
+    ensures { IfOk result
+        (λ bytes. IfSome (R.remaining file) (λ xs. bytes.items ≡ take most xs)) }
+{
     let mut bytes = Vec::new(alloc);
     match file.take(most as u64).read_to_end(&mut bytes) {
         Ok(_) => Ok(bytes),

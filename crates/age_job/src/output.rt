@@ -5,11 +5,12 @@ ghost use Rattle.age_job.specs.Mode.{new_mode};
 use crate::failure::{Doing, Failure};
 use crate::fault::Fault;
 use crate::file_names::Name;
-use crate::files::refuse_read_file;
+use crate::files::{ReadFiles, unidentified};
+use crate::inode::Inode;
 use crate::job::{Command, Job};
 use std::fs::{OpenFile, OpenOptions};
 use std::io;
-use std::io::{IsTerminal, Write};
+use std::io::{ErrorKind, IsTerminal, Write};
 use std::os::unix::fs::OpenOptionsExt;
 use std::rt::Files;
 
@@ -19,7 +20,7 @@ const PLAINTEXT_MODE: u32 = 0o600;
 /// The mode of any other new file, less the umask.
 const FILE_MODE: u32 = 0o666;
 
-/// A file to write. A regular file keeps its contents until the first byte is written to it, or the
+/// A file to write. A regular file keeps its contents until the first write to it, or until the
 /// command succeeds.
 #[derive(Drop)]
 pub struct Output<F> {
@@ -29,44 +30,44 @@ pub struct Output<F> {
     is_stale: bool,
 }
 
-/// Opens the file of this name for writing, and creates it if it does not exist.
-pub fn create<'a, F: Files + AllocGlobal>(
+/// Opens the file of this name for writing, and creates it if it does not exist. A regular file that
+/// was there is refused if the job reads it.
+pub fn create<'a, F: Files>(
     rt: &F,
     job: &'a Job,
+    read: &ReadFiles<'a>,
     name: &'a str,
 ) -> Result<Output<F::File>, Failure<'a>> {
-    refuse_read_file(rt, job, name)?;
-    match open_output(rt, new_mode(job.command), name) {
-        Ok(output) => Ok(output),
-        Err(reason) => {
-            let fault = Fault::CannotCreate(Name(name));
-            Err(Failure::of_system(fault, Doing::Creating, name, reason))
-        }
+    let mut options = OpenOptions::new();
+    options.write(true).create_new(true).mode(new_mode(job.command));
+    match options.open(rt, name) {
+        Ok(file) => return Ok(Output::over(file, true)),
+        Err(reason) if reason.kind() == ErrorKind::AlreadyExists => {}
+        Err(reason) => return Err(cannot_create(name, reason)),
     }
+    options.create_new(false).create(true);
+    let file = match options.open(rt, name) {
+        Ok(file) => file,
+        Err(reason) => return Err(cannot_create(name, reason)),
+    };
+    let inode = match file.metadata() {
+        Ok(found) => Inode::of(&found),
+        Err(reason) => return Err(unidentified(name, reason)),
+    };
+    read.refuse(&inode, name)?;
+    Ok(Output::over(file, inode.is_regular))
+}
+
+fn cannot_create<'a>(name: &'a str, reason: io::Error) -> Failure<'a> {
+    Failure::of_system(Fault::CannotCreate(Name(name)), Doing::Creating, name, reason)
 }
 
 /// Refuses to write an age file, which is no text, to a terminal.
-pub fn refuse_terminal<'a, W: IsTerminal>(job: &Job, out: &W) -> Result<(), Fault<'a>> {
-    match job.command {
-        Command::Encrypt | Command::Rewrap if job.output.is_none() && out.is_terminal() => {
-            Err(Fault::OutputIsTerminal)
-        }
-        _ => Ok(()),
+pub(crate) fn refuse_terminal<'a, W: IsTerminal>(job: &Job, out: &W) -> Result<(), Fault<'a>> {
+    if job.output.is_none() && out.is_terminal() {
+        return Err(Fault::OutputIsTerminal);
     }
-}
-
-fn open_output<F: Files>(rt: &F, mode: u32, name: &str) -> io::Result<Output<F::File>>
-    ensures { IfOk result (λ output. output.is_stale ≡ output.is_regular) }
-{
-    let mut options = OpenOptions::new();
-    options.write(true).create(true).mode(mode);
-    let file = options.open(rt, name)?;
-    let is_regular = file.metadata()?.is_file();
-    Ok(Output {
-        file,
-        is_regular,
-        is_stale: is_regular,
-    })
+    Ok(())
 }
 
 /// The mode of a file that this command creates, from which the system subtracts the umask.
@@ -80,6 +81,16 @@ fn new_mode(command: Command) -> u32
 }
 
 impl<F: OpenFile> Output<F> {
+    fn over(file: F, is_regular: bool) -> Output<F>
+        ensures { result.is_stale ≡ is_regular }
+    {
+        Output {
+            file,
+            is_regular,
+            is_stale: is_regular,
+        }
+    }
+
     /// Truncates a file that may still have its old contents.
     fn empty(&mut self) -> io::Result<()>
         ensures emptied { IsOk result → self.new.is_stale ≡ false }

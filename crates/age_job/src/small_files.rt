@@ -3,11 +3,13 @@
 use crate::failure::{Detail, Failure};
 use crate::fault::Fault;
 use crate::file_names::{Name, Role};
-use crate::files::{MOST_SMALL, NamedFile, open_small, read_prefix, refuse_shared_input};
+use crate::files::{MOST_SMALL, NamedFile, ReadFiles, read_prefix};
 use crate::job::Job;
+use crate::output::refuse_terminal;
 use crate::ranges::DEFAULT_SEED;
 use crate::secret::{SEED_LEN, Secret, exactly, without_line_end};
 use std::fs::OpenFile;
+use std::io::IsTerminal;
 use std::os::unix::fs::FileTypeExt;
 use std::rt::Files;
 
@@ -15,40 +17,49 @@ use std::rt::Files;
 pub fn read_secret<'a, F: Files + AllocGlobal>(
     rt: &F,
     job: &'a Job,
+    read: &mut ReadFiles<'a>,
 ) -> Result<Secret, Failure<'a>> {
     let files = secret_files(job)?;
-    refuse_shared_input(rt, job)?;
-    read_from(rt, job, files)
+    read.refuse_shared_input(rt, job)?;
+    read_from(rt, read, files)
 }
 
-/// The secret and the seed of a new file.
-pub fn read_encrypt_secrets<'a, F: Files + AllocGlobal>(
+/// The secret and the seed of a new file, which `out` receives if the job names no OUT.
+pub fn read_encrypt_secrets<'a, F: Files + AllocGlobal, W: IsTerminal>(
     rt: &F,
     job: &'a Job,
+    read: &mut ReadFiles<'a>,
+    out: &W,
 ) -> Result<(Secret, [u8; SEED_LEN]), Failure<'a>> {
     let files = secret_files(job)?;
-    refuse_shared_input(rt, job)?;
-    let secret = read_new_from(rt, job, files)?;
-    Ok((secret, read_seed(rt, job)?))
+    refuse_terminal(job, out)?;
+    read.refuse_shared_input(rt, job)?;
+    let secret = read_new_from(rt, read, files)?;
+    Ok((secret, read_seed(rt, job, read)?))
 }
 
-/// The old secret and the new one, whose files the arguments must name, and the seed.
-pub fn read_rewrap_secrets<'a, F: Files + AllocGlobal>(
+/// The old secret and the new one, whose files the arguments must name, and the seed, of a file
+/// that `out` receives if the job names no OUT.
+pub fn read_rewrap_secrets<'a, F: Files + AllocGlobal, W: IsTerminal>(
     rt: &F,
     job: &'a Job,
+    read: &mut ReadFiles<'a>,
+    out: &W,
 ) -> Result<(Secret, Secret, [u8; SEED_LEN]), Failure<'a>> {
     let old = secret_files(job)?;
     let new = new_secret_files(job)?;
-    refuse_shared_input(rt, job)?;
-    let old = read_from(rt, job, old)?;
-    let new = read_new_from(rt, job, new)?;
-    Ok((old, new, read_seed(rt, job)?))
+    refuse_terminal(job, out)?;
+    read.refuse_shared_input(rt, job)?;
+    let old = read_from(rt, read, old)?;
+    let new = read_new_from(rt, read, new)?;
+    Ok((old, new, read_seed(rt, job, read)?))
 }
 
 /// The file key under which the header is to be checked.
 pub fn read_file_key<'a, F: Files + AllocGlobal>(
     rt: &F,
     job: &'a Job,
+    read: &mut ReadFiles<'a>,
 ) -> Result<Option<[u8; 16]>, Failure<'a>> {
     match &job.file_key {
         Some(name) if !job.raw => {
@@ -56,7 +67,7 @@ pub fn read_file_key<'a, F: Files + AllocGlobal>(
                 role: Role::FileKey,
                 name: name.as_str(),
             };
-            Ok(Some(read_just(rt, job, named, Fault::FileKeyLength)?))
+            Ok(Some(read_just(rt, read, named, Fault::FileKeyLength)?))
         }
         _ => Ok(None),
     }
@@ -102,12 +113,12 @@ fn key_files<'a>(role: Role, first: &'a String, more: &'a [String]) -> SecretFil
 /// The passphrase or the keys of these files, to open a file.
 fn read_from<'a, F: Files + AllocGlobal>(
     rt: &F,
-    job: &'a Job,
+    read: &mut ReadFiles<'a>,
     files: SecretFiles<'a>,
 ) -> Result<Secret, Failure<'a>> {
     match files {
-        SecretFiles::Passphrase(named) => Ok(Secret::Passphrase(read_passphrase(rt, job, named)?)),
-        SecretFiles::Keys(first, more) => Ok(Secret::Keys(read_keys(rt, job, first, more)?)),
+        SecretFiles::Passphrase(named) => Ok(Secret::Passphrase(read_passphrase(rt, read, named)?)),
+        SecretFiles::Keys(first, more) => Ok(Secret::Keys(read_keys(rt, read, first, more)?)),
     }
 }
 
@@ -115,10 +126,10 @@ fn read_from<'a, F: Files + AllocGlobal>(
 /// wrote, and everybody could open the file.
 fn read_new_from<'a, F: Files + AllocGlobal>(
     rt: &F,
-    job: &'a Job,
+    read: &mut ReadFiles<'a>,
     files: SecretFiles<'a>,
 ) -> Result<Secret, Failure<'a>> {
-    let secret = read_from(rt, job, files)?;
+    let secret = read_from(rt, read, files)?;
     match (&secret, files) {
         (Secret::Passphrase(passphrase), SecretFiles::Passphrase(NamedFile { role, name }))
             if passphrase.is_empty() => {
@@ -131,11 +142,11 @@ fn read_new_from<'a, F: Files + AllocGlobal>(
 /// The bytes of this file, without one LF at their end.
 fn read_passphrase<'a, F: Files + AllocGlobal>(
     rt: &F,
-    job: &Job,
+    read: &mut ReadFiles<'a>,
     named: NamedFile<'a>,
 ) -> Result<Vec<u8>, Failure<'a>> {
     let NamedFile { role, name } = named;
-    let file = open_small(rt, job, named)?;
+    let file = read.open_small(rt, named)?;
     let bytes = read_prefix(rt.alloc(), name, file, MOST_SMALL + 1)?;
     let len = bytes.len();
     if len > MOST_SMALL {
@@ -147,15 +158,15 @@ fn read_passphrase<'a, F: Files + AllocGlobal>(
 /// The keys of these files, in order, each once.
 fn read_keys<'a, F: Files + AllocGlobal>(
     rt: &F,
-    job: &Job,
+    read: &mut ReadFiles<'a>,
     first: NamedFile<'a>,
     more: &'a [String],
 ) -> Result<Vec<[u8; 32]>, Failure<'a>> {
-    let mut keys = vec![in rt.alloc(); read_just(rt, job, first, Fault::KeyLength)?]?;
+    let mut keys = vec![in rt.alloc(); read_just(rt, read, first, Fault::KeyLength)?]?;
     let role = first.role;
     for name in more {
         let name = name.as_str();
-        let key = read_just(rt, job, NamedFile { role, name }, Fault::KeyLength)?;
+        let key = read_just(rt, read, NamedFile { role, name }, Fault::KeyLength)?;
         if !keys.contains(&key) {
             keys.push(key)?;
         }
@@ -168,10 +179,11 @@ fn read_keys<'a, F: Files + AllocGlobal>(
 fn read_seed<'a, F: Files + AllocGlobal>(
     rt: &F,
     job: &'a Job,
+    read: &mut ReadFiles<'a>,
 ) -> Result<[u8; SEED_LEN], Failure<'a>> {
     let name = job.seed.as_str();
     let role = Role::Seed;
-    let file = open_small(rt, job, NamedFile { role, name })?;
+    let file = read.open_small(rt, NamedFile { role, name })?;
     if name == DEFAULT_SEED && !is_char_device(&file) {
         return Err(Fault::CannotOpen(Name(name)).into());
     }
@@ -196,12 +208,12 @@ fn is_char_device<F: OpenFile>(file: &F) -> bool {
 /// Reads a small file, which must hold exactly N bytes; the fault `length` if it does not.
 fn read_just<'a, F: Files + AllocGlobal, const N: usize>(
     rt: &F,
-    job: &Job,
+    read: &mut ReadFiles<'a>,
     named: NamedFile<'a>,
     length: Fault<'a>,
 ) -> Result<[u8; N], Failure<'a>> {
     let NamedFile { role, name } = named;
-    let file = open_small(rt, job, named)?;
+    let file = read.open_small(rt, named)?;
     let bytes = read_prefix(rt.alloc(), name, file, MOST_SMALL + 1)?;
     match exactly(bytes.as_slice()) {
         Some(bytes) => Ok(bytes),
