@@ -105,6 +105,91 @@ class Documents(unittest.TestCase):
             self.assertEqual(edits - found, set())
 
 
+class OutOfMemory(unittest.TestCase):
+    """Out of memory is returned only by the arm of a call that allocates, and by no condition of its
+    own. No clause can say it, since no clause knows when an allocation is refused."""
+
+    NAMES = r"\b(?:OutOfMemory|OUT_OF_MEMORY|Memory|AllocError(?=\))|out_of_memory(?=\(\)\)))"
+    # A call that is passed an allocator, or grows a vector or a text.
+    ALLOCATES = r"\balloc\b|\.(push|insert|append|extend_from_slice)\(|\bwrite_\w+\(.*&mut \w+\)"
+    # What has the name of out of memory and returns it nowhere, or converts it.
+    DECLARED = (
+        r"(pub enum \w+(<'a>)?|pub\(crate\) const|impl From<Alloc\w+(<T>)?> for .*"
+        r"|fn from\(_?error: Alloc\w+(<T>)?\) ->|match (self|error|fault)|\w+::Memory =>)$"
+    )
+    CONVERTED = (
+        r"(Err\()?([\w:]+::)?(Memory|OutOfMemory)\)?$"
+        r"|Err\(reason\) if reason\.kind\(\) == ErrorKind::OutOfMemory$"
+    )
+    # The arms in which a function returns it for a reason that is looked at elsewhere.
+    OTHERS = {
+        # The capacity that was requested is another: no vector of the standard library does so.
+        "if bytes.capacity() != CHUNK_BUF_SIZE",
+        # The error of a parser, or of the arguments, whose kind is out of memory.
+        "if error.kind() == ErrorKind::OutOfMemory", "if kind == io::ErrorKind::OutOfMemory",
+    }
+
+    @staticmethod
+    def code(text):
+        """A source without comments, clauses, imports and types of results."""
+        text = re.sub(r"//.*", "", text)
+        text = re.sub(r"^fn out_of_memory.*?^}$", "", text, flags=re.MULTILINE | re.DOTALL)
+        text = re.sub(r"^ *(ghost |pub )*use .*?;", "", text, flags=re.MULTILINE | re.DOTALL)
+        text = re.sub(r"^ *ghost .*?};$", "", text, flags=re.MULTILINE | re.DOTALL)
+        text = re.sub(r"\n *(ensures|requires)\*? .*?(?=\n\s*(ensures|requires|\{\n)|;\n)", "", text, flags=re.DOTALL)
+        return re.sub(r"-> [^{;=]*(?=[{;])", "-> ", text)
+
+    @staticmethod
+    def around(code, at):
+        """The pattern of the arm that a place stands in, and what opens its block."""
+        depth, pattern, stop = 0, None, at
+        for place in range(at - 1, -1, -1):
+            sign = code[place]
+            depth += {")": 1, "]": 1, "}": 1, "(": -1, "[": -1, "{": -1}.get(sign, 0)
+            if depth > 0:
+                continue
+            if depth == 0 and code.startswith("=>", place) and pattern is None:
+                start = max(code.rfind(sep, 0, place) for sep in (",\n", "{\n", "}\n")) + 1
+                pattern = code[start:place].strip()
+            if depth < 0:
+                if sign == "{":
+                    stop = place
+                    break
+                depth = 0
+        head, depth = stop, 0
+        while head > 0:
+            depth += {")": 1, "]": 1, "(": -1, "[": -1}.get(code[head - 1], 0)
+            if depth == 0 and code[head - 1] in ";{}":
+                break
+            head -= 1
+        return pattern, " ".join(code[head:stop].split())
+
+    def is_of_a_call(self, code, at):
+        pattern, head = self.around(code, at)
+        if head in self.OTHERS or re.search(self.DECLARED, head) or not head:
+            return True
+        if pattern is not None:
+            return bool(re.match(self.CONVERTED, pattern)) or (
+                pattern == "Err(_)" and "match" in head and bool(re.search(self.ALLOCATES, head)))
+        if re.match(r"let .*\bOk\(.* else$", head):
+            # A pair of results, each of which was given a name.
+            return bool(re.search(self.ALLOCATES, head) or re.search(r"= \(\w+, \w+\) else$", head))
+        parts = head.removeprefix("if ").split(" || ")
+        return all(re.search(f"(?:{self.ALLOCATES}).*[.]is_err[(][)]$", part) for part in parts)
+
+    def test_arms(self):
+        """Each place of each source."""
+        for name in sorted(glob.glob(ROOT + "/crates/*/src/**/*.rt", recursive=True)):
+            if "/age_tests/" in name or re.search("/test", name):
+                continue
+            code = self.code(text_of(name))
+            for found in re.finditer(self.NAMES, code):
+                before, after = code[: found.start()], code[found.end() :]
+                is_pattern = re.match(r"\)?( if [^{]*)? =>", after) or before.endswith("ErrorKind::")
+                with self.subTest(f"{os.path.relpath(name, ROOT)}: {found.group()}"):
+                    is_good = is_pattern or self.is_of_a_call(code, found.start())
+                    self.assertTrue(is_good, self.around(code, found.start()))
+
 class Layout(unittest.TestCase):
     def test_codes(self):
         """Each code of agefile.h has a line in libagefile.layout, and each struct a line with its size."""
