@@ -1,5 +1,6 @@
 """Makes the packages twice, unpacks each, and uses what is inside; runs the tests of the packages for
-Python and Rust over the wheel and the tarball."""
+Python and Rust over the wheel and the tarball. Those of the program that chooses a build need no
+package."""
 
 import functools
 import os
@@ -10,6 +11,12 @@ import sys
 import tempfile
 import unittest
 from pathlib import Path
+
+import fixture
+from program import AGEP
+
+sys.path.append(str(Path(__file__).resolve().parent / "library"))
+import model
 
 ROOT = Path(__file__).resolve().parent.parent
 SECRET = ROOT / "tests/data/passphrase.age"
@@ -96,6 +103,9 @@ class Packages(unittest.TestCase):
         for build in ("agep-x86-64", "agep-x86-64-v3"):
             self.assertIn(b"\x7fELF", (root / "usr/lib/agep" / build).read_bytes()[:4])
         self.assertEqual(run(root / "usr/lib/agep/agep-x86-64", "--version"), f"agep {self.version}\n")
+        (self.work / "stick").mkdir()
+        alone = shutil.copy(agep, self.work / "stick")
+        self.assertEqual(run(alone, "decrypt", "-p", self.work / "pass", SECRET), "hello\n")
         refused = subprocess.run([agep, "decrypt"], input=b"hello", capture_output=True)
         self.assertEqual(refused.returncode, 1)
         for name in ("bash-completion/completions/agep", "zsh/vendor-completions/_agep", "fish/vendor_completions.d/agep.fish"):
@@ -188,6 +198,118 @@ class Packages(unittest.TestCase):
         run("tar", "-xf", self.one("*.tar.xz"), "-C", root, "--strip-components=1")
         self.assertEqual(run(root / "bin/agep", "--version"), f"agep {self.version}\n")
         self.assertTrue((root / "lib/pkgconfig/agefile.pc").exists())
+
+
+# A stand-in for a build: it prints its name and its second word.
+STAND_IN = '#include <stdio.h>\nint main(int n, char **words) { return n < 2 || printf("%%s %%s\\n", "%s", words[1]) < 0; }\n'
+BUILDS = ("agep-x86-64-v3", "agep-x86-64")
+
+
+def in_a_namespace(script):
+    """The words that run a command after this script, which may mount what it likes."""
+    return ["unshare", *(() if os.geteuid() == 0 else ("-r",)), "-m", "sh", "-c", f'{script}; exec "$@"', "sh"]
+
+
+WITHOUT_PROC = in_a_namespace("mount -t tmpfs none /proc")
+
+
+def can_mount():
+    return subprocess.run([*WITHOUT_PROC, "true"], capture_output=True).returncode == 0
+
+
+@needs("cc")
+class Chooser(unittest.TestCase):
+    """share/agep.c, with stand-ins for the builds."""
+
+    @classmethod
+    def setUpClass(cls):
+        cls.work = Path(tempfile.mkdtemp())
+        cls.addClassCleanup(shutil.rmtree, cls.work)
+        for name in (*BUILDS, "held"):
+            cls.compile(cls.work / name, "-x", "c", "-", input=STAND_IN % name)
+        cls.compile(cls.work / "agep", f'-DAGEP_BUILD="{cls.work}/held"', ROOT / "share/agep.c")
+
+    @classmethod
+    def compile(cls, made, *words, **options):
+        run("cc", "-O2", "-static", "-Wall", "-Wextra", "-Werror", "-o", made, *words, **options)
+
+    def setUp(self):
+        self.root = Path(tempfile.mkdtemp(dir=self.work))
+        for folder in ("bin", "lib/agep", "stick"):
+            (self.root / folder).mkdir(parents=True)
+        for name in BUILDS:
+            shutil.copy(self.work / name, self.root / "lib/agep")
+        for folder in ("bin", "stick"):
+            shutil.copy(self.work / "agep", self.root / folder)
+        self.agep = self.root / "bin/agep"
+
+    def build(self, number):
+        return self.root / "lib/agep" / BUILDS[number]
+
+    def runs(self, build, *words, **options):
+        """The words, with one more behind them, run this build."""
+        self.assertEqual(run(*words, "word", **options), f"{build} word\n")
+
+    def test_processors(self):
+        """A build for x86-64-v3 runs just on a processor that has the level."""
+        has_v3 = subprocess.run(["sh", "-c", f'root={ROOT}; . "$root/share/build.sh"; has_v3']).returncode == 0
+        self.runs(BUILDS[0] if has_v3 else BUILDS[1], self.agep)
+        for answer, build in (('__builtin_strcmp(level, "x86-64-v3") == 0', BUILDS[0]), ("((void)level, 0)", BUILDS[1])):
+            self.compile(self.agep, f"-D__builtin_cpu_supports(level)=({answer})", f'-DAGEP_BUILD="{self.work}/held"', ROOT / "share/agep.c")
+            self.runs(build, self.agep)
+
+    def test_builds_that_are_missing(self):
+        """Without the build for x86-64-v3, or where it cannot be run, it is the other one, and then its own."""
+        for number in (0, 1):
+            self.build(number).write_bytes(b"\x7fELF")
+            self.runs((*BUILDS, "held")[number + 1], self.agep)
+            self.build(number).unlink()
+            self.runs((*BUILDS, "held")[number + 1], self.agep)
+
+    def test_alone(self):
+        """A copy runs its own build, also where another folder beside has builds."""
+        self.runs("held", self.root / "stick/agep")
+        self.runs("held", "./agep", cwd=self.root / "stick")
+
+    def test_no_build(self):
+        """Where none can be run, a line names each place, and the status is 1."""
+        self.build(0).unlink()
+        self.build(1).unlink()
+        done = subprocess.run(["sh", "-c", 'ulimit -f 100; exec "$0" word', self.agep], capture_output=True, text=True)
+        missing = [f"{self.build(number)}: No such file or directory, " for number in (0, 1)]
+        lines = [f"agep: cannot run {names}its own build: File too large\n" for names in ("".join(missing), missing[1])]
+        self.assertEqual((done.returncode, done.stdout), (1, ""))
+        self.assertIn(done.stderr, lines)
+
+    @unittest.skipUnless(can_mount(), "no mount namespace")
+    def test_without_proc(self):
+        """By the path by which it was called: relative, through PATH, and through a link."""
+        build = run(self.agep, "word").split()[0]
+        self.runs(build, *WITHOUT_PROC, self.agep)
+        self.runs(build, *WITHOUT_PROC, "./agep", cwd=self.root / "bin")
+        self.runs(build, *WITHOUT_PROC, "agep", env=os.environ | {"PATH": f"{self.root}/bin:{os.environ['PATH']}"})
+        (self.root / "link").symlink_to("bin/agep")
+        self.runs(build, *WITHOUT_PROC, self.root / "link")
+        self.runs("held", *WITHOUT_PROC, self.root / "stick/agep")
+
+    @unittest.skipUnless(can_mount(), "no mount namespace")
+    def test_another_root(self):
+        """In a folder as root with nothing mounted."""
+        build = run(self.agep, "word").split()[0]
+        chroot = (*in_a_namespace(":"), "chroot", self.root)
+        self.runs(build, *chroot, "/bin/agep")
+        self.runs("held", *chroot, "/stick/agep")
+
+    def test_limit_of_a_file_size(self):
+        """A write above it fails, where the program alone would end by a signal."""
+        for number in (0, 1):
+            shutil.copy(AGEP, self.build(number))
+        (self.root / "key").write_bytes(fixture.KEY)
+        (self.root / "big").write_bytes(bytes(200000))
+        words = "ulimit -f 100; exec bin/agep encrypt -k key -o out big"
+        done = subprocess.run(["sh", "-c", words], cwd=self.root, capture_output=True, text=True)
+        self.assertEqual((done.returncode, done.stdout, done.stderr), (1, "", "agep: write failed\n"))
+        self.assertEqual((self.root / "out").stat().st_size, 100 * 512)
 
 
 @functools.cache
