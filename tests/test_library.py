@@ -15,6 +15,7 @@ from pathlib import Path
 sys.path.append(str(Path(__file__).resolve().parent.parent / "share/generate"))
 import codes
 
+import fixture
 from messages import TEXTS, message
 from program import AGEP, fault, version
 
@@ -485,6 +486,15 @@ class WithTheProgram(unittest.TestCase):
                     self.assertEqual(self.agep("decrypt", "-k", "key", "made", status=0).stdout, plain)
                     run(parallel, work() / "key", count, work() / "made", work() / "back", status=0)
                     self.assertEqual((work() / "back").read_bytes(), plain)
+
+    def test_an_empty_passphrase(self):
+        """It makes no file, and opens the one that has it, which is tests/reference.py's."""
+        (work() / "none").touch()
+        file = fixture.for_passphrase(b"hello\n", b"", 1)
+        for kind in ("whole", "steps"):
+            self.assertEqual(self.convert(kind, "decrypt", "-p", "none", input=file, status=0).stdout, b"hello\n")
+            done = self.convert(kind, "encrypt", "-p", "none", "3", input=b"hello\n", status=26)
+            self.assertEqual((done.stdout, done.stderr), (b"", b"passphrase is empty 0\n"))
 
     def agrees(self, file, name, *chunk):
         """Whole buffers and steps end on a file as agep does, after the same text."""

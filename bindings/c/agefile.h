@@ -22,8 +22,9 @@
  *
  * Each call except the two of sizes returns an agefile_code and sets all of its report. If it
  * fails, it writes only what its comment says. Lines are counted from 1, chunks, stanzas and
- * bytes from 0. A passphrase is any bytes. A work factor is 1 to 30; `max_work` is the greatest
- * that is accepted, and 22 is usual; 18 is usual for a new file. A seed is 48 fresh random bytes
+ * bytes from 0. A passphrase is any bytes; an empty one opens files and makes none. A work factor
+ * is 1 to 30; `max_work` is the greatest that is accepted, and 22 is usual; 18 is usual for a new
+ * file. A seed is 48 fresh random bytes
  * (getrandom) for each file: the same seed for two files repeats their keys. Only the calls change
  * a payload or a part, and neither is ever copied while it is in use: a copy would seal another
  * chunk under a nonce that was used. Keys and passphrases stay in freed memory. docs/C.md says what
@@ -92,7 +93,8 @@ enum agefile_code {
     AGEFILE_WORK_FACTOR = 22,
     AGEFILE_OUT_OF_ORDER = 23,
     AGEFILE_NULL_POINTER = 24,
-    AGEFILE_BAD_ARGUMENTS = 25
+    AGEFILE_BAD_ARGUMENTS = 25,
+    AGEFILE_EMPTY_PASSPHRASE = 26
 };
 /* end of codes */
 
@@ -128,6 +130,7 @@ static inline const char *agefile_message(uint32_t code)
     case AGEFILE_OUT_OF_ORDER: return "no such stanza or offset, or a call out of order";
     case AGEFILE_NULL_POINTER: return "null pointer with a length";
     case AGEFILE_BAD_ARGUMENTS: return "stanza arguments are not words";
+    case AGEFILE_EMPTY_PASSPHRASE: return "passphrase is empty";
     default: return "unknown code";
     }
     /* end of messages */
@@ -206,7 +209,9 @@ static inline uint32_t agefile_unlock_key(
 
 /* ---- From a file key to the text of a stanza, at the start of `out`; report.len is its length.
  * On AGEFILE_TOO_SMALL it is the length that is needed, and `out` is unchanged. Several stanzas are
- * joined by writing one behind the other. A salt is 16 fresh random bytes for each stanza. */
+ * joined by writing one behind the other. A salt is 16 fresh random bytes for each stanza. An empty
+ * passphrase is AGEFILE_EMPTY_PASSPHRASE, before a work factor that is out of its range and before
+ * AGEFILE_TOO_SMALL. */
 static inline uint32_t agefile_wrap_passphrase(
     const uint8_t file_key[AGEFILE_LEAST 16], const uint8_t *pass, size_t pass_len, uint8_t work,
     const uint8_t salt[AGEFILE_LEAST 16], uint8_t *out, size_t out_len, agefile_report *report)

@@ -160,6 +160,25 @@ static void work_factors(void)
     CHECK(agefile_decrypt_passphrase(out, len, pass, pass_len, 3, out + len, 4, &report) == AGEFILE_OK && report.len == 4);
 }
 
+// Before the work factor and the room are looked at.
+static void empty_passphrase(void)
+{
+    static const uint8_t factors[] = {0, work, 31};
+    uint8_t out[1000];
+    agefile_report report;
+    memset(out, 0xEE, sizeof out);
+    for (size_t i = 0; i < sizeof factors; i++)
+        for (size_t len = 0; len <= sizeof out; len += 500) {
+            report = unset_report();
+            CHECK(agefile_wrap_passphrase(seed, pass, 0, factors[i], seed + 32, out, len, &report) == AGEFILE_EMPTY_PASSPHRASE);
+            CHECK(has_fields(&report, 0, 0, 0) && are_all(out, sizeof out, 0xEE));
+            report = unset_report();
+            CHECK(agefile_encrypt_passphrase(pass, 4, pass, 0, factors[i], seed, out, len, &report) == AGEFILE_EMPTY_PASSPHRASE);
+            CHECK(has_fields(&report, 0, 0, 0) && are_all(out, sizeof out, 0xEE));
+        }
+    CHECK(strcmp(agefile_message(AGEFILE_EMPTY_PASSPHRASE), "passphrase is empty") == 0);
+}
+
 static void sizes_suffice(void)
 {
     CHECK(agefile_sealed_len(UINT64_MAX) == UINT64_MAX && agefile_sealed_len(UINT64_MAX - 200) == UINT64_MAX);
@@ -218,6 +237,7 @@ static const named_test tests[] = {
     {"damage in the header, the nonce and each chunk", damage},
     {"files that were cut", truncation},
     {"work factors out of range", work_factors},
+    {"an empty passphrase makes no file", empty_passphrase},
     {"the sizes suffice, at their limits too", sizes_suffice},
     {"what a header is", headers},
     {"headers beyond the limit", long_headers},

@@ -18,6 +18,7 @@ CLOSED, READING, WRITING, ENDED, FAILED = range(5)
 (OK, NOT_AGE, BAD_LINE, HEADER_TRUNCATED, HEADER_TOO_LARGE, MIXED_PASSPHRASE, NO_MATCH, WRONG_KEY, MALFORMED, BAD_MAC,
  NONCE_TRUNCATED, CHUNK_SHORT, EMPTY_FINAL, BAD_CHUNK, TOO_MANY_CHUNKS) = range(15)
 NO_RECIPIENTS, TOO_SMALL, WORK_FACTOR, OUT_OF_ORDER, NULL_POINTER, BAD_ARGUMENTS = 18, 21, 22, 23, 24, 25
+EMPTY_PASSPHRASE = 26
 
 
 class NULL:
@@ -270,6 +271,8 @@ def unlock_key(front, key, file_key):
 
 
 def wrap_passphrase(file_key, passphrase, work, salt, out):
+    if not passphrase:
+        raise Fault(EMPTY_PASSPHRASE)
     check_work(work)
     salt = bytes(salt)
     body = reference.sealed(scrypt(bytes(passphrase), salt, work), bytes(12), bytes(file_key))

@@ -130,7 +130,7 @@ static void without_a_length(void)
     TAKES(agefile_decrypt_key(file, file_len, key, NULL, 0, &report), AGEFILE_TOO_SMALL);
     CHECK(has_fields(&report, sizeof plain, 0, 0));
     TAKES(agefile_encrypt_passphrase(NULL, 0, pass, pass_len, work, seed, out, sizeof out, &report), AGEFILE_OK);
-    TAKES(agefile_encrypt_passphrase(plain, sizeof plain, NULL, 0, work, seed, out, sizeof out, &report), AGEFILE_OK);
+    TAKES(agefile_encrypt_passphrase(plain, sizeof plain, NULL, 0, work, seed, out, sizeof out, &report), AGEFILE_EMPTY_PASSPHRASE);
     TAKES(agefile_decrypt_passphrase(NULL, 0, NULL, 0, work, NULL, 0, &report), AGEFILE_HEADER_TRUNCATED);
     TAKES(agefile_encrypt_passphrase(plain, sizeof plain, pass, pass_len, work, seed, NULL, 0, &report), AGEFILE_TOO_SMALL);
     TAKES(agefile_encrypt_key(NULL, 0, key, seed, out, sizeof out, &report), AGEFILE_OK);
@@ -145,7 +145,7 @@ static void without_a_length(void)
     TAKES(agefile_unlock_passphrase(NULL, 0, pass, pass_len, work, out, &report), AGEFILE_HEADER_TRUNCATED);
     TAKES(agefile_unlock_passphrase(file, file_len, NULL, 0, work, out, &report), AGEFILE_NO_MATCH);
     TAKES(agefile_unlock_key(NULL, 0, key, out, &report), AGEFILE_HEADER_TRUNCATED);
-    TAKES(agefile_wrap_passphrase(file_key, NULL, 0, work, salt, out, sizeof out, &report), AGEFILE_OK);
+    TAKES(agefile_wrap_passphrase(file_key, NULL, 0, work, salt, out, sizeof out, &report), AGEFILE_EMPTY_PASSPHRASE);
     TAKES(agefile_wrap_passphrase(file_key, pass, pass_len, work, salt, NULL, 0, &report), AGEFILE_TOO_SMALL);
     TAKES(agefile_wrap_key(file_key, key, salt, NULL, 0, &report), AGEFILE_TOO_SMALL);
     TAKES(agefile_wrap(NULL, 0, plain, sizeof plain, out, sizeof out, &report), AGEFILE_BAD_ARGUMENTS);

@@ -36,6 +36,7 @@ class Code(enum.IntEnum):
     OUT_OF_ORDER = 23
     NULL_POINTER = 24
     BAD_ARGUMENTS = 25
+    EMPTY_PASSPHRASE = 26
     # end of code members
 
 
@@ -67,6 +68,7 @@ _MESSAGES = {
     Code.OUT_OF_ORDER: "no such stanza or offset, or a call out of order",
     Code.NULL_POINTER: "null pointer with a length",
     Code.BAD_ARGUMENTS: "stanza arguments are not words",
+    Code.EMPTY_PASSPHRASE: "passphrase is empty",
 }
 # end of code messages
 

@@ -45,6 +45,8 @@ pub enum Error {
     /// The recipients returned no stanza.
     NoRecipients,
     // end of variants of errors
+    /// A passphrase for a new file is empty, so everybody could open the file.
+    EmptyPassphrase,
     /// A work factor is not 1 to 30.
     WorkFactor,
     /// An argument of a stanza is empty, or is not made of the characters `!` to `~`.
@@ -99,6 +101,7 @@ impl Error {
             18 => Error::NoRecipients,
             22 => Error::WorkFactor,
             25 => Error::BadArguments,
+            26 => Error::EmptyPassphrase,
             // end of codes of errors
             _ => Error::Other(code),
         }
@@ -168,6 +171,7 @@ impl fmt::Display for Error {
             Error::NoRecipients => write!(f, "no recipients"),
             Error::WorkFactor => write!(f, "work factor is not 1 to 30"),
             Error::BadArguments => write!(f, "stanza arguments are not words"),
+            Error::EmptyPassphrase => write!(f, "passphrase is empty"),
             // end of texts of errors
             Error::Refused => write!(f, "recipient refused"),
             Error::Incomplete => write!(f, "an earlier write failed"),

@@ -50,7 +50,8 @@ pub trait Identity {
     fn unlock(&self, header: &Header) -> Result<Option<FileKey>, Error>;
 }
 
-/// A passphrase, for new files and for old ones: any bytes.
+/// A passphrase, for new files and for old ones: any bytes. An empty one opens old files, and is
+/// [`Error::EmptyPassphrase`] for new ones.
 #[derive(Clone)]
 pub struct Passphrase {
     text: Vec<u8>,

@@ -1,6 +1,6 @@
 -- The codes by which C knows a fault.
 use Rattle.std.specs.Prelude.{ℕ, ◌-◌, ◌^◌, min, Option, Some, None}
-use Rattle.agefile.specs.declared.code.TheConstants.{BAD_ARGUMENTS, OK, OUT_OF_MEMORY, OUT_OF_ORDER, TOO_SMALL, WORK_FACTOR}
+use Rattle.agefile.specs.declared.code.TheConstants.{BAD_ARGUMENTS, EMPTY_PASSPHRASE, OK, OUT_OF_MEMORY, OUT_OF_ORDER, TOO_SMALL, WORK_FACTOR}
 use Rattle.age_recipient.specs.declared.unwrapped.StanzaFault.{StanzaFault}
 use Rattle.age_recipient.specs.declared.unwrapped.StanzaFault.TheVariants.{ArgCount, Salt, WorkFactorText, WorkFactorTooHigh, BodyLength, Other}
 use Rattle.age_file.specs.declared.fault.Fault.{Fault}
@@ -30,6 +30,10 @@ out_of_order = OUT_OF_ORDER
 -- the arguments of a stanza are not words of visible characters, joined by single spaces
 abbrev pub bad_arguments : ℕ
 bad_arguments = BAD_ARGUMENTS
+
+-- a new stanza's passphrase is empty
+abbrev pub empty_passphrase : ℕ
+empty_passphrase = EMPTY_PASSPHRASE
 
 -- a fault's code
 abbrev pub fault_code : Fault → ℕ

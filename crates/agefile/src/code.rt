@@ -23,6 +23,9 @@ pub(crate) const OUT_OF_ORDER: u32 = 23;
 /// `stanza arguments are not words` of visible characters, joined by single spaces.
 pub(crate) const BAD_ARGUMENTS: u32 = 25;
 
+/// `passphrase is empty`: a file for it could be opened by everybody.
+pub(crate) const EMPTY_PASSPHRASE: u32 = 26;
+
 /// The code of a fault.
 pub(crate) fn fault_code(fault: Fault) -> u32
     ensures { result ≡ fault_code fault }

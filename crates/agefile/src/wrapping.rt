@@ -5,11 +5,11 @@ ghost use Rattle.age_header.specs.Header.{StanzaParts};
 ghost use Rattle.age_recipient.specs.KeyedStanza.{keyed_stanza};
 ghost use Rattle.age_recipient.specs.PassphraseHolders.{WorkFits};
 ghost use Rattle.age_recipient.specs.PassphraseStanza.{pass_stanza};
-ghost use Rattle.agefile.specs.Codes.{bad_work_factor};
+ghost use Rattle.agefile.specs.Codes.{bad_work_factor, empty_passphrase};
 ghost use Rattle.agefile.specs.Giving.{GivesUp};
 ghost use Rattle.agefile.specs.Wrapping.{GivesOwn, GivesText, refusal_code};
 
-use crate::code::{BAD_ARGUMENTS, OUT_OF_MEMORY, WORK_FACTOR};
+use crate::code::{BAD_ARGUMENTS, EMPTY_PASSPHRASE, OUT_OF_MEMORY, WORK_FACTOR};
 use crate::giving::{give_up, give_whole};
 use crate::report::Report;
 use age_file::{
@@ -18,12 +18,12 @@ use age_file::{
 };
 use std::alloc::Global;
 
-/// Writes the text of the stanza that wraps a file key under a passphrase, which is any bytes, with
-/// a work factor of 1 to 30. The salt is 16 random bytes, fresh for each stanza.
+/// Writes the text of the stanza that wraps a file key under a passphrase, which is any bytes but
+/// not empty, with a work factor of 1 to 30. The salt is 16 random bytes, fresh for each stanza.
 ///
 /// # Errors
-/// 22 if `work` is not 1 to 30, 21 if `out` is too small, 17 if an allocation was refused; then
-/// `out` is unchanged. There are no other codes.
+/// 26 if `pass` is empty, before any other code; 22 if `work` is not 1 to 30, 21 if `out` is too
+/// small, 17 if an allocation was refused. Then `out` is unchanged. There are no other codes.
 #[unsafe(no_mangle)]
 pub extern "C" fn agefile_wrap_passphrase(
     alloc: Global,
@@ -34,12 +34,17 @@ pub extern "C" fn agefile_wrap_passphrase(
     out: &mut [u8],
     report: &mut Report,
 ) -> u32
-    ensures fit { WorkFits work
+    ensures empty { pass.now ≡ []
+        → GivesUp empty_passphrase out.old out.new report.new result }
+    ensures fit { (pass.now ≡ [] → ⊥) → WorkFits work
         → GivesText (pass_stanza pass.now work salt.now (record { 0 = file_key.now })) out.old
         out.new report.new result }
-    ensures unfit { (WorkFits work → ⊥)
+    ensures unfit { (pass.now ≡ [] → ⊥) → (WorkFits work → ⊥)
         → GivesUp bad_work_factor out.old out.new report.new result }
 {
+    if pass.is_empty() {
+        return give_up(EMPTY_PASSPHRASE, out, report);
+    }
     let recipient = match PassRecipient::new(alloc, pass, *salt, work) {
         Ok(recipient) => recipient,
         Err(PassError::WorkFactor) => return give_up(WORK_FACTOR, out, report),
