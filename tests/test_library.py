@@ -432,15 +432,22 @@ class Calls(unittest.TestCase):
         self.assertIn(f"{RANDOM_CALLS} calls; ", done.stdout.decode())
 
     def test_a_wrong_library_is_found(self):
-        """Random calls tell a library that seals one byte wrongly from a right one."""
-        source = work() / "wrong.c"
+        """Random calls tell a library that takes, writes, reports or returns something else from a right one."""
         text = (TESTS / "driver.c").read_text()
-        right = "case 5: return agefile_wrap_key(P(0), P(1), P(2), B(3), report);"
-        self.assertIn(right, text)
-        source.write_text(text.replace(right, "case 5: P(2)[15] ^= 1; return agefile_wrap_key(P(0), P(1), P(2), B(3), report);"))
-        done = run(sys.executable, TESTS / "random_calls.py", built("wrong", *REFUSING, f"-I{TESTS}", source=source), 400)
-        self.assertEqual(done.returncode, 1)
-        self.assertIn(": wrap_key, flags ", done.stdout.decode())
+        call = "agefile_wrap_key(P(0), P(1), P(2), B(3), report)"
+        self.assertIn(f"case 5: return {call};", text)
+        for name, wrong in (
+            ("salt", f"P(2)[15] ^= 1; return {call};"),
+            ("output", f"{{ uint64_t code = {call}; if (code == 0) P(3)[a[3].number - 1] ^= 1; return code; }}"),
+            ("place", f"{{ uint64_t code = {call}; report->place += code == 0; return code; }}"),
+            ("code", f"{{ uint64_t code = {call}; return code == 0 ? AGEFILE_TOO_SMALL : code; }}"),
+        ):
+            with self.subTest(name):
+                source = work() / f"wrong_{name}.c"
+                source.write_text(text.replace(f"return {call};", wrong))
+                done = run(sys.executable, TESTS / "random_calls.py", built(source.stem, *REFUSING, f"-I{TESTS}", source=source), 400)
+                self.assertEqual((done.returncode, done.stderr), (1, b""))
+                self.assertIn(": wrap_key, flags ", done.stdout.decode())
 
     def test_threads(self):
         """Eight threads at once and a forked child; at most 24 of 32 KiB of stack, no signal's handler changed."""
@@ -573,7 +580,9 @@ class Document(unittest.TestCase):
         (work() / "program.c").write_text(re.search(r"```c\n(.*?)```", text, re.S)[1])
         lines = re.findall(r"^cc .* program\.c .*", text, re.M)
         self.assertEqual(len(lines), 2)
-        file = run(built("convert", "-O2"), "whole", "encrypt", "-p", "pass", "3", input=b"some text\n", cwd=work(), status=0).stdout
+        plain = b"some text\n" * 200000
+        file = run(built("convert", "-O2"), "whole", "encrypt", "-p", "pass", "3", input=plain, cwd=work(), status=0).stdout
+        (work() / "pass.line").write_bytes((work() / "pass").read_bytes() + b"\n")
         environment = os.environ | {"PKG_CONFIG_PATH": f"{prefix()}/lib/pkgconfig", "LD_LIBRARY_PATH": f"{prefix()}/lib"}
         for line in lines:
             if "pkg-config" in line and shutil.which("pkg-config") is None:
@@ -581,10 +590,12 @@ class Document(unittest.TestCase):
             with self.subTest(line):
                 line = line.replace("/usr/local", str(prefix())).replace("cc ", "cc -Wall -Wextra -Werror ", 1)
                 run("bash", "-c", line, cwd=work(), env=environment, status=0)
-                words = ("./program", "correct horse")
-                self.assertEqual(run(*words, input=file, cwd=work(), env=environment, status=0).stdout, b"some text\n")
-                done = run(*words, input=file[:150], cwd=work(), env=environment, status=1)
-                self.assertEqual((done.stdout, done.stderr), (b"", f"{message('NonceTruncated')}\n".encode()))
+                for name in ("pass", "pass.line"):
+                    self.assertEqual(run("./program", name, input=file, cwd=work(), env=environment, status=0).stdout, plain)
+                for cut, said_of in ((150, message("NonceTruncated")), (len(file) - 1, "chunk is damaged")):
+                    done = run("./program", "pass", input=file[:cut], cwd=work(), env=environment, status=1)
+                    self.assertEqual((done.stdout, done.stderr.decode()), (b"", f"{said_of}\n"))
+                self.assertEqual(run("./program", "nowhere", input=file, cwd=work(), env=environment, status=2).stdout, b"")
 
 
 if __name__ == "__main__":

@@ -229,9 +229,9 @@ static inline uint32_t agefile_wrap(
 /* ---- The header of a text of stanzas, with its MAC under a file key; report.len is its length.
  * AGEFILE_NO_RECIPIENTS if the text is empty. AGEFILE_BAD_LINE if it is no text of stanzas, and
  * report.place is its first bad line, which may be the one behind its end, where a body is missing;
- * AGEFILE_HEADER_TRUNCATED if only the end of its last line is missing. AGEFILE_HEADER_TOO_LARGE if
- * the header would exceed 65,536 bytes, AGEFILE_MIXED_PASSPHRASE if a scrypt stanza is beside
- * another one. With a fault `out` is unchanged. */
+ * AGEFILE_HEADER_TRUNCATED if its last line is one of arguments without its LF.
+ * AGEFILE_HEADER_TOO_LARGE if the header would exceed 65,536 bytes, AGEFILE_MIXED_PASSPHRASE if a
+ * scrypt stanza is beside another one. With a fault `out` is unchanged. */
 static inline uint32_t agefile_header(
     const uint8_t *stanzas, size_t stanzas_len, const uint8_t file_key[AGEFILE_LEAST 16],
     uint8_t *out, size_t out_len, agefile_report *report) AGEFILE_CALL("header", (3, 6));
@@ -272,7 +272,9 @@ static inline uint32_t agefile_open(
 /* Opens the next sealed chunk in place: AGEFILE_SEALED_CHUNK bytes, or what is left if it is the
  * last. On 0 its text is at the start of the chunk, report.len bytes; otherwise the chunk is
  * unchanged. After a fault the payload accepts no other chunk. A plaintext is complete only after a
- * 0 for its last chunk, so one call for a last chunk is needed even if no byte follows. */
+ * 0 for its last chunk, so one call for a last chunk is needed even if no byte follows. A full
+ * chunk is the last one if no byte follows it. So a caller that reads a stream needs one byte more
+ * than the chunk to know which chunk is the last. */
 static inline uint32_t agefile_open_next(
     agefile_payload *payload, uint8_t *chunk, size_t chunk_len, bool last, agefile_report *report)
     AGEFILE_CALL("open_next", (1, 5));
@@ -299,8 +301,8 @@ uint32_t agefile_take_part(
     agefile_payload *payload, uint64_t count, agefile_part *part, agefile_report *report)
     AGEFILE_USED AGEFILE_NONNULL((1, 3, 4));
 /* Opens or seals the part's next chunk in place, AGEFILE_SEALED_CHUNK bytes, as the calls for a
- * payload do; report.place is the chunk's number in the file. A file is complete only if the
- * payload and each part is AGEFILE_ENDED. */
+ * payload do: on a fault report.place is the chunk's number in the file. A file is complete only if
+ * the payload and each part is AGEFILE_ENDED. */
 static inline uint32_t agefile_part_open_next(
     agefile_part *part, uint8_t *chunk, size_t chunk_len, agefile_report *report)
     AGEFILE_CALL("part_open_next", (1, 4));

@@ -29,10 +29,11 @@ static uint8_t *written(const uint8_t *text, size_t text_len, size_t *len)
     return file;
 }
 
-// The text of a file, opened in steps; its length goes to `len`. Returns the first code that is not 0.
-static uint32_t read_back(const uint8_t *file, size_t file_len, uint8_t *text, size_t *len)
+// The text of a file, opened in steps, its first `count` chunks as a part; its length goes to `len`. Returns the first code that is not 0.
+static uint32_t read_back(const uint8_t *file, size_t file_len, size_t count, uint8_t *text, size_t *len)
 {
     agefile_payload payload;
+    agefile_part part;
     agefile_report report = unset_report();
     *len = 0;
     uint32_t code = open_with(file, front_of(file_len), key, &payload, &report);
@@ -42,18 +43,22 @@ static uint32_t read_back(const uint8_t *file, size_t file_len, uint8_t *text, s
     }
     CHECK(payload.state == AGEFILE_READING && payload.number == 0 && report.place == 0 && report.detail == 0);
     size_t at = report.len;
+    if (count > 0)
+        CHECK(agefile_take_part(&payload, count, &part, &report) == AGEFILE_OK);
     for (uint64_t i = 0;; i++) {
-        bool last = file_len - at <= AGEFILE_SEALED_CHUNK;
+        bool is_part = i < count, last = file_len - at <= AGEFILE_SEALED_CHUNK;
         size_t n = last ? file_len - at : AGEFILE_SEALED_CHUNK;
         uint8_t *chunk = copy_of(file + at, n);
         report = unset_report();
-        code = agefile_open_next(&payload, chunk, n, last, &report);
+        code = is_part ? agefile_part_open_next(&part, chunk, n, &report) : agefile_open_next(&payload, chunk, n, last, &report);
+        uint64_t number = is_part ? part.number : payload.number, state = is_part ? part.state : payload.state;
         if (code != AGEFILE_OK) {
-            CHECK(has_fields(&report, 0, i, 0) && are_equal(chunk, file + at, n) && payload.state == AGEFILE_FAILED);
+            CHECK(has_fields(&report, 0, i, 0) && are_equal(chunk, file + at, n) && state == AGEFILE_FAILED);
             release(chunk);
             return code;
         }
-        CHECK(has_fields(&report, n - tag, 0, 0) && payload.number == i + 1 && payload.state == (last ? AGEFILE_ENDED : AGEFILE_READING));
+        CHECK(has_fields(&report, n - tag, 0, 0) && number == i + 1);
+        CHECK(state == (last || i + 1 == count ? AGEFILE_ENDED : AGEFILE_READING));
         if (report.len > 0)
             memcpy(text + *len, chunk, report.len);
         *len += report.len;
@@ -73,49 +78,13 @@ static void the_same_files(void)
         uint8_t *file = written(text, len, &file_len);
         CHECK(agefile_encrypt_key(text, len, key, seed, out, most, &report) == AGEFILE_OK);
         CHECK(report.len == file_len && are_equal(out, file, file_len));
-        CHECK(read_back(file, file_len, back, &back_len) == AGEFILE_OK);
+        CHECK(read_back(file, file_len, 0, back, &back_len) == AGEFILE_OK);
         CHECK(back_len == len && are_equal(back, text, len));
         release(file);
         release(text);
         release(out);
         release(back);
     }
-}
-
-// Steps end on these bytes with the code of the whole buffer, after the same text, of at most so many
-// bytes.
-static void ends_alike(const uint8_t *bytes, size_t len, size_t most)
-{
-    uint8_t *back = room(most), *whole = room(most);
-    size_t back_len;
-    agefile_report report;
-    uint32_t code = agefile_decrypt_key(bytes, len, key, whole, most, &report);
-    CHECK(read_back(bytes, len, back, &back_len) == code && code != AGEFILE_OK);
-    CHECK(back_len == report.len && are_equal(back, whole, back_len));
-    release(back);
-    release(whole);
-}
-
-static void damage(void)
-{
-    made_file file = made(140000);
-    for (size_t at = 0; at < file.len; at += at < file.front + 20 ? 1 : 1021) {
-        file.bytes[at] ^= 1;
-        ends_alike(file.bytes, file.len, 140000);
-        file.bytes[at] ^= 1;
-    }
-    release(file.bytes);
-}
-
-static void truncation(void)
-{
-    made_file file = made(131072);
-    for (size_t cut = 0; cut < file.len; cut += cut < file.front + 40 ? 1 : 509) {
-        uint8_t *part = copy_of(file.bytes, cut);
-        ends_alike(part, cut, 131072);
-        release(part);
-    }
-    release(file.bytes);
 }
 
 // Whether this call is refused as out of order, with payload and chunk as they were.
@@ -325,6 +294,12 @@ static void parts_out_of_order(void)
     release(file.bytes);
 }
 
+// The number of the last piece, if all have so many bytes.
+static uint64_t last_piece(uint64_t sealed_len)
+{
+    return sealed_len == 0 ? 0 : (sealed_len - 1) / AGEFILE_SEALED_CHUNK;
+}
+
 // Opens a file for ranges, and verifies its last chunk. Returns the first code that is not 0.
 static uint32_t open_ranges(const uint8_t *file, size_t len, agefile_ranges *ranges, uint64_t *text_len)
 {
@@ -340,7 +315,7 @@ static uint32_t open_ranges(const uint8_t *file, size_t len, agefile_ranges *ran
     if (code == AGEFILE_OK)
         CHECK(ranges->state == 2 && report.place == 0 && report.detail == 0);
     else
-        CHECK(ranges->state != 2 && are_equal(last, old, chunk_len) && report.len == 0);
+        CHECK(ranges->state != 2 && are_equal(last, old, chunk_len) && has_fields(&report, 0, last_piece(ranges->sealed_len), 0));
     *text_len = report.len;
     release(last);
     release(old);
@@ -388,30 +363,104 @@ static void ranges_of_each_place(void)
     }
 }
 
-static void ranges_and_damage(void)
+// What is found in a file: after how many good chunks reading in order ends, with which code, and the code of the last chunk, which ranges open first.
+typedef struct finding {
+    size_t good;
+    uint32_t code, last;
+} finding;
+
+// The whole buffer, steps, parts and ranges find this in a file whose bytes and text begin so.
+static void all_find(const uint8_t *bytes, size_t len, size_t front, const uint8_t *text, finding expected)
 {
-    size_t len = 200000;
-    made_file file = made(len);
-    uint8_t *text = text_of(len);
+    made_file file = {copy_of(bytes, len), len, front};
+    size_t good = expected.good * AGEFILE_TEXT_CHUNK, back_len;
+    uint8_t *back = room(len);
     uint64_t told;
     agefile_ranges ranges;
-    agefile_report report;
-    file.bytes[file.front + AGEFILE_SEALED_CHUNK + 5] ^= 1;
-    CHECK(open_ranges(file.bytes, file.len, &ranges, &told) == AGEFILE_OK && told == len);
-    CHECK(look(&ranges, &file, text, len, 65535) == AGEFILE_OK && look(&ranges, &file, text, len, 131072) == AGEFILE_OK);
-    CHECK(look(&ranges, &file, text, len, 65536) == AGEFILE_BAD_CHUNK && look(&ranges, &file, text, len, 131071) == AGEFILE_BAD_CHUNK);
-    CHECK(look(&ranges, &file, text, len, 199999) == AGEFILE_OK);
-    file.bytes[file.len - 1] ^= 1;
-    CHECK(open_ranges(file.bytes, file.len, &ranges, &told) == AGEFILE_BAD_CHUNK);
-    CHECK(agefile_ranges_locate(&ranges, 0, &report) == AGEFILE_OUT_OF_ORDER);
-    file.bytes[file.len - 1] ^= 1;
-    for (size_t cut = 0; cut < file.len; cut += cut < file.front + 40 ? 1 : 509) {
-        uint8_t *part = copy_of(file.bytes, cut);
-        CHECK(open_ranges(part, cut, &ranges, &told) != AGEFILE_OK && ranges.state != 2);
-        release(part);
+    agefile_report report = unset_report();
+    CHECK(agefile_decrypt_key(file.bytes, len, key, back, len, &report) == expected.code);
+    CHECK(has_fields(&report, good, expected.good, 0) && are_equal(back, text, good));
+    for (size_t count = 0; count <= last_piece(len - front); count++) {
+        memset(back, 0xEE, len);
+        CHECK(read_back(file.bytes, len, count, back, &back_len) == expected.code);
+        CHECK(back_len == good && are_equal(back, text, good));
     }
+    CHECK(open_ranges(file.bytes, len, &ranges, &told) == expected.last);
+    CHECK(agefile_ranges_locate(&ranges, 0, &report) == (expected.last == AGEFILE_OK ? AGEFILE_OK : AGEFILE_OUT_OF_ORDER));
+    for (size_t at = 0; expected.last == AGEFILE_OK && at < told; at += AGEFILE_TEXT_CHUNK)
+        CHECK(look(&ranges, &file, text, told, at) == (at == good ? expected.code : (uint32_t)AGEFILE_OK));
+    release(back);
     release(file.bytes);
-    release(text);
+}
+
+enum { full_chunks = 3 };
+static const size_t text_lens[] = {full_chunks * AGEFILE_TEXT_CHUNK, full_chunks * AGEFILE_TEXT_CHUNK + 100};
+
+static void damage(void)
+{
+    for (size_t i = 0; i < 2; i++) {
+        made_file file = made(text_lens[i]);
+        uint8_t *text = text_of(text_lens[i]);
+        size_t last = last_piece(file.len - file.front);
+        for (size_t chunk = 0; chunk <= last; chunk++) {
+            uint8_t *sealed = file.bytes + file.front + chunk * AGEFILE_SEALED_CHUNK;
+            size_t len = chunk == last ? file.len - file.front - last * AGEFILE_SEALED_CHUNK : AGEFILE_SEALED_CHUNK;
+            const size_t places[] = {0, len / 2, len - tag - 1, len - tag, len - 1};
+            for (size_t j = 0; j < sizeof places / sizeof *places; j++) {
+                sealed[places[j]] ^= 1;
+                all_find(file.bytes, file.len, file.front, text, (finding){chunk, AGEFILE_BAD_CHUNK, chunk == last ? AGEFILE_BAD_CHUNK : AGEFILE_OK});
+                sealed[places[j]] ^= 1;
+            }
+        }
+        release(file.bytes);
+        release(text);
+    }
+}
+
+// What is found in a file that ends after so many chunks, and these bytes of the next one.
+static finding cut_finding(size_t chunk, size_t rest)
+{
+    if (rest == 0 && chunk > 0)
+        return (finding){chunk - 1, AGEFILE_BAD_CHUNK, AGEFILE_BAD_CHUNK}; // it is not the last
+    uint32_t code = rest < tag ? AGEFILE_CHUNK_SHORT : rest == tag && chunk > 0 ? AGEFILE_EMPTY_FINAL : AGEFILE_BAD_CHUNK;
+    return (finding){chunk, code, code};
+}
+
+static void truncation(void)
+{
+    static const size_t rests[] = {0, 1, 15, 16, 17, 30000, AGEFILE_SEALED_CHUNK - 1};
+    for (size_t i = 0; i < 2; i++) {
+        made_file file = made(text_lens[i]);
+        uint8_t *text = text_of(text_lens[i]);
+        for (size_t chunk = 0; chunk <= full_chunks; chunk++)
+            for (size_t j = 0; j < sizeof rests / sizeof *rests; j++) {
+                size_t len = file.front + chunk * AGEFILE_SEALED_CHUNK + rests[j];
+                if (len < file.len)
+                    all_find(file.bytes, len, file.front, text, cut_finding(chunk, rests[j]));
+            }
+        release(file.bytes);
+        release(text);
+    }
+}
+
+// Bytes behind the last chunk: it is no longer the last if it is full, and otherwise they seem to belong to it.
+static void bytes_behind_the_end(void)
+{
+    for (size_t i = 0; i < 2; i++) {
+        made_file file = made(text_lens[i]);
+        uint8_t *text = text_of(text_lens[i]), *longer = room(file.len + 17);
+        size_t last = last_piece(file.len - file.front);
+        memset(longer, 0, file.len + 17);
+        memcpy(longer, file.bytes, file.len);
+        for (size_t more = 1; more <= 17; more++) {
+            bool is_full = last < full_chunks;
+            uint32_t code = is_full ? cut_finding(full_chunks, more).code : (uint32_t)AGEFILE_BAD_CHUNK;
+            all_find(longer, file.len + more, file.front, text, (finding){last, AGEFILE_BAD_CHUNK, code});
+        }
+        release(file.bytes);
+        release(text);
+        release(longer);
+    }
 }
 
 // Another chunk's bytes are refused: of the same file, and of the same place in another file.
@@ -469,8 +518,9 @@ static void ranges_out_of_order(void)
 
 static const named_test tests[] = {
     {"steps write the whole buffer's file, and read it back", the_same_files},
-    {"damage: steps end with the whole buffer's code after its text", damage},
-    {"files that were cut: steps end with the whole buffer's code after its text", truncation},
+    {"damage in each chunk, by the whole buffer, steps, parts and ranges", damage},
+    {"files that were cut, by the whole buffer, steps, parts and ranges", truncation},
+    {"bytes behind the end, by the whole buffer, steps, parts and ranges", bytes_behind_the_end},
     {"reading: calls out of order", reading_out_of_order},
     {"reading: a chunk at a wrong place or with a wrong flag", reading_fails},
     {"writing: calls out of order", writing_out_of_order},
@@ -478,7 +528,6 @@ static const named_test tests[] = {
     {"parts: a file by a part and a payload, in both orders", parts_of_a_file},
     {"parts: calls out of order", parts_out_of_order},
     {"ranges: each place", ranges_of_each_place},
-    {"ranges: damage and files that were cut", ranges_and_damage},
     {"ranges: the bytes of another chunk", ranges_with_other_bytes},
     {"ranges: calls out of order", ranges_out_of_order},
 };
