@@ -386,6 +386,51 @@ class ForRust(unittest.TestCase):
     def test_tests(self):
         self.cargo("test")
 
+    @classmethod
+    @functools.cache
+    def converter(cls):
+        """The program tests/library/convert.rs."""
+        project = cls.tree / "convert"
+        (project / "src").mkdir(parents=True)
+        shutil.copy(ROOT / "tests/library/convert.rs", project / "src/main.rs")
+        (project / "Cargo.toml").write_text(
+            '[package]\nname = "convert"\nversion = "0.1.0"\nedition = "2021"\n'
+            f'[dependencies]\nagefile = {{ path = "{ROOT}/bindings/rust", features = ["parallel"] }}\n'
+        )
+        run("cargo", "build", "--offline", "--quiet", cwd=project, env=cls.environment)
+        return cls.tree / "target/debug/convert"
+
+    def convert(self, *words, file):
+        return subprocess.run([self.converter(), *words], input=file, capture_output=True, cwd=self.tree, check=True).stdout
+
+    def test_files_of_others(self):
+        """Files of tests/reference.py and of agep open, and a reader of the specification and agep open
+        those of the crate."""
+        (self.tree / "key").write_bytes(fixture.KEY)
+        for size in (0, 1, 65535, 65536, 65537, 131072, 140000):
+            plain = fixture.PLAIN[:size]
+            agep = subprocess.run([AGEP, "encrypt", "-k", "key"], input=plain, capture_output=True, cwd=self.tree, check=True).stdout
+            for way in ("whole", "stream", "ranges", "threads"):
+                with self.subTest(f"{size} bytes, {way}"):
+                    for file in (fixture.for_keys(plain, fixture.KEY), agep):
+                        self.assertEqual(self.convert(way, "decrypt", "-k", "key", file=file), plain)
+                    made = self.convert(way, "encrypt", "-k", "key", file=plain)
+                    back = bytearray(size)
+                    self.assertEqual(model.decrypt_key(bytearray(made), fixture.KEY, back), (0, (size, 0, 0)))
+                    self.assertEqual(back, plain)
+                    done = subprocess.run([AGEP, "decrypt", "-k", "key"], input=made, capture_output=True, cwd=self.tree)
+                    self.assertEqual((done.returncode, done.stdout, done.stderr), (0, plain, b""))
+
+    def test_passphrases(self):
+        """A passphrase's file of tests/reference.py opens, and age or agep opens the crate's."""
+        (self.tree / "pass").write_bytes(fixture.PASSPHRASE)
+        self.assertEqual(self.convert("stream", "decrypt", "-p", "pass", file=fixture.for_passphrase(b"hello\n")), b"hello\n")
+        (self.tree / "made").write_bytes(self.convert("stream", "encrypt", "-p", "pass", file=b"hello\n"))
+        self.assertEqual(run(AGEP, "decrypt", "-p", "pass", "made", cwd=self.tree), "hello\n")
+        if shutil.which("age"):
+            run("timeout", "60", ROOT / "tests/type_passphrase.py", "pass", "age", "-d", "-o", "back", "made", cwd=self.tree)
+            self.assertEqual((self.tree / "back").read_bytes(), b"hello\n")
+
     @needs("cargo-clippy")
     def test_clippy(self):
         run("cargo", "clippy", "--offline", "--all-features", "--all-targets", "--", "-D", "warnings",

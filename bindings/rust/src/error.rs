@@ -110,9 +110,11 @@ impl Error {
     fn kind(self) -> io::ErrorKind {
         match self {
             Error::HeaderTruncated | Error::NonceTruncated | Error::ChunkShort(_) => io::ErrorKind::UnexpectedEof,
-            Error::NoMatch | Error::WrongKey | Error::Refused => io::ErrorKind::PermissionDenied,
+            Error::Refused => io::ErrorKind::Other,
             Error::OutOfMemory => io::ErrorKind::OutOfMemory,
-            Error::NoRecipients | Error::WorkFactor | Error::BadArguments => io::ErrorKind::InvalidInput,
+            Error::NoMatch | Error::WrongKey => io::ErrorKind::InvalidInput,
+            Error::NoRecipients | Error::EmptyPassphrase => io::ErrorKind::InvalidInput,
+            Error::WorkFactor | Error::BadArguments => io::ErrorKind::InvalidInput,
             Error::Incomplete => io::ErrorKind::BrokenPipe,
             _ => io::ErrorKind::InvalidData,
         }

@@ -2,9 +2,14 @@
 
 use std::io::{self, Read};
 
-use crate::ffi::{self, FRONT, NONCE};
+use crate::ffi::{self, FRONT, MAX_HEADER, NONCE};
 use crate::header::{inspect, unlock};
 use crate::{Error, Header, Identity};
+
+/// Up to this length a header is looked for after each read.
+const SHORT_HEADER: usize = 4096;
+/// The length of a header's last line.
+const LAST_LINE: usize = 48;
 
 /// One read, again where it was interrupted.
 pub fn read_some(source: &mut impl Read, buf: &mut [u8]) -> io::Result<usize> {
@@ -60,9 +65,7 @@ impl Front {
     fn read_header(&mut self, source: &mut impl Read) -> io::Result<Header> {
         loop {
             let has_more = self.read_more(source)?;
-            // A header is tried once its last line may be there, or after twice as much as before.
-            let is_due = self.bytes[self.tried..].windows(4).any(|four| four == b"\n---");
-            if has_more && !is_due && self.bytes.len() < 2 * self.tried {
+            if has_more && !self.is_due() {
                 continue;
             }
             self.tried = self.bytes.len();
@@ -71,6 +74,14 @@ impl Front {
                 result => return Ok(result?),
             }
         }
+    }
+
+    /// Whether a header is looked for in what is there. Of a long one each try takes long, so it is
+    /// tried where its last line may have ended, and after twice as many bytes.
+    fn is_due(&self) -> bool {
+        let len = self.bytes.len();
+        let new = &self.bytes[self.tried.saturating_sub(LAST_LINE)..];
+        len <= SHORT_HEADER || len >= MAX_HEADER.min(2 * self.tried) || new.windows(4).any(|four| four == b"\n---")
     }
 
     fn read_more(&mut self, source: &mut impl Read) -> io::Result<bool> {

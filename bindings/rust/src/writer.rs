@@ -20,7 +20,10 @@ pub struct Writer<W> {
 }
 
 impl<W: Write> Writer<W> {
-    /// Writes the header and the nonce of a new file for these recipients.
+    /// Writes the header and the nonce of a new file for these recipients. Both are made before the
+    /// first byte is written, so an error of a recipient leaves the sink as it was. A file that
+    /// `File::create` has opened is empty by then: write to a new name, and rename it after
+    /// [`Writer::finish`].
     pub fn new(mut sink: W, recipients: &[&dyn Recipient]) -> io::Result<Writer<W>> {
         let (file_key, nonce) = (FileKey(ffi::random()?), ffi::random()?);
         let stanzas = stanzas_text(recipients, &file_key)?;

@@ -1,30 +1,24 @@
 //! Tests of the safe functions, and of how the library's errors arrive.
 
-use std::cell::Cell;
+mod common;
+
+use std::cell::{Cell, RefCell};
 use std::io::{self, Cursor, ErrorKind, Read, Seek, SeekFrom, Write};
 
 use agefile::{
     decrypt, encrypt, inspect, rewrap, Error, FileKey, Header, Identity, Key, Opening, Part, Passphrase, RangeReader,
     Reader, Recipient, Stanza, Writer,
 };
+use common::{fault, key, text};
+
+/// A file of `hello` for the empty passphrase, by `tests/reference.py` of this project.
+const EMPTY_PASSPHRASE: &[u8] = include_bytes!("empty_passphrase.age");
 
 /// Around the edges of chunks.
 const SIZES: [usize; 8] = [0, 1, 16, 65535, 65536, 65537, 131072, 200000];
 
-fn key() -> Key {
-    Key::new([7; 32])
-}
-
 fn passphrase() -> Passphrase {
     Passphrase::new("correct horse").with_work(3).with_max_work(12)
-}
-
-fn text(len: usize) -> Vec<u8> {
-    (0..len).map(|i| (i * 7 + i / 251) as u8).collect()
-}
-
-fn fault(error: io::Error) -> Error {
-    *error.get_ref().and_then(|it| it.downcast_ref::<Error>()).expect("an error of the library")
 }
 
 /// A source that gives at most so many bytes at once.
@@ -99,46 +93,23 @@ fn threads_make_the_same_files() {
             assert_eq!(agefile::parallel::decrypt(&file, &[&key()], threads).unwrap(), plain);
         }
     }
-    let mut file = encrypt(&text(40 * 65536), &[&key()]).unwrap();
-    let front = inspect(&file).unwrap().text().len() + 16;
-    for chunk in [31, 17] {
-        file[front + chunk * 65552] ^= 1;
-        assert_eq!(agefile::parallel::decrypt(&file, &[&key()], 4), Err(Error::BadChunk(chunk as u64)));
-    }
 }
 
-/// What a call of each kind makes of a file that was cut.
-fn cut_file(file: &[u8]) -> Vec<Result<Vec<u8>, Error>> {
-    let mut text = Vec::new();
-    let read = Reader::new(file, &[&key()]).and_then(|mut reader| reader.read_to_end(&mut text)).map_err(fault);
-    let mut found = vec![decrypt(file, &[&key()]), read.map(|_| text)];
-    #[cfg(feature = "parallel")]
-    found.extend([1, 2, 3].map(|threads| agefile::parallel::decrypt(file, &[&key()], threads)));
-    found
-}
-
-#[test]
-fn cut_files_end_at_the_same_chunk() {
-    let file = encrypt(&text(3 * 65536), &[&key()]).unwrap();
-    let front = inspect(&file).unwrap().text().len() + 16;
-    for chunk in 0..4 {
-        for rest in [0, 1, 15, 16, 17, 65551] {
-            let len = front + chunk * 65552 + rest;
-            if len >= file.len() {
-                continue;
-            }
-            let expected = match (chunk, rest) {
-                (0, 0) => Error::ChunkShort(0),
-                (_, 0) => Error::BadChunk(chunk as u64 - 1),
-                (_, 1..=15) => Error::ChunkShort(chunk as u64),
-                (1.., 16) => Error::EmptyFinal(chunk as u64),
-                _ => Error::BadChunk(chunk as u64),
-            };
-            for found in cut_file(&file[..len]) {
-                assert_eq!(found, Err(expected), "chunk {chunk}, {rest} bytes of it");
-            }
-        }
+/// The processor time of this thread in nanoseconds.
+fn processor_time() -> i64 {
+    #[repr(C)]
+    struct Time {
+        seconds: i64,
+        nanoseconds: i64,
     }
+    extern "C" {
+        fn clock_gettime(clock: i32, time: *mut Time) -> i32;
+    }
+    const THREAD: i32 = 3;
+    let mut time = Time { seconds: 0, nanoseconds: 0 };
+    // SAFETY: the struct is the one of C.
+    assert_eq!(unsafe { clock_gettime(THREAD, &mut time) }, 0);
+    time.seconds * 1_000_000_000 + time.nanoseconds
 }
 
 #[test]
@@ -147,12 +118,12 @@ fn great_header_is_listed_in_a_tenth_of_a_second() {
     let mac = [b"--- ", "A".repeat(43).as_bytes(), b"\n"].concat();
     let header = [b"age-encryption.org/v1\n", &stanzas[..], &mac].concat();
     let times = (0..10).map(|_| {
-        let began = std::time::Instant::now();
+        let began = processor_time();
         assert_eq!(inspect(&header).unwrap().stanzas().len(), 10911);
-        began.elapsed()
+        processor_time() - began
     });
     let least = times.min().unwrap();
-    assert!(least.as_millis() < 100, "{least:?}");
+    assert!(least < 100_000_000, "{least} ns");
 }
 
 #[test]
@@ -172,26 +143,6 @@ fn ranges_are_slices() {
         assert_eq!(reader.seek(SeekFrom::Current(5)).unwrap(), plain.len() as u64 + 5);
         assert_eq!(reader.read(&mut [0; 10]).unwrap(), 0);
     }
-}
-
-#[test]
-fn damage_in_another_chunk_is_not_noticed_by_ranges() {
-    let (plain, mut file) = (text(200000), encrypt(&text(200000), &[&key()]).unwrap());
-    let front = inspect(&file).unwrap().text().len() + 16;
-    file[front + 65552] ^= 1;
-    let mut reader = RangeReader::new(Cursor::new(&file), &[&key()]).unwrap();
-    let mut first = vec![0; 65536];
-    reader.read_exact(&mut first).unwrap();
-    assert_eq!(first, plain[..65536]);
-    for _ in 0..2 {
-        assert_eq!(fault(reader.read(&mut first).unwrap_err()), Error::BadChunk(1));
-    }
-    reader.seek(SeekFrom::Start(131072)).unwrap();
-    let mut rest = Vec::new();
-    reader.read_to_end(&mut rest).unwrap();
-    assert_eq!(rest, plain[131072..]);
-    file.truncate(front + 65552);
-    assert_eq!(fault(RangeReader::new(Cursor::new(&file), &[&key()]).unwrap_err()), Error::BadChunk(0));
 }
 
 #[test]
@@ -234,8 +185,8 @@ fn faults_have_their_place_and_their_kind() {
         (b"hello", &key(), Error::NotAge, ErrorKind::InvalidData),
         (b"age-encryption.org/v1\nbad\n", &key(), Error::BadLine(2), ErrorKind::InvalidData),
         (&file[..30], &key(), Error::HeaderTruncated, ErrorKind::UnexpectedEof),
-        (&file, &other, Error::WrongKey, ErrorKind::PermissionDenied),
-        (&file, &passphrase(), Error::NoMatch, ErrorKind::PermissionDenied),
+        (&file, &other, Error::WrongKey, ErrorKind::InvalidInput),
+        (&file, &passphrase(), Error::NoMatch, ErrorKind::InvalidInput),
         (&file[..front - 1], &key(), Error::NonceTruncated, ErrorKind::UnexpectedEof),
         (&file[..front], &key(), Error::ChunkShort(0), ErrorKind::UnexpectedEof),
         (&file[..file.len() - 1], &key(), Error::BadChunk(3), ErrorKind::InvalidData),
@@ -256,18 +207,22 @@ fn faults_have_their_place_and_their_kind() {
 }
 
 #[test]
-fn failed_reader_returns_its_fault_again() {
-    let mut file = encrypt(&text(200000), &[&key()]).unwrap();
-    let front = inspect(&file).unwrap().text().len() + 16;
-    file[front + 2 * 65552] ^= 1;
-    let mut reader = Reader::new(&file[..], &[&key()]).unwrap();
-    let mut back = vec![0; 131072];
-    reader.read_exact(&mut back).unwrap();
-    assert_eq!(back, text(200000)[..131072]);
-    for _ in 0..3 {
-        assert_eq!(fault(reader.read(&mut back).unwrap_err()), Error::BadChunk(2));
-    }
+fn read_of_no_bytes_returns_none_after_a_fault() {
+    let file = encrypt(b"text", &[&key()]).unwrap();
+    let mut reader = Reader::new(&file[..file.len() - 1], &[&key()]).unwrap();
+    assert_eq!(fault(reader.read(&mut [0; 9]).unwrap_err()), Error::BadChunk(0));
     assert_eq!(reader.read(&mut []).unwrap(), 0);
+}
+
+#[test]
+fn empty_passphrase_opens_old_files_and_makes_none() {
+    let empty = Passphrase::new("").with_work(3);
+    assert_eq!(fault(encrypt(b"", &[&empty]).unwrap_err()), Error::EmptyPassphrase);
+    let error = Writer::new(Vec::new(), &[&empty]).unwrap_err();
+    assert_eq!((error.kind(), error.to_string().as_str()), (ErrorKind::InvalidInput, "passphrase is empty"));
+    let old = encrypt(b"", &[&key()]).unwrap();
+    assert_eq!(rewrap(&old, &[&key()], &[&empty]), Err(Error::EmptyPassphrase));
+    assert_eq!(decrypt(EMPTY_PASSPHRASE, &[&empty]).unwrap(), b"hello\n");
 }
 
 /// The passphrase, as an identity that counts how often it is asked.
@@ -314,6 +269,36 @@ fn source_that_would_block_can_go_on() {
     }
 }
 
+/// A source that gives its front at once, and then would block before each byte of its payload.
+struct Trickle<'a>(&'a [u8], Slow<'a>);
+
+impl Read for Trickle<'_> {
+    fn read(&mut self, out: &mut [u8]) -> io::Result<usize> {
+        match self.0 {
+            [] => self.1.read(out),
+            _ => self.0.read(out),
+        }
+    }
+}
+
+#[test]
+fn each_byte_of_a_chunk_may_come_alone() {
+    let plain = text(70000);
+    let file = encrypt(&plain, &[&key()]).unwrap();
+    let (front, payload) = file.split_at(inspect(&file).unwrap().text().len() + 16);
+    let slow = Slow { bytes: payload, waits: false, quick: 0, at_a_time: 1 };
+    let mut reader = Reader::new(Trickle(front, slow), &[&key()]).unwrap();
+    let (mut back, mut buf) = (Vec::new(), [0; 7000]);
+    loop {
+        match reader.read(&mut buf) {
+            Ok(0) => break,
+            Ok(count) => back.extend_from_slice(&buf[..count]),
+            Err(error) => assert_eq!(error.kind(), ErrorKind::WouldBlock),
+        }
+    }
+    assert_eq!(back, plain);
+}
+
 #[test]
 fn opening_goes_on_with_another_key() {
     let file = encrypt(b"text", &[&key()]).unwrap();
@@ -326,22 +311,54 @@ fn opening_goes_on_with_another_key() {
     assert!(Opening::new(&file[..]).finish().is_err());
 }
 
-/// A source that ends the process where it is read behind the bytes that it has.
-struct Waits<'a>(&'a [u8]);
+/// A source that gives a text in two pieces, and would block behind them.
+struct Pieces<'a>(&'a [u8], &'a [u8]);
 
-impl Read for Waits<'_> {
+impl Read for Pieces<'_> {
     fn read(&mut self, out: &mut [u8]) -> io::Result<usize> {
-        assert!(!self.0.is_empty(), "more is read than a wrong key needs");
-        self.0.read(out)
+        if self.0.is_empty() {
+            self.0 = std::mem::take(&mut self.1);
+        }
+        match self.0 {
+            [] => Err(ErrorKind::WouldBlock.into()),
+            _ => self.0.read(out),
+        }
     }
 }
 
+/// A text that comes in two pieces, of which the second is read to its end, has this error before more is read.
+fn is_refused_at_once(text: &[u8], cut: usize, identities: &[&dyn Identity], error: Error) {
+    let (first, second) = text.split_at(cut);
+    let failed = Reader::new(Pieces(first, second), identities).unwrap_err();
+    assert_ne!(failed.kind(), ErrorKind::WouldBlock, "{error}: waits after {cut} of {} bytes", text.len());
+    assert_eq!(fault(failed), error);
+}
+
 #[test]
-fn wrong_key_is_told_before_the_payload_has_come() {
-    let file = encrypt(&text(200000), &[&key()]).unwrap();
-    let front = inspect(&file).unwrap().text().len();
-    assert_eq!(fault(Reader::new(Waits(&file[..front]), &[&Key::new([8; 32])]).unwrap_err()), Error::WrongKey);
-    assert_eq!(fault(Reader::new(Waits(&file[..front]), &[]).unwrap_err()), Error::NoMatch);
+fn no_byte_is_awaited_that_is_not_needed() {
+    let wrong: &dyn Identity = &Key::new([8; 32]);
+    let keys: Vec<Key> = (0..200).map(|i| Key::new([i; 32])).collect();
+    let all: Vec<&dyn Recipient> = keys.iter().skip(9).map(|key| key as &dyn Recipient).collect();
+    for recipients in [&[&key() as &dyn Recipient][..], &all] {
+        let file = encrypt(&text(200000), recipients).unwrap();
+        let header = inspect(&file).unwrap().text().to_vec();
+        for cut in (1..header.len()).step_by(header.len() / 150).chain(header.len() - 60..header.len()) {
+            is_refused_at_once(&header, cut, &[wrong], Error::WrongKey);
+        }
+        is_refused_at_once(&header, 5, &[], Error::NoMatch);
+    }
+    let rows: [(&[u8], Error); 4] = [
+        (b"hello", Error::NotAge),
+        (b"age-encryption.org/v2", Error::NotAge),
+        (b"age-encryption.org/v1\nbad\n", Error::BadLine(2)),
+        (b"age-encryption.org/v1\n-> a\n\n--- AAAA\n", Error::BadLine(4)),
+    ];
+    for (text, error) in rows {
+        // With its last byte the text is refused.
+        (1..text.len()).for_each(|cut| is_refused_at_once(text, cut, &[wrong], error));
+    }
+    let long = [b"age-encryption.org/v1\n-> ", &[b'a'; 65511][..]].concat();
+    is_refused_at_once(&long, 40000, &[wrong], Error::HeaderTooLarge);
 }
 
 #[test]
@@ -366,6 +383,75 @@ fn failed_write_gives_the_sink_back_without_an_end() {
     assert!(decrypt(&room, &[&key()]).is_err());
 }
 
+/// A sink that takes at most so many bytes at once, is interrupted before each write, and counts its flushes
+/// and what was there at the last one.
+#[derive(Debug, Default)]
+struct Sink {
+    bytes: Vec<u8>,
+    at_a_time: usize,
+    interrupts: bool,
+    flushes: usize,
+    flushed: usize,
+    flush_fails: bool,
+}
+
+impl Write for Sink {
+    fn write(&mut self, text: &[u8]) -> io::Result<usize> {
+        self.interrupts = !self.interrupts;
+        if self.interrupts {
+            return Err(ErrorKind::Interrupted.into());
+        }
+        let count = text.len().min(self.at_a_time);
+        self.bytes.extend_from_slice(&text[..count]);
+        Ok(count)
+    }
+
+    fn flush(&mut self) -> io::Result<()> {
+        self.flushes += 1;
+        self.flushed = self.bytes.len();
+        match self.flush_fails {
+            true => Err(ErrorKind::TimedOut.into()),
+            false => Ok(()),
+        }
+    }
+}
+
+#[test]
+fn sink_that_takes_few_bytes_has_them_all_flushed() {
+    for at_a_time in [1, 1000, usize::MAX] {
+        let mut writer = Writer::new(Sink { at_a_time, ..Sink::default() }, &[&key()]).unwrap();
+        writer.write_all(&text(70000)).unwrap();
+        let sink = writer.finish().unwrap();
+        assert_eq!((sink.flushes, sink.flushed), (1, sink.bytes.len()));
+        assert_eq!(decrypt(&sink.bytes, &[&key()]).unwrap(), text(70000));
+    }
+}
+
+#[test]
+fn sink_that_takes_nothing_or_fails_to_flush() {
+    let refused = Writer::new(Sink::default(), &[&key()]).unwrap_err();
+    assert_eq!(refused.kind(), ErrorKind::WriteZero);
+    let mut writer = Writer::new(Sink { at_a_time: 1000, flush_fails: true, ..Sink::default() }, &[&key()]).unwrap();
+    writer.write_all(b"text").unwrap();
+    let (error, sink) = writer.finish().unwrap_err().into_parts();
+    assert_eq!((error.kind(), sink.flushed), (ErrorKind::TimedOut, sink.bytes.len()));
+}
+
+#[test]
+fn nothing_is_written_before_the_header_is_known() {
+    let refusing: [(&[&dyn Recipient], Error); 4] = [
+        (&[], Error::NoRecipients),
+        (&[&key(), &passphrase()], Error::MixedPassphrase),
+        (&[&key(), &passphrase().with_work(31)], Error::WorkFactor),
+        (&[&key(), &Passphrase::new("")], Error::EmptyPassphrase),
+    ];
+    for (recipients, error) in refusing {
+        let mut sink = Sink { at_a_time: 1000, ..Sink::default() };
+        assert_eq!(fault(Writer::new(&mut sink, recipients).unwrap_err()), error);
+        assert_eq!((sink.bytes.len(), sink.flushes), (0, 0));
+    }
+}
+
 #[test]
 fn rewrapped_file_is_for_the_new_recipients() {
     let (plain, other) = (text(100000), Key::new([8; 32]));
@@ -374,6 +460,7 @@ fn rewrapped_file_is_for_the_new_recipients() {
     assert_eq!(decrypt(&new, &[&other]).unwrap(), plain);
     assert_eq!(decrypt(&new, &[&passphrase()]), Err(Error::NoMatch));
     assert_eq!(rewrap(&old, &[&Passphrase::new("x")], &[&key()]), Err(Error::WrongKey));
+    assert_eq!(rewrap(&old, &[&Wrong], &[&key()]), Err(Error::BadMac));
 }
 
 #[test]
@@ -401,6 +488,92 @@ impl Identity for Plain {
         let mine = header.stanzas().iter().find(|stanza| stanza.args[0] == "plain");
         Ok(mine.map(|stanza| FileKey(stanza.body[..].try_into().unwrap())))
     }
+}
+
+/// A key's recipient, which notes the file keys.
+struct Noting<'a>(&'a RefCell<Vec<FileKey>>);
+
+impl Recipient for Noting<'_> {
+    fn wrap(&self, file_key: &FileKey) -> Result<Vec<Stanza>, Error> {
+        self.0.borrow_mut().push(*file_key);
+        key().wrap(file_key)
+    }
+}
+
+/// The base64 of some bytes without padding.
+fn base64(bytes: &[u8]) -> Vec<u8> {
+    const DIGITS: &[u8; 64] = b"ABCDEFGHIJKLMNOPQRSTUVWXYZabcdefghijklmnopqrstuvwxyz0123456789+/";
+    let bit = |at: usize| bytes.get(at / 8).map_or(0, |byte| byte >> (7 - at % 8) & 1) as usize;
+    let digit = |first: usize| (first..first + 6).fold(0, |digit, at| digit << 1 | bit(at));
+    (0..bytes.len() * 8).step_by(6).map(|first| DIGITS[digit(first)]).collect()
+}
+
+fn has(bytes: &[u8], part: &[u8]) -> bool {
+    bytes.windows(part.len()).any(|window| window == part)
+}
+
+/// Whether each byte differs somewhere among these.
+fn all_vary<T: AsRef<[u8]>>(rows: &[T]) -> bool {
+    let first = rows[0].as_ref();
+    (0..first.len()).all(|at| rows.iter().any(|row| row.as_ref()[at] != first[at]))
+}
+
+/// Each way of making a file for one recipient.
+fn files_for(recipient: &dyn Recipient) -> Vec<Vec<u8>> {
+    let mut files = vec![encrypt(b"text", &[recipient]).unwrap(), streamed(b"text", recipient, 10)];
+    #[cfg(feature = "parallel")]
+    files.push(agefile::parallel::encrypt(b"text", &[recipient], 2).unwrap());
+    files.push(rewrap(&files[0], &[&key()], &[recipient]).unwrap());
+    files
+}
+
+#[test]
+fn keys_nonces_and_salts_are_fresh_and_no_file_key_is_seen() {
+    let noted = RefCell::new(Vec::new());
+    let made: Vec<Vec<Vec<u8>>> = (0..64).map(|_| files_for(&Noting(&noted))).collect();
+    let ways = made[0].len();
+    let mut keys = noted.into_inner().into_iter();
+    let keys: Vec<Vec<[u8; 16]>> = made.iter().map(|_| keys.by_ref().take(ways).map(|key| key.0).collect()).collect();
+    for way in 0..ways {
+        let (mut nonces, mut salts) = (Vec::new(), Vec::new());
+        for (files, keys) in made.iter().zip(&keys) {
+            let (file, file_key) = (&files[way], &keys[way]);
+            assert!(!has(file, file_key) && !has(file, &base64(file_key)));
+            let header = inspect(file).unwrap();
+            nonces.push(file[header.text().len()..][..16].to_vec());
+            salts.push(header.stanzas()[0].args[1].clone());
+        }
+        let keys: Vec<[u8; 16]> = keys.iter().map(|keys| keys[way]).collect();
+        assert!(all_vary(&keys) && all_vary(&nonces) && all_vary(&salts), "way {way}");
+    }
+    // A header for other recipients keeps file key and nonce, and has another salt.
+    for (files, keys) in made.iter().zip(&keys) {
+        let (old, new) = (inspect(&files[0]).unwrap(), inspect(&files[ways - 1]).unwrap());
+        assert_eq!(keys[0], keys[ways - 1]);
+        assert_ne!(old.stanzas()[0].args[1], new.stanzas()[0].args[1]);
+        assert_eq!(files[0][old.text().len()..], files[ways - 1][new.text().len()..]);
+    }
+}
+
+#[test]
+fn salts_of_passphrases_are_fresh() {
+    let salt = || inspect(&encrypt(b"", &[&passphrase()]).unwrap()).unwrap().stanzas()[0].args[1].clone();
+    let salts: Vec<String> = (0..64).map(|_| salt()).collect();
+    assert!(all_vary(&salts));
+}
+
+#[test]
+fn usual_work_factors_are_18_and_at_most_22() {
+    let header = inspect(&encrypt(b"", &[&Passphrase::new("x")]).unwrap()).unwrap();
+    assert_eq!(header.stanzas()[0].args[2], "18");
+    // The length of the body is looked at after the work factor, and before scrypt.
+    let accepted = |work: u8| {
+        let stanza = format!("-> scrypt AAAAAAAAAAAAAAAAAAAAAA {work}\n{}\n", "A".repeat(42));
+        let file = format!("age-encryption.org/v1\n{stanza}--- {}\n", "A".repeat(43));
+        decrypt(file.as_bytes(), &[&Passphrase::new("x")])
+    };
+    assert_eq!(accepted(22), Err(Error::Malformed(Part::BodyLength)));
+    assert_eq!(accepted(23), Err(Error::Malformed(Part::WorkFactorTooHigh)));
 }
 
 /// An identity that finds another file key.
