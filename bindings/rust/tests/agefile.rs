@@ -299,6 +299,28 @@ fn each_byte_of_a_chunk_may_come_alone() {
     assert_eq!(back, plain);
 }
 
+/// A source that is interrupted before each read.
+struct Interrupted<'a>(&'a [u8], bool);
+
+impl Read for Interrupted<'_> {
+    fn read(&mut self, out: &mut [u8]) -> io::Result<usize> {
+        self.1 = !self.1;
+        match self.1 {
+            true => Err(ErrorKind::Interrupted.into()),
+            false => self.0.read(out),
+        }
+    }
+}
+
+#[test]
+fn interrupted_source_is_read_again() {
+    let file = encrypt(&text(70000), &[&key()]).unwrap();
+    let mut reader = Reader::new(Interrupted(&file, false), &[&key()]).unwrap();
+    let mut all = vec![0; 80000];
+    assert_eq!((reader.read(&mut all).unwrap(), reader.read(&mut all[65536..]).unwrap()), (65536, 70000 - 65536));
+    assert_eq!(all[..70000], text(70000));
+}
+
 #[test]
 fn opening_goes_on_with_another_key() {
     let file = encrypt(b"text", &[&key()]).unwrap();

@@ -174,20 +174,28 @@ fn each_way_of_reading_ends_at_the_first_bad_chunk() {
     }
 }
 
-#[cfg(feature = "parallel")]
+/// What whole files, streams and threads find in a file: an error, and before it this much of a stream.
+fn all_find(file: &[u8], error: Error, good: usize) {
+    let mut came = Vec::new();
+    let failed = Reader::new(file, &[&key()]).unwrap().read_to_end(&mut came).unwrap_err();
+    assert_eq!((fault(failed), came.len()), (error, good));
+    assert_eq!(decrypt(file, &[&key()]), Err(error));
+    #[cfg(feature = "parallel")]
+    for threads in [1, 2, 4] {
+        assert_eq!(agefile::parallel::decrypt(file, &[&key()], threads), Err(error), "{threads} threads");
+    }
+}
+
 #[test]
-fn threads_find_the_first_bad_chunk() {
+fn each_of_50_chunks_is_found_bad() {
     let plain = text(49 * TEXT + 100);
     for case in damaged(&plain).step_by(3).chain(cut(&plain).step_by(7)).chain(too_long(&plain)) {
-        for threads in [1, 2, 4] {
-            let found = agefile::parallel::decrypt(&case.file, &[&key()], threads);
-            assert_eq!(found, Err(case.error), "{}, {threads} threads", case.name);
-        }
+        all_find(&case.file, case.error, case.good);
     }
     let (mut file, front) = sealed(&plain);
     for chunk in [40, 31, 17] {
         file[front + chunk * SEALED] ^= 1;
-        assert_eq!(agefile::parallel::decrypt(&file, &[&key()], 4), Err(Error::BadChunk(chunk as u64)));
+        all_find(&file, Error::BadChunk(chunk as u64), chunk * TEXT);
     }
 }
 

@@ -85,8 +85,8 @@ pub extern "C" fn agefile_wrap_key(
 ///
 /// # Errors
 /// 25 if the arguments are not one or more words of visible characters (`!` to `~`), joined by
-/// single spaces; 21 if `out` is too small, 17 if an allocation was refused. Then `out` is
-/// unchanged. There are no other codes.
+/// single spaces; 21 if `out` is too small, 17 if an allocation that it needs was refused. Then
+/// `out` is unchanged. There are no other codes.
 #[unsafe(no_mangle)]
 pub extern "C" fn agefile_wrap(
     alloc: Global,
