@@ -24,11 +24,10 @@
  * fails, it writes only what its comment says. Lines are counted from 1, chunks, stanzas and
  * bytes from 0. A passphrase is any bytes; an empty one opens files and makes none. A work factor
  * is 1 to 30; `max_work` is the greatest that is accepted, and 22 is usual; 18 is usual for a new
- * file. A seed is 48 fresh random bytes
- * (getrandom) for each file: the same seed for two files repeats their keys. Only the calls change
- * a payload or a part, and neither is ever copied while it is in use: a copy would seal another
- * chunk under a nonce that was used. Keys and passphrases stay in freed memory. docs/C.md says what
- * is proved and what is trusted. */
+ * file. A seed is 48 fresh random bytes (getrandom) for each file: the same seed for two files
+ * repeats their keys. Only the calls change a payload or a part, and neither is ever copied while it
+ * is in use: a copy would seal another chunk under a nonce that was used. Keys and passphrases stay
+ * in freed memory. docs/C.md says what is proved and what is trusted. */
 #ifndef AGEFILE_H
 #define AGEFILE_H
 #include <stdbool.h>
@@ -210,8 +209,7 @@ static inline uint32_t agefile_unlock_key(
 /* ---- From a file key to the text of a stanza, at the start of `out`; report.len is its length.
  * On AGEFILE_TOO_SMALL it is the length that is needed, and `out` is unchanged. Several stanzas are
  * joined by writing one behind the other. A salt is 16 fresh random bytes for each stanza. An empty
- * passphrase is AGEFILE_EMPTY_PASSPHRASE, before a work factor that is out of its range and before
- * AGEFILE_TOO_SMALL. */
+ * passphrase returns AGEFILE_EMPTY_PASSPHRASE, whatever `work` and `out` are. */
 static inline uint32_t agefile_wrap_passphrase(
     const uint8_t file_key[AGEFILE_LEAST 16], const uint8_t *pass, size_t pass_len, uint8_t work,
     const uint8_t salt[AGEFILE_LEAST 16], uint8_t *out, size_t out_len, agefile_report *report)

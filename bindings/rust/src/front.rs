@@ -64,8 +64,9 @@ impl Front {
 
     fn read_header(&mut self, source: &mut impl Read) -> io::Result<Header> {
         loop {
+            let had = self.bytes.len();
             let has_more = self.read_more(source)?;
-            if has_more && !self.is_due() {
+            if has_more && !self.is_due(had) {
                 continue;
             }
             self.tried = self.bytes.len();
@@ -76,11 +77,12 @@ impl Front {
         }
     }
 
-    /// Whether a header is looked for in what is there. Of a long one each try takes long, so it is
-    /// tried where its last line may have ended, and after twice as many bytes.
-    fn is_due(&self) -> bool {
+    /// Whether a header is looked for after a read, before which `had` bytes were there. Each try of
+    /// a long one takes long, so it is tried where its last line may have ended, and after twice as
+    /// many bytes.
+    fn is_due(&self, had: usize) -> bool {
         let len = self.bytes.len();
-        let new = &self.bytes[self.tried.saturating_sub(LAST_LINE)..];
+        let new = &self.bytes[had.saturating_sub(LAST_LINE)..];
         len <= SHORT_HEADER || len >= MAX_HEADER.min(2 * self.tried) || new.windows(4).any(|four| four == b"\n---")
     }
 
