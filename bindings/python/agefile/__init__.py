@@ -1,4 +1,4 @@
-"""Age v1 encrypted files (age-encryption.org/v1) by libagefile, whose code is proved.
+r"""Age v1 encrypted files (age-encryption.org/v1) by libagefile, whose code is proved.
 
     import agefile
     secret = agefile.Passphrase("correct horse battery staple")

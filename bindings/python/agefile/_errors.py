@@ -90,16 +90,22 @@ def _text(code: int, place: int, detail: int) -> str:
 class AgeError(ValueError):
     """A file that is refused, or a call that is. `code` is the library's; `place` is the line of a
     header, counted from 1, or the chunk, counted from 0; `detail` is the part of a malformed
-    stanza, from 1 to 5."""
+    stanza, from 1 to 5; `filename` is the path of the file, or what its object calls itself, or
+    None."""
 
-    def __init__(self, code: int, place: int = 0, detail: int = 0) -> None:
+    def __init__(self, code: int, place: int = 0, detail: int = 0, filename: Any = None) -> None:
         super().__init__(_text(code, place, detail))
         self.code = Code(code)
         self.place = place
         self.detail = detail
+        self.filename = filename
+
+    def __str__(self) -> str:
+        text = str(self.args[0])
+        return text if self.filename is None else f"{text}: {self.filename!r}"
 
     def __reduce__(self) -> tuple[Any, ...]:
-        return type(self), (int(self.code), self.place, self.detail)
+        return type(self), (int(self.code), self.place, self.detail, self.filename)
 
     @staticmethod
     def of(code: int, place: int = 0, detail: int = 0) -> AgeError:
@@ -113,11 +119,10 @@ class AgeMemoryError(AgeError, MemoryError):
 
 
 class AgeChangedError(AgeError, OSError):
-    """The file is shorter than it was when it was opened, so this chunk could not be read whole."""
+    """The file has another length than when it was opened. It was cut, so that a chunk could not be
+    read whole; or it has grown, and is opened again from a pickle."""
 
-    def __init__(self, code: int = Code.CHUNK_SHORT, place: int = 0, detail: int = 0) -> None:
-        super().__init__(code, place, detail)
-        self.args = (f"the file was cut while it was open: {_text(code, place, detail)}",)
-
-    def __str__(self) -> str:
-        return str(self.args[0])
+    def __init__(self, code: int = Code.CHUNK_SHORT, place: int = 0, detail: int = 0, filename: Any = None) -> None:
+        super().__init__(code, place, detail, filename)
+        what = "was cut while it was" if code == Code.CHUNK_SHORT else "has grown since it was"
+        self.args = (f"the file {what} open: {_text(code, place, detail)}",)

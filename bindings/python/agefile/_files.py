@@ -3,14 +3,46 @@
 from __future__ import annotations
 
 import io
-import os
-from typing import Any
+from typing import Any, Literal, overload
 
-from ._reader import open_again, open_reader
+from ._paths import is_path
+from ._reader import Reader, open_reader
 from ._secrets import Identities, Recipients
 from ._writer import TextWriter, Writer
 
+_ReadBytes = Literal["rb", "br"]
+_ReadText = Literal["r", "rt", "tr"]
+_WriteBytes = Literal["wb", "bw", "xb", "bx"]
+_WriteText = Literal["w", "wt", "tw", "x", "xt", "tx"]
 
+
+@overload
+def open(file: Any, mode: _ReadBytes = "rb", *, identities: Identities) -> Reader: ...
+@overload
+def open(
+    file: Any,
+    mode: _ReadText,
+    *,
+    identities: Identities,
+    encoding: str | None = None,
+    errors: str | None = None,
+    newline: str | None = None,
+) -> io.TextIOWrapper: ...
+@overload
+def open(
+    file: Any, mode: _WriteBytes, *, recipients: Recipients, atomic: bool = False
+) -> Writer: ...
+@overload
+def open(
+    file: Any,
+    mode: _WriteText,
+    *,
+    recipients: Recipients,
+    encoding: str | None = None,
+    errors: str | None = None,
+    newline: str | None = None,
+    atomic: bool = False,
+) -> io.TextIOWrapper: ...
 def open(
     file: Any,
     mode: str = "rb",
@@ -20,45 +52,46 @@ def open(
     encoding: str | None = None,
     errors: str | None = None,
     newline: str | None = None,
+    atomic: bool = False,
 ) -> Any:
     """Opens an age file, as the built-in `open` opens a file.
 
-    `file` is a path, a binary file object, or an opener: a function without arguments, or an object
-    with a method `open`, as `fsspec.open` returns. To be read it has to be seekable.
+    `file` is a path, a descriptor, a binary file object, or an opener: a function without
+    arguments, or an object with a method `open`, as `fsspec.open` returns. To be read it has to be
+    seekable. An object that is neither an open file of the system nor one over it is read by `seek`
+    and `read`, so only one thread at a time may use it.
 
     `rb` (a Reader) and `r` (text) read the plaintext for identities; `wb` and `xb` (a Writer), `w`
     and `x` (text) write a new file for recipients, which is whole only after it was closed. Text is
     UTF-8 unless `encoding` names another.
+
+    The header is made before a file is opened to be written, and a file that was there before keeps
+    its contents until the first byte is written. With `atomic` it keeps them until the new file is
+    whole: that is written beside it, and takes its place when it is closed.
     """
     kind = mode.replace("b", "").replace("t", "")
     if kind not in ("r", "w", "x") or len(mode) > 2 or {"b", "t"} <= set(mode):
         raise ValueError(f"invalid mode: {mode!r}")
-    is_text = "b" not in mode
-    if not is_text and (encoding, errors, newline) != (None, None, None):
+    words: dict[str, Any] = {"encoding": encoding, "errors": errors, "newline": newline}
+    if "b" in mode and any(word is not None for word in words.values()):
         raise ValueError("a binary mode takes no encoding, errors or newline")
-    words: dict[str, Any] = {"encoding": encoding or "utf-8", "errors": errors, "newline": newline}
+    words["encoding"] = encoding or "utf-8"
+    # Words that are wrong are refused before anything is opened.
+    io.TextIOWrapper(io.BytesIO(), **words)
     if kind == "r":
-        if identities is None or recipients is not None:
-            raise TypeError("to read a file takes identities, and no recipients")
+        if identities is None or recipients is not None or atomic:
+            raise TypeError("to read a file takes identities, and neither recipients nor atomic")
         reader = open_reader(file, identities)
-        return io.TextIOWrapper(reader, **words) if is_text else reader
+        return reader if "b" in mode else _text(io.TextIOWrapper, reader, mode, words)
     if recipients is None or identities is not None:
         raise TypeError("to write a file takes recipients, and no identities")
-    writer = _open_writer(file, kind, recipients)
-    return TextWriter(writer, **words) if is_text else writer  # type: ignore[arg-type]
+    if atomic and not is_path(file):
+        raise TypeError("atomic takes a path, beside which the new file is written")
+    writer = Writer(file, kind + "b", recipients, atomic)
+    return writer if "b" in mode else _text(TextWriter, writer, mode, words)
 
 
-def _open_writer(file: Any, kind: str, recipients: Recipients) -> Writer:
-    owned = not hasattr(file, "write")
-    if not owned:
-        sink = file
-    elif isinstance(file, (str, bytes, os.PathLike)):
-        sink = io.FileIO(os.fspath(file), kind + "b")
-    else:
-        sink = open_again(file)
-    try:
-        return Writer(sink, recipients, owned)
-    except BaseException:
-        if owned:
-            sink.close()
-        raise
+def _text(kind: type[io.TextIOWrapper], file: Any, mode: str, words: dict[str, Any]) -> io.TextIOWrapper:
+    text = kind(file, **words)
+    text.mode = mode  # type: ignore[misc]
+    return text

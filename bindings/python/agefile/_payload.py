@@ -6,7 +6,7 @@ import collections
 import concurrent.futures
 import ctypes
 import os
-from collections.abc import Callable, Iterator
+from collections.abc import Iterator
 from typing import Any, BinaryIO
 
 from . import _library as lib
@@ -147,7 +147,7 @@ class _Joined:
 def on_threads(step: _Step, payload: lib.Payload, source: BinaryIO, sink: Any, threads: int) -> int:
     """The same on several threads, in order, with two batches of chunks in memory for each."""
     total, waiting = 0, collections.deque[tuple[_Batch, Any]]()
-    spare = [Chunk(PART) for _ in range(2 * threads + 2)]
+    spare: list[Chunk] = []
 
     def finish_first() -> int:
         batch, future = waiting.popleft()
@@ -163,10 +163,10 @@ def on_threads(step: _Step, payload: lib.Payload, source: BinaryIO, sink: Any, t
 
     with concurrent.futures.ThreadPoolExecutor(threads) as pool:
         try:
-            room = spare.pop()
+            room = Chunk(PART)
             length = _read_batch(step, source, room)
             while length == PART * step.take:
-                ahead = spare.pop()
+                ahead = spare.pop() if spare else Chunk(PART)
                 more = _read_batch(step, source, ahead)
                 if more == 0:
                     break
@@ -187,6 +187,7 @@ def on_threads(step: _Step, payload: lib.Payload, source: BinaryIO, sink: Any, t
 def run(step: _Step, payload: lib.Payload, source: BinaryIO, sink: Any, threads: int) -> int:
     if threads < 1:
         raise ValueError("threads is at least 1")
+    threads = min(threads, os.cpu_count() or 1)
     if threads == 1:
         return one_by_one(step, payload, source, sink)
     return on_threads(step, payload, source, sink, threads)
@@ -218,6 +219,3 @@ def rewrapped(front: Front, identities: Identities, recipients: Recipients) -> t
 def verify(header: bytes, file_key: bytes) -> None:
     """Raises the error of a header whose MAC is not right under a file key."""
     open_payload(header + bytes(lib.NONCE), file_key)
-
-
-Opener = Callable[[], BinaryIO]

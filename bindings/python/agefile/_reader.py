@@ -2,19 +2,30 @@
 
 from __future__ import annotations
 
+import contextlib
 import ctypes
 import io
+import operator
 import os
+import sys
 import threading
-from typing import Any, BinaryIO, Callable
+from typing import Any, BinaryIO
 
 from . import _library as lib
-from ._errors import AgeChangedError, AgeError, Code
+from ._errors import AgeChangedError, Code
+from ._paths import is_open, name_of, named, opened
 from ._payload import Chunk
 from ._secrets import Identities, unlock
-from ._sources import Front, read_into
+from ._sources import Front, flat, read_into
 
-Opener = Callable[[], BinaryIO]
+_PLAIN = (io.FileIO, io.BufferedReader, io.BufferedRandom)
+
+
+def _descriptor_of(file: Any) -> int | None:
+    """The descriptor from which all that this object reads can be read at offsets, or None."""
+    file = getattr(file, "file", file)  # of tempfile.NamedTemporaryFile
+    raw = getattr(file, "raw", file)
+    return raw.fileno() if type(file) in _PLAIN and type(raw) is io.FileIO else None
 
 
 class _Source:
@@ -22,18 +33,19 @@ class _Source:
 
     def __init__(self, file: BinaryIO, opener: Any, owned: bool) -> None:
         self.file, self.opener, self._owned = file, opener, owned
-        self.length = file.seek(0, os.SEEK_END)
-        self._is_plain = type(file) is io.FileIO
+        file.seek(0, os.SEEK_END)
+        self.length = file.tell()
+        self._descriptor = _descriptor_of(file)
 
     def read_at(self, offset: int, room: memoryview) -> int:
         """Reads until the room is full or the file ends. The file's own position may be anywhere:
         a forked process shares it, and so do other readers of one file object."""
-        if not self._is_plain:
+        if self._descriptor is None:
             self.file.seek(offset)
             return read_into(self.file, room)
-        count = done = os.preadv(self.file.fileno(), (room,), offset)
+        count = done = os.preadv(self._descriptor, (room,), offset)
         while 0 < count and done < len(room):
-            count = os.preadv(self.file.fileno(), (room[done:],), offset + done)
+            count = os.preadv(self._descriptor, (room[done:],), offset + done)
             done += count
         return done
 
@@ -42,26 +54,19 @@ class _Source:
             self.file.close()
 
 
-def open_again(opener: Any) -> BinaryIO:
-    """Opens a path, or what an opener opens: a function without arguments, or an object with a
-    method `open`, as those of fsspec."""
-    if isinstance(opener, (str, bytes, os.PathLike)):
-        return io.FileIO(os.fspath(opener), "rb")
-    found = opener.open() if hasattr(opener, "open") else opener()
-    return found  # type: ignore[no-any-return]
-
-
 class _Plaintext(io.RawIOBase):
-    """The plaintext of an age file. It keeps the chunk that was opened last."""
+    """The plaintext of an age file, of which the chunk that was opened last is kept. A read gives
+    bytes of one chunk, or raises its error."""
 
-    def __init__(self, source: _Source, ranges: lib.Ranges) -> None:
-        self._source, self._ranges = source, ranges
-        self._chunk, self._number, self._len, self.position = Chunk(), -1, 0, 0
+    def __init__(self, source: _Source, ranges: lib.Ranges, name: Any) -> None:
+        self._source, self._ranges, self.name = source, ranges, name
+        self._chunk, self._number, self._len = Chunk(), -1, 0
+        # The position is that of `text`, a copy of a chunk for short reads, and the offset in it.
+        self.text, self._text_at, self.at = b"", 0, 0
         self._open = lib.for_chunks("ranges_chunk", ranges)
         self._first: int = ranges.first
         self._sealed_len: int = ranges.sealed_len
-        self._lock = threading.Lock()
-        self.error: BaseException | None = None
+        self.lock = threading.RLock()
         self._open_last()
 
     @staticmethod
@@ -96,59 +101,99 @@ class _Plaintext(io.RawIOBase):
             raise AgeChangedError(Code.CHUNK_SHORT, number)
         return length
 
-    def piece(self) -> memoryview:
-        """The text from the position to the end of its chunk. The position is before the end."""
-        number, start = divmod(self.position, lib.TEXT_CHUNK)
+    def piece(self, at: int) -> memoryview:
+        """The text from a byte on to the end of its chunk; none from the end of the plaintext on."""
+        self._check_open()
+        if at >= self.length:
+            return self._chunk.view[:0]
+        number, start = divmod(at, lib.TEXT_CHUNK)
         if number != self._number:
-            length = self._read(number)
-            self._len = self._open(number * lib.TEXT_CHUNK, self._chunk.base, length)
+            with named(self.name):
+                length = self._read(number)
+                self._len = self._open(number * lib.TEXT_CHUNK, self._chunk.base, length)
             self._number = number
         return self._chunk.view[start : self._len]
 
-    def _next_piece(self) -> memoryview | None:
-        """The same, or None where `error` has why there is none."""
-        try:
-            return self.piece() if self.error is None else None
-        except (AgeError, OSError) as error:
-            self.error = error
-            return None
+    @property
+    def position(self) -> int:
+        return self._text_at + self.at
+
+    def move(self, position: int) -> None:
+        self.at = position - self._text_at
+        if not 0 <= self.at <= len(self.text):
+            self.text, self._text_at, self.at = b"", position, 0
+
+    def keep(self) -> None:
+        """Copies the chunk of the position for the short reads that follow, if it is open."""
+        number, at = divmod(self.position, lib.TEXT_CHUNK)
+        if number == self._number and self.position < self.length:
+            self.text, self._text_at, self.at = bytes(self._chunk.view[: self._len]), self.position - at, at
+
+    def fill(self, room: memoryview) -> int:
+        """Copies text until the room is full or the plaintext ends. After an error the position is
+        where it was."""
+        self._check_open()
+        begin, done = self.position, 0
+        while done < len(room) and len(piece := self.piece(begin + done)):
+            count = min(len(piece), len(room) - done)
+            room[done : done + count] = piece[:count]
+            done += count
+        self.move(begin + done)
+        return done
 
     def readinto(self, room: Any) -> int:
-        """Reads as many bytes as there are, or up to the first chunk that is bad. Then `error` has
-        its error, which the reader above raises once it has returned all bytes before it."""
-        with self._lock, memoryview(room).cast("B") as view:
+        with self.lock, flat(room) as view:
             # A traceback must not keep a view of memory that is not Python's.
             del room
-            self._check_open()
-            done, wanted = 0, min(len(view), self.length - self.position)
-            while done < wanted and (piece := self._next_piece()) is not None:
-                count = len(piece)
-                if count > wanted - done:
-                    count = wanted - done
-                    piece = piece[:count]
-                view[done : done + count] = piece
-                done += count
-                self.position += count
-            return done
+            return self.fill(view[: len(self.piece(self.position))] if len(view) else view)
+
+    def take(self, most: int) -> bytes:
+        """So many bytes, or all up to the end of the plaintext."""
+        self._check_open()
+        piece = self.piece(self.position) if most else self._chunk.view[:0]
+        left = max(self.length - self.position, 0)
+        if min(most, left) > len(piece):
+            out = lib.fresh_bytes(min(most, left))
+            with lib.Bytes(out) as memory:
+                self.fill(lib.view_of(memory, out))
+            return out
+        found = bytes(piece[:most])
+        self.move(self.position + len(found))
+        if most < len(piece):
+            self.keep()
+        return found
+
+    def take_line(self, most: int) -> bytes:
+        """The bytes up to the end of the line, but no more than so many."""
+        self._check_open()
+        pieces, begin, end = [b""], self.position, self.position
+        while end - begin < most and not pieces[-1].endswith(b"\n"):
+            piece = self.piece(end)[: most - (end - begin)]
+            if not piece:
+                break
+            room, start = self._chunk.room, end % lib.TEXT_CHUNK
+            found = room.find(b"\n", start, start + len(piece)) + 1
+            pieces.append(bytes(piece[: found - start] if found else piece))
+            end += len(pieces[-1])
+        self.move(end)
+        self.keep()
+        return b"".join(pieces)
 
     def readall(self) -> bytes:
-        left = max(self.length - self.position, 0)
-        out = lib.fresh_bytes(left)
-        with lib.Bytes(out) as memory:
-            count = self.readinto(lib.view_of(memory, out))
-        return out if count == left else out[:count]
+        with self.lock:
+            return self.take(sys.maxsize)
 
     def seek(self, offset: int, whence: int = os.SEEK_SET) -> int:
         self._check_open()
-        with self._lock:
+        with self.lock:
             starts = {os.SEEK_SET: 0, os.SEEK_CUR: self.position, os.SEEK_END: self.length}
             if whence not in starts:
                 raise ValueError(f"unknown whence: {whence}")
-            if starts[whence] + offset < 0:
-                raise ValueError(f"negative position: {starts[whence] + offset}")
-            self.error = None
-            self.position = starts[whence] + offset
-            return self.position
+            position = starts[whence] + operator.index(offset)
+            if position < 0:
+                raise ValueError(f"negative position: {position}")
+            self.move(position)
+            return position
 
     def tell(self) -> int:
         self._check_open()
@@ -165,6 +210,7 @@ class _Plaintext(io.RawIOBase):
     def close(self) -> None:
         if not self.closed:
             super().close()
+            self.text, self.at = b"", 0
             self._source.close()
 
     def _check_open(self) -> None:
@@ -179,21 +225,32 @@ class _Plaintext(io.RawIOBase):
         return self._source.opener, bytes(self._ranges)
 
 
-class Reader(io.BufferedReader):
+def _most(size: int | None) -> int:
+    """The number of bytes that a caller asks for, where None and -1 stand for all."""
+    size = -1 if size is None else operator.index(size)
+    return sys.maxsize if size < 0 else size
+
+
+class Reader(io.BufferedIOBase):
     """The plaintext of an age file, as a seekable binary file. Only the chunks that are read are
-    opened, so damage in others is not noticed. A read that meets a bad chunk returns the bytes
-    before it; the next call raises the error.
+    opened, so damage in others is not noticed.
+
+    A result that is shorter than what was asked for means the end of the plaintext: where a chunk
+    is needed that cannot be opened, a call raises its error, now and each time, and the position
+    stays. `read1`, `peek` and `raw.readinto`, whose results may be short anyway, return the
+    verified bytes before that chunk, and raise once there are none.
 
     Where it was opened by a path or an opener it can be pickled, for workers: the pickle holds the
     payload's key, so whoever has it can read the file. Opened again, it pays no scrypt."""
 
+    mode = "rb"
     raw: _Plaintext
-    # Whether a read that meets a bad chunk raises at once. For fsspec, whose callers take a short
-    # read for the end.
-    is_strict = False
 
     def __init__(self, raw: _Plaintext) -> None:
-        super().__init__(raw, lib.TEXT_CHUNK)
+        self.raw, self.name = raw, raw.name
+
+    def __repr__(self) -> str:
+        return f"<agefile.Reader name={self.name!r} mode={self.mode!r}>"
 
     def __reduce_ex__(self, protocol: Any) -> tuple[Any, ...]:
         return reopen, (*self.raw.again(), self.tell())
@@ -203,66 +260,97 @@ class Reader(io.BufferedReader):
         """The length of the plaintext in bytes."""
         return self.raw.length
 
-    def _or_error(self, result: Any) -> Any:
-        """A result, unless it is empty since an error waits."""
-        if self.raw.error is not None and (self.is_strict or not result):
-            error, self.raw.error = self.raw.error, None
-            raise error
-        return result
-
     def read(self, size: int | None = -1, /) -> bytes:
-        if (size is None or size < 0) and self.tell() != self.raw.tell():
-            # Without a size, what is buffered and the rest would be joined: a second copy.
-            size = self.length - self.tell()
-        found = super().read(size)
-        if self.raw.error is None or size == 0:
-            return found
-        return self._or_error(found)  # type: ignore[no-any-return]
+        raw = self.raw
+        with raw.lock:
+            if size is not None and 0 < size <= len(raw.text) - raw.at:
+                found = raw.text[raw.at : raw.at + size]
+                raw.at += len(found)
+                return found
+            return raw.take(_most(size))
 
     def read1(self, size: int = -1, /) -> bytes:
-        found = super().read1(size)
-        return found if size == 0 else self._or_error(found)  # type: ignore[no-any-return]
+        raw = self.raw
+        with raw.lock:
+            if 0 < size <= len(raw.text) - raw.at:
+                found = raw.text[raw.at : raw.at + size]
+                raw.at += len(found)
+                return found
+            return raw.take(min(_most(size), len(raw.piece(raw.position)))) if size else b""
 
     def readinto(self, room: Any, /) -> int:
-        count = super().readinto(room)
-        return count if len(memoryview(room)) == 0 else self._or_error(count)  # type: ignore[no-any-return]
-
-    def readinto1(self, room: Any, /) -> int:
-        count = super().readinto1(room)
-        return count if len(memoryview(room)) == 0 else self._or_error(count)  # type: ignore[no-any-return]
+        with self.raw.lock, flat(room) as view:
+            # A traceback must not keep a view of memory that is not Python's.
+            del room
+            return self.raw.fill(view)
 
     def peek(self, size: int = 0, /) -> bytes:
-        return self._or_error(super().peek(size))  # type: ignore[no-any-return]
+        with self.raw.lock:
+            return bytes(self.raw.piece(self.raw.position))
 
     def readline(self, size: int | None = -1, /) -> bytes:
-        found = super().readline(size)
-        if self.raw.error is None or size == 0:
-            return found
-        return self._or_error(found)  # type: ignore[no-any-return]
+        raw = self.raw
+        with raw.lock:
+            stop = sys.maxsize if size is None or size < 0 else raw.at + size
+            end = raw.text.find(b"\n", raw.at, stop) + 1 or stop
+            if raw.at < end <= len(raw.text):
+                found = raw.text[raw.at : end]
+                raw.at = end
+                return found
+            return raw.take_line(_most(size))
+
+    def readlines(self, hint: int | None = -1, /) -> list[bytes]:
+        with self.raw.lock:
+            begin = self.raw.position
+            try:
+                return super().readlines(-1 if hint is None else hint)
+            except BaseException:
+                self.raw.move(begin)
+                raise
+
+    def seek(self, offset: int, whence: int = os.SEEK_SET, /) -> int:
+        return self.raw.seek(offset, whence)
+
+    def tell(self) -> int:
+        return self.raw.tell()
+
+    def readable(self) -> bool:
+        return self.raw.readable()
+
+    def seekable(self) -> bool:
+        return self.raw.seekable()
+
+    @property
+    def closed(self) -> bool:
+        return self.raw.closed
+
+    def close(self) -> None:
+        self.raw.close()
 
 
 def open_reader(file: Any, identities: Identities) -> Reader:
-    """Opens the plaintext of a path, of an opener, or of a binary file object that can seek."""
-    owned = not hasattr(file, "read")
-    source = _Source(open_again(file) if owned else file, file if owned else None, owned)
-    try:
-        return Reader(_Plaintext(source, _Plaintext.unlocked(source, identities)))
-    except BaseException:
-        source.close()
-        raise
+    """Opens the plaintext of a path, a descriptor, an opener, or a binary file that can seek."""
+    owned = not is_open(file, "read")
+    below, name = opened(file) if owned else file, name_of(file)
+    source = _Source(below, file if owned and not isinstance(file, int) else None, owned)
+    with named(name), contextlib.ExitStack() as stack:
+        stack.callback(source.close)
+        reader = Reader(_Plaintext(source, _Plaintext.unlocked(source, identities), name))
+        stack.pop_all()
+    return reader
 
 
 def reopen(opener: Any, ranges: bytes, position: int) -> Reader:
     """Opens a plaintext again by its payload's key; its last chunk is verified again."""
-    source = _Source(open_again(opener), opener, True)
-    try:
-        found = lib.Ranges.from_buffer_copy(ranges)
-        if source.length != found.first + found.sealed_len:
-            raise AgeChangedError(Code.CHUNK_SHORT)
+    source, found = _Source(opened(opener), opener, True), lib.Ranges.from_buffer_copy(ranges)
+    with named(name_of(opener)), contextlib.ExitStack() as stack:
+        stack.callback(source.close)
+        grown = source.length - found.first - found.sealed_len
+        if grown:
+            last = max(min(source.length - found.first, found.sealed_len) - 1, 0) // lib.SEALED_CHUNK
+            raise AgeChangedError(Code.BAD_CHUNK if grown > 0 else Code.CHUNK_SHORT, last)
         found.state = 1
-        reader = Reader(_Plaintext(source, found))
+        reader = Reader(_Plaintext(source, found, name_of(opener)))
         reader.seek(position)
-        return reader
-    except BaseException:
-        source.close()
-        raise
+        stack.pop_all()
+    return reader

@@ -3,12 +3,14 @@
 from __future__ import annotations
 
 import ctypes
+import operator
 import os
 from collections.abc import Iterable, Sequence
 from typing import Any, NamedTuple, Protocol, Union, runtime_checkable
 
 from . import _library as lib
 from ._errors import AgeError, Code
+from ._paths import reading
 
 
 class Stanza(NamedTuple):
@@ -64,15 +66,28 @@ class _Secret:
 class Passphrase(_Secret):
     """A passphrase, for new files and for old ones: text, which is encoded as UTF-8, or any bytes.
     `work` is the work factor of a new file: each try to open it takes 2^work KiB of memory.
-    `max_work` is the greatest that is accepted of a file. Both are 1 to 30."""
+    `max_work` is the greatest that is accepted of a file. Both are 1 to 30. An empty passphrase
+    opens files, and makes none."""
 
     def __init__(self, passphrase: str | bytes, *, work: int = 18, max_work: int = 22) -> None:
         if isinstance(passphrase, str):
             passphrase = passphrase.encode()
-        if not (1 <= work <= 30 and 1 <= max_work <= 30):
+        self._work, self._max_work = operator.index(work), operator.index(max_work)
+        if not (1 <= self._work <= 30 and 1 <= self._max_work <= 30):
             raise AgeError(Code.WORK_FACTOR)
         super().__init__(bytes(memoryview(passphrase)))
-        self._work, self._max_work = work, max_work
+
+    @classmethod
+    def from_file(cls, file: Any, *, work: int = 18, max_work: int = 22) -> Passphrase:
+        """The passphrase in a file, at most 65,536 bytes, as the option -p of agep reads it: one LF
+        at its end is removed. `file` is a path, a descriptor or a binary file object."""
+        found = b""
+        with reading(file) as source:
+            while len(found) <= lib.TEXT_CHUNK and (piece := source.read(lib.TEXT_CHUNK + 1)):
+                found += piece
+        if len(found) > lib.TEXT_CHUNK:
+            raise ValueError(f"a passphrase file has at most {lib.TEXT_CHUNK} bytes")
+        return cls(found.removesuffix(b"\n"), work=work, max_work=max_work)
 
     def _text(self, file_key: bytes) -> bytes:
         salt = os.urandom(lib.SALT)
@@ -136,11 +151,14 @@ def _stanza_text(stanza: Stanza) -> bytes:
 
 def as_list(secrets: Any, method: str) -> list[Any]:
     """One recipient or identity, or several, as a list."""
-    is_one = isinstance(secrets, _Secret) or hasattr(secrets, method)
-    found = [secrets] if is_one else list(secrets)
+    is_one = isinstance(secrets, (_Secret, str, bytes, bytearray)) or hasattr(secrets, method)
+    found = [secrets] if is_one or not isinstance(secrets, Iterable) else list(secrets)
     for secret in found:
         if not (isinstance(secret, _Secret) or hasattr(secret, method)):
-            raise TypeError(f"{type(secret).__name__} has no method {method}")
+            kind = type(secret).__name__
+            raise TypeError(
+                f"{kind} has no method {method}: pass agefile.Passphrase(..) or agefile.Key(..)"
+            )
     return found
 
 

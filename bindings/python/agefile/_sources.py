@@ -3,6 +3,7 @@
 from __future__ import annotations
 
 import functools
+import io
 from typing import Any, BinaryIO
 
 from . import _library as lib
@@ -10,19 +11,30 @@ from ._errors import AgeError, Code
 from ._secrets import Header, read_header
 
 
+def flat(data: Any) -> memoryview:
+    """The bytes of an object. A view with a zero in its shape has no cast."""
+    with memoryview(data) as view:
+        return view.cast("B") if view.nbytes else memoryview(bytearray())
+
+
+def _checked(count: Any, least: int, most: int, call: str) -> int:
+    """What a call of the file below returned, which is None where it would block."""
+    if count is None:
+        raise BlockingIOError(f"the {call} would block")
+    if not least <= count <= most:
+        raise OSError(f"the {call} returned {count}, not {least} to {most}")
+    return int(count)
+
+
 def read_into(source: BinaryIO, room: memoryview) -> int:
     """Reads until the room is full or the source ends, and returns the number of bytes."""
     read = getattr(source, "readinto", None) or functools.partial(_read_by_copy, source)
     wanted, done = len(room), 0
     while done < wanted:
-        count = read(room[done:] if done else room)
-        if count is None:
-            raise BlockingIOError("the source would block")
+        count = _checked(read(room[done:] if done else room), 0, wanted - done, "read")
         if count == 0:
             break
         done += count
-    if done > wanted:
-        raise OSError("readinto returned an invalid length")
     return done
 
 
@@ -31,18 +43,20 @@ def _read_by_copy(source: BinaryIO, room: memoryview) -> int | None:
     piece: bytes | None = source.read(len(room))
     if piece is None:
         return None
-    room[: len(piece)] = piece
+    if len(piece) <= len(room):
+        room[: len(piece)] = piece
     return len(piece)
 
 
 def write_all(sink: Any, data: Any) -> None:
-    """Writes all bytes; a sink without a buffer may take a part of them at a time."""
-    count, rest = sink.write(data), data
-    while count != len(rest):
-        if count is None:
-            raise BlockingIOError("the sink would block")
-        rest = memoryview(rest)[count:]
+    """Writes all bytes; a sink without a buffer may take a part of them at a time. None says that
+    it took all of them, except of a raw file, which would block."""
+    rest = data
+    while len(rest):
         count = sink.write(rest)
+        if count == len(rest) or count is None and not isinstance(sink, io.RawIOBase):
+            return
+        rest = memoryview(rest)[_checked(count, 1, len(rest), "write") :]
 
 
 class Front:
@@ -59,24 +73,20 @@ class Front:
         """Reads more, and returns whether there was more."""
         piece = b"" if self._ended else self._read(lib.FRONT)
         if piece is None:
-            raise BlockingIOError("the source would block")
+            raise BlockingIOError("the read would block")
         self._ended = not piece
         self.bytes += piece
         return bool(piece)
 
     def header(self) -> Header:
         """Reads until the header is there, and returns it."""
-        tried = 0
         while True:
-            # A header is tried once its last line may be there, or twice as much as at the last try.
-            if len(self.bytes) >= 2 * tried or b"\n---" in self.bytes[tried:] or self._ended:
-                tried = len(self.bytes)
-                try:
-                    return read_header(bytes(self.bytes))
-                except AgeError as error:
-                    if error.code != Code.HEADER_TRUNCATED or self._ended:
-                        raise
             self.more()
+            try:
+                return read_header(bytes(self.bytes))
+            except AgeError as error:
+                if error.code != Code.HEADER_TRUNCATED or self._ended:
+                    raise
 
     def nonce(self, header: Header) -> None:
         """Reads until the nonce is there too, or the source has ended."""

@@ -4,13 +4,15 @@ from __future__ import annotations
 
 import ctypes
 import io
+import os
 from typing import Any, BinaryIO, cast
 
 from . import _library as lib
 from ._errors import AgeError, Code
+from ._paths import reading, writing
 from ._payload import OPENING, SEALING, Behind, Chunk, begin, open_source, rewrapped, run
 from ._secrets import Header, Identities, Recipients, read_header, unlock
-from ._sources import Front, write_all
+from ._sources import Front, read_into, write_all
 
 
 class _Collector:
@@ -105,7 +107,11 @@ def decrypt(data: Any, *, identities: Identities, threads: int = 1) -> bytes:
 
 
 def inspect(data: Any) -> Header:
-    """The header of an age file, of which `data` holds at least the beginning."""
+    """The header of an age file: of bytes, which are at least its beginning, or of a path or a
+    descriptor."""
+    if isinstance(data, (str, int, os.PathLike)):
+        with reading(data) as source:
+            return Front(source).header()
     with lib.Bytes(data) as file:
         return read_header(ctypes.string_at(file.address, min(file.len, lib.FRONT)) if file.len else b"")
 
@@ -118,34 +124,42 @@ def rewrap(data: Any, *, identities: Identities, recipients: Recipients) -> byte
     return sink.getvalue()
 
 
-def rewrap_copy(source: BinaryIO, sink: Any, *, identities: Identities, recipients: Recipients) -> None:
-    """The same from a binary file object to another."""
-    front = Front(source)
-    header, old = rewrapped(front, identities, recipients)
-    write_all(sink, header)
-    write_all(sink, front.bytes[old:])
-    while piece := source.read(lib.TEXT_CHUNK):
-        write_all(sink, piece)
+def rewrap_copy(source: Any, sink: Any, *, identities: Identities, recipients: Recipients) -> None:
+    """The same from a file to another, each a path, a descriptor or a binary file object."""
+    with reading(source) as below:
+        front = Front(below)
+        header, old = rewrapped(front, identities, recipients)
+        with writing(sink, below) as out:
+            write_all(out, header)
+            write_all(out, front.bytes[old:])
+            while piece := below.read(lib.TEXT_CHUNK):
+                write_all(out, piece)
 
 
 def copy(
-    source: BinaryIO,
+    source: Any,
     sink: Any,
     *,
     recipients: Recipients | None = None,
     identities: Identities | None = None,
     threads: int = 1,
 ) -> int:
-    """Encrypts for recipients, or decrypts with identities, all of a binary file object to another,
-    also from and to pipes, in constant memory. Returns the bytes of the plaintext. After an error
-    of the payload the sink has the plaintext of the chunks before it."""
+    """Encrypts for recipients, or decrypts with identities, all of a file to another, each a path,
+    a descriptor or a binary file object, also from and to pipes, in constant memory. Returns the
+    bytes of the plaintext. After an error of the payload the sink has the plaintext of the chunks
+    before it. A file of the sink's path keeps its contents until the first byte is written."""
     if (recipients is None) == (identities is None):
         raise TypeError("copy takes recipients to encrypt, or identities to decrypt")
-    if recipients is not None:
-        front, payload = begin(recipients)
-        write_all(sink, front)
-        sealed = run(SEALING, payload, source, sink, threads)
+    if recipients is None:
+        assert identities is not None
+        with reading(source) as below:
+            first, payload = open_source(below, identities)
+            with writing(sink, below) as out:
+                return run(OPENING, payload, cast(BinaryIO, Behind(first, below)), out, threads)
+    front, payload = begin(recipients)
+    with reading(source) as below, writing(sink, below) as out:
+        room = memoryview(bytearray(lib.TEXT_CHUNK))
+        first = room[: read_into(below, room)]
+        write_all(out, front)
+        sealed = run(SEALING, payload, cast(BinaryIO, Behind(first, below)), out, threads)
         return sealed - lib.TAG * ((sealed + lib.SEALED_CHUNK - 1) // lib.SEALED_CHUNK)
-    assert identities is not None
-    first, payload = open_source(source, identities)
-    return run(OPENING, payload, cast(BinaryIO, Behind(first, source)), sink, threads)

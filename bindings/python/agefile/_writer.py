@@ -6,31 +6,47 @@ import contextlib
 import io
 import os
 import threading
+import warnings
 from typing import Any
 
 from . import _library as lib
+from ._paths import Replacement, created, is_open, is_path, name_of, opener_of
 from ._payload import Chunk, begin
 from ._secrets import Recipients
-from ._sources import write_all
+from ._sources import flat, write_all
 
 
 class Writer(io.BufferedIOBase):
     """The plaintext of a new age file. Each full chunk is sealed and written; the last one when the
-    file is closed. A file that was not closed, whose `with` body raised, or a write of which
-    failed, has no last chunk, so each reader refuses it. A forked child writes nothing: it would
-    seal other bytes under the nonces of its parent."""
+    file is closed. The header is written before the first chunk, or by `flush`; only then a file
+    that was there before is emptied.
 
-    def __init__(self, sink: Any, recipients: Recipients, owned: bool) -> None:
-        self._sink, self._owned = sink, owned
+    A file that was not closed, whose `with` body raised, or a write of which failed, has no last
+    chunk, so each reader refuses it. What calls `close` after an exception makes a whole file of
+    what was written: `contextlib.closing`, a `TextIOWrapper` or `BufferedWriter` over this object,
+    `fsspec.open`. A forked child writes nothing: it would seal other bytes under the nonces of its
+    parent."""
+
+    def __init__(self, file: Any, mode: str, recipients: Recipients, atomic: bool) -> None:
+        self.name, self.mode, self._owned = name_of(file), mode, not is_open(file, "write")
         self._lock, self._process = threading.RLock(), os.getpid()
-        self._chunk, self._filled, self._total, self._failed = Chunk(), 0, 0, True
-        front, payload = begin(recipients)
+        self._chunk, self._filled, self._total, self._failed = Chunk(), 0, 0, False
+        self._front, payload = begin(recipients)
         self._seal_next = lib.for_chunks("seal_next", payload)
-        self._put(front)
+        is_later = self._owned and not (is_path(file) or isinstance(file, int))
+        sink = None if is_later else created(file, mode, atomic) if self._owned else file
+        self._opener, self._sink = opener_of(file) if is_later else None, sink
+
+    def __repr__(self) -> str:
+        return f"<agefile.Writer name={self.name!r} mode={self.mode!r}>"
 
     def _put(self, data: Any) -> None:
-        """Writes to the sink. After a failure nothing more is written."""
+        """Writes to the sink. After a failure nothing more is written, nor after an interrupt."""
         self._failed = True
+        if self._opener is not None:
+            self._sink, self._opener = self._opener(), None
+        write_all(self._sink, self._front)
+        self._front = b""
         write_all(self._sink, data)
         self._failed = False
 
@@ -42,7 +58,7 @@ class Writer(io.BufferedIOBase):
         self._put(self._chunk.view[:length])
 
     def write(self, data: Any, /) -> int:
-        with self._lock, memoryview(data) as view, view.cast("B") as rest:
+        with self._lock, flat(data) as rest:
             self._check_usable()
             at = 0
             while at < len(rest):
@@ -74,11 +90,13 @@ class Writer(io.BufferedIOBase):
         return True
 
     def flush(self) -> None:
-        """Flushes what was sealed. The bytes of a chunk that is not full stay here."""
-        if self.closed:
-            raise ValueError("I/O operation on closed file")
-        if hasattr(self._sink, "flush") and not getattr(self._sink, "closed", False):
-            self._sink.flush()
+        """Writes the header, and flushes what was sealed. The bytes of a chunk that is not full
+        stay here."""
+        with self._lock:
+            if self.writable() and self._front and not self._failed and self._process == os.getpid():
+                self._put(b"")
+            if hasattr(self._sink, "flush") and not getattr(self._sink, "closed", False):
+                self._sink.flush()
 
     def close(self) -> None:
         """Seals the last chunk: only now the file is whole."""
@@ -88,6 +106,8 @@ class Writer(io.BufferedIOBase):
             try:
                 if not self._failed and self._process == os.getpid():
                     self._seal(True)
+                    if isinstance(self._sink, Replacement):
+                        self._sink.commit()
             finally:
                 self._end()
 
@@ -98,10 +118,12 @@ class Writer(io.BufferedIOBase):
                 self._end()
 
     def _end(self) -> None:
+        # From here on a flush writes no header.
+        self._failed = True
         try:
             super().close()
         finally:
-            if self._owned:
+            if self._owned and self._sink is not None:
                 self._sink.close()
 
     def __exit__(self, kind: type[BaseException] | None, *rest: Any) -> None:
@@ -109,19 +131,18 @@ class Writer(io.BufferedIOBase):
 
     def __del__(self) -> None:
         # A file that nobody closed stays without its last chunk.
-        if getattr(self, "_sink", None) is not None:
+        if hasattr(self, "_sink") and not self.closed:
             self.abort()
+            if self._process == os.getpid():
+                warnings.warn(f"{self!r} was not closed, so it is not whole", ResourceWarning, 2, self)
 
 
 class TextWriter(io.TextIOWrapper):
     """A text file over a writer, which is whole under the same conditions."""
 
     def __exit__(self, kind: type[BaseException] | None, *rest: Any) -> None:
-        self.close() if kind is None else self._abort()
-
-    def _abort(self) -> None:
-        self.buffer.abort()  # type: ignore[attr-defined]
+        self.close() if kind is None else self.buffer.abort()  # type: ignore[attr-defined]
 
     def __del__(self) -> None:
         with contextlib.suppress(AttributeError, ValueError):
-            self._abort()
+            self.buffer.__del__()  # type: ignore[attr-defined]

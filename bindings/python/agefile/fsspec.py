@@ -1,13 +1,15 @@
-"""A file system of plaintexts for fsspec, and so for Dask and all else that reads through it.
+"""A file system of plaintexts for fsspec, and so for Dask and all else that goes through it.
 
     import agefile, agefile.fsspec, dask.dataframe
-    options = {"fs": fsspec.filesystem("file"), "identities": agefile.Passphrase("..")}
-    table = dask.dataframe.read_csv("age:///data/big.csv.age", storage_options=options)
+    secret = agefile.Passphrase("..")
+    table = dask.dataframe.read_csv("age:///data/*.csv.age", storage_options={"identities": secret})
+    with fsspec.open("age::s3://bucket/a.age", age={"identities": secret}) as file: ..
 
 Names are those of the file system below. A file is opened by ranges: each worker opens the chunks
-of its own blocks. Damage in one block fails the task of that block alone, with the number of its
-chunk. The key of each file's payload is kept, and goes with the file system into the pickle for a
-worker, so scrypt runs once for each file; whoever has that pickle can read these files.
+of its own blocks. Damage in one block fails the task of that block alone, with the file and the
+number of its chunk. The key of each file's payload is kept as long as the file stays as it was, and
+goes with the file system into the pickle for a worker, so scrypt runs once for each file; whoever
+has that pickle can read these files.
 """
 
 from __future__ import annotations
@@ -17,67 +19,139 @@ from typing import Any
 import fsspec  # type: ignore[import]
 from fsspec.spec import AbstractFileSystem  # type: ignore[import]
 
+from ._errors import AgeError
+from ._files import open as open_file
 from ._reader import Reader, open_reader, reopen
-from ._secrets import Identities
+from ._secrets import Identities, Recipients
 
 
 class AgeFileSystem(AbstractFileSystem):  # type: ignore[misc]
-    """The plaintexts of the age files of another file system, `fs`, to be read with identities."""
+    """The plaintexts of the age files of another file system, to be read with identities and
+    written for recipients: of `fs`, else of the protocol of a chain, else of the local files.
+
+    A list of files opens none of them, so it has no sizes; `info` of one file has its size."""
 
     protocol = "age"
     cachable = False
 
-    def __init__(self, *, fs: AbstractFileSystem, identities: Identities, **options: Any) -> None:
+    def __init__(
+        self,
+        *,
+        fs: AbstractFileSystem | None = None,
+        identities: Identities | None = None,
+        recipients: Recipients | None = None,
+        target_protocol: str = "file",
+        target_options: dict[str, Any] | None = None,
+        fo: Any = "",
+        **options: Any,
+    ) -> None:
         super().__init__(**options)
-        self.fs, self._identities = fs, identities
-        # The payload's key of each file that was opened, with the places of its chunks.
-        self._keys: dict[str, bytes] = {}
+        self.fs = fs or fsspec.filesystem(target_protocol, **(target_options or {}))
+        self._identities, self._recipients, self._target = identities, recipients, fo
+        # What each file that was opened was, and its payload's key with the places of its chunks.
+        self._keys: dict[str, tuple[str, bytes]] = {}
+        # A chain has its path in what comes behind.
+        self._strip_protocol = self._name_below
 
-    @classmethod
-    def _strip_protocol(cls, path: Any) -> Any:
-        return super()._strip_protocol(path)
+    def _name_below(self, path: Any) -> Any:
+        if isinstance(path, list):
+            return [self._name_below(each) for each in path]
+        path = type(self)._strip_protocol(path)
+        return self.fs._strip_protocol(path) if path else self._target
 
-    def _open(self, path: str, mode: str = "rb", **_: Any) -> Reader:
-        if mode != "rb":
-            raise ValueError("files are read here, and not written")
-        opener = _Opener(self.fs, path)
-        if path in self._keys:
-            reader = reopen(opener, self._keys[path], 0)
-        else:
-            reader = open_reader(opener, self._identities)
-            self._keys[path] = reader.raw.again()[1]
-        reader.is_strict = True
+    def open(self, path: Any, mode: str = "rb", **options: Any) -> Any:
+        if "r" in mode or "b" in mode or options.get("compression"):
+            return super().open(path, mode, **options)
+        # Text as `agefile.open` writes it: a body that raises leaves no whole file.
+        return self._create(self._strip_protocol(path), mode, options)
+
+    def _open(self, path: str, mode: str = "rb", **options: Any) -> Any:
+        return self._reader(path) if mode == "rb" else self._create(path, mode, options)
+
+    def _create(self, path: str, mode: Any, options: dict[str, Any]) -> Any:
+        names = ("encoding", "errors", "newline", "recipients")
+        words: Any = {"recipients": self._recipients, **{k: options[k] for k in names if k in options}}
+        if "x" in mode and self.fs.exists(path):
+            raise FileExistsError(path)
+        self._keys.pop(path, None)
+        return open_file(_Opener(self.fs, path, "wb"), mode, **words)
+
+    def _reader(self, path: str) -> Reader:
+        opener, state = _Opener(self.fs, path, "rb"), str(self.fs.ukey(path))
+        reader = self._reopened(opener, state)
+        if reader is None:
+            reader = open_reader(opener, self._identities or [])
+            self._keys[path] = state, reader.raw.again()[1]
+        # As fsspec's own files have it.
+        setattr(reader, "size", reader.length)
         return reader
+
+    def _reopened(self, opener: _Opener, state: str) -> Reader | None:
+        """A file that is as it was, by the key that was kept of it."""
+        before, key = self._keys.get(opener.path, ("", b""))
+        try:
+            return reopen(opener, key, 0) if before == state else None
+        except AgeError:
+            return None
 
     def info(self, path: str, **_: Any) -> dict[str, Any]:
         """What the file system below says, but for the size, which is the plaintext's."""
-        found = dict(self.fs.info(self._strip_protocol(path)))
+        path = self._strip_protocol(path)
+        found = dict(self.fs.info(path))
         if found["type"] == "file":
-            with self._open(self._strip_protocol(path)) as reader:
+            with self._reader(path) as reader:
                 found["size"] = reader.length
         return found
 
-    def ls(self, path: str, detail: bool = True, **_: Any) -> list[Any]:
-        names = self.fs.ls(self._strip_protocol(path), detail=False)
-        return [self.info(name) for name in names] if detail else list(names)
+    def ls(self, path: str, detail: bool = True, **options: Any) -> list[Any]:
+        found = self.fs.ls(self._strip_protocol(path), detail=True, **options)
+        files = [{**each, "size": None} if each["type"] == "file" else each for each in found]
+        return files if detail else [each["name"] for each in files]
+
+    def invalidate_cache(self, path: str | None = None) -> None:
+        if path is None:
+            self._keys.clear()
+        else:
+            self._keys.pop(self._strip_protocol(path), None)
+        self.fs.invalidate_cache(path)
+
+    def exists(self, path: str, **options: Any) -> bool:
+        return bool(self.fs.exists(self._strip_protocol(path), **options))
+
+    def isfile(self, path: str) -> bool:
+        return bool(self.fs.isfile(self._strip_protocol(path)))
+
+    def isdir(self, path: str) -> bool:
+        return bool(self.fs.isdir(self._strip_protocol(path)))
+
+    def du(self, path: str, **options: Any) -> Any:
+        """The room that the files take, as they are encrypted."""
+        return self.fs.du(self._strip_protocol(path), **options)
+
+    def ukey(self, path: str) -> Any:
+        return self.fs.ukey(self._strip_protocol(path))
 
     def __reduce__(self) -> tuple[Any, ...]:
-        return _restore, (self.fs, self._identities, self._keys)
+        words = {"identities": self._identities, "recipients": self._recipients, "fo": self._target}
+        return _restore, (self.fs, words, self._keys)
 
 
 class _Opener:
     """Opens a file of a file system; it can be pickled where the file system can."""
 
-    def __init__(self, fs: AbstractFileSystem, path: str) -> None:
-        self._fs, self._path = fs, path
+    def __init__(self, fs: AbstractFileSystem, path: str, mode: str) -> None:
+        self._fs, self.path, self._mode = fs, path, mode
 
     def open(self) -> Any:
         # Without a cache below: each chunk is read once.
-        return self._fs.open(self._path, "rb", block_size=0, cache_type="none")
+        words = {"block_size": 0, "cache_type": "none"} if self._mode == "rb" else {}
+        return self._fs.open(self.path, self._mode, **words)
 
 
-def _restore(fs: AbstractFileSystem, identities: Identities, keys: dict[str, bytes]) -> AgeFileSystem:
-    found = AgeFileSystem(fs=fs, identities=identities)
+def _restore(
+    fs: AbstractFileSystem, words: dict[str, Any], keys: dict[str, tuple[str, bytes]]
+) -> AgeFileSystem:
+    found = AgeFileSystem(fs=fs, **words)
     found._keys.update(keys)
     return found
 

@@ -3,42 +3,27 @@
 import contextlib
 import copy
 import csv
+import errno
 import functools
 import gc
+import gzip
 import io
 import os
+import pathlib
 import pickle
 import random
 import shutil
+import subprocess
+import sys
 import tempfile
 import traceback
 import unittest
 import warnings
+from unittest import mock
 
 import agefile
 from agefile import AgeError, Code, Key, Passphrase
-from support import KEY, in_threads, message, pattern, text
-
-
-class InFolder(unittest.TestCase):
-    def setUp(self):
-        folder = tempfile.TemporaryDirectory()
-        self.addCleanup(folder.cleanup)
-        self.addCleanup(os.chdir, os.getcwd())
-        os.chdir(folder.name)
-
-    def made(self, plain, name="a.age"):
-        with open(name, "wb") as file:
-            file.write(agefile.encrypt(plain, recipients=KEY))
-        return name
-
-    def refused(self, name):
-        """The code with which the file is refused, as a whole and by ranges."""
-        with open(name, "rb") as file, self.assertRaises(AgeError) as caught:
-            agefile.decrypt(file.read(), identities=KEY)
-        with self.assertRaises(AgeError):
-            agefile.open(name, identities=KEY)
-        return caught.exception.code
+from support import KEY, InFolder, damaged, in_threads, in_time, message, text
 
 
 class Reading(InFolder):
@@ -112,44 +97,35 @@ class Reading(InFolder):
         with open("t.age", "rb") as whole, agefile.open("t.age", "rb", identities=KEY) as file:
             self.assertEqual(b"".join(file), agefile.decrypt(whole.read(), identities=KEY))
 
-    def test_a_bad_chunk(self):
-        plain = text(500000)
-        name = self.made(plain)
-        with open(name, "r+b") as file:
-            file.seek(agefile.inspect(file.read()).length + 16 + 3 * 65552)
-            file.write(b"damage")
-        for size in (1000, 65536, 100000, 1000000):
-            with agefile.open(name, identities=KEY) as file:
-                found = b""
-                with self.assertRaisesRegex(AgeError, pattern("BadChunk", 3)):
-                    while True:
-                        piece = file.read(size)
-                        self.assertNotEqual(piece, b"")
-                        found += piece
-                self.assertEqual(found, plain[: 3 * 65536])
-                file.seek(4 * 65536)
-                self.assertEqual(file.read(), plain[4 * 65536 :])
-        with agefile.open(name, identities=KEY) as file:
-            self.assertEqual(file.read(), plain[: 3 * 65536])
-            self.assertRaises(AgeError, file.read)
-        with agefile.open(name, "r", identities=KEY, encoding="latin-1", newline="") as file:
-            found = ""
-            with self.assertRaisesRegex(AgeError, pattern("BadChunk", 3)):
-                while True:
-                    piece = file.read(10000)
-                    self.assertNotEqual(piece, "")
-                    found += piece
-            self.assertEqual(found.encode("latin-1"), plain[: len(found)])
-
-    def test_cut_while_open(self):
-        with agefile.open(self.made(text(500000)), identities=KEY) as file:
-            os.truncate("a.age", 300000)
-            file.seek(400000)
+    def test_errors_name_their_file(self):
+        """The text of an error, and its `filename`, say which file it is about."""
+        plain = text(300000)
+        self.put(damaged(self.got(self.made(plain)), 2))
+        with self.assertRaises(AgeError) as caught, agefile.open("a.age", identities=KEY) as file:
+            file.read()
+        self.assertEqual(str(caught.exception), f"{message('BadChunk', 2)}: 'a.age'")
+        secret, path = Key(bytes(32)), pathlib.Path("a.age")
+        for name, code, call in (
+            ("a.age", Code.BAD_CHUNK, lambda: agefile.open("a.age", "r", identities=KEY, encoding="latin-1").read()),
+            ("a.age", Code.BAD_CHUNK, lambda: agefile.copy(path, io.BytesIO(), identities=KEY)),
+            ("a.age", Code.BAD_CHUNK, lambda: agefile.copy(open("a.age", "rb"), io.BytesIO(), identities=KEY, threads=2)),
+            (b"a.age", Code.WRONG_KEY, lambda: agefile.open(b"a.age", identities=secret)),
+            ("a.age", Code.WRONG_KEY, lambda: agefile.open(open("a.age", "rb"), identities=secret)),
+            ("a.age", Code.WRONG_KEY, lambda: agefile.rewrap_copy("a.age", io.BytesIO(), identities=secret, recipients=KEY)),
+            ("empty", Code.HEADER_TRUNCATED, lambda: agefile.inspect(self.put(b"age-encryption.org/v1\n", "empty"))),
+            (None, Code.WRONG_KEY, lambda: agefile.decrypt(self.got("a.age"), identities=secret)),
+            (None, Code.WRONG_KEY, lambda: agefile.open(io.BytesIO(self.got("a.age")), identities=secret)),
+        ):
+            with self.subTest(name), self.assertRaises(AgeError) as caught:
+                call()
+            self.assertEqual((caught.exception.filename, caught.exception.code), (name, code))
+            for other in (caught.exception, pickle.loads(pickle.dumps(caught.exception))):
+                self.assertEqual(str(other).endswith(f": {name!r}"), name is not None)
+        with agefile.open(self.made(plain), identities=KEY) as file:
+            os.truncate("a.age", 200000)
             with self.assertRaises(agefile.AgeChangedError) as caught:
-                file.read(1)
-            self.assertEqual(str(caught.exception), f"the file was cut while it was open: {message('ChunkShort', 6)}")
-            file.seek(0)
-            self.assertEqual(file.read(100000), text(100000))
+                file.read()
+        self.assertEqual(str(caught.exception), f"the file was cut while it was open: {message('ChunkShort', 3)}: 'a.age'")
 
     def test_cut_before(self):
         with open(self.made(text(200000)), "rb") as whole:
@@ -301,6 +277,127 @@ class Reading(InFolder):
                 self.assertFalse(below.closed)
 
 
+    def test_descriptors_that_forked_readers_share(self):
+        """A file object of the system is read at offsets, so its position belongs to nobody."""
+        plain = text(2000000)
+        self.made(plain)
+        for kind, opened in (
+            ("BufferedReader", lambda: open("a.age", "rb")),
+            ("BufferedRandom", lambda: open("a.age", "r+b")),
+            ("FileIO", lambda: open("a.age", "rb", 0)),
+            ("TemporaryFile", self.in_temporary_file),
+        ):
+            with self.subTest(kind), opened() as below, agefile.open(below, identities=KEY) as file:
+                below.seek(5)
+                self.assertEqual(file.read(300000), plain[:300000])
+                self.assertEqual(below.tell(), 5)
+                children = [os.fork() or self.read_in_child(file, plain, number) for number in range(4)]
+                self.assertEqual([os.waitpid(child, 0)[1] for child in children], [0] * 4)
+
+    def in_temporary_file(self):
+        below = tempfile.NamedTemporaryFile()
+        below.write(self.got("a.age"))
+        return below
+
+    def read_in_child(self, file, plain, number):
+        status = 1
+        try:
+            choose, wrong = random.Random(number), 0
+            for _ in range(200):
+                at = choose.randrange(len(plain))
+                file.seek(at)
+                wrong += file.read(1000) != plain[at : at + 1000]
+            status = min(wrong, 1)
+        finally:
+            os._exit(status)
+
+    def test_a_file_that_gives_other_bytes_than_its_descriptor(self):
+        with gzip.open("a.gz", "wb") as file:
+            file.write(agefile.encrypt(text(200000), recipients=KEY))
+        with gzip.open("a.gz") as below, agefile.open(below, identities=KEY) as file:
+            self.assertEqual(file.read(), text(200000))
+
+    def test_a_source_whose_seek_returns_nothing(self):
+        class Remote:
+            def __init__(self, data):
+                self._file = io.BytesIO(data)
+                self.read, self.tell = self._file.read, self._file.tell
+
+            def seek(self, *where):
+                self._file.seek(*where)
+
+        with agefile.open(Remote(self.got(self.made(text(200000)))), identities=KEY) as file:
+            file.seek(-5, os.SEEK_END)
+            self.assertEqual(file.read(), text(200000)[-5:])
+
+    def test_what_is_opened(self):
+        """Paths, descriptors, file objects and openers, wherever a file is expected."""
+        plain = text(70000)
+        self.made(plain)
+        for kind, make in (
+            ("str", lambda: "a.age"),
+            ("bytes", lambda: b"a.age"),
+            ("path", lambda: pathlib.Path("a.age")),
+            ("descriptor", lambda: os.open("a.age", os.O_RDONLY)),
+            ("file", lambda: io.BytesIO(self.got("a.age"))),
+            ("opener", lambda: functools.partial(open, "a.age", "rb")),
+        ):
+            with self.subTest(kind):
+                with agefile.open(make(), identities=KEY) as file:
+                    self.assertEqual(file.read(), plain)
+                self.assertEqual(agefile.copy(make(), "plain", identities=KEY), len(plain))
+                self.assertEqual(self.got("plain"), plain)
+                agefile.rewrap_copy(make(), "new.age", identities=KEY, recipients=Key(bytes(32)))
+                self.assertEqual(agefile.decrypt(self.got("new.age"), identities=Key(bytes(32))), plain)
+                if kind in ("str", "path", "descriptor"):
+                    self.assertEqual(agefile.inspect(make()), agefile.inspect(self.got("a.age")))
+        self.assertEqual(agefile.copy("plain", os.open("b.age", os.O_WRONLY | os.O_CREAT), recipients=KEY), len(plain))
+        self.assertEqual(agefile.decrypt(self.got("b.age"), identities=KEY), plain)
+
+    def test_what_is_not_opened(self):
+        """A TypeError says what to pass."""
+        for wrong, words in ((None, "path"), (5.0, "path"), (io.StringIO(), "binary"), ([], "path")):
+            for call in (
+                lambda: agefile.open(wrong, identities=KEY),
+                lambda: agefile.open(wrong, "wb", recipients=KEY),
+                lambda: agefile.copy(wrong, io.BytesIO(), recipients=KEY),
+                lambda: agefile.copy(io.BytesIO(), wrong, recipients=KEY),
+            ):
+                with self.subTest(wrong), self.assertRaisesRegex(TypeError, words):
+                    call()
+        for wrong in (None, 5.0, io.BytesIO(), [1]):
+            with self.assertRaisesRegex(TypeError, "bytes-like"):
+                agefile.inspect(wrong)
+        with open(self.made(b""), encoding="utf-8") as wrong, self.assertRaisesRegex(TypeError, "binary"):
+            agefile.open(wrong, identities=KEY)
+
+    def test_names(self):
+        """`name`, `mode` and `repr`, as files have them."""
+        self.made(b"text")
+        for mode, words in (("rb", {"identities": KEY}), ("r", {"identities": KEY}), ("wb", {"recipients": KEY}), ("w", {"recipients": KEY})):
+            for name in ("a.age", b"a.age", pathlib.Path("a.age")):
+                with agefile.open(name, mode, **words) as file, open(os.devnull, mode) as like:
+                    self.assertEqual((file.name, file.mode), (os.fspath(name), mode))
+                    self.assertIn(f"name={os.fspath(name)!r}", repr(file))
+                    self.assertIn(f"mode={mode!r}", repr(file))
+                    self.assertEqual("b" in file.mode, "b" in like.mode)
+        with open("a.age", "rb") as below, agefile.open(below, identities=KEY) as file:
+            self.assertEqual(file.name, "a.age")
+        with agefile.open(io.BytesIO(self.got("a.age")), identities=KEY) as file:
+            self.assertEqual((file.name, file.mode), (None, "rb"))
+
+    def test_a_view_with_a_zero_in_its_shape(self):
+        empty = memoryview(bytes(8)).cast("B", (2, 4))[:0]
+        self.assertEqual(empty.shape, (0, 4))
+        with agefile.open("z.age", "wb", recipients=KEY) as file:
+            self.assertEqual(file.write(empty), 0)
+            self.assertEqual(file.write(memoryview(bytes(8)).cast("B", (2, 4))), 8)
+        with agefile.open("z.age", identities=KEY) as file:
+            for read in (file.readinto, file.readinto1, file.raw.readinto):
+                self.assertEqual(read(memoryview(bytearray(8)).cast("B", (2, 4))[:0]), 0)
+            self.assertEqual(file.read(), bytes(8))
+
+
 class Writing(InFolder):
     def test_sizes_and_pieces(self):
         for length in (0, 1, 65535, 65536, 65537, 131072, 300000):
@@ -336,9 +433,194 @@ class Writing(InFolder):
         for mode, data in (("wb", text(200000)), ("w", "text" * 100000)):
             file = agefile.open("g.age", mode, recipients=KEY)
             file.write(data)
-            del file
-            gc.collect()
+            with self.assertWarnsRegex(ResourceWarning, "'g.age'.* was not closed") as caught:
+                del file
+                gc.collect()
+            self.assertEqual(len(caught.warnings), 1)
             self.refused("g.age")
+
+    def test_a_script_that_closes_nothing(self):
+        """Where warnings are shown, a script that ends without closing its file is told so, once."""
+        for mode, data in (("wb", "b'x'"), ("w", "'x'")):
+            code = f"import agefile; f = agefile.open('s.age', '{mode}', recipients=agefile.Key(bytes(32))); f.write({data})"
+            done = subprocess.run([sys.executable, "-X", "dev", "-c", code], capture_output=True, text=True)
+            self.assertEqual((done.returncode, done.stderr.count("ResourceWarning"), done.stderr.count("'s.age'")), (0, 1, 1), done.stderr)
+        with warnings.catch_warnings():
+            warnings.simplefilter("error")
+            with agefile.open("s.age", "wb", recipients=KEY), agefile.open("t.age", "w", recipients=KEY):
+                pass
+            agefile.open("s.age", "wb", recipients=KEY).abort()
+            gc.collect()
+
+    def test_an_old_file_is_kept(self):
+        """Until the header is known, and the first byte is due, a file keeps what it holds."""
+
+        class Kms:
+            def wrap(self, file_key):
+                raise ConnectionError("the service is down")
+
+        for mode in ("wb", "w"):
+            for error, words in (
+                (ConnectionError, {"recipients": [KEY, Kms()]}),
+                (AgeError, {"recipients": []}),
+                (AgeError, {"recipients": [KEY, Passphrase("x", work=1)]}),
+                (ValueError, {"recipients": Passphrase("", work=1)}),
+                (TypeError, {"recipients": "word"}),
+                (TypeError, {"recipients": [KEY, b"word"]}),
+                (TypeError, {}),
+                (TypeError, {"recipients": KEY, "identities": KEY}),
+                (LookupError, {"recipients": KEY, "encoding": "bogus"}),
+                (ValueError, {"recipients": KEY, "newline": "bogus"}),
+            ):
+                if mode == "wb" and {"encoding", "newline"} & set(words):
+                    error = ValueError
+                for atomic in (False, True):
+                    self.put(b"old", "o.age")
+                    with self.subTest(f"{mode} {words} {atomic}"), self.assertRaises(error):
+                        agefile.open("o.age", mode, atomic=atomic, **words)
+                    self.assertEqual((self.got("o.age"), os.listdir()), (b"old", ["o.age"]))
+        code = "import agefile, resource\nresource.setrlimit(resource.RLIMIT_AS, (1 << 28, 1 << 28))\n"
+        code += "agefile.open('o.age', 'wb', recipients=agefile.Passphrase('x'))"
+        done = subprocess.run([sys.executable, "-c", code], capture_output=True, text=True)
+        self.assertIn(message("OutOfMemory"), done.stderr)
+        self.assertEqual(self.got("o.age"), b"old")
+
+    def test_when_an_old_file_is_emptied(self):
+        for write, is_kept in (
+            (lambda file: None, True),
+            (lambda file: file.write(text(65536)), True),
+            (lambda file: file.write(text(65537)), False),
+            (lambda file: file.flush(), False),
+        ):
+            self.put(b"old", "o.age")
+            with contextlib.suppress(KeyError), agefile.open("o.age", "wb", recipients=KEY) as file:
+                write(file)
+                raise KeyError
+            self.assertEqual(self.got("o.age") == b"old", is_kept)
+            self.refused("o.age")
+            with agefile.open("o.age", "wb", recipients=KEY) as file:
+                write(file)
+                written = file.tell()
+            self.assertEqual(agefile.decrypt(self.got("o.age"), identities=KEY), text(65537)[:written])
+
+    def test_what_an_opener_opens_is_opened_last(self):
+        opened = []
+
+        def opener():
+            opened.append(open("o.age", "wb"))
+            return opened[-1]
+
+        with self.assertRaises(KeyError), agefile.open(opener, "wb", recipients=KEY) as file:
+            file.write(b"text")
+            raise KeyError
+        self.assertEqual(opened, [])
+        with agefile.open(opener, "w", recipients=KEY) as file:
+            file.write("text")
+        self.assertTrue(opened[0].closed)
+        self.assertEqual(agefile.decrypt(self.got("o.age"), identities=KEY), b"text")
+
+    def test_copies_of_paths(self):
+        """`copy` and `rewrap_copy` keep a sink until there is something to write, and then empty it."""
+        self.made(text(100000)), self.made(b"", "e.age")
+        self.put(damaged(self.got("a.age"), 0), "bad.age")
+        self.put(b"", "empty")
+        for error, call in (
+            (AgeError, lambda: agefile.copy("a.age", "old", identities=Key(bytes(32)))),
+            (AgeError, lambda: agefile.copy("bad.age", "old", identities=KEY)),
+            (AgeError, lambda: agefile.copy("a.age", "old", recipients=[])),
+            (FileNotFoundError, lambda: agefile.copy("absent", "old", recipients=KEY)),
+            (IsADirectoryError, lambda: agefile.copy(".", "old", recipients=KEY)),
+            (AgeError, lambda: agefile.rewrap_copy("a.age", "old", identities=Key(bytes(32)), recipients=KEY)),
+            (AgeError, lambda: agefile.rewrap_copy("a.age", "old", identities=KEY, recipients=[])),
+            (ValueError, lambda: agefile.copy("old", "old", recipients=KEY)),
+            (ValueError, lambda: agefile.copy("a.age", "./a.age", identities=KEY)),
+            (ValueError, lambda: agefile.rewrap_copy("a.age", "a.age", identities=KEY, recipients=KEY)),
+        ):
+            self.put(b"old", "old")
+            before = self.got("a.age")
+            self.assertRaises(error, call)
+            self.assertEqual((self.got("old"), self.got("a.age")), (b"old", before))
+        agefile.copy("e.age", "old", identities=KEY)
+        self.assertEqual(self.got("old"), b"")
+        self.put(bytes(1000000), "old")
+        agefile.copy("empty", "old", recipients=KEY)
+        self.assertEqual(agefile.decrypt(self.got("old"), identities=KEY), b"")
+
+    def test_atomic(self):
+        """The new file takes the old one's place, and its mode, when it is closed, and not before."""
+        for mode, data in (("wb", text(200000)), ("wb", b""), ("w", "text" * 100000)):
+            self.put(b"old", "o.age")
+            os.chmod("o.age", 0o640)
+            with agefile.open("o.age", mode, recipients=KEY, atomic=True) as file:
+                file.write(data)
+                file.flush()
+                self.assertEqual((self.got("o.age"), len(os.listdir())), (b"old", 2))
+            self.assertEqual(os.listdir(), ["o.age"])
+            self.assertEqual(os.stat("o.age").st_mode & 0o777, 0o640)
+            with agefile.open("o.age", mode.replace("w", "r"), identities=KEY) as file:
+                self.assertEqual(file.read(), data)
+
+    def test_atomic_that_fails(self):
+        """Where anything fails before the end the old file stays, and nothing stays beside it."""
+        def raises(file):
+            raise KeyError
+
+        def fails(*_):
+            raise OSError(errno.EIO, "failed")
+
+        for name, work, patched in (
+            ("the body raises", raises, None),
+            ("it is aborted", lambda file: file.abort(), None),
+            ("fsync fails", lambda file: None, "os.fsync"),
+            ("replace fails", lambda file: None, "os.replace"),
+        ):
+            self.put(b"old", "o.age")
+            patch = mock.patch(patched, fails) if patched else contextlib.nullcontext()
+            with self.subTest(name), patch, contextlib.suppress(KeyError, OSError):
+                with agefile.open("o.age", "wb", recipients=KEY, atomic=True) as file:
+                    file.write(text(200000))
+                    work(file)
+            self.assertEqual((self.got("o.age"), os.listdir()), (b"old", ["o.age"]))
+        with self.assertWarns(ResourceWarning):
+            agefile.open("o.age", "wb", recipients=KEY, atomic=True).write(b"text")
+            gc.collect()
+        self.assertEqual((self.got("o.age"), os.listdir()), (b"old", ["o.age"]))
+
+    def test_atomic_and_other_files(self):
+        os.umask(os.umask(0o027) and 0o027)
+        with agefile.open("n.age", "wb", recipients=KEY, atomic=True) as file:
+            pass
+        self.put(b"", "like")
+        self.assertEqual(os.stat("n.age").st_mode, os.stat("like").st_mode)
+        self.assertRaises(FileExistsError, agefile.open, "n.age", "xb", recipients=KEY, atomic=True)
+        file = agefile.open("x.age", "xb", recipients=KEY, atomic=True)
+        self.put(b"other", "x.age")
+        self.assertRaises(FileExistsError, file.close)
+        self.assertEqual(self.got("x.age"), b"other")
+        os.symlink("n.age", "link")
+        with agefile.open("link", "wb", recipients=KEY, atomic=True) as file:
+            file.write(b"text")
+        self.assertTrue(os.path.islink("link"))
+        self.assertEqual(agefile.decrypt(self.got("n.age"), identities=KEY), b"text")
+        self.assertRaises(ValueError, agefile.open, os.devnull, "wb", recipients=KEY, atomic=True)
+        for wrong in (io.BytesIO(), 1, lambda: io.BytesIO()):
+            self.assertRaises(TypeError, agefile.open, wrong, "wb", recipients=KEY, atomic=True)
+        self.assertRaises(TypeError, agefile.open, "n.age", "rb", identities=KEY, atomic=True)
+        self.assertEqual(sorted(os.listdir()), ["like", "link", "n.age", "x.age"])
+
+    def test_atomic_and_fork(self):
+        """A child that ends removes nothing of its parent's, and puts nothing in its place."""
+        self.put(b"old", "o.age")
+        file = agefile.open("o.age", "wb", recipients=KEY, atomic=True)
+        file.write(text(100000))
+        child = os.fork()
+        if child == 0:
+            file.close()
+            os._exit(0)
+        os.waitpid(child, 0)
+        self.assertEqual((self.got("o.age"), len(os.listdir())), (b"old", 2))
+        file.close()
+        self.assertEqual(agefile.decrypt(self.got("o.age"), identities=KEY), text(100000))
 
     def test_fork(self):
         """A child writes nothing to the file of its parent, also when it closes it."""

@@ -1,0 +1,151 @@
+"""The files that a caller names: by a path, a descriptor, an opener or a file object."""
+
+from __future__ import annotations
+
+import contextlib
+import errno
+import io
+import os
+import stat
+from collections.abc import Iterator
+from typing import Any, BinaryIO
+
+from ._errors import AgeError
+
+
+def is_path(file: Any) -> bool:
+    return isinstance(file, (str, bytes, os.PathLike))
+
+
+def is_open(file: Any, method: str) -> bool:
+    """Whether this is an open binary file with this method, and not what opens one."""
+    if isinstance(file, io.TextIOBase):
+        raise TypeError("a text file holds no bytes: open it in binary mode, or pass its `buffer`")
+    return hasattr(file, method)
+
+
+def name_of(file: Any) -> Any:
+    """The path or the descriptor, else what the object calls itself, or None."""
+    if is_path(file):
+        return os.fspath(file)
+    return file if isinstance(file, int) else getattr(file, "name", getattr(file, "path", None))
+
+
+def opened(file: Any, mode: str = "rb", closefd: bool = True) -> Any:
+    """What a path, a descriptor or an opener opens. An opener is a function without arguments, or
+    an object with a method `open`, as those of fsspec."""
+    if is_path(file):
+        return io.FileIO(os.fspath(file), mode)
+    if isinstance(file, int):
+        return io.FileIO(file, mode, closefd=closefd)
+    return opener_of(file)()
+
+
+def opener_of(file: Any) -> Any:
+    opener = getattr(file, "open", file)
+    if not callable(opener):
+        kind = type(file).__name__
+        raise TypeError(f"pass a path, a descriptor, a binary file or what opens one, not {kind}")
+    return opener
+
+
+class Output(io.FileIO):
+    """The file of a path, which keeps what it holds until the first byte is written."""
+
+    def __init__(self, path: Any, mode: str) -> None:
+        super().__init__(os.fspath(path), mode, opener=self._without_truncation)
+        self._is_kept = stat.S_ISREG(os.fstat(self.fileno()).st_mode)
+
+    @staticmethod
+    def _without_truncation(path: Any, flags: int) -> int:
+        return os.open(path, flags & ~os.O_TRUNC, 0o666)
+
+    def empty(self) -> None:
+        if self._is_kept:
+            self.truncate(0)
+            self._is_kept = False
+
+    def write(self, data: Any, /) -> int:
+        self.empty()
+        return super().write(data)
+
+
+class Replacement(io.FileIO):
+    """A new file beside the file of a path, whose place it takes by `commit`. Closed without that,
+    it is removed."""
+
+    def __init__(self, path: Any, mode: str) -> None:
+        self._target = os.path.realpath(os.fsdecode(path))
+        self._is_new, self._process, self._is_beside = "x" in mode, os.getpid(), False
+        found = os.stat(self._target) if os.path.lexists(self._target) else None
+        if found is not None and self._is_new:
+            raise FileExistsError(errno.EEXIST, os.strerror(errno.EEXIST), path)
+        if found is not None and not stat.S_ISREG(found.st_mode):
+            raise ValueError(f"only a regular file is replaced, which {path!r} is not")
+        self._folder = os.path.dirname(self._target)
+        self._beside = os.path.join(self._folder, f".agefile-{os.urandom(8).hex()}")
+        super().__init__(self._beside, "xb")
+        self._is_beside = True
+        if found is not None:
+            os.fchmod(self.fileno(), stat.S_IMODE(found.st_mode))
+
+    def commit(self) -> None:
+        """Puts the file, and then its name, on the disk."""
+        os.fsync(self.fileno())
+        if self._is_new:
+            os.link(self._beside, self._target)
+        else:
+            os.replace(self._beside, self._target)
+            self._is_beside = False
+        folder = os.open(self._folder, os.O_RDONLY)
+        try:
+            os.fsync(folder)
+        finally:
+            os.close(folder)
+
+    def close(self) -> None:
+        super().close()
+        # A forked child leaves its parent's file alone.
+        if self._is_beside and self._process == os.getpid():
+            self._is_beside = False
+            os.unlink(self._beside)
+
+
+def created(file: Any, mode: str, atomic: bool = False, closefd: bool = True) -> Any:
+    """The file that is to be written: a path's keeps what it holds for now."""
+    if is_path(file):
+        return Replacement(file, mode) if atomic else Output(file, mode)
+    return opened(file, mode, closefd)
+
+
+@contextlib.contextmanager
+def named(name: Any) -> Iterator[None]:
+    """Errors of the block say which file they are about."""
+    try:
+        yield
+    except AgeError as error:
+        error.filename = name if error.filename is None else error.filename
+        raise
+
+
+@contextlib.contextmanager
+def reading(file: Any) -> Iterator[BinaryIO]:
+    """An open file, or one that is opened here and closed at the end. A descriptor stays open."""
+    with named(name_of(file)), contextlib.ExitStack() as stack:
+        is_ours = not is_open(file, "read")
+        yield stack.enter_context(opened(file, closefd=False)) if is_ours else file
+
+
+@contextlib.contextmanager
+def writing(file: Any, source: BinaryIO) -> Iterator[Any]:
+    """The same for a file that is written, and is not the source."""
+    if is_open(file, "write"):
+        yield file
+        return
+    with created(file, "wb", closefd=False) as sink:
+        if isinstance(source, io.FileIO) and isinstance(sink, io.FileIO):
+            if is_path(file) and os.path.sameopenfile(source.fileno(), sink.fileno()):
+                raise ValueError(f"{file!r} is the source, and cannot be the sink too")
+        yield sink
+        if isinstance(sink, Output):
+            sink.empty()

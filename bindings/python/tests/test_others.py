@@ -1,0 +1,262 @@
+"""Files of others, which are not this package: tests/reference.py, agep and age. What they make is
+read here, and what is made here they read; and what of a new file has to be fresh, or unknown."""
+
+import base64
+import io
+import os
+import shutil
+import subprocess
+import sys
+import unittest
+from unittest import mock
+
+import agefile
+from agefile import AgeError, Code, Key, Passphrase, Stanza
+from support import AGEP, KEY, ROOT, TEXT, InFolder, message, text
+
+import fixture
+import reference
+
+SIZES = (0, 1, 65536, 65537, 150000)
+# of the reference, which takes a second for some chunks
+FEW = (0, 1000, 65537)
+SEED = bytes(range(100, 148))
+PASSPHRASE = b"correct horse"
+
+
+def ways_to_open(secret):
+    """Each way of this package to read a file in memory."""
+    def copy(file, threads):
+        out = io.BytesIO()
+        agefile.copy(io.BytesIO(file), out, identities=secret, threads=threads)
+        return out.getvalue()
+
+    def ranges(file):
+        with agefile.open(io.BytesIO(file), identities=secret) as opened:
+            begins = range(0, opened.length, 50000)
+            found = {at: (opened.seek(at), opened.read(50000))[1] for at in reversed(begins)}
+        return b"".join(found[at] for at in begins)
+
+    yield from (lambda file, n=n: agefile.decrypt(file, identities=secret, threads=n) for n in (1, 3))
+    yield from (lambda file, n=n: copy(file, n) for n in (1, 3))
+    yield ranges
+
+
+def ways_to_make(recipients):
+    """Each way of this package to make a file in memory."""
+    def copy(plain, threads):
+        out = io.BytesIO()
+        agefile.copy(io.BytesIO(plain), out, recipients=recipients, threads=threads)
+        return out.getvalue()
+
+    def writer(plain):
+        out = io.BytesIO()
+        with agefile.open(out, "wb", recipients=recipients) as file:
+            for at in range(0, len(plain), 40000):
+                file.write(plain[at : at + 40000])
+        return out.getvalue()
+
+    yield from (lambda plain, n=n: agefile.encrypt(plain, recipients=recipients, threads=n) for n in (1, 3))
+    yield from (lambda plain, n=n: copy(plain, n) for n in (1, 3))
+    yield writer
+    yield lambda plain: agefile.rewrap(agefile.encrypt(plain, recipients=Key(bytes(32))), identities=Key(bytes(32)), recipients=recipients)
+
+
+class Noting:
+    """A recipient and identity of the test's own, which notes the file key and keeps it elsewhere."""
+
+    def __init__(self):
+        self.keys = []
+
+    def wrap(self, file_key):
+        self.keys.append(bytes(file_key))
+        return [Stanza(("noted", str(len(self.keys) - 1)), b"")]
+
+    def unwrap(self, stanzas):
+        return next((self.keys[int(args[1])] for args, _ in stanzas if args[0] == "noted"), None)
+
+
+class Reference(unittest.TestCase):
+    """tests/reference.py has the definitions of the RFCs, and nothing of the library."""
+
+    def stanzas(self):
+        salt = SEED[32:]
+        return (
+            (KEY, reference.key_stanza(bytes(range(32)), salt)),
+            (Passphrase(PASSPHRASE), reference.passphrase_stanza(PASSPHRASE, 3, salt)),
+            (Passphrase(""), reference.passphrase_stanza(b"", 3, salt)),
+        )
+
+    def test_files_of_the_reference(self):
+        for size in FEW:
+            for secret, stanza in self.stanzas():
+                file = reference.age_file(SEED, [stanza], text(size))
+                for number, opened in enumerate(ways_to_open(secret)):
+                    with self.subTest(f"{size} bytes, {secret}, way {number}"):
+                        self.assertEqual(opened(file), text(size))
+
+    def test_files_for_the_reference(self):
+        """A file made here is the reference's of the same file key, nonce and stanzas, to the byte."""
+        for size in FEW:
+            noting = Noting()
+            for number, make in enumerate(ways_to_make([KEY, noting])):
+                with self.subTest(f"{size} bytes, way {number}"):
+                    self.assert_reference(make(text(size)), noting.keys[-1], size)
+
+    def assert_reference(self, file, file_key, size):
+        header = agefile.inspect(file)
+        salt = base64.b64decode(header.stanzas[0].args[1] + "==")
+        arguments, wrap_key = reference.key_stanza(bytes(range(32)), salt)
+        self.assertEqual(header.stanzas[0].args, tuple(argument.decode() for argument in arguments))
+        self.assertEqual(header.stanzas[0].body, reference.sealed(wrap_key, bytes(12), file_key))
+        out = io.BytesIO()
+        nonce = file[header.length : header.length + 16]
+        reference.write_payload(out, file_key, nonce, reference.chunks_of(text(size)))
+        self.assertEqual(file[header.length :] == out.getvalue(), True)
+
+    def test_passphrases(self):
+        for passphrase in (b"x", "über".encode(), b"\x00\xff\n", b"x" * 70000):
+            file = agefile.encrypt(b"text", recipients=Passphrase(passphrase, work=2))
+            (stanza,) = agefile.inspect(file).stanzas
+            salt = base64.b64decode(stanza.args[1] + "==")
+            arguments, _ = reference.passphrase_stanza(passphrase, 2, salt)
+            self.assertEqual(stanza.args, tuple(argument.decode() for argument in arguments))
+            other = reference.age_file(SEED, [reference.passphrase_stanza(passphrase, 2, SEED[32:])], b"text")
+            self.assertEqual(agefile.decrypt(other, identities=Passphrase(passphrase)), b"text")
+
+    def test_an_empty_final_chunk(self):
+        file = fixture.for_keys(text(TEXT), bytes(range(32)), empty_final=True)
+        for number, opened in enumerate(ways_to_open(KEY)):
+            with self.subTest(number), self.assertRaises(AgeError) as caught:
+                opened(file)
+            self.assertEqual((caught.exception.code, caught.exception.place), (Code.EMPTY_FINAL, 1))
+
+
+class Fresh(unittest.TestCase):
+    """What is fresh in each file, and what no file may show."""
+
+    def test_no_file_shows_its_key(self):
+        for number in range(6):
+            noting = Noting()
+            file = list(ways_to_make([noting, KEY]))[number](text(70000))
+            for key in noting.keys:
+                for shown in (key, base64.b64encode(key).rstrip(b"="), key.hex().encode()):
+                    self.assertEqual(shown in file, False, f"way {number}")
+
+    def test_64_files(self):
+        """File keys, nonces and salts differ in each byte, and no two are equal."""
+        noting, nonces, salts = Noting(), [], {"scrypt": [], "example.org/key": []}
+        for number in range(64):
+            for recipients in ([noting, KEY], Passphrase("x", work=1)):
+                file = agefile.encrypt(b"", recipients=recipients)
+                header = agefile.inspect(file)
+                nonces.append(file[header.length : header.length + 16])
+                kind, salt = header.stanzas[-1].args[:2]
+                salts[kind].append(base64.b64decode(salt + "=="))
+        for name, values in {"file key": noting.keys, "nonce": nonces, **salts}.items():
+            with self.subTest(name):
+                self.assertEqual({len(value) for value in values}, {16})
+                self.assertEqual(len(set(values)), len(values))
+                self.assertEqual([len({value[at] for value in values}) > 8 for at in range(16)], [True] * 16)
+        self.assertEqual(set(noting.keys) & set(nonces), set())
+
+    def test_bytes_of_a_file_differ(self):
+        """A file key, a nonce and a salt of one file are three values, each 16 bytes of the system's."""
+        noting, asked, urandom = Noting(), [], os.urandom
+
+        def noted(count):
+            asked.append(urandom(count))
+            return asked[-1]
+
+        with mock.patch("os.urandom", noted):
+            file = agefile.encrypt(b"", recipients=[noting, KEY])
+        header = agefile.inspect(file)
+        salt = base64.b64decode(header.stanzas[1].args[1] + "==")
+        found = [noting.keys[0], file[header.length : header.length + 16], salt]
+        self.assertEqual(sorted(found), sorted(asked))
+
+    def test_default_work_factor(self):
+        file = agefile.encrypt(b"", recipients=Passphrase("x"))
+        self.assertEqual(agefile.inspect(file).stanzas[0].args[2], "18")
+
+    def test_default_maximum(self):
+        """A work factor of 22 is tried, for which there is no memory here, and 23 is refused."""
+        code = (
+            "import agefile, resource, sys\n"
+            "resource.setrlimit(resource.RLIMIT_AS, (1 << 29, 1 << 29))\n"
+            "try: agefile.decrypt(sys.stdin.buffer.read(), identities=agefile.Passphrase('x'))\n"
+            "except agefile.AgeError as error: print(error)\n"
+        )
+        for work, said in ((22, message("OutOfMemory")), (23, message("Malformed", "WorkFactorTooHigh"))):
+            front = f"age-encryption.org/v1\n-> scrypt {'A' * 22} {work}\n{'A' * 43}\n--- {'A' * 43}\n".encode()
+            done = subprocess.run([sys.executable, "-c", code], input=front, capture_output=True)
+            self.assertEqual((done.stdout.decode(), done.stderr), (said + "\n", b""))
+
+
+class Programs(InFolder):
+    """Files from and to agep and age."""
+
+    def run_on(self, data, *words):
+        return subprocess.run(words, input=data, capture_output=True, check=True).stdout
+
+    def typed(self, *words):
+        """Runs age, and types the passphrase at its prompts."""
+        script = os.path.join(ROOT, "tests/type_passphrase.py")
+        subprocess.run([sys.executable, script, "pass", "age", *words], stdin=subprocess.DEVNULL, check=True, timeout=60)
+
+    def setUp(self):
+        super().setUp()
+        self.put(bytes(range(32)), "key")
+        self.put(PASSPHRASE, "pass")
+
+    @unittest.skipUnless(os.path.exists(AGEP), "agep is not built")
+    def test_agep(self):
+        for size in SIZES:
+            for words, secret in (("-k key", KEY), ("-p pass", Passphrase(PASSPHRASE, work=4))):
+                factor = ("-w", "4") if "-p" in words else ()
+                file = self.run_on(text(size), AGEP, "encrypt", *words.split(), *factor)
+                for number, opened in enumerate(ways_to_open(secret)):
+                    with self.subTest(f"{size} bytes, {words}, read in way {number}"):
+                        self.assertEqual(opened(file), text(size))
+                for number, make in enumerate(ways_to_make(secret)):
+                    with self.subTest(f"{size} bytes, {words}, made in way {number}"):
+                        self.assertEqual(self.run_on(make(text(size)), AGEP, "decrypt", *words.split()), text(size))
+
+    @unittest.skipUnless(os.path.exists(AGEP), "agep is not built")
+    def test_passphrase_files_of_agep(self):
+        """`from_file` takes the line end that agep takes."""
+        for data in (b"word", b"word\n", b"word\n\n", b"word\r\n", b"two\nlines\n", b"\xff"):
+            self.put(data, "pass")
+            secret = Passphrase.from_file("pass", work=2)
+            with self.subTest(data):
+                self.assertEqual(self.run_on(agefile.encrypt(b"text", recipients=secret), AGEP, "decrypt", "-p", "pass"), b"text")
+        self.put(bytes(65537), "pass")
+        self.assertRaises(ValueError, Passphrase.from_file, "pass")
+
+    @unittest.skipUnless(os.path.exists(AGEP), "agep is not built")
+    def test_rewrapped_for_agep(self):
+        file = self.run_on(text(70000), AGEP, "encrypt", "-k", "key")
+        self.put(bytes(32), "new")
+        new = agefile.rewrap(file, identities=KEY, recipients=Key(bytes(32)))
+        self.assertEqual(self.run_on(new, AGEP, "decrypt", "-k", "new"), text(70000))
+
+    @unittest.skipUnless(shutil.which("age"), "age is missing")
+    def test_age(self):
+        secret = Passphrase(PASSPHRASE, work=10)
+        for size in (1, 65536, 65537, 150000):
+            self.put(text(size), "plain")
+            self.typed("-p", "-o", "made", "plain")
+            for number, opened in enumerate(ways_to_open(secret)):
+                with self.subTest(f"{size} bytes, read in way {number}"):
+                    self.assertEqual(opened(self.got("made")), text(size))
+            for number, make in enumerate(ways_to_make(secret)):
+                with self.subTest(f"{size} bytes, made in way {number}"):
+                    self.put(make(text(size)), "made")
+                    self.typed("-d", "-o", "back", "made")
+                    self.assertEqual(self.got("back"), text(size))
+                    os.remove("back")
+            os.remove("made")
+
+
+if __name__ == "__main__":
+    unittest.main()
