@@ -75,14 +75,13 @@ def one_by_one(step: _Step, payload: lib.Payload, source: BinaryIO, sink: Any) -
     chunk, ahead = Chunk(), Chunk()
     convert = lib.for_chunks(step.one, payload)
     length, total = read_into(source, chunk.view[: step.take]), 0
-    while length == step.take:
-        more = read_into(source, ahead.view[: step.take])
-        if more == 0:
-            break
+    # A byte behind a chunk says that it is not the last: it waits for no more.
+    while length == step.take and (more := read_into(source, ahead.view[:1])):
         convert(chunk.base, lib.SEALED_CHUNK, False)
         write_all(sink, chunk.view[: step.give])
         total += step.give
-        chunk, ahead, length = ahead, chunk, more
+        length = more + read_into(source, ahead.view[more : step.take])
+        chunk, ahead = ahead, chunk
     sealed = length if step is OPENING else length + lib.TAG
     text = chunk.view[: convert(chunk.base, sealed, True)]
     write_all(sink, text)

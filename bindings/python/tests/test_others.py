@@ -243,10 +243,11 @@ class Programs(InFolder):
     @unittest.skipUnless(shutil.which("age"), "age is missing")
     def test_age(self):
         secret = Passphrase(PASSPHRASE, work=10)
-        for size in (1, 65536, 65537, 150000):
+        for size in (1, 70000):
             self.put(text(size), "plain")
             self.typed("-p", "-o", "made", "plain")
-            for number, opened in enumerate(ways_to_open(secret)):
+            # One way: a passphrase of age takes a second.
+            for number, opened in enumerate(list(ways_to_open(secret))[-1:]):
                 with self.subTest(f"{size} bytes, read in way {number}"):
                     self.assertEqual(opened(self.got("made")), text(size))
             for number, make in enumerate(ways_to_make(secret)):

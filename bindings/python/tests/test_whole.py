@@ -10,6 +10,7 @@ import mmap
 import multiprocessing
 import os
 import pickle
+import pydoc
 import subprocess
 import sys
 import tempfile
@@ -20,7 +21,9 @@ import unittest
 
 import agefile
 from agefile import AgeError, Code, Key, Passphrase, Stanza
-from support import KEY, in_threads, message, pattern, text
+from support import KEY, in_threads, in_time, message, pattern, text
+
+import fixture
 
 # around the edges of chunks, and of what one thread takes at a time
 SIZES = (0, 1, 65535, 65536, 65537, 131072, 200000, 16 * 65536, 16 * 65536 + 1, 50 * 65536 + 7)
@@ -83,6 +86,19 @@ class Round(unittest.TestCase):
         self.assertEqual(new[agefile.inspect(new).length :], file[agefile.inspect(file).length :])
         with self.assertRaisesRegex(AgeError, pattern("WrongKey")):
             agefile.rewrap(file, identities=Passphrase("y"), recipients=KEY)
+
+    def test_rewrap_verifies_the_header(self):
+        """An identity of a caller's own with a wrong file key makes no header."""
+        class Wrong:
+            def unwrap(self, stanzas):
+                return bytes(16)
+
+        file, out = agefile.encrypt(b"text", recipients=KEY), io.BytesIO()
+        with self.assertRaisesRegex(AgeError, pattern("BadMac")):
+            agefile.rewrap(file, identities=Wrong(), recipients=KEY)
+        with self.assertRaisesRegex(AgeError, pattern("BadMac")):
+            agefile.rewrap_copy(io.BytesIO(file), out, identities=Wrong(), recipients=KEY)
+        self.assertEqual(out.getvalue(), b"")
 
     def test_what_is_bytes_like(self):
         file = agefile.encrypt(b"text" * 100, recipients=KEY)
@@ -154,6 +170,13 @@ class Wrong(unittest.TestCase):
                 self.assertEqual((error.code, error.place, str(error)), (code, place, line))
                 self.assertIsInstance(error, ValueError)
 
+    def test_the_gravest_miss_of_several(self):
+        """A key that is wrong is told, wherever it stands among identities for which there is no stanza."""
+        file, wrong, other = agefile.encrypt(b"", recipients=KEY), Key(bytes(32)), Passphrase("x")
+        for identities in ([wrong, other], [other, wrong], [wrong], [other, wrong, other]):
+            with self.assertRaisesRegex(AgeError, pattern("WrongKey")):
+                agefile.decrypt(file, identities=identities)
+
     def test_cut_files(self):
         """A file that was cut, at each end of a piece: the same chunk, by one thread and by two."""
         file = agefile.encrypt(text(3 * 65536), recipients=KEY)
@@ -205,6 +228,37 @@ class Wrong(unittest.TestCase):
         for work in (0, 31):
             self.assertRaises(AgeError, Passphrase, "x", work=work)
             self.assertRaises(AgeError, Passphrase, "x", max_work=work)
+        for work in (1.5, 10.0, "10", None):
+            self.assertRaises(TypeError, Passphrase, "x", work=work)
+            self.assertRaises(TypeError, Passphrase, "x", max_work=work)
+
+    def test_secrets_that_are_words(self):
+        """A TypeError says which class takes a passphrase or a key."""
+        for secret in ("word", b"word", bytearray(b"word"), "", ["word"], [KEY, b"word"], 5):
+            for call in (
+                lambda: agefile.encrypt(b"", recipients=secret),
+                lambda: agefile.decrypt(agefile.encrypt(b"", recipients=KEY), identities=secret),
+            ):
+                with self.assertRaisesRegex(TypeError, r"agefile\.Passphrase\(\.\.\)"):
+                    call()
+
+    def test_an_empty_passphrase(self):
+        """It makes no file in any way, and opens those that others made."""
+        empty = Passphrase("", work=1)
+        for call in (
+            lambda: agefile.encrypt(b"text", recipients=empty),
+            lambda: agefile.encrypt(b"text", recipients=Passphrase(b"", work=1)),
+            lambda: agefile.copy(io.BytesIO(b"text"), io.BytesIO(), recipients=[empty]),
+            lambda: agefile.open(io.BytesIO(), "wb", recipients=empty),
+            lambda: agefile.rewrap(agefile.encrypt(b"", recipients=KEY), identities=KEY, recipients=empty),
+            lambda: empty.wrap(bytes(16)),
+        ):
+            with self.assertRaises(ValueError) as caught:
+                call()
+            self.assertEqual(str(caught.exception), "passphrase is empty")
+        file = fixture.for_passphrase(b"hello\n", b"", 1)
+        self.assertEqual(agefile.decrypt(file, identities=empty), b"hello\n")
+        self.assertEqual(agefile.rewrap(file, identities=empty, recipients=KEY)[-22:], file[-22:])
 
     def test_errors_are_pickled_and_copied(self):
         for error in (AgeError(13, 7), AgeError(8, 0, 4), agefile.AgeMemoryError(17), agefile.AgeChangedError(11, 3)):
@@ -213,6 +267,10 @@ class Wrong(unittest.TestCase):
                 self.assertEqual((other.place, other.detail), (error.place, error.detail))
         self.assertIsInstance(AgeError.of(17), MemoryError)
         self.assertIsInstance(agefile.AgeChangedError(11, 3), OSError)
+
+    def test_help(self):
+        """The example of the package's help stands there as it is to be typed."""
+        self.assertIn(r'notes.write("one\n")', pydoc.render_doc(agefile, renderer=pydoc.plaintext))
 
     def test_secrets_are_not_printed(self):
         for secret in (KEY, Passphrase("correct horse")):
@@ -266,6 +324,157 @@ class Callers(unittest.TestCase):
             with self.assertRaises(AgeError) as caught:
                 agefile.encrypt(b"", recipients=Bad())
             self.assertEqual(caught.exception.code, Code.BAD_ARGUMENTS)
+
+
+class Devices(unittest.TestCase):
+    """Sources and sinks of a caller's own, which give and take as they like."""
+
+    PLAIN = text(200000)
+
+    def copy_to(self, sink, threads=1):
+        return in_time(lambda: agefile.copy(io.BytesIO(self.PLAIN), sink, recipients=KEY, threads=threads))
+
+    def write_to(self, sink):
+        def work():
+            with agefile.open(sink, "wb", recipients=KEY) as file:
+                return file.write(self.PLAIN)
+
+        return in_time(work)
+
+    def test_sinks(self):
+        """What `write` returns is taken for what it says, and what it can't say is an OSError."""
+        for name, returned, error in (
+            ("all", len, None),
+            ("a part", lambda data: max(len(data) // 2, 1), None),
+            ("one byte", lambda data: 1 if len(data) < 200 else len(data) - 100, None),
+            ("None of an object", lambda data: None, None),
+            ("nothing", lambda data: 0, OSError),
+            ("too much", lambda data: len(data) + 1, OSError),
+            ("less than nothing", lambda data: -1, OSError),
+            ("a word", lambda data: "all", TypeError),
+        ):
+            class Sink:
+                taken = b""
+
+                def write(self, data):
+                    found = returned(data)
+                    self.taken += data[:found] if isinstance(found, int) else data
+                    return found
+
+            for work in (self.copy_to, lambda sink: self.copy_to(sink, 2), self.write_to):
+                with self.subTest(name):
+                    found = work(sink := Sink())
+                    if error is None:
+                        self.assertEqual(found, len(self.PLAIN))
+                        self.assertEqual(agefile.decrypt(sink.taken, identities=KEY) == self.PLAIN, True)
+                    else:
+                        self.assertIsInstance(found, error)
+
+    def test_a_raw_sink_that_would_block(self):
+        class Sink(io.RawIOBase):
+            def write(self, data):
+                return None
+
+        for work in (self.copy_to, lambda sink: self.copy_to(sink, 2), self.write_to):
+            self.assertIsInstance(work(Sink()), BlockingIOError)
+
+    def test_sources(self):
+        file = agefile.encrypt(self.PLAIN, recipients=KEY)
+        for name, given, error in (
+            ("one byte", lambda source, room: source.readinto(room[:1]), None),
+            ("pieces", lambda source, room: source.readinto(room[:1000]), None),
+            ("less than nothing", lambda source, room: -1, Exception),
+            ("too much", lambda source, room: len(room) + 1, Exception),
+            ("it would block", lambda source, room: None, BlockingIOError),
+        ):
+            class Source(io.RawIOBase):
+                def __init__(self, data):
+                    self.below = io.BytesIO(data)
+
+                def readable(self):
+                    return True
+
+                def readinto(self, room):
+                    return given(self.below, memoryview(room))
+
+            for threads in (1, 2):
+                with self.subTest(f"{name}, {threads} threads"):
+                    sealed, opened = io.BytesIO(), io.BytesIO()
+                    found = in_time(lambda: agefile.copy(Source(self.PLAIN), sealed, recipients=KEY, threads=threads))
+                    other = in_time(lambda: agefile.copy(Source(file), opened, identities=KEY, threads=threads))
+                    if error is None:
+                        self.assertEqual((found, other), (len(self.PLAIN), len(self.PLAIN)))
+                        self.assertEqual(agefile.decrypt(sealed.getvalue(), identities=KEY) == self.PLAIN, True)
+                        self.assertEqual(opened.getvalue() == self.PLAIN, True)
+                    else:
+                        self.assertIsInstance(found, error)
+                        self.assertIsInstance(other, error)
+
+    def test_a_source_that_only_reads(self):
+        class Source:
+            def __init__(self, data):
+                self.read = io.BytesIO(data).read
+
+        sealed, opened = io.BytesIO(), io.BytesIO()
+        agefile.copy(Source(self.PLAIN), sealed, recipients=KEY)
+        agefile.copy(Source(sealed.getvalue()), opened, identities=KEY)
+        self.assertEqual(opened.getvalue() == self.PLAIN, True)
+
+    def test_a_file_in_two_pieces(self):
+        """A pipe has a file's first bytes, and then some more, and stays open: what they decide is told."""
+        key = agefile.encrypt(b"", recipients=KEY)
+        length = agefile.inspect(key).length
+        bad = b"age-encryption.org/v1\n-> a\n\nbad line\n"
+        rows = [(key[:length], cut, Code.WRONG_KEY) for cut in range(1, length)]
+        rows += [(bad, cut, Code.BAD_LINE) for cut in range(1, len(bad))]
+        rows += [(b"age-encryption.org/v2\n", cut, Code.NOT_AGE) for cut in range(1, 22)]
+        for front, cut, code in rows:
+            with self.subTest(f"{code!r}, cut at {cut}"):
+                self.assertEqual(in_time(lambda: self.opened_in_pieces(front[:cut], front[cut:]), 5).code, code)
+
+    def opened_in_pieces(self, *pieces):
+        class Waits(Exception):
+            """The pipe has no more bytes."""
+
+        class Pipe:
+            def __init__(self):
+                self.pieces = list(pieces)
+
+            def read(self, size):
+                if not self.pieces:
+                    raise Waits
+                return self.pieces.pop(0)
+
+        try:
+            agefile.copy(Pipe(), io.BytesIO(), identities=Key(bytes(32)))
+        except AgeError as error:
+            return error
+
+    def test_a_chunk_that_a_byte_follows(self):
+        """A chunk's text is written once the byte behind it is there, which says that it is not the last."""
+        file = agefile.encrypt(self.PLAIN, recipients=KEY)
+        read, write = os.pipe()
+        out, seen = io.BytesIO(), threading.Event()
+        first = agefile.inspect(file).length + 16 + 65552
+
+        class Sink:
+            def write(self, data):
+                seen.set()
+                return out.write(data)
+
+        def work():
+            with open(read, "rb", 0) as source:
+                agefile.copy(source, Sink(), identities=KEY)
+
+        thread = threading.Thread(target=work, daemon=True)
+        thread.start()
+        with open(write, "wb", 0) as sink:
+            sink.write(file[: first + 1])
+            self.assertTrue(seen.wait(20))
+            self.assertEqual(out.getvalue() == self.PLAIN[:65536], True)
+            sink.write(file[first + 1 :])
+        thread.join(20)
+        self.assertEqual(out.getvalue() == self.PLAIN, True)
 
 
 class Processes(unittest.TestCase):
@@ -385,6 +594,18 @@ class Costs(unittest.TestCase):
         ):
             with self.subTest(code):
                 self.assertLess(self.peak_of(name, code), 16)
+
+    def test_more_threads_than_there_is_to_do(self):
+        """Threads take memory for what they have to do, and there are no more than processors."""
+        for code in (
+            "agefile.encrypt(bytes(1), recipients=key, threads=500)",
+            "agefile.encrypt(bytes(1 << 18), recipients=key, threads=2000)",
+            "agefile.decrypt(agefile.encrypt(bytes(1 << 18), recipients=key), identities=key, threads=2000)",
+        ):
+            with self.subTest(code):
+                self.assertLess(self.peak_of(self.plain, code), 16)
+        most = 4 * 2 * (os.cpu_count() or 1) + 16
+        self.assertLess(self.peak_of(self.plain, "agefile.copy(open(name, 'rb'), open('/dev/null', 'wb'), recipients=key, threads=2000)"), most)
 
     def test_a_great_header(self):
         """The 10,911 stanzas of a header are listed in a tenth of a second."""
