@@ -118,13 +118,20 @@ def created(file: Any, mode: str, atomic: bool = False, closefd: bool = True) ->
     return opened(file, mode, closefd)
 
 
+def with_name(error: Exception, name: Any) -> Exception:
+    """The error, which says now which file it is about."""
+    if isinstance(error, AgeError) and error.filename is None:
+        error.filename = name
+    return error
+
+
 @contextlib.contextmanager
 def named(name: Any) -> Iterator[None]:
     """Errors of the block say which file they are about."""
     try:
         yield
     except AgeError as error:
-        error.filename = name if error.filename is None else error.filename
+        with_name(error, name)
         raise
 
 

@@ -5,15 +5,13 @@ from __future__ import annotations
 import contextlib
 import ctypes
 import io
-import operator
 import os
-import sys
 import threading
 from typing import Any, BinaryIO
 
 from . import _library as lib
 from ._errors import AgeChangedError, Code
-from ._paths import is_open, name_of, named, opened
+from ._paths import is_open, name_of, named, opened, with_name
 from ._payload import Chunk
 from ._secrets import Identities, unlock
 from ._sources import Front, flat, read_into
@@ -21,11 +19,11 @@ from ._sources import Front, flat, read_into
 _PLAIN = (io.FileIO, io.BufferedReader, io.BufferedRandom)
 
 
-def _descriptor_of(file: Any) -> int | None:
-    """The descriptor from which all that this object reads can be read at offsets, or None."""
+def _raw_of(file: Any) -> io.FileIO | None:
+    """The system's file that this object reads, with nothing else between but a buffer, or None."""
     file = getattr(file, "file", file)  # of tempfile.NamedTemporaryFile
     raw = getattr(file, "raw", file)
-    return raw.fileno() if type(file) in _PLAIN and type(raw) is io.FileIO else None
+    return raw if type(file) in _PLAIN and type(raw) is io.FileIO else None
 
 
 class _Source:
@@ -35,17 +33,17 @@ class _Source:
         self.file, self.opener, self._owned = file, opener, owned
         file.seek(0, os.SEEK_END)
         self.length = file.tell()
-        self._descriptor = _descriptor_of(file)
+        self._raw = _raw_of(file)
 
     def read_at(self, offset: int, room: memoryview) -> int:
         """Reads until the room is full or the file ends. The file's own position may be anywhere:
         a forked process shares it, and so do other readers of one file object."""
-        if self._descriptor is None:
+        if self._raw is None:
             self.file.seek(offset)
             return read_into(self.file, room)
-        count = done = os.preadv(self._descriptor, (room,), offset)
+        count = done = os.preadv(self._raw.fileno(), (room,), offset)
         while 0 < count and done < len(room):
-            count = os.preadv(self._descriptor, (room[done:],), offset + done)
+            count = os.preadv(self._raw.fileno(), (room[done:],), offset + done)
             done += count
         return done
 
@@ -54,19 +52,18 @@ class _Source:
             self.file.close()
 
 
-class _Plaintext(io.RawIOBase):
-    """The plaintext of an age file, of which the chunk that was opened last is kept. A read gives
-    bytes of one chunk, or raises its error."""
+class _Chunks:
+    """The plaintext of an age file by chunks. The one that was opened last is kept."""
 
     def __init__(self, source: _Source, ranges: lib.Ranges, name: Any) -> None:
-        self._source, self._ranges, self.name = source, ranges, name
+        self.source, self.ranges, self.name = source, ranges, name
         self._chunk, self._number, self._len = Chunk(), -1, 0
-        # The position is that of `text`, a copy of a chunk for short reads, and the offset in it.
-        self.text, self._text_at, self.at = b"", 0, 0
         self._open = lib.for_chunks("ranges_chunk", ranges)
         self._first: int = ranges.first
         self._sealed_len: int = ranges.sealed_len
-        self.lock = threading.RLock()
+        self._lock = threading.Lock()
+        # That of the chunk which could not be opened last.
+        self.error: Exception | None = None
         self._open_last()
 
     @staticmethod
@@ -86,7 +83,7 @@ class _Plaintext(io.RawIOBase):
         """Opens the last chunk, whose tag proves where the plaintext ends."""
         before = max(self._sealed_len - 1, 0) // lib.SEALED_CHUNK
         length = self._read(before)
-        report = lib.check("ranges_last", ctypes.byref(self._ranges), self._chunk.base, length)
+        report = lib.check("ranges_last", ctypes.byref(self.ranges), self._chunk.base, length)
         self.length: int = report.len
         self._number, self._len = before, self.length - before * lib.TEXT_CHUNK
 
@@ -96,104 +93,76 @@ class _Plaintext(io.RawIOBase):
         at, room = number * lib.SEALED_CHUNK, self._chunk.view
         if self._sealed_len - at < lib.SEALED_CHUNK:
             room = room[: self._sealed_len - at]
-        length = self._source.read_at(self._first + at, room)
+        length = self.source.read_at(self._first + at, room)
         if length != len(room):
             raise AgeChangedError(Code.CHUNK_SHORT, number)
         return length
 
-    def piece(self, at: int) -> memoryview:
-        """The text from a byte on to the end of its chunk; none from the end of the plaintext on."""
-        self._check_open()
-        if at >= self.length:
-            return self._chunk.view[:0]
+    def _piece(self, at: int) -> memoryview:
+        """The text from a byte before the end of the plaintext to the end of its chunk."""
         number, start = divmod(at, lib.TEXT_CHUNK)
         if number != self._number:
-            with named(self.name):
+            try:
                 length = self._read(number)
                 self._len = self._open(number * lib.TEXT_CHUNK, self._chunk.base, length)
+            except Exception as error:
+                self.error = with_name(error, self.name)
+                raise
             self._number = number
         return self._chunk.view[start : self._len]
 
-    @property
-    def position(self) -> int:
-        return self._text_at + self.at
-
-    def move(self, position: int) -> None:
-        self.at = position - self._text_at
-        if not 0 <= self.at <= len(self.text):
-            self.text, self._text_at, self.at = b"", position, 0
-
-    def keep(self) -> None:
-        """Copies the chunk of the position for the short reads that follow, if it is open."""
-        number, at = divmod(self.position, lib.TEXT_CHUNK)
-        if number == self._number and self.position < self.length:
-            self.text, self._text_at, self.at = bytes(self._chunk.view[: self._len]), self.position - at, at
-
-    def fill(self, room: memoryview) -> int:
-        """Copies text until the room is full or the plaintext ends. After an error the position is
-        where it was."""
-        self._check_open()
-        begin, done = self.position, 0
-        while done < len(room) and len(piece := self.piece(begin + done)):
-            count = min(len(piece), len(room) - done)
-            room[done : done + count] = piece[:count]
-            done += count
-        self.move(begin + done)
+    def fill(self, room: memoryview, at: int, least: int) -> int:
+        """Copies text from a byte on until the room is full or the plaintext ends. The error of a
+        bad chunk is raised, unless so many bytes come before it."""
+        done, wanted = 0, min(len(room), self.length - at)
+        with self._lock:
+            try:
+                while done < wanted:
+                    piece = self._piece(at + done)[: wanted - done]
+                    room[done : done + len(piece)] = piece
+                    done += len(piece)
+            except Exception:
+                if done < least:
+                    raise
         return done
 
+
+class _Plaintext(io.RawIOBase):
+    """A plaintext as a raw file, whose reads may be short. Where a chunk is bad they end before it,
+    and raise its error where fewer than `least` bytes come before it: one, or none for a buffer,
+    which would lose what it has read."""
+
+    def __init__(self, chunks: _Chunks, least: int) -> None:
+        self.chunks, self._least, self.position = chunks, least, 0
+
     def readinto(self, room: Any) -> int:
-        with self.lock, flat(room) as view:
+        """Reads what the room holds, or less, up to the end of a chunk."""
+        self._check_open()
+        most = lib.TEXT_CHUNK - self.position % lib.TEXT_CHUNK
+        with flat(room) as view, view[: most if len(view) <= lib.TEXT_CHUNK else None] as part:
             # A traceback must not keep a view of memory that is not Python's.
             del room
-            return self.fill(view[: len(self.piece(self.position))] if len(view) else view)
-
-    def take(self, most: int) -> bytes:
-        """So many bytes, or all up to the end of the plaintext."""
-        self._check_open()
-        piece = self.piece(self.position) if most else self._chunk.view[:0]
-        left = max(self.length - self.position, 0)
-        if min(most, left) > len(piece):
-            out = lib.fresh_bytes(min(most, left))
-            with lib.Bytes(out) as memory:
-                self.fill(lib.view_of(memory, out))
-            return out
-        found = bytes(piece[:most])
-        self.move(self.position + len(found))
-        if most < len(piece):
-            self.keep()
-        return found
-
-    def take_line(self, most: int) -> bytes:
-        """The bytes up to the end of the line, but no more than so many."""
-        self._check_open()
-        pieces, begin, end = [b""], self.position, self.position
-        while end - begin < most and not pieces[-1].endswith(b"\n"):
-            piece = self.piece(end)[: most - (end - begin)]
-            if not piece:
-                break
-            room, start = self._chunk.room, end % lib.TEXT_CHUNK
-            found = room.find(b"\n", start, start + len(piece)) + 1
-            pieces.append(bytes(piece[: found - start] if found else piece))
-            end += len(pieces[-1])
-        self.move(end)
-        self.keep()
-        return b"".join(pieces)
+            count = self.chunks.fill(part, self.position, min(self._least, len(part)))
+        self.position += count
+        return count
 
     def readall(self) -> bytes:
-        with self.lock:
-            return self.take(sys.maxsize)
+        self._check_open()
+        out = lib.fresh_bytes(max(self.chunks.length - self.position, 0))
+        with lib.Bytes(out) as memory:
+            count = self.chunks.fill(lib.view_of(memory, out), self.position, self._least * len(out))
+        self.position += count
+        return out if count == len(out) else out[:count]
 
     def seek(self, offset: int, whence: int = os.SEEK_SET) -> int:
         self._check_open()
-        with self.lock:
-            starts = {os.SEEK_SET: 0, os.SEEK_CUR: self.position, os.SEEK_END: self.length}
-            if whence not in starts:
-                raise ValueError(f"unknown whence: {whence}")
-            position = starts[whence] + operator.index(offset)
-            if position < 0:
-                raise ValueError(f"negative position: {position}")
-            self.move(position)
-            return position
+        starts = {os.SEEK_SET: 0, os.SEEK_CUR: self.position, os.SEEK_END: self.chunks.length}
+        if whence not in starts:
+            raise ValueError(f"unknown whence: {whence}")
+        if starts[whence] + offset < 0:
+            raise ValueError(f"negative position: {starts[whence] + offset}")
+        self.position = starts[whence] + offset
+        return self.position
 
     def tell(self) -> int:
         self._check_open()
@@ -208,27 +177,12 @@ class _Plaintext(io.RawIOBase):
         return True
 
     def close(self) -> None:
-        if not self.closed:
-            super().close()
-            self.text, self.at = b"", 0
-            self._source.close()
+        super().close()
+        self.chunks.source.close()
 
     def _check_open(self) -> None:
         if self.closed:
             raise ValueError("I/O operation on closed file")
-
-    def again(self) -> tuple[Any, ...]:
-        """What opens the same plaintext again without a secret: the opener, and the payload's key
-        with the places of its chunks."""
-        if self._source.opener is None:
-            raise TypeError("a file that was opened over a file object cannot be pickled")
-        return self._source.opener, bytes(self._ranges)
-
-
-def _most(size: int | None) -> int:
-    """The number of bytes that a caller asks for, where None and -1 stand for all."""
-    size = -1 if size is None else operator.index(size)
-    return sys.maxsize if size < 0 else size
 
 
 class Reader(io.BufferedIOBase):
@@ -246,86 +200,87 @@ class Reader(io.BufferedIOBase):
     mode = "rb"
     raw: _Plaintext
 
-    def __init__(self, raw: _Plaintext) -> None:
-        self.raw, self.name = raw, raw.name
+    def __init__(self, chunks: _Chunks) -> None:
+        self._chunks, self.name, self.raw = chunks, chunks.name, _Plaintext(chunks, 1)
+        self._below = _Plaintext(chunks, 0)
+        self._buffer = io.BufferedReader(self._below, lib.TEXT_CHUNK)
 
     def __repr__(self) -> str:
         return f"<agefile.Reader name={self.name!r} mode={self.mode!r}>"
 
     def __reduce_ex__(self, protocol: Any) -> tuple[Any, ...]:
-        return reopen, (*self.raw.again(), self.tell())
+        return reopen, (*self.again(), self.tell())
+
+    def again(self) -> tuple[Any, bytes]:
+        """What opens the same plaintext again without a secret: the opener, and the payload's key
+        with the places of its chunks."""
+        if self._chunks.source.opener is None:
+            raise TypeError("a file that was opened over a file object cannot be pickled")
+        return self._chunks.source.opener, bytes(self._chunks.ranges)
 
     @property
     def length(self) -> int:
         """The length of the plaintext in bytes."""
-        return self.raw.length
+        return self._chunks.length
+
+    def _or_error(self, found: Any, count: int) -> Any:
+        """A result of so many bytes that is short since the plaintext ends; otherwise its reason is
+        raised, and the position is put back."""
+        error = self._chunks.error
+        if error is None or self.tell() >= self.length:
+            return found
+        self.seek(-count, os.SEEK_CUR)
+        raise error
 
     def read(self, size: int | None = -1, /) -> bytes:
-        raw = self.raw
-        with raw.lock:
-            if size is not None and 0 < size <= len(raw.text) - raw.at:
-                found = raw.text[raw.at : raw.at + size]
-                raw.at += len(found)
-                return found
-            return raw.take(_most(size))
+        if size is None or size < 0:
+            # What is buffered and the rest would be joined: a second copy.
+            at = self.tell()
+            size = -1 if at == self._below.position else max(self.length - at, 0)
+        found = self._buffer.read(size)
+        return found if len(found) == size else self._or_error(found, len(found))  # type: ignore[no-any-return]
 
     def read1(self, size: int = -1, /) -> bytes:
-        raw = self.raw
-        with raw.lock:
-            if 0 < size <= len(raw.text) - raw.at:
-                found = raw.text[raw.at : raw.at + size]
-                raw.at += len(found)
-                return found
-            return raw.take(min(_most(size), len(raw.piece(raw.position)))) if size else b""
+        found = self._buffer.read1(size)
+        return found if found or size == 0 else self._or_error(found, 0)  # type: ignore[no-any-return]
 
     def readinto(self, room: Any, /) -> int:
-        with self.raw.lock, flat(room) as view:
-            # A traceback must not keep a view of memory that is not Python's.
-            del room
-            return self.raw.fill(view)
+        count = self._buffer.readinto(room)
+        return count if count == memoryview(room).nbytes else self._or_error(count, count)  # type: ignore[no-any-return]
 
     def peek(self, size: int = 0, /) -> bytes:
-        with self.raw.lock:
-            return bytes(self.raw.piece(self.raw.position))
+        return self._buffer.peek(size) or self._or_error(b"", 0)
 
     def readline(self, size: int | None = -1, /) -> bytes:
-        raw = self.raw
-        with raw.lock:
-            stop = sys.maxsize if size is None or size < 0 else raw.at + size
-            end = raw.text.find(b"\n", raw.at, stop) + 1 or stop
-            if raw.at < end <= len(raw.text):
-                found = raw.text[raw.at : end]
-                raw.at = end
-                return found
-            return raw.take_line(_most(size))
+        line = self._buffer.readline(size)
+        if line[-1:] == b"\n" or len(line) == size:
+            return line
+        return self._or_error(line, len(line))  # type: ignore[no-any-return]
 
     def readlines(self, hint: int | None = -1, /) -> list[bytes]:
-        with self.raw.lock:
-            begin = self.raw.position
-            try:
-                return super().readlines(-1 if hint is None else hint)
-            except BaseException:
-                self.raw.move(begin)
-                raise
+        begin = self.tell()
+        try:
+            return super().readlines(hint)  # type: ignore[arg-type]
+        except Exception:
+            self.seek(begin)
+            raise
 
     def seek(self, offset: int, whence: int = os.SEEK_SET, /) -> int:
-        return self.raw.seek(offset, whence)
+        return self._buffer.seek(offset, whence)
 
     def tell(self) -> int:
-        return self.raw.tell()
+        return self._buffer.tell()
 
     def readable(self) -> bool:
-        return self.raw.readable()
+        return self._buffer.readable()
 
     def seekable(self) -> bool:
-        return self.raw.seekable()
-
-    @property
-    def closed(self) -> bool:
-        return self.raw.closed
+        return self._buffer.seekable()
 
     def close(self) -> None:
+        super().close()
         self.raw.close()
+        self._buffer.close()
 
 
 def open_reader(file: Any, identities: Identities) -> Reader:
@@ -335,7 +290,7 @@ def open_reader(file: Any, identities: Identities) -> Reader:
     source = _Source(below, file if owned and not isinstance(file, int) else None, owned)
     with named(name), contextlib.ExitStack() as stack:
         stack.callback(source.close)
-        reader = Reader(_Plaintext(source, _Plaintext.unlocked(source, identities), name))
+        reader = Reader(_Chunks(source, _Chunks.unlocked(source, identities), name))
         stack.pop_all()
     return reader
 
@@ -350,7 +305,7 @@ def reopen(opener: Any, ranges: bytes, position: int) -> Reader:
             last = max(min(source.length - found.first, found.sealed_len) - 1, 0) // lib.SEALED_CHUNK
             raise AgeChangedError(Code.BAD_CHUNK if grown > 0 else Code.CHUNK_SHORT, last)
         found.state = 1
-        reader = Reader(_Plaintext(source, found, name_of(opener)))
+        reader = Reader(_Chunks(source, found, name_of(opener)))
         reader.seek(position)
         stack.pop_all()
     return reader

@@ -95,8 +95,9 @@ class Writer(io.BufferedIOBase):
         with self._lock:
             if self.writable() and self._front and not self._failed and self._process == os.getpid():
                 self._put(b"")
-            if hasattr(self._sink, "flush") and not getattr(self._sink, "closed", False):
-                self._sink.flush()
+            sink: Any = self._sink
+            if hasattr(sink, "flush") and not getattr(sink, "closed", False):
+                sink.flush()
 
     def close(self) -> None:
         """Seals the last chunk: only now the file is whole."""

@@ -81,7 +81,7 @@ class AgeFileSystem(AbstractFileSystem):  # type: ignore[misc]
         reader = self._reopened(opener, state)
         if reader is None:
             reader = open_reader(opener, self._identities or [])
-            self._keys[path] = state, reader.raw.again()[1]
+            self._keys[path] = state, reader.again()[1]
         # As fsspec's own files have it.
         setattr(reader, "size", reader.length)
         return reader

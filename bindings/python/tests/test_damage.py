@@ -294,7 +294,8 @@ class Positions(unittest.TestCase):
         }.items():
             with self.subTest(name), agefile.open(io.BytesIO(self.file), identities=KEY) as file:
                 for first, last in ((0, 2), (4, 6), (7, 9)):
-                    file.seek(first * TEXT)
+                    each = file.raw if name.startswith("raw") else file
+                    each.seek(first * TEXT)
                     found = b""
                     while last < 9 or len(found) < len(self.PLAIN) - first * TEXT:
                         try:
@@ -303,7 +304,7 @@ class Positions(unittest.TestCase):
                             self.assertEqual(error.place, last)
                             break
                     self.assertEqual(found, self.PLAIN[first * TEXT : last * TEXT])
-                    self.assertEqual(file.tell(), first * TEXT + len(found))
+                    self.assertEqual(each.tell(), first * TEXT + len(found))
 
     def test_after_a_failed_read_by_raw(self):
         file = agefile.open(io.BytesIO(self.file), identities=KEY)
@@ -356,9 +357,9 @@ class EachChunk(unittest.TestCase):
                         file.read(100)
                     self.assertEqual(caught.exception.place, bad)
                     if before is not None:
-                        for read in (file.read, file.raw.read):
-                            file.seek(before * TEXT + 200)
-                            self.assertEqual(read(1000), self.plain[before * TEXT + 200 :][:1000])
+                        for each in (file, file.raw):
+                            each.seek(before * TEXT + 200)
+                            self.assertEqual(each.read(1000), self.plain[before * TEXT + 200 :][:1000])
 
     def test_the_last_chunk(self):
         with self.assertRaises(AgeError) as caught:
@@ -404,27 +405,27 @@ class Below(InFolder):
                 with agefile.open(self.made(plain), identities=KEY) as file:
                     self.assertEqual(file.read() if most > 1 else file.read(10), plain if most > 1 else plain[:10])
 
-    def test_an_interrupted_read(self):
-        """After any exception of the file below, reading goes on where it was."""
+    def test_a_file_that_fails_for_a_while(self):
+        """After any error of the file below, reading goes on where it was."""
         class Broken(io.BytesIO):
-            breaks = 0
+            works = True
 
             def readinto(self, room):
-                self.breaks -= 1
-                if self.breaks == 0:
-                    raise KeyboardInterrupt
+                if not self.works:
+                    raise RuntimeError
                 return super().readinto(room)
 
         plain = text(300000)
         below = Broken(agefile.encrypt(plain, recipients=KEY))
         with agefile.open(below, identities=KEY) as file:
-            for breaks in (1, 2, 3):
-                file.seek(100)
-                below.breaks = breaks
-                self.assertRaises(KeyboardInterrupt, file.read, 200000)
-                below.breaks = 0
-                self.assertEqual(file.tell(), 100)
-                self.assertEqual(file.read(200000), plain[100:200100])
+            for at, size in ((100, 200000), (50, 100), (65530, 10), (0, -1)):
+                file.seek(at)
+                below.works = False
+                for _ in range(2):
+                    self.assertRaises(RuntimeError, file.read, size)
+                    self.assertEqual(file.tell(), at)
+                below.works = True
+                self.assertEqual(file.read(size), plain[at:][:size] if size > 0 else plain)
 
 
 if __name__ == "__main__":

@@ -184,8 +184,9 @@ class Reading(InFolder):
         plain, offsets = b"some text\n" * 30000, []
         for read in (lambda file: file.read(1000), lambda file: file.readline(), lambda file: file.read1(100)):
             with agefile.open(self.made(plain), identities=KEY) as file:
-                read_at = file.raw._source.read_at
-                file.raw._source.read_at = lambda offset, room: offsets.append(offset) or read_at(offset, room)
+                source = file.raw.chunks.source
+                read_at = source.read_at
+                source.read_at = lambda offset, room: offsets.append(offset) or read_at(offset, room)
                 while read(file):
                     pass
             self.assertEqual(len(offsets), 5)
