@@ -354,8 +354,17 @@ class ForPython(unittest.TestCase):
     def test_opened_files(self):
         self.run_tests("test_files.py")
 
+    def test_damaged_files(self):
+        self.run_tests("test_damage.py")
+
+    def test_files_of_others(self):
+        self.run_tests("test_others.py")
+
     def test_x25519(self):
         self.run_tests("test_x25519.py")
+
+    def test_fsspec(self):
+        self.run_tests("test_fsspec.py")
 
     def test_dask(self):
         self.run_tests("test_dask.py")

@@ -104,6 +104,9 @@ class AgeError(ValueError):
         text = str(self.args[0])
         return text if self.filename is None else f"{text}: {self.filename!r}"
 
+    def __repr__(self) -> str:
+        return f"{type(self).__name__}({str(self)!r})"
+
     def __reduce__(self) -> tuple[Any, ...]:
         return type(self), (int(self.code), self.place, self.detail, self.filename)
 

@@ -3,13 +3,12 @@
     dask_sum.py KEY_FILE FILE
 
 KEY_FILE holds 32 bytes. Each worker opens the chunks of its own blocks alone. Damage in one block fails
-its task with the number of the chunk."""
+its task with the file and the number of the chunk."""
 
 import sys
 
 import dask.dataframe
 import dask.distributed
-import fsspec
 
 import agefile
 import agefile.fsspec
@@ -17,8 +16,7 @@ import agefile.fsspec
 
 def table(name, identities, blocksize=1 << 24):
     """The table of an encrypted file, in blocks of so many bytes of its plaintext."""
-    options = {"fs": fsspec.filesystem("file"), "identities": identities}
-    return dask.dataframe.read_csv(f"age://{name}", storage_options=options, blocksize=blocksize)
+    return dask.dataframe.read_csv(f"age://{name}", storage_options={"identities": identities}, blocksize=blocksize)
 
 
 def sums(name, identities, workers=None, blocksize=1 << 24):

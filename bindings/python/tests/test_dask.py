@@ -28,13 +28,28 @@ SEALED, TEXT = 65552, 65536
 BLOCK = 1 << 20
 
 
-def failure_of(block):
+def failure_of(work):
     """The error with which a task ends, as text."""
     try:
-        block.compute(scheduler="synchronous")
+        work()
     except agefile.AgeError as error:
         return str(error)
     return None
+
+
+class Logged:
+    """A recipient and identity whose file key stands in the file; it logs each time that it is asked."""
+
+    def __init__(self, log):
+        self.log = log
+
+    def wrap(self, file_key):
+        return [agefile.Stanza(("logged",), file_key)]
+
+    def unwrap(self, stanzas):
+        with open(self.log, "a", encoding="ascii") as file:
+            file.write(f"{os.getpid()}\n")
+        return stanzas[0].body
 
 
 class Tables(unittest.TestCase):
@@ -48,7 +63,7 @@ class Tables(unittest.TestCase):
             for begin in range(0, ROWS, 10000):
                 rows = range(begin, min(begin + 10000, ROWS))
                 file.write("".join(f"{number},{number * number}\n" for number in rows).encode())
-        cls.options = {"fs": fsspec.filesystem("file"), "identities": SECRET}
+        cls.options = {"identities": SECRET}
         cls.length = agefile.open(cls.name, identities=SECRET).length
 
     def test_sizes_and_bytes(self):
@@ -109,9 +124,27 @@ class Tables(unittest.TestCase):
             file.seek(at)
             file.write(bytes((byte[0] ^ 1,)))
         blocks = dask_sum.table(damaged, SECRET, BLOCK).to_delayed()
-        failures = {index: failure_of(block) for index, block in enumerate(blocks[:8])}
+        failures = {index: failure_of(lambda: block.compute(scheduler="synchronous")) for index, block in enumerate(blocks[:8])}
         # A block of 1 MiB has 16 chunks: chunk 40 is in block 2.
-        self.assertEqual({index: text for index, text in failures.items() if text}, {2: message("BadChunk", 40)})
+        said = f"{message('BadChunk', 40)}: {damaged!r}"
+        self.assertEqual({index: text for index, text in failures.items() if text}, {2: said})
+        with dask.distributed.LocalCluster(n_workers=2, threads_per_worker=1, dashboard_address=None) as cluster:
+            with dask.distributed.Client(cluster) as client:
+                tasks = client.compute(blocks[:8])
+                failures = {index: failure_of(task.result) for index, task in enumerate(tasks)}
+        self.assertEqual({index: text for index, text in failures.items() if text}, {2: said})
+
+    def test_a_file_is_unlocked_once(self):
+        """The workers' processes read with the key that the first opening found."""
+        log, name = self.name + ".log", self.name + ".logged.age"
+        identity = Logged(log)
+        self.addCleanup(os.remove, name), self.addCleanup(os.remove, log)
+        with agefile.open(self.name, identities=SECRET) as source:
+            agefile.copy(source, name, recipients=identity)
+        found = dask_sum.sums(name, identity, workers=2, blocksize=max(BLOCK, self.length // 64))
+        self.assertEqual(int(found["number"]), ROWS * (ROWS - 1) // 2)
+        with open(log, encoding="ascii") as file:
+            self.assertEqual(file.read(), f"{os.getpid()}\n")
 
 
 if __name__ == "__main__":

@@ -1,0 +1,253 @@
+"""The file system for fsspec: what it opens and what it keeps, other files beside, chains, writing."""
+
+import os
+import pickle
+import unittest
+from unittest import mock
+
+import agefile
+
+try:
+    import fsspec
+    import agefile.fsspec
+except ImportError as error:
+    raise unittest.SkipTest(str(error)) from error
+
+from agefile import AgeError, Code, Key, Passphrase, Stanza
+from support import KEY, TEXT, InFolder, damaged, message, text
+
+
+class Counted:
+    """A recipient and identity whose file keys stand in the file; it counts how often it is asked."""
+
+    def __init__(self):
+        self.asked = 0
+
+    def wrap(self, file_key):
+        return [Stanza(("counted",), file_key)]
+
+    def unwrap(self, stanzas):
+        self.asked += 1
+        return next((body for args, body in stanzas if args[0] == "counted"), None)
+
+
+class InSystem(InFolder):
+    def setUp(self):
+        super().setUp()
+        self.folder = os.getcwd()
+        self.identity = Counted()
+        self.system = fsspec.filesystem("age", fs=fsspec.filesystem("file"), identities=[self.identity, KEY])
+
+    def path(self, name):
+        return os.path.join(self.folder, name)
+
+    def new(self, name, plain, recipients=None):
+        self.put(agefile.encrypt(plain, recipients=recipients or self.identity), name)
+        return self.path(name)
+
+
+class Lists(InSystem):
+    def setUp(self):
+        super().setUp()
+        os.mkdir("sub")
+        for name in ("a.csv.age", "b.csv.age", "sub/c.csv.age"):
+            self.new(name, text(1000))
+        for name in ("README.txt", "empty", "a.csv.age.new"):
+            self.put(b"no age file" * (name != "empty"), name)
+
+    def test_lists_open_nothing(self):
+        """Files of others are listed too, and nothing is opened or unlocked."""
+        below = fsspec.filesystem("file")
+        system, folder = self.system, self.folder
+        with mock.patch.object(type(below), "open", side_effect=AssertionError("opened")), mock.patch.object(type(below), "_open", side_effect=AssertionError("opened")):
+            self.assertEqual(sorted(system.ls(folder, detail=False)), sorted(below.ls(folder, detail=False)))
+            found = {os.path.basename(each["name"]): (each["type"], each["size"]) for each in system.ls(folder) if each["type"] == "file"}
+            self.assertEqual(found, dict.fromkeys(("a.csv.age", "b.csv.age", "README.txt", "empty", "a.csv.age.new"), ("file", None)))
+            self.assertEqual(system.glob(folder + "/*.csv.age"), [self.path("a.csv.age"), self.path("b.csv.age")])
+            self.assertEqual(system.glob(folder + "/**.csv.age"), below.glob(folder + "/**.csv.age"))
+            self.assertEqual(system.glob(folder + "/a.csv.age"), [self.path("a.csv.age")])
+            self.assertEqual(system.find(folder), below.find(folder))
+            self.assertEqual([(path, sorted(dirs), sorted(files)) for path, dirs, files in system.walk(folder)],
+                             [(path, sorted(dirs), sorted(files)) for path, dirs, files in below.walk(folder)])
+            for name in ("a.csv.age", "README.txt", "sub", "absent"):
+                for call in ("exists", "isfile", "isdir"):
+                    self.assertEqual(getattr(system, call)(self.path(name)), getattr(below, call)(self.path(name)), name)
+            self.assertEqual(system.du(folder), below.du(folder))
+        self.assertEqual(self.identity.asked, 0)
+
+    def test_size_of_one_file(self):
+        self.assertEqual(self.system.info(self.path("a.csv.age"))["size"], 1000)
+        self.assertEqual(self.system.size("age://" + self.path("a.csv.age")), 1000)
+        self.assertEqual(self.system.info(self.path("sub"))["type"], "directory")
+        self.assertEqual(self.identity.asked, 1)
+        with self.assertRaises(AgeError) as caught:
+            self.system.info(self.path("README.txt"))
+        self.assertEqual((caught.exception.code, caught.exception.filename), (Code.NOT_AGE, self.path("README.txt")))
+        self.assertRaises(FileNotFoundError, self.system.info, self.path("absent"))
+
+
+class Reads(InSystem):
+    def test_parts_of_a_file(self):
+        plain = b"".join(b"%d\n" % number for number in range(50000))
+        path, system = self.new("a.age", plain), self.system
+        self.assertEqual(system.cat_file(path), plain)
+        self.assertEqual(system.cat_file(path, 70000, 70100), plain[70000:70100])
+        self.assertEqual(system.cat_file(path, -50, -10), plain[-50:-10])
+        self.assertEqual(system.head(path, 100), plain[:100])
+        self.assertEqual(system.tail(path, 100), plain[-100:])
+        self.assertEqual(system.read_block(path, 0, 5), plain[:5])
+        begin = plain.index(b"\n", 1000) + 1
+        self.assertEqual(system.read_block(path, 1000, 70000, b"\n"), plain[begin : plain.index(b"\n", 71000) + 1])
+        self.assertEqual(system.read_block(path, len(plain) - 100, None), plain[-100:])
+        with system.open(path, "r", encoding="ascii") as file:
+            self.assertEqual(file.readline(), "0\n")
+        system.get(path, self.path("plain"))
+        self.assertEqual(self.got("plain"), plain)
+        self.assertEqual(self.identity.asked, 1)
+
+    def test_damage(self):
+        """A read fails only where a chunk is bad that it needs, and names file and chunk."""
+        plain = text(5 * TEXT)
+        path = self.path(self.put(damaged(agefile.encrypt(plain, recipients=self.identity), 2)))
+        for begin, end in ((0, 100), (10, 2 * TEXT), (2 * TEXT - 1, 2 * TEXT), (3 * TEXT, 5 * TEXT), (4 * TEXT - 1, 4 * TEXT + 1)):
+            self.assertEqual(self.system.cat_file(path, begin, end), plain[begin:end])
+        for begin, end in ((0, 2 * TEXT + 1), (3 * TEXT - 1, 3 * TEXT), (None, None), (2 * TEXT, 2 * TEXT + 1)):
+            with self.assertRaises(AgeError) as caught:
+                self.system.cat_file(path, begin, end)
+            self.assertEqual(str(caught.exception), f"{message('BadChunk', 2)}: {path!r}")
+
+
+class Keys(InSystem):
+    """The key that is kept belongs to a file as it was."""
+
+    def asked_for(self, work):
+        before = self.identity.asked
+        result = work()
+        return result, self.identity.asked - before
+
+    def test_a_file_that_is_replaced(self):
+        first, other = text(200000), text(200000)[::-1]
+        path = self.new("a.age", first)
+        self.assertEqual(self.asked_for(lambda: self.system.cat_file(path)), (first, 1))
+        self.assertEqual(self.asked_for(lambda: self.system.cat_file(path)), (first, 0))
+        again = pickle.loads(pickle.dumps(self.system))
+        for name, change in (
+            ("of the same length", lambda: self.new("a.age", other)),
+            ("of another length", lambda: self.new("a.age", other + b"more")),
+            ("shorter", lambda: self.new("a.age", other[:1000])),
+            ("rewrapped", lambda: self.put(agefile.rewrap(self.got("a.age"), identities=self.identity, recipients=[KEY, self.identity]))),
+            ("by rename", lambda: os.replace(self.new("new", first), path)),
+        ):
+            change()
+            expected = agefile.decrypt(self.got("a.age"), identities=self.identity)
+            with self.subTest(name):
+                self.assertEqual(self.asked_for(lambda: self.system.cat_file(path)), (expected, 1))
+                self.assertEqual(self.asked_for(lambda: self.system.cat_file(path)), (expected, 0))
+                self.assertEqual(again.cat_file(path), expected)
+
+    def test_a_file_system_that_says_nothing_of_a_file(self):
+        """Where the state below tells nothing, a fault makes the file be unlocked anew."""
+        path = self.new("a.age", text(200000))
+        with mock.patch.object(type(self.system.fs), "ukey", lambda *_: "the same"):
+            self.assertEqual(self.asked_for(lambda: self.system.cat_file(path)), (text(200000), 1))
+            for plain in (text(200000)[::-1], text(1000), text(300000)):
+                self.new("a.age", plain)
+                self.assertEqual(self.asked_for(lambda: self.system.cat_file(path)), (plain, 1))
+
+    def test_invalidate_cache(self):
+        path, other = self.new("a.age", b"text"), self.new("b.age", b"text")
+        self.system.cat([path, other])
+        self.system.invalidate_cache(path)
+        self.assertEqual(self.asked_for(lambda: self.system.cat_file(other)), (b"text", 0))
+        self.assertEqual(self.asked_for(lambda: self.system.cat_file(path)), (b"text", 1))
+        self.system.invalidate_cache()
+        self.assertEqual(self.asked_for(lambda: self.system.cat_file(other)), (b"text", 1))
+
+    def test_a_wrong_key_is_not_kept(self):
+        path = self.new("a.age", b"text", Key(bytes(32)))
+        for _ in range(2):
+            with self.assertRaises(AgeError) as caught:
+                self.system.cat_file(path)
+            self.assertEqual((caught.exception.code, caught.exception.filename), (Code.WRONG_KEY, path))
+
+
+class Chains(InSystem):
+    def test_chains(self):
+        plain = b"a,b\n1,2\n"
+        path, other = self.new("a.csv.age", plain), self.new("b.csv.age", plain)
+        words = {"identities": self.identity}
+        for url in (f"age::file://{path}", f"age://{path}::file://"):
+            with self.subTest(url), fsspec.open(url, "rb", age=words) as file:
+                self.assertEqual(file.read(), plain)
+        with fsspec.open(f"age://{path}", "r", **words) as file:
+            self.assertEqual(file.read(), plain.decode())
+        system, name = fsspec.core.url_to_fs(f"age::file://{path}", age=words)
+        self.assertEqual(system.cat_file(name), plain)
+        for url in (f"age::file://{self.folder}/*.csv.age", f"age://{self.folder}/*.csv.age::file://"):
+            _, _, found = fsspec.get_fs_token_paths(url, storage_options={"age": words})
+            self.assertEqual(found, [path, other])
+        with fsspec.open(f"simplecache::age::file://{path}", "rb", age=words, simplecache={"cache_storage": self.path("cache")}) as file:
+            self.assertEqual(file.read(), plain)
+
+    def test_a_memory_file_system(self):
+        memory = fsspec.filesystem("memory")
+        self.addCleanup(memory.rm, "/agefile", recursive=True)
+        system = fsspec.filesystem("age", fs=memory, identities=self.identity, recipients=self.identity)
+        with system.open("/agefile/a.age", "wb") as file:
+            file.write(b"text")
+        self.assertEqual(system.cat_file("memory://agefile/a.age"), b"text")
+        self.assertEqual(agefile.decrypt(memory.cat_file("/agefile/a.age"), identities=self.identity), b"text")
+
+
+class Writes(InSystem):
+    def setUp(self):
+        super().setUp()
+        self.system = fsspec.filesystem("age", identities=self.identity, recipients=self.identity)
+
+    def test_modes(self):
+        plain = text(100000)
+        for mode, data in (("wb", plain), ("w", "wörds\n" * 20000), ("wt", "text"), ("xb", b""), ("x", "x")):
+            path = self.path(f"{mode}.age")
+            with self.system.open(path, mode) as file:
+                file.write(data)
+            written = data.encode() if isinstance(data, str) else data
+            self.assertEqual(agefile.decrypt(self.got(path), identities=self.identity), written)
+            self.assertEqual(self.system.cat_file(path), written)
+        self.assertRaises(FileExistsError, self.system.open, path, "xb")
+        for mode in ("ab", "r+b", "a"):
+            self.assertRaises(ValueError, self.system.open, path, mode)
+        self.system.pipe_file(path, plain)
+        self.assertEqual(self.system.info(path)["size"], len(plain))
+        self.put(plain, "plain")
+        self.system.put(self.path("plain"), path)
+        self.assertEqual(self.system.cat_file(path), plain)
+        with fsspec.open(f"age::file://{path}", "w", age={"recipients": KEY}) as file:
+            file.write("other")
+        self.assertEqual(agefile.decrypt(self.got(path), identities=KEY), b"other")
+
+    def test_a_body_that_raises(self):
+        """What was there stays until the first byte is due; what is written then is no whole file."""
+        path = self.path("a.age")
+        for mode, data, is_kept in (("wb", b"text", True), ("w", "text", True), ("wb", text(100000), False), ("w", "x" * 100000, False)):
+            self.new("a.age", b"old")
+            before = self.got("a.age")
+            with self.assertRaises(KeyError), self.system.open(path, mode) as file:
+                file.write(data)
+                raise KeyError
+            self.assertEqual(self.got("a.age") == before, is_kept)
+            if not is_kept:
+                self.assertRaises(AgeError, self.system.cat_file, path)
+
+    def test_recipients_that_fail(self):
+        path = self.new("a.age", b"old")
+        for recipients, error in (([], AgeError), ("word", TypeError), ([KEY, Passphrase("x", work=1)], AgeError)):
+            for mode in ("wb", "w"):
+                self.assertRaises(error, self.system.open, path, mode, recipients=recipients)
+        reader = fsspec.filesystem("age", identities=self.identity)
+        self.assertRaises(TypeError, reader.open, path, "wb")
+        self.assertRaises(LookupError, self.system.open, path, "w", encoding="bogus")
+        self.assertEqual(self.system.cat_file(path), b"old")
+
+
+if __name__ == "__main__":
+    unittest.main()
