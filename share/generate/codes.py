@@ -224,13 +224,12 @@ def _own_table(own_codes):
 def _definitions(root):
     """The code of each fault for the proofs, as the `match` of code.rt has it."""
     code_rt = root / "crates/agefile/src/code.rt"
-    numbers, constants = _arms(code_rt, "fault_code")
-    names = {number: name for name, number in constants.items()}
+    numbers = _arms(code_rt, "fault_code")[0]
     equations = ""
     for name, number in numbers.items():
         fields = re.search(rf"Fault::{name}(?:\(([^)]*)\))? =>", code_rt.read_text()).group(1)
         pattern = f"({name}{' _' * len(fields.split(','))})" if fields else name
-        equations += f"fault_code {pattern} = {names.get(number, number)}\n"
+        equations += f"fault_code {pattern} = {number}\n"
     variants = f"use Rattle.age_file.specs.declared.fault.Fault.TheVariants.{{{', '.join(numbers)}}}\n"
     # rt fmt puts an empty line between the last equation and the comment behind it
     return {"codes of faults": equations + "\n", "variants of faults": variants}

@@ -1,6 +1,5 @@
--- The codes by which C knows a fault.
+-- The codes by which C knows a fault, by the numbers of `agefile.h`.
 use Rattle.std.specs.Prelude.{ℕ, ◌-◌, ◌^◌, min, Option, Some, None}
-use Rattle.agefile.specs.declared.code.TheConstants.{BAD_ARGUMENTS, EMPTY_PASSPHRASE, OK, OUT_OF_MEMORY, OUT_OF_ORDER, TOO_SMALL, WORK_FACTOR}
 use Rattle.age_recipient.specs.declared.unwrapped.StanzaFault.{StanzaFault}
 use Rattle.age_recipient.specs.declared.unwrapped.StanzaFault.TheVariants.{ArgCount, Salt, WorkFactorText, WorkFactorTooHigh, BodyLength, Other}
 use Rattle.age_file.specs.declared.fault.Fault.{Fault}
@@ -9,31 +8,31 @@ use Rattle.age_file.specs.declared.fault.Fault.TheVariants.{NotAge, BadLine, Hea
 
 -- no fault
 abbrev pub ok : ℕ
-ok = OK
+ok = 0
 
 -- an allocation was refused
 abbrev pub out_of_memory : ℕ
-out_of_memory = OUT_OF_MEMORY
+out_of_memory = 17
 
 -- the buffer is too small for the output
 abbrev pub too_small : ℕ
-too_small = TOO_SMALL
+too_small = 21
 
 -- a work factor, or its maximum, is out of its range
 abbrev pub bad_work_factor : ℕ
-bad_work_factor = WORK_FACTOR
+bad_work_factor = 22
 
 -- there is no such stanza or offset, or the call does not fit the state
 abbrev pub out_of_order : ℕ
-out_of_order = OUT_OF_ORDER
+out_of_order = 23
 
 -- the arguments of a stanza are not words of visible characters, joined by single spaces
 abbrev pub bad_arguments : ℕ
-bad_arguments = BAD_ARGUMENTS
+bad_arguments = 25
 
 -- a new stanza's passphrase is empty
 abbrev pub empty_passphrase : ℕ
-empty_passphrase = EMPTY_PASSPHRASE
+empty_passphrase = 26
 
 -- a fault's code
 abbrev pub fault_code : Fault → ℕ
@@ -54,7 +53,7 @@ fault_code (BadChunk _) = 13
 fault_code TooManyChunks = 14
 fault_code Read = 15
 fault_code Write = 16
-fault_code OutOfMemory = OUT_OF_MEMORY
+fault_code OutOfMemory = 17
 fault_code NoRecipients = 18
 fault_code (Refused _ _) = 19
 fault_code (IncompatibleRecipients _) = 20

@@ -132,11 +132,12 @@ fn give_one(alloc: Global, stanza: Stanza, out: &mut [u8], report: &mut Report) 
 
 /// Writes the text of the stanza that is alone in this list.
 fn give_text(alloc: Global, stanzas: Vec<Stanza>, out: &mut [u8], report: &mut Report) -> u32
+    requires { (stanza : StanzaParts) × (stanzas.items ≡ stanza ∷ []) }
     ensures { (stanza : StanzaParts) → stanzas.items ≡ stanza ∷ []
         → GivesText stanza out.old out.new report.new result }
 {
     let Some(header) = Header::new(stanzas, [0; 32]) else {
-        return give_up(OUT_OF_MEMORY, out, report);
+        unreachable!();
     };
     // between the version line and the `---` of a header's text are its stanzas
     match signed_text(alloc, header.stanzas()) {
