@@ -24,7 +24,7 @@ use Rattle.age_commands.specs.Output.{Ends}
 use Rattle.age_words.specs.JobOf.{IsPiped}
 use Rattle.age_words.proofs.PipedLemmas.{piped}
 use Rattle.age_cli.proofs.ProgramLemmas.{alone}
-use Rattle.age_cli.specs.Program.{Finishes, FinishesWords, IsTaskOf, Works, word_limits}
+use Rattle.age_cli.specs.Program.{Finishes, FinishesWords, IsTaskFor, Works, word_limits}
 use Rattle.age_commands.specs.Secret.{answers_of, limits_of}
 use Rattle.age_commands.specs.Task.{Encrypting, unseen, without_counts}
 
@@ -62,7 +62,7 @@ decrypted law limits answers b xs taken new (Ok counts) work is d (inl (ended, k
     (of-known (λ x. DecryptsText limits answers x (moved (Some xs) taken) (Ok counts)) (unseen (Some b)) b refl d) keeps
 decrypted law limits answers b xs taken new (Ok counts) work is d (inr (failed, rest)) = absurd (cc)
 
-decrypt_done : OkIsAgeFile → (job : Job) (b xs : Bytes) (new : Known) (task : Task) → IsTaskOf command.Decrypt task
+decrypt_done : OkIsAgeFile → (job : Job) (b xs : Bytes) (new : Known) (task : Task) → IsTaskFor command.Decrypt job task
     → Works job task (Some b) (moved (Some xs) new) (Ok tt) → Gained (limits_of job) b xs new
 decrypt_done law job b xs new (task.Decrypt secret) is (taken, work, (done, same, d), quiet, ends) =
     decrypted law (limits_of job) (answers_of secret job.max_work) b xs taken new done work same d ends
@@ -73,7 +73,7 @@ decrypt_done law job b xs new (task.Inspect key) is w = absurd is
 pub done_decrypt : OkIsAgeFile → (job : Job) (b xs : Bytes) (new : Known) → job.command ≡ command.Decrypt
     → Finishes job (Some b) (moved (Some xs) new) → Gained (limits_of job) b xs new
 done_decrypt law job b xs new one (task, is, w) =
-    decrypt_done law job b xs new task (subst (λ (x : Command). IsTaskOf x task) one is) w
+    decrypt_done law job b xs new task (subst (λ (x : Command). IsTaskFor x job task) one is) w
 
 -- the output gained an age file of the input
 abbrev pub Made : (limits : Bounds) (plain xs : Bytes) (new : Known) → Type 0
@@ -100,7 +100,7 @@ encrypted limits fresh gathered plain xs taken new (Ok counts) work is e (inl (e
     refl e.0) keeps
 encrypted limits fresh gathered plain xs taken new (Ok counts) work is e (inr (failed, rest)) = absurd (cc)
 
-encrypt_done : (job : Job) (plain xs : Bytes) (new : Known) (task : Task) → IsTaskOf command.Encrypt task
+encrypt_done : (job : Job) (plain xs : Bytes) (new : Known) (task : Task) → IsTaskFor command.Encrypt job task
     → Works job task (Some plain) (moved (Some xs) new) (Ok tt) → Made (limits_of job) plain xs new
 encrypt_done job plain xs new (task.Encrypt secret seed) is (taken, work, (done, same, e), quiet, ends) =
     encrypted (limits_of job) seed.fresh _ plain xs taken new done work same e ends
@@ -111,7 +111,7 @@ encrypt_done job plain xs new (task.Inspect key) is w = absurd is
 pub done_encrypt : (job : Job) (plain xs : Bytes) (new : Known) → job.command ≡ command.Encrypt
     → Finishes job (Some plain) (moved (Some xs) new) → Made (limits_of job) plain xs new
 done_encrypt job plain xs new one (task, is, w) =
-    encrypt_done job plain xs new task (subst (λ (x : Command). IsTaskOf x task) one is) w
+    encrypt_done job plain xs new task (subst (λ (x : Command). IsTaskFor x job task) one is) w
 
 decrypts : command.Decrypt ≡ command.Range → ⊥
 decrypts e = cc

@@ -54,16 +54,19 @@ performs F contents job task from standard sink (Ok u) o h = (sink, o, h)
 performs F contents job task from standard sink (Err failure) o (fault, named, inl (refused, keeps)) = λ silent.
     inl (subst (λ (s : Moved). Stays s) (output_is F contents job.output standard sink silent o) keeps)
 performs F contents job task from standard sink (Err failure) o (fault, named, inr h) = λ silent.
-    inr (fault, subst (λ (s : Moved). Works job task from s (Err fault))
-    (output_is F contents job.output standard sink silent o) h)
+    inr (
+      fault,
+      subst (λ (s : Moved). Works job task from s (Err fault))
+          (output_is F contents job.output standard sink silent o) h,
+    )
 
-begins : (job : Job) (task : Task) (from : Known) (sink : Moved) → IsTaskOf job.command task
+begins : (job : Job) (task : Task) (from : Known) (sink : Moved) → IsTaskOf job task
     → Stays sink ⊎ ((fault : FileFault) × Works job task from sink (Err fault)) → Begins job from sink
 begins job task from sink is (inl keeps) = inl keeps
 begins job task from sink is (inr (fault, h)) = inr (task, is, fault, h)
 
 pub completes : (F : Type 0) (remaining contents : F → Known) (job : Job) (task : Task) (from source : Known)
-    (sink : Moved) (r : Result ⊤ Failure) → IsTaskOf job.command task → IsInput F remaining job.input from source
+    (sink : Moved) (r : Result ⊤ Failure) → IsTaskOf job task → IsInput F remaining job.input from source
     → PerformsOn F contents job task source sink r → Completes F remaining contents job from sink r
 completes F remaining contents job task from source sink (Ok u) is i (target, o, w) = λ other.
     (source, i, (target, o, (task, is, w)))

@@ -7,6 +7,7 @@ use Rattle.age_file.specs.declared.fault.Fault.TheVariants.{OutOfMemory}
 use Rattle.age_job.specs.declared.job.Command.{Command}
 use Rattle.age_job.specs.declared.job.Command.TheVariants as command
 use Rattle.age_job.specs.declared.job.Job.{Job}
+use Rattle.age_job.specs.Secret.{IsFileKeyOf, IsNewSecret, IsSecretOf}
 use Rattle.age_words.specs.declared.fault.WordsFault.{WordsFault}
 use Rattle.age_words.specs.declared.fault.WordsFault.TheVariants.{Memory, Refused}
 use Rattle.age_words.specs.JobOf.{IsShown, Makes, header_limit}
@@ -17,13 +18,21 @@ use Rattle.age_commands.specs.declared.task.Task.TheVariants as task
 use Rattle.age_commands.specs.Output.{Ends}
 use Rattle.age_commands.specs.Task.{Performs, PerformsQuietly}
 
--- a task of this command
-abbrev pub IsTaskOf : (command : Command) (task : Task) → Type 0
-IsTaskOf command.Encrypt (task.Encrypt secret seed) = ⊤
-IsTaskOf command.Decrypt (task.Decrypt secret) = ⊤
-IsTaskOf command.Rewrap (task.Rewrap old new salt) = ⊤
-IsTaskOf command.Inspect (task.Inspect key) = ⊤
-IsTaskOf _ _ = ⊥
+-- a task of this command, with the secrets that the job's options name
+abbrev pub IsTaskFor : (command : Command) (job : Job) (task : Task) → Type 0
+IsTaskFor command.Encrypt job (task.Encrypt secret seed) =
+    IsSecretOf job.pass job.key job.more_keys.items secret × IsNewSecret secret
+IsTaskFor command.Decrypt job (task.Decrypt secret) =
+    IsSecretOf job.pass job.key job.more_keys.items secret
+IsTaskFor command.Rewrap job (task.Rewrap old new salt) =
+    IsSecretOf job.pass job.key job.more_keys.items old
+    × IsSecretOf job.new_pass job.new_key job.more_new_keys.items new × IsNewSecret new
+IsTaskFor command.Inspect job (task.Inspect key) = IsFileKeyOf job.raw job.file_key key
+IsTaskFor command job task = ⊥
+
+-- a task of the job
+abbrev pub IsTaskOf : (job : Job) (task : Task) → Type 0
+IsTaskOf job task = IsTaskFor job.command job task
 
 -- The work of a task, where the input gives `from`: a buffer before the output takes what the
 -- library writes, and the output ends with what the buffer took.
@@ -69,13 +78,13 @@ PerformsOn F contents job task from sink (Err failure) =
 -- a task of the job's command is done
 abbrev pub Finishes : (job : Job) (from : Known) (sink : Moved) → Type 0
 Finishes job from sink =
-    (task : Task) × IsTaskOf job.command task × Works job task from sink (Ok tt)
+    (task : Task) × IsTaskOf job task × Works job task from sink (Ok tt)
 
 -- nothing was written, or a task of the job's command ended with a fault
 abbrev pub Begins : (job : Job) (from : Known) (sink : Moved) → Type 0
 Begins job from sink =
     Stays sink
-    ⊎ ((task : Task) × IsTaskOf job.command task × (fault : FileFault)
+    ⊎ ((task : Task) × IsTaskOf job task × (fault : FileFault)
     × Works job task from sink (Err fault))
 
 -- A task of the job's command is done, from its IN to its OUT. F has the files, with what they are

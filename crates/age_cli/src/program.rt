@@ -124,7 +124,7 @@ fn task_of<'a, F: Files + AllocGlobal, W: IsTerminal>(
     out: &W,
 ) -> Result<Task, age_job::Failure<'a>>
     requires { job.now.command ≢ Command.Range }
-    ensures { IfOk result (IsTaskOf job.now.command) }
+    ensures { IfOk result (IsTaskOf job.now) }
 {
     match job.command {
         Command::Encrypt => {

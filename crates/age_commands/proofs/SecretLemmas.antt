@@ -51,7 +51,7 @@ pub rewraps_alone : {X Y : Type 0} (m : X → List StanzaParts → Unwrapped)
     → Rewraps limits (λ s. m x s ∷ []) (λ key. Gathered (w y key ∷ []) (labels y ∷ [])) source (moved old new) r
 rewraps_alone m w labels items x others y l limits source old new r one other is h =
     subst (λ b. Rewraps b (λ s. m x s ∷ []) (λ key. Gathered (w y key ∷ []) (labels y ∷ [])) source (moved old new) r)
-        is
+    is
     (subst (λ ys. Rewraps l (λ s. m x s ∷ []) (λ key. Gathered (map (λ o. w o key) ys) (map (λ o. labels o) ys)) source
     (moved old new) r) other
     (subst (λ xs. Rewraps l (λ s. map (λ i. m i s) xs)

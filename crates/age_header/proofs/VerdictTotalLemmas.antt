@@ -271,7 +271,7 @@ line_verdict b m max room count s p next text Room rest is took ends = (
 line_verdict b m max room count s p next text Lf rest is took ends = elim (end_of s text) [
   | inl e ↦
       let h = reads_known b (flow (of_told b) (of_told rest)) max (Ok (record { stanzas = e.stanzas; mac = e.mac }))
-          refl
+      refl
       (path_header (of_told b) (of_told m) (of_told rest) max room count s text e.stanzas e.mac e.characters p
       (gave-told m (text ++ 10 ∷ []) rest took) is
       ends e.at e.some e.spelled e.is e.size) in
@@ -330,7 +330,7 @@ begun_verdict b max text Room rest behind is took ends prefix = (
 begun_verdict b max text Lf rest behind is took ends prefix = elim (nil_or_some behind) [
   | inl none ↦
       let v = version_read (of_told b) (of_told rest) text behind max (gave-told b (text ++ 10 ∷ []) rest took) ends
-          prefix none in
+      prefix none in
       path_verdict max b rest max (max - version_size) 1 (between []) (omega arith)
       (path_start (of_told b) (of_told rest) max v.0 v.1)
   | inr some ↦ (

@@ -2,3 +2,4 @@ pub mod Job
 pub mod Mode
 pub mod Names
 pub mod Passphrase
+pub mod Secret

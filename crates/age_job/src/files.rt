@@ -41,7 +41,12 @@ fn cannot_open<'a>(name: &'a str, reason: io::Error) -> Failure<'a> {
 }
 
 pub(crate) fn unidentified<'a>(name: &'a str, reason: io::Error) -> Failure<'a> {
-    Failure::of_system(Fault::Unidentified(Name(name)), Doing::Identifying, name, reason)
+    Failure::of_system(
+        Fault::Unidentified(Name(name)),
+        Doing::Identifying,
+        name,
+        reason,
+    )
 }
 
 impl<'a> ReadFiles<'a> {
@@ -106,7 +111,9 @@ impl<'a> ReadFiles<'a> {
         named: NamedFile<'a>,
     ) -> Result<F::File, Failure<'a>> {
         let NamedFile { role, name } = named;
-        if let Some(other) = self.standard_role && self.is_named_standard(rt, name) {
+        if let Some(other) = self.standard_role
+            && self.is_named_standard(rt, name)
+        {
             return Err(Fault::StandardInputTwice(other, role).into());
         }
         let file = open(rt, name)?;

@@ -10,6 +10,7 @@ use std::rt::Files;
 /// The names of a process's standard input and output. By them a file is found: the standard
 /// library has no metadata of a standard stream.
 pub(crate) const STANDARD_INPUT: &str = "/proc/self/fd/0";
+
 pub(crate) const STANDARD_OUTPUT: &str = "/proc/self/fd/1";
 
 /// A file: its device, and its number there.

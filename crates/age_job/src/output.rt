@@ -30,8 +30,8 @@ pub struct Output<F> {
     is_stale: bool,
 }
 
-/// Opens the file of this name for writing, and creates it if it does not exist. A regular file that
-/// was there is refused if the job reads it.
+/// Opens the file of this name for writing, and creates it if it does not exist. A regular file
+/// that was there is refused if the job reads it.
 pub fn create<'a, F: Files>(
     rt: &F,
     job: &'a Job,
@@ -39,7 +39,10 @@ pub fn create<'a, F: Files>(
     name: &'a str,
 ) -> Result<Output<F::File>, Failure<'a>> {
     let mut options = OpenOptions::new();
-    options.write(true).create_new(true).mode(new_mode(job.command));
+    options
+        .write(true)
+        .create_new(true)
+        .mode(new_mode(job.command));
     match options.open(rt, name) {
         Ok(file) => return Ok(Output::over(file, true)),
         Err(reason) if reason.kind() == ErrorKind::AlreadyExists => {}
@@ -59,7 +62,12 @@ pub fn create<'a, F: Files>(
 }
 
 fn cannot_create<'a>(name: &'a str, reason: io::Error) -> Failure<'a> {
-    Failure::of_system(Fault::CannotCreate(Name(name)), Doing::Creating, name, reason)
+    Failure::of_system(
+        Fault::CannotCreate(Name(name)),
+        Doing::Creating,
+        name,
+        reason,
+    )
 }
 
 /// Refuses to write an age file, which is no text, to a terminal.

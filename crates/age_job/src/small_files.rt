@@ -1,5 +1,8 @@
 //! The small files that hold a job's secrets: passphrases, keys and seeds.
 
+ghost use Rattle.std.specs.Prelude.{◌≤◌, ◌<◌, ◌+◌, length, vec_len, IfOk};
+ghost use Rattle.age_job.specs.Secret.{IsChoice, IsFileKeyOf, IsNewSecret, IsReadFrom, IsSecretOf};
+
 use crate::failure::{Detail, Failure};
 use crate::fault::Fault;
 use crate::file_names::{Name, Role};
@@ -14,23 +17,31 @@ use std::os::unix::fs::FileTypeExt;
 use std::rt::Files;
 
 /// The secret of a command that has no other.
+#[tactic(auto, using(crate::proofs::SecretLemmas::chosen))]
 pub fn read_secret<'a, F: Files + AllocGlobal>(
     rt: &F,
     job: &'a Job,
     read: &mut ReadFiles<'a>,
-) -> Result<Secret, Failure<'a>> {
+) -> Result<Secret, Failure<'a>>
+    ensures { IfOk result (IsSecretOf job.now.pass job.now.key job.now.more_keys.items) }
+{
     let files = secret_files(job)?;
     read.refuse_shared_input(rt, job)?;
     read_from(rt, read, files)
 }
 
 /// The secret and the seed of a new file, which `out` receives if the job names no OUT.
+#[tactic(auto, using(crate::proofs::SecretLemmas::chosen))]
 pub fn read_encrypt_secrets<'a, F: Files + AllocGlobal, W: IsTerminal>(
     rt: &F,
     job: &'a Job,
     read: &mut ReadFiles<'a>,
     out: &W,
-) -> Result<(Secret, [u8; SEED_LEN]), Failure<'a>> {
+) -> Result<(Secret, [u8; SEED_LEN]), Failure<'a>>
+    ensures secret { IfOk result
+        (λ read. IsSecretOf job.now.pass job.now.key job.now.more_keys.items read.0) }
+    ensures new { IfOk result (λ read. IsNewSecret read.0) }
+{
     let files = secret_files(job)?;
     refuse_terminal(job, out)?;
     read.refuse_shared_input(rt, job)?;
@@ -40,12 +51,19 @@ pub fn read_encrypt_secrets<'a, F: Files + AllocGlobal, W: IsTerminal>(
 
 /// The old secret and the new one, whose files the arguments must name, and the seed, of a file
 /// that `out` receives if the job names no OUT.
+#[tactic(auto, using(crate::proofs::SecretLemmas::chosen))]
 pub fn read_rewrap_secrets<'a, F: Files + AllocGlobal, W: IsTerminal>(
     rt: &F,
     job: &'a Job,
     read: &mut ReadFiles<'a>,
     out: &W,
-) -> Result<(Secret, Secret, [u8; SEED_LEN]), Failure<'a>> {
+) -> Result<(Secret, Secret, [u8; SEED_LEN]), Failure<'a>>
+    ensures old { IfOk result
+        (λ read. IsSecretOf job.now.pass job.now.key job.now.more_keys.items read.0) }
+    ensures other { IfOk result (λ read. IsSecretOf job.now.new_pass job.now.new_key
+        job.now.more_new_keys.items read.1) }
+    ensures new { IfOk result (λ read. IsNewSecret read.1) }
+{
     let old = secret_files(job)?;
     let new = new_secret_files(job)?;
     refuse_terminal(job, out)?;
@@ -60,7 +78,9 @@ pub fn read_file_key<'a, F: Files + AllocGlobal>(
     rt: &F,
     job: &'a Job,
     read: &mut ReadFiles<'a>,
-) -> Result<Option<[u8; 16]>, Failure<'a>> {
+) -> Result<Option<[u8; 16]>, Failure<'a>>
+    ensures { IfOk result (IsFileKeyOf job.now.raw job.now.file_key) }
+{
     match &job.file_key {
         Some(name) if !job.raw => {
             let named = NamedFile {
@@ -83,31 +103,42 @@ enum SecretFiles<'a> {
 
 /// The files of the job's passphrase or keys. It must name exactly one of the two: the format
 /// forbids another stanza beside that of a passphrase.
-fn secret_files<'a>(job: &'a Job) -> Result<SecretFiles<'a>, Fault<'a>> {
+fn secret_files<'a>(job: &'a Job) -> Result<SecretFiles<'a>, Fault<'a>>
+    ensures { IfOk result (IsChoice job.now.pass job.now.key job.now.more_keys.items) }
+{
     match (&job.pass, &job.key) {
-        (Some(name), None) => Ok(passphrase_file(Role::Passphrase, name)),
-        (None, Some(name)) => Ok(key_files(Role::Key, name, job.more_keys.as_slice())),
+        (Some(name), None) => {
+            let name = name.as_str();
+            let role = Role::Passphrase;
+            Ok(SecretFiles::Passphrase(NamedFile { role, name }))
+        }
+        (None, Some(name)) => {
+            let name = name.as_str();
+            let role = Role::Key;
+            Ok(SecretFiles::Keys(NamedFile { role, name }, job.more_keys.as_slice()))
+        }
         _ => Err(Fault::KeyChoice),
     }
 }
 
 /// The same of the job's new passphrase or keys.
-fn new_secret_files<'a>(job: &'a Job) -> Result<SecretFiles<'a>, Fault<'a>> {
+fn new_secret_files<'a>(job: &'a Job) -> Result<SecretFiles<'a>, Fault<'a>>
+    ensures { IfOk result
+        (IsChoice job.now.new_pass job.now.new_key job.now.more_new_keys.items) }
+{
     match (&job.new_pass, &job.new_key) {
-        (Some(name), None) => Ok(passphrase_file(Role::NewPassphrase, name)),
-        (None, Some(name)) => Ok(key_files(Role::NewKey, name, job.more_new_keys.as_slice())),
+        (Some(name), None) => {
+            let name = name.as_str();
+            let role = Role::NewPassphrase;
+            Ok(SecretFiles::Passphrase(NamedFile { role, name }))
+        }
+        (None, Some(name)) => {
+            let name = name.as_str();
+            let role = Role::NewKey;
+            Ok(SecretFiles::Keys(NamedFile { role, name }, job.more_new_keys.as_slice()))
+        }
         _ => Err(Fault::NewKeyChoice),
     }
-}
-
-fn passphrase_file<'a>(role: Role, name: &'a String) -> SecretFiles<'a> {
-    let name = name.as_str();
-    SecretFiles::Passphrase(NamedFile { role, name })
-}
-
-fn key_files<'a>(role: Role, first: &'a String, more: &'a [String]) -> SecretFiles<'a> {
-    let name = first.as_str();
-    SecretFiles::Keys(NamedFile { role, name }, more)
 }
 
 /// The passphrase or the keys of these files, to open a file.
@@ -115,7 +146,9 @@ fn read_from<'a, F: Files + AllocGlobal>(
     rt: &F,
     read: &mut ReadFiles<'a>,
     files: SecretFiles<'a>,
-) -> Result<Secret, Failure<'a>> {
+) -> Result<Secret, Failure<'a>>
+    ensures { IfOk result (λ secret. IsReadFrom files.entry secret) }
+{
     match files {
         SecretFiles::Passphrase(named) => Ok(Secret::Passphrase(read_passphrase(rt, read, named)?)),
         SecretFiles::Keys(first, more) => Ok(Secret::Keys(read_keys(rt, read, first, more)?)),
@@ -128,7 +161,10 @@ fn read_new_from<'a, F: Files + AllocGlobal>(
     rt: &F,
     read: &mut ReadFiles<'a>,
     files: SecretFiles<'a>,
-) -> Result<Secret, Failure<'a>> {
+) -> Result<Secret, Failure<'a>>
+    ensures secret { IfOk result (λ secret. IsReadFrom files.entry secret) }
+    ensures new { IfOk result IsNewSecret }
+{
     let secret = read_from(rt, read, files)?;
     match (&secret, files) {
         (Secret::Passphrase(passphrase), SecretFiles::Passphrase(NamedFile { role, name }))
@@ -161,7 +197,10 @@ fn read_keys<'a, F: Files + AllocGlobal>(
     read: &mut ReadFiles<'a>,
     first: NamedFile<'a>,
     more: &'a [String],
-) -> Result<Vec<[u8; 32]>, Failure<'a>> {
+) -> Result<Vec<[u8; 32]>, Failure<'a>>
+    ensures { IfOk result
+        (λ keys. (0 < vec_len keys) × (vec_len keys ≤ 1 + length more.now)) }
+{
     let mut keys = vec![in rt.alloc(); read_just(rt, read, first, Fault::KeyLength)?]?;
     let role = first.role;
     for name in more {

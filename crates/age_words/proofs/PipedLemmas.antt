@@ -29,5 +29,5 @@ piped command words job (rows, is, input, output) (faultless, of) =
       output = none_mapped _ _ (made.1.output ∙ output);
       max_header = made.1.max_header ∙ ap (λ (o : Option (Text × List Row)).
           option_map_or (λ named. number_or DEFAULT_MAX_HEADER (codes "max-header") named.1) o DEFAULT_MAX_HEADER)
-              (sym is);
+          (sym is);
     }

@@ -228,7 +228,7 @@ defaults_well again a good rows e q = go (has_row a.id rows) e
     given (v ∷ vs) f =
         let g = good_of a good in
         with_values_passes a.id _ DefaultValue (v ∷ vs) rows g.written (omega arith)
-            (faults_pass a g (v ∷ vs) (second_none _ _ f)) q
+        (faults_pass a g (v ∷ vs) (second_none _ _ f)) q
 
     tested : (values : List Text) → cond (is_empty values) [] (given_default_fault a values) ≡ []
         → Each RowPasses (default_rows a.id (reading_by a) values rows)
@@ -434,9 +434,11 @@ is_help s word name none e =
 
 pair_same : (a b : Text) (x y : List Row) → ◌≡◌ {A = Option (Text × List Row)} (Some (a, x)) (Some (b, y)) → (a ≡ b)
     × (x ≡ y)
-pair_same a b x y e =
-    (ap (λ (o : Option (Text × List Row)). (unwrap_or o (a, x)).0) e, ap
-    (λ (o : Option (Text × List Row)). (unwrap_or o (a, x)).1) e)
+pair_same a b x y e = (
+  ap (λ (o : Option (Text × List Row)). (unwrap_or o (a, x)).0) e,
+  ap
+      (λ (o : Option (Text × List Row)). (unwrap_or o (a, x)).1) e,
+)
 
 at_shape : (name : Text) (rows : List Row) (p : Text × List Text) → bytes_eq p.0 (codes "help") ≡ false
     → (o : Option Shape)
@@ -457,8 +459,8 @@ at_stop : (name : Text) (rows : List Row) (o : Option (Text × List Text))
 at_stop name rows None h e f = cc
 at_stop name rows (Some p) h e f =
     at_shape name rows p h (find (λ s. answers_to p.0 (label_of s)) (built agep).subs)
-        (found_where (λ s. Makes s × (s.aliases ≡ [])) (λ s. answers_to p.0 (label_of s)) (built agep).subs all_make) e
-        f
+    (found_where (λ s. Makes s × (s.aliases ≡ [])) (λ s. answers_to p.0 (label_of s)) (built agep).subs all_make) e
+    f
 
 -- where there is no fault, the subcommand that was named is a command of the program, and its values
 -- make a job

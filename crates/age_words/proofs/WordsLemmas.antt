@@ -33,10 +33,10 @@ pub named : (command : Command) (words : List Text) (m : ArgMatches) (name : Tex
 named command words m name rows app matches kinds is_name are_rows =
     let simple = ap is_simple app ∙ agep_is_simple in
     let is : subcommand_of agep words ≡ Some (name, rows) =
-        sym ((matches simple).1 ∙ ap (λ (a : App). subcommand_of a words) app)
+    sym ((matches simple).1 ∙ ap (λ (a : App). subcommand_of a words) app)
     ∙ subcommand_is m name rows is_name are_rows in
     let faultless : fault_of agep words ≡ [] = sym (ap (λ (a : App). fault_of a words) app)
-        ∙ kinds (ap is_simple_and_free app ∙ agep_is_free) in
+    ∙ kinds (ap is_simple_and_free app ∙ agep_is_free) in
     record { is = is; faultless = faultless; taken = taken words name rows faultless is }
 
 help_fault : fault_of agep (codes "agep" ∷ codes "--help" ∷ []) ≡ DisplayHelp ∷ []
@@ -82,8 +82,7 @@ pub refusal : (words : List Text) (command : Command) (error : Error) (result : 
 refusal words command error (Ok job) app becomes kinds = absurd becomes
 refusal words command error (Err Memory) app becomes kinds = tt
 refusal words command error (Err (Refused refused)) app becomes kinds =
-    elim (subst (λ (a : App). HasKind (fault_of a words) error) app (kinds (ap is_simple_and_free app ∙ agep_is_free)))
-        [
+    elim (subst (λ (a : App). HasKind (fault_of a words) error) app (kinds (ap is_simple_and_free app ∙ agep_is_free))) [
       | inl memory ↦ absurd (becomes.1 memory)
       | inr among ↦ subst (λ (e : Error). IsAmong (kind_of e) (fault_of agep words)) (sym becomes.0) among
     ]

@@ -12,18 +12,18 @@ returns-in-Ok-clause-begins g c =
 pub returns-in-Err-clause-refused : goal.returns-in-Err-clause-refused
 returns-in-Err-clause-refused g c = λ two.
     let r = refused (map (λ word. word.now) c.args.words.now) _ c.in-Err.fault c.answer_refusal.result
-        c.in-Err.ensures.reads c.answer_refusal.ensures.answers two in
+    c.in-Err.ensures.reads c.answer_refusal.ensures.answers two in
     (refl, r.0, r.1)
 
 pub returns-in-Err-clause-finishes : goal.returns-in-Err-clause-finishes
 returns-in-Err-clause-finishes g c = λ none.
     inl (answered (map (λ word. word.now) c.args.words.now) _ c.in-Err.fault c.answer_refusal.result
-        c.in-Err.ensures.reads c.answer_refusal.ensures.answers none)
+    c.in-Err.ensures.reads c.answer_refusal.ensures.answers none)
 
 pub returns-in-Err-clause-begins : goal.returns-in-Err-clause-begins
 returns-in-Err-clause-begins g c = λ one.
     elim (failed (map (λ word. word.now) c.args.words.now) _ c.in-Err.fault c.answer_refusal.result
-        c.in-Err.ensures.reads c.answer_refusal.ensures.answers one) [
+    c.in-Err.ensures.reads c.answer_refusal.ensures.answers one) [
       | inl asks ↦ inl asks
       | inr same ↦ inr (inl (stays_known (ap g.W.Write.contents same)))
     ]

@@ -6,12 +6,12 @@ use Rattle.age_file.proofs.copying.copy_all.Goals as goal
 pub returns-in-Ok-true-clause-copies : goal.returns-in-Ok-true-clause-copies
 returns-in-Ok-true-clause-copies g c =
     copied_after _ _ (seen_by g.S.Source.to_come g.S.Source.gave c.copy_piece.new.input) _ _
-        (g.W.Sink.taken c.copy_piece.new.out) _
+    (g.W.Sink.taken c.copy_piece.new.out) _
     c.in-Ok-true.field-0 c.copy_pieces.result c.in-Ok-true.field-0-test c.in-Ok-true.ensures.copies
     c.copy_pieces.ensures.copies
 
 pub returns-in-Err-clause-copies : goal.returns-in-Err-clause-copies
 returns-in-Err-clause-copies g c =
     copied_failed (length c.split_at_mut-start.result.0.now) _ _
-        (seen_by g.S.Source.to_come g.S.Source.gave c.copy_piece.new.input) _ _
+    (seen_by g.S.Source.to_come g.S.Source.gave c.copy_piece.new.input) _ _
     (g.W.Sink.taken c.copy_piece.new.out) 0 c.in-Err.fault (copied_none _ _) c.in-Err.ensures.copies

@@ -17,7 +17,7 @@ loop-copied-preserved g c = record {
 pub returns-in-Ok-false-clause-copies : goal.returns-in-Ok-false-clause-copies
 returns-in-Ok-false-clause-copies g c =
     copied_all _ _ (seen_by g.S.Source.to_come g.S.Source.gave c.loop-copied.input)
-        (seen_by g.S.Source.to_come g.S.Source.gave c.copy_piece.new.input) _
+    (seen_by g.S.Source.to_come g.S.Source.gave c.copy_piece.new.input) _
     (g.W.Sink.taken c.loop-copied.out) _ c.loop-copied.copied c.in-Ok-false.field-0 c.in-Ok-false.field-0-test
     c.loop-copied.invariant.copied c.in-Ok-false.ensures.copies
 
@@ -31,5 +31,5 @@ returns-in-Err-clause-copies g c =
 pub returns-clause-copies : goal.returns-clause-copies
 returns-clause-copies g c =
     copied_beyond _ (seen_by g.S.Source.to_come g.S.Source.gave c.loop-copied.input) _ _ c.loop-copied.copied
-        c.loop-copied-test.false
+    c.loop-copied-test.false
     c.loop-copied.invariant.copied

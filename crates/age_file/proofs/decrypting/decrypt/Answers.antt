@@ -12,13 +12,13 @@ returns-in-Err-clause-decrypts g c =
 pub returns-in-Err-unlock_header-clause-decrypts : goal.returns-in-Err-unlock_header-clause-decrypts
 returns-in-Err-unlock_header-clause-decrypts g c =
     locked-decrypts _ _ _ (seen_by g.S.Source.to_come g.S.Source.gave c.inspect.new.input) _ _
-        c.in-Err-unlock_header.fault
+    c.in-Err-unlock_header.fault
     c.in-Ok.ensures.verdict c.in-Err-unlock_header.ensures.key
 
 pub returns-in-Ok-copy_to-clause-decrypts : goal.returns-in-Ok-copy_to-clause-decrypts
 returns-in-Ok-copy_to-clause-decrypts g c =
     payload-decrypts _ _ _ (seen_by g.S.Source.to_come g.S.Source.gave c.inspect.new.input) _ _ _ _
-        c.in-Ok-unlock_header.key _
+    c.in-Ok-unlock_header.key _
     (Ok c.in-Ok-copy_to.done) c.in-Ok.ensures.verdict c.in-Ok-unlock_header.ensures.key
     c.max_chunks.ensures.value (payload-writes _ _ c.in-Ok-started.reader.opener _ _ _ (g.W.Sink.taken c.args.out.now)
     (g.W.Sink.taken c.copy_to.new.out) (Ok c.in-Ok-copy_to.done)

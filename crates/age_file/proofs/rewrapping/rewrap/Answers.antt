@@ -61,7 +61,7 @@ returns-clause-rewraps g c =
     (λ i. (goal.Identity-dyn g (i.vtable, i.value)).meaning i.value stanzas) c.args.identities.now in
     let wrote = c.in-Ok-write_header.ensures.text in
     copied_rewraps c.args.limits.now answers gathered _
-        (seen_by g.S.Source.to_come g.S.Source.gave c.inspect.new.input) _ _
+    (seen_by g.S.Source.to_come g.S.Source.gave c.inspect.new.input) _ _
     (g.W.Sink.taken c.write_header.new.out) _ c.in-Ok.header c.in-Ok-unlock_header.key wrote.0
     c.copy_all.result (headed _ _ _ _ c.in-Ok.ensures.verdict)
     (key_found answers c.in-Ok.header _ c.in-Ok-unlock_header.ensures.key)

@@ -13,4 +13,4 @@ pub returns : goal.returns
 returns c = IfOk-weaker c.from_str.result _ _ (λ seed e. e ∙ ap (λ (t : Bor Text). t.now) c.unwrap_or.ensures
     ∙ now_or c.get_str.result _
     ∙ ap (λ (o : Option Text). unwrap_or o DEFAULT_SEED.now)
-        (c.get_str.ensures ∙ first_value-rows (found_of c.args.matches.now) (codes "seed"))) c.from_str.ensures.ok
+    (c.get_str.ensures ∙ first_value-rows (found_of c.args.matches.now) (codes "seed"))) c.from_str.ensures.ok
