@@ -80,13 +80,22 @@ class Front:
 
     def header(self) -> Header:
         """Reads until the header is there, and returns it."""
+        tried = 0
         while True:
             self.more()
-            try:
-                return read_header(bytes(self.bytes))
-            except AgeError as error:
-                if error.code != Code.HEADER_TRUNCATED or self._ended:
-                    raise
+            # Each piece may end the header or spoil it. Where pieces are so small that to try with
+            # each would take long, the header's last line still is no byte late.
+            if tried <= 16 * (len(self.bytes) + 4096) or self._has_last_line() or self._ended:
+                tried += len(self.bytes)
+                try:
+                    return read_header(bytes(self.bytes))
+                except AgeError as error:
+                    if error.code != Code.HEADER_TRUNCATED or self._ended:
+                        raise
+
+    def _has_last_line(self) -> bool:
+        at = self.bytes.find(b"\n---")
+        return at >= 0 and self.bytes.find(b"\n", at + 1) >= 0
 
     def nonce(self, header: Header) -> None:
         """Reads until the nonce is there too, or the source has ended."""

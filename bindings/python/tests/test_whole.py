@@ -432,6 +432,14 @@ class Devices(unittest.TestCase):
             with self.subTest(f"{code!r}, cut at {cut}"):
                 self.assertEqual(in_time(lambda: self.opened_in_pieces(front[:cut], front[cut:]), 5).code, code)
 
+    def test_a_great_header_by_single_bytes(self):
+        """Its last byte decides, and it takes seconds and not minutes."""
+        head = b"age-encryption.org/v1\n" + b"-> a\n\n" * 10911 + b"--- " + b"A" * 43 + b"\n"
+        began = time.process_time()
+        error = self.opened_in_pieces(*(head[at : at + 1] for at in range(len(head))))
+        self.assertEqual(error.code, Code.NO_MATCH)
+        self.assertLess(time.process_time() - began, 10)
+
     def opened_in_pieces(self, *pieces):
         class Waits(Exception):
             """The pipe has no more bytes."""
