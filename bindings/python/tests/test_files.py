@@ -12,6 +12,7 @@ import os
 import pathlib
 import pickle
 import random
+import re
 import shutil
 import subprocess
 import sys
@@ -682,6 +683,36 @@ class Writing(InFolder):
             file.write(b"text")
         self.assertFalse(below.closed)
         self.assertEqual(agefile.decrypt(below.getvalue(), identities=KEY), b"text")
+
+
+TYPED = """
+import agefile, io
+key = agefile.Key(bytes(32))
+reader: agefile.Reader = agefile.open("a.age", identities=key)
+same: agefile.Reader = agefile.open("a.age", "rb", identities=key)
+writer: agefile.Writer = agefile.open("a.age", "wb", recipients=[key], atomic=True)
+text: io.TextIOWrapper = agefile.open("a.age", "r", identities=key, newline="")
+lines: list[str] = agefile.open("a.age", "x", recipients=key, encoding="ascii").readlines()
+data: bytes = reader.read()
+wrong: int = reader.read()  # assignment
+no_text: io.TextIOWrapper = agefile.open("a.age", identities=key)  # assignment
+agefile.open("a.age", "q", identities=key)  # call-overload
+agefile.open("a.age", "rb", recipients=key)  # call-overload
+agefile.open("a.age", "wb", recipients=key, encoding="ascii")  # call-overload
+agefile.open("a.age", "rb", identities=key, atomic=True)  # call-overload
+"""
+
+
+@unittest.skipIf(shutil.which("mypy") is None, "mypy is missing")
+class Types(InFolder):
+    def test_open(self):
+        """A checker knows what `open` returns in each mode, and refuses other modes and words."""
+        self.put(TYPED.encode(), "typed.py")
+        package = os.path.dirname(os.path.dirname(agefile.__file__))
+        done = subprocess.run(["mypy", "--strict", "typed.py"], capture_output=True, text=True, env=os.environ | {"MYPYPATH": package})
+        found = re.findall(r"^typed.py:(\d+): error: .*\[(.*)\]$", done.stdout, re.MULTILINE)
+        expected = [(str(number), line.partition("  # ")[2]) for number, line in enumerate(TYPED.split("\n"), 1) if "  # " in line]
+        self.assertEqual(found, expected, done.stdout)
 
 
 if __name__ == "__main__":
