@@ -125,7 +125,9 @@ class AgeChangedError(AgeError, OSError):
     """The file has another length than when it was opened. It was cut, so that a chunk could not be
     read whole; or it has grown, and is opened again from a pickle."""
 
-    def __init__(self, code: int = Code.CHUNK_SHORT, place: int = 0, detail: int = 0, filename: Any = None) -> None:
+    def __init__(
+        self, code: int = Code.CHUNK_SHORT, place: int = 0, detail: int = 0, filename: Any = None
+    ) -> None:
         super().__init__(code, place, detail, filename)
         what = "was cut while it was" if code == Code.CHUNK_SHORT else "has grown since it was"
         self.args = (f"the file {what} open: {_text(code, place, detail)}",)

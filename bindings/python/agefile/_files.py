@@ -91,7 +91,9 @@ def open(
     return writer if "b" in mode else _text(TextWriter, writer, mode, words)
 
 
-def _text(kind: type[io.TextIOWrapper], file: Any, mode: str, words: dict[str, Any]) -> io.TextIOWrapper:
+def _text(
+    kind: type[io.TextIOWrapper], file: Any, mode: str, words: dict[str, Any]
+) -> io.TextIOWrapper:
     text = kind(file, **words)
     text.mode = mode  # type: ignore[misc]
     return text

@@ -7,7 +7,7 @@ import ctypes
 import io
 import os
 import threading
-from typing import Any, BinaryIO
+from typing import Any, BinaryIO, TypeVar
 
 from . import _library as lib
 from ._errors import AgeChangedError, Code
@@ -16,6 +16,7 @@ from ._payload import Chunk
 from ._secrets import Identities, unlock
 from ._sources import Front, flat, read_into
 
+_Result = TypeVar("_Result")
 _PLAIN = (io.FileIO, io.BufferedReader, io.BufferedRandom)
 
 
@@ -150,7 +151,8 @@ class _Plaintext(io.RawIOBase):
         self._check_open()
         out = lib.fresh_bytes(max(self.chunks.length - self.position, 0))
         with lib.Bytes(out) as memory:
-            count = self.chunks.fill(lib.view_of(memory, out), self.position, self._least * len(out))
+            view = lib.view_of(memory, out)
+            count = self.chunks.fill(view, self.position, self._least * len(out))
         self.position += count
         return out if count == len(out) else out[:count]
 
@@ -223,7 +225,7 @@ class Reader(io.BufferedIOBase):
         """The length of the plaintext in bytes."""
         return self._chunks.length
 
-    def _or_error(self, found: Any, count: int) -> Any:
+    def _or_error(self, found: _Result, count: int) -> _Result:
         """A result of so many bytes that is short since the plaintext ends; otherwise its reason is
         raised, and the position is put back."""
         error = self._chunks.error
@@ -238,15 +240,15 @@ class Reader(io.BufferedIOBase):
             at = self.tell()
             size = -1 if at == self._below.position else max(self.length - at, 0)
         found = self._buffer.read(size)
-        return found if len(found) == size else self._or_error(found, len(found))  # type: ignore[no-any-return]
+        return found if len(found) == size else self._or_error(found, len(found))
 
     def read1(self, size: int = -1, /) -> bytes:
         found = self._buffer.read1(size)
-        return found if found or size == 0 else self._or_error(found, 0)  # type: ignore[no-any-return]
+        return found if found or size == 0 else self._or_error(found, 0)
 
     def readinto(self, room: Any, /) -> int:
         count = self._buffer.readinto(room)
-        return count if count == memoryview(room).nbytes else self._or_error(count, count)  # type: ignore[no-any-return]
+        return count if count == memoryview(room).nbytes else self._or_error(count, count)
 
     def peek(self, size: int = 0, /) -> bytes:
         return self._buffer.peek(size) or self._or_error(b"", 0)
@@ -255,7 +257,7 @@ class Reader(io.BufferedIOBase):
         line = self._buffer.readline(size)
         if line[-1:] == b"\n" or len(line) == size:
             return line
-        return self._or_error(line, len(line))  # type: ignore[no-any-return]
+        return self._or_error(line, len(line))
 
     def readlines(self, hint: int | None = -1, /) -> list[bytes]:
         begin = self.tell()
@@ -300,10 +302,10 @@ def reopen(opener: Any, ranges: bytes, position: int) -> Reader:
     source, found = _Source(opened(opener), opener, True), lib.Ranges.from_buffer_copy(ranges)
     with named(name_of(opener)), contextlib.ExitStack() as stack:
         stack.callback(source.close)
-        grown = source.length - found.first - found.sealed_len
-        if grown:
-            last = max(min(source.length - found.first, found.sealed_len) - 1, 0) // lib.SEALED_CHUNK
-            raise AgeChangedError(Code.BAD_CHUNK if grown > 0 else Code.CHUNK_SHORT, last)
+        now, before = source.length - found.first, found.sealed_len
+        if now != before:
+            last = max(min(now, before) - 1, 0) // lib.SEALED_CHUNK
+            raise AgeChangedError(Code.BAD_CHUNK if now > before else Code.CHUNK_SHORT, last)
         found.state = 1
         reader = Reader(_Chunks(source, found, name_of(opener)))
         reader.seek(position)

@@ -72,6 +72,9 @@ class Writer(io.BufferedIOBase):
                 at += count
             return at
 
+    def _is_usable(self) -> bool:
+        return not self._failed and self._process == os.getpid()
+
     def _check_usable(self) -> None:
         if self.closed:
             raise ValueError("I/O operation on closed file")
@@ -93,7 +96,7 @@ class Writer(io.BufferedIOBase):
         """Writes the header, and flushes what was sealed. The bytes of a chunk that is not full
         stay here."""
         with self._lock:
-            if self.writable() and self._front and not self._failed and self._process == os.getpid():
+            if self.writable() and self._front and self._is_usable():
                 self._put(b"")
             sink: Any = self._sink
             if hasattr(sink, "flush") and not getattr(sink, "closed", False):
@@ -105,7 +108,7 @@ class Writer(io.BufferedIOBase):
             if self.closed:
                 return
             try:
-                if not self._failed and self._process == os.getpid():
+                if self._is_usable():
                     self._seal(True)
                     if isinstance(self._sink, Replacement):
                         self._sink.commit()
@@ -135,7 +138,8 @@ class Writer(io.BufferedIOBase):
         if hasattr(self, "_sink") and not self.closed:
             self.abort()
             if self._process == os.getpid():
-                warnings.warn(f"{self!r} was not closed, so it is not whole", ResourceWarning, 2, self)
+                text = f"{self!r} was not closed, so it is not whole"
+                warnings.warn(text, ResourceWarning, 2, self)
 
 
 class TextWriter(io.TextIOWrapper):

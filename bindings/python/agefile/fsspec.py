@@ -69,8 +69,10 @@ class AgeFileSystem(AbstractFileSystem):  # type: ignore[misc]
         return self._reader(path) if mode == "rb" else self._create(path, mode, options)
 
     def _create(self, path: str, mode: Any, options: dict[str, Any]) -> Any:
-        names = ("encoding", "errors", "newline", "recipients")
-        words: Any = {"recipients": self._recipients, **{k: options[k] for k in names if k in options}}
+        words: Any = {"recipients": self._recipients}
+        for name in ("encoding", "errors", "newline", "recipients"):
+            if name in options:
+                words[name] = options[name]
         if "x" in mode and self.fs.exists(path):
             raise FileExistsError(path)
         self._keys.pop(path, None)

@@ -16,7 +16,8 @@ import agefile.fsspec
 
 def table(name, identities, blocksize=1 << 24):
     """The table of an encrypted file, in blocks of so many bytes of its plaintext."""
-    return dask.dataframe.read_csv(f"age://{name}", storage_options={"identities": identities}, blocksize=blocksize)
+    options = {"identities": identities}
+    return dask.dataframe.read_csv(f"age://{name}", storage_options=options, blocksize=blocksize)
 
 
 def sums(name, identities, workers=None, blocksize=1 << 24):

@@ -145,6 +145,17 @@ class Keys(InSystem):
                 self.assertEqual(self.asked_for(lambda: self.system.cat_file(path)), (expected, 0))
                 self.assertEqual(again.cat_file(path), expected)
 
+    def test_a_file_for_others_now(self):
+        """A file that was rewrapped for another key is not opened by the key that was kept."""
+        path = self.new("a.age", b"text", KEY)
+        self.assertEqual(self.system.cat_file(path), b"text")
+        new = agefile.rewrap(self.got("a.age"), identities=KEY, recipients=Key(bytes(32)))
+        self.assertEqual(len(new), len(self.got("a.age")))
+        self.put(new)
+        with self.assertRaises(AgeError) as caught:
+            self.system.cat_file(path)
+        self.assertEqual(caught.exception.code, Code.WRONG_KEY)
+
     def test_a_file_system_that_says_nothing_of_a_file(self):
         """Where the state below tells nothing, a fault makes the file be unlocked anew."""
         path = self.new("a.age", text(200000))
