@@ -20,14 +20,15 @@
  *  7. No call is made in a signal handler. A forked child may make calls where it may use malloc.
  *  8. malloc, realloc and free belong to one allocator, and align blocks as C demands.
  *
- * Each call except the two of sizes returns an agefile_code and sets all of its report. If it
- * fails, it writes only what its comment says. Lines are counted from 1, chunks, stanzas and
- * bytes from 0. A passphrase is any bytes; an empty one opens files and makes none. A work factor
- * is 1 to 30; `max_work` is the greatest that is accepted, and 22 is usual; 18 is usual for a new
- * file. A seed is 48 fresh random bytes (getrandom) for each file: the same seed for two files
- * repeats their keys. Only the calls change a payload or a part, and neither is ever copied while it
- * is in use: a copy would seal another chunk under a nonce that was used. Keys and passphrases stay
- * in freed memory. docs/C.md says what is proved and what is trusted. */
+ * Each call but those of sizes, version and texts returns an agefile_code and sets all of its
+ * report. If it fails, it writes only what its comment says. Lines are counted from 1, chunks,
+ * stanzas and bytes from 0. A passphrase is any bytes; an empty one opens files and makes none.
+ * A work factor is 1 to 30; `max_work` is the greatest that is accepted, and 22 is usual; 18 is
+ * usual for a new file. A seed is 48 fresh random bytes (getrandom) for each file: the same seed
+ * for two files repeats their keys. Only the calls change a payload or a part, and neither is
+ * ever copied while it is in use: a copy would seal another chunk under a nonce that was used.
+ * Keys and passphrases stay in freed memory. docs/C.md says what is proved and what is trusted.
+ * */
 #ifndef AGEFILE_H
 #define AGEFILE_H
 #include <stdbool.h>
