@@ -82,7 +82,8 @@ pub refusal : (words : List Text) (command : Command) (error : Error) (result : 
 refusal words command error (Ok job) app becomes kinds = absurd becomes
 refusal words command error (Err Memory) app becomes kinds = tt
 refusal words command error (Err (Refused refused)) app becomes kinds =
-    elim (subst (λ (a : App). HasKind (fault_of a words) error) app (kinds (ap is_simple_and_free app ∙ agep_is_free))) [
+    let free = ap is_simple_and_free app ∙ agep_is_free in
+    elim (subst (λ (a : App). HasKind (fault_of a words) error) app (kinds free)) [
       | inl memory ↦ absurd (becomes.1 memory)
       | inr among ↦ subst (λ (e : Error). IsAmong (kind_of e) (fault_of agep words)) (sym becomes.0) among
     ]
