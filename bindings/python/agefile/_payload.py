@@ -12,7 +12,7 @@ from typing import Any, BinaryIO
 from . import _library as lib
 from ._errors import AgeError
 from ._secrets import Identities, Recipients, new_header, stanzas_text, unlock
-from ._sources import Front, read_into, write_all
+from ._sources import Front, read_into, readinto_of, write_all
 
 # How many chunks one thread seals or opens at a time.
 PART = 16
@@ -196,11 +196,11 @@ class Behind:
     """A source behind bytes that were read of it."""
 
     def __init__(self, first: bytes | memoryview, source: BinaryIO) -> None:
-        self._first, self._source = memoryview(first), source
+        self._first, self._readinto = memoryview(first), readinto_of(source)
 
-    def readinto(self, out: memoryview) -> int:
+    def readinto(self, out: memoryview) -> Any:
         if not self._first:
-            return read_into(self._source, out)
+            return self._readinto(out)
         count = min(len(out), len(self._first))
         out[:count] = self._first[:count]
         self._first = self._first[count:]

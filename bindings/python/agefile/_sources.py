@@ -26,10 +26,14 @@ def _checked(count: Any, least: int, most: int, call: str) -> int:
     return int(count)
 
 
+def readinto_of(source: BinaryIO) -> Any:
+    """The source's readinto, or what does the same by its read."""
+    return getattr(source, "readinto", None) or functools.partial(_read_by_copy, source)
+
+
 def read_into(source: BinaryIO, room: memoryview) -> int:
     """Reads until the room is full or the source ends, and returns the number of bytes."""
-    read = getattr(source, "readinto", None) or functools.partial(_read_by_copy, source)
-    wanted, done = len(room), 0
+    read, wanted, done = readinto_of(source), len(room), 0
     while done < wanted:
         count = _checked(read(room[done:] if done else room), 0, wanted - done, "read")
         if count == 0:
@@ -39,7 +43,6 @@ def read_into(source: BinaryIO, room: memoryview) -> int:
 
 
 def _read_by_copy(source: BinaryIO, room: memoryview) -> int | None:
-    """What readinto does, for a source that has only read."""
     piece: bytes | None = source.read(len(room))
     if piece is None:
         return None
@@ -65,7 +68,6 @@ class Front:
 
     def __init__(self, source: BinaryIO) -> None:
         self.bytes = bytearray()
-        self._source = source
         self._read = getattr(source, "read1", source.read)
         self._ended = False
 
