@@ -9,7 +9,7 @@ r"""Age v1 encrypted files (age-encryption.org/v1) by libagefile, whose code is 
         print(notes.read())
 
 The library is proved; this package is ordinary code over it, which is tested. Memory is not wiped,
-and no operation takes constant time. Calls may run in any number of threads; an open file may be
+and constant time is not promised. Calls may run in any number of threads; an open file may be
 shared by threads, which take turns, but for its lines: one thread reads those.
 """
 

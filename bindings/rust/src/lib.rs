@@ -25,7 +25,7 @@
 //! # }
 //! ```
 //!
-//! Memory is not wiped, and no operation takes constant time.
+//! Memory is not wiped, and constant time is not promised.
 #![warn(missing_docs, missing_debug_implementations)]
 
 mod error;

@@ -19,8 +19,8 @@
 //! and `part` (chunks in order, and on many threads), `ranges`, `sizes` and `version`. The other
 //! modules have none.
 //!
-//! Limits: a header of 65,536 bytes, 2^64 - 1 chunks, one recipient. The duties of a caller, and
-//! what is proved, are in docs/C.md.
+//! Limits: a header of 65,536 bytes, 2^64 - 1 chunks. The duties of a caller, and what is proved,
+//! are in docs/C.md.
 #![tactic(auto)]
 
 mod chunk;
