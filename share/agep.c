@@ -13,7 +13,7 @@
 #include <sys/mman.h>
 #include <unistd.h>
 
-/* AGEP_BUILD is the file of that build. */
+/* AGEP_BUILD is the file of that build, AGEP_VERSION the version of all. */
 __asm__(".section .rodata\n"
         "held: .incbin \"" AGEP_BUILD "\"\n"
         "held_end:\n"
@@ -49,20 +49,37 @@ static const char *cut(char *path)
     return slash + 1;
 }
 
+/* Answers --version, where it stands alone, with the level of a build, which a build cannot know. */
+static void say_version(char **argv, const char *level)
+{
+    if (argv[0] == NULL || argv[1] == NULL || argv[2] != NULL)
+        return;
+    if (strcmp(argv[1], "--version") != 0 && strcmp(argv[1], "-V") != 0)
+        return;
+    if (printf("agep %s (%s)\n", AGEP_VERSION, level) > 0 && fflush(stdout) == 0)
+        exit(0);
+    fputs("agep: write failed\n", stderr);
+    exit(1);
+}
+
 /* Returns only if there is no such build, or it cannot be run. */
-static void run_installed(const char *prefix, const char *build, char **argv)
+static void run_installed(const char *prefix, const char *level, char **argv)
 {
     char path[PATH_MAX];
-    if (snprintf(path, sizeof path, "%s/lib/agep/%s", prefix, build) < PATH_MAX)
+    if (snprintf(path, sizeof path, "%s/lib/agep/agep-%s", prefix, level) < PATH_MAX) {
+        if (access(path, X_OK) == 0)
+            say_version(argv, level);
         execv(path, argv);
-    else
+    } else {
         errno = ENAMETOOLONG;
+    }
     note(path);
 }
 
 /* Runs the build that this file holds, from memory, which needs no file system. */
 static void run_held(char **argv)
 {
+    say_version(argv, "x86-64");
     int file = memfd_create("agep", MFD_CLOEXEC);
     ssize_t count = file;
     for (const char *at = held; count >= 0 && at < held_end; at += count)
@@ -82,8 +99,8 @@ int main(int argc, char **argv)
     __builtin_cpu_init();
     if (find_self(path) && *cut(path) != 0 && strcmp(cut(path), "bin") == 0) {
         if (__builtin_cpu_supports("x86-64-v3"))
-            run_installed(path, "agep-x86-64-v3", argv);
-        run_installed(path, "agep-x86-64", argv);
+            run_installed(path, "x86-64-v3", argv);
+        run_installed(path, "x86-64", argv);
     }
     run_held(argv);
     fprintf(stderr, "agep: cannot run %s\n", tried);

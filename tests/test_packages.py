@@ -97,7 +97,7 @@ class Packages(unittest.TestCase):
     def test_program(self):
         root = self.unpacked("agep_*.deb")
         agep = root / "usr/bin/agep"
-        self.assertEqual(run(agep, "--version"), f"agep {self.version}\n")
+        self.assertEqual(run(agep, "--version"), f"agep {self.version} ({level()})\n")
         (self.work / "pass").write_text("correct horse\n")
         self.assertEqual(run(agep, "decrypt", "-p", self.work / "pass", SECRET), "hello\n")
         for build in ("agep-x86-64", "agep-x86-64-v3"):
@@ -196,7 +196,7 @@ class Packages(unittest.TestCase):
         root = self.work / "anywhere"
         root.mkdir()
         run("tar", "-xf", self.one("*.tar.xz"), "-C", root, "--strip-components=1")
-        self.assertEqual(run(root / "bin/agep", "--version"), f"agep {self.version}\n")
+        self.assertEqual(run(root / "bin/agep", "--version"), f"agep {self.version} ({level()})\n")
         self.assertTrue((root / "lib/pkgconfig/agefile.pc").exists())
 
 
@@ -218,6 +218,12 @@ def can_mount():
 
 
 @needs("cc")
+def level():
+    """The level of the build that this processor runs."""
+    has_v3 = subprocess.run(["sh", "-c", f'root={ROOT}; . "$root/share/build.sh"; has_v3']).returncode == 0
+    return "x86-64-v3" if has_v3 else "x86-64"
+
+
 class Chooser(unittest.TestCase):
     """share/agep.c, with stand-ins for the builds."""
 
@@ -227,7 +233,8 @@ class Chooser(unittest.TestCase):
         cls.addClassCleanup(shutil.rmtree, cls.work)
         for name in (*BUILDS, "held"):
             cls.compile(cls.work / name, "-x", "c", "-", input=STAND_IN % name)
-        cls.compile(cls.work / "agep", f'-DAGEP_BUILD="{cls.work}/held"', ROOT / "share/agep.c")
+        cls.words = (f'-DAGEP_BUILD="{cls.work}/held"', '-DAGEP_VERSION="1.2.3"', ROOT / "share/agep.c")
+        cls.compile(cls.work / "agep", *cls.words)
 
     @classmethod
     def compile(cls, made, *words, **options):
@@ -252,11 +259,12 @@ class Chooser(unittest.TestCase):
 
     def test_processors(self):
         """A build for x86-64-v3 runs just on a processor that has the level."""
-        has_v3 = subprocess.run(["sh", "-c", f'root={ROOT}; . "$root/share/build.sh"; has_v3']).returncode == 0
-        self.runs(BUILDS[0] if has_v3 else BUILDS[1], self.agep)
+        self.runs(f"agep-{level()}", self.agep)
         for answer, build in (('__builtin_strcmp(level, "x86-64-v3") == 0', BUILDS[0]), ("((void)level, 0)", BUILDS[1])):
-            self.compile(self.agep, f"-D__builtin_cpu_supports(level)=({answer})", f'-DAGEP_BUILD="{self.work}/held"', ROOT / "share/agep.c")
+            self.compile(self.agep, f"-D__builtin_cpu_supports(level)=({answer})", *self.words)
             self.runs(build, self.agep)
+            for words in ("--version", "-V"):
+                self.assertEqual(run(self.agep, words), f"agep 1.2.3 ({build.removeprefix('agep-')})\n")
 
     def test_builds_that_are_missing(self):
         """Without the build for x86-64-v3, or where it cannot be run, it is the other one, and then its own."""
@@ -269,6 +277,7 @@ class Chooser(unittest.TestCase):
     def test_alone(self):
         """A copy runs its own build, also where another folder beside has builds."""
         self.runs("held", self.root / "stick/agep")
+        self.assertEqual(run(self.root / "stick/agep", "--version"), "agep 1.2.3 (x86-64)\n")
         self.runs("held", "./agep", cwd=self.root / "stick")
 
     def test_no_build(self):
