@@ -30,9 +30,9 @@ const REFUSED: u8 = 2;
 /// success, 1 after a fault, 2 for a refused command line.
 ///
 /// `input` is read if the arguments name no file. For the checks of which files are the same,
-/// `input` is taken to be the file `/dev/stdin`. `out` receives the output of the command, and the
-/// texts of help and version. `err` receives one line for a fault, with `--verbose` a second one
-/// that says more, and the text for a refused command line.
+/// `input` and `out` are taken to be `/proc/self/fd/0` and `/proc/self/fd/1`. `out` receives the
+/// output of the command, and the texts of help and version. `err` receives one line for a fault,
+/// with `--verbose` a second one that says more, and the text for a refused command line.
 pub fn run<F: Files + AllocGlobal, R: Read, W: Write + IsTerminal, E: Write>(
     rt: &F,
     words: &[&str],
