@@ -2,12 +2,12 @@
 
 use std::io::{self, Read};
 
-use crate::ffi::{self, FRONT, MAX_HEADER, NONCE};
+use crate::ffi::{self, FRONT, NONCE};
 use crate::header::{inspect, unlock};
 use crate::{Error, Header, Identity};
 
-/// Up to this length a header is looked for after each read.
-const SHORT_HEADER: usize = 4096;
+/// How many bytes more than were read count, where a header is looked for so many times over.
+const MARGIN: usize = 4096;
 /// The length of a header's last line.
 const LAST_LINE: usize = 48;
 
@@ -39,7 +39,7 @@ pub struct Front {
     pub bytes: Vec<u8>,
     pub file_key: [u8; 16],
     header: Option<Header>,
-    /// How many bytes were there when the header was last looked for.
+    /// In how many bytes, over all tries, the header was looked for.
     tried: usize,
     /// The length of header and nonce, or 0 before the file key is found.
     needed: usize,
@@ -69,7 +69,7 @@ impl Front {
             if has_more && !self.is_due(had) {
                 continue;
             }
-            self.tried = self.bytes.len();
+            self.tried += self.bytes.len();
             match inspect(&self.bytes) {
                 Err(Error::HeaderTruncated) if has_more => {}
                 result => return Ok(result?),
@@ -77,13 +77,12 @@ impl Front {
         }
     }
 
-    /// Whether a header is looked for after a read, before which `had` bytes were there. Each try of
-    /// a long one takes long, so it is tried where its last line may have ended, and after twice as
-    /// many bytes.
+    /// Whether a header is looked for after a read, before which `had` bytes were there: each read may
+    /// end it or spoil it. Where reads are so short that to look after each would take long, the
+    /// header's last line still is no byte late.
     fn is_due(&self, had: usize) -> bool {
-        let len = self.bytes.len();
         let new = &self.bytes[had.saturating_sub(LAST_LINE)..];
-        len <= SHORT_HEADER || len >= MAX_HEADER.min(2 * self.tried) || new.windows(4).any(|four| four == b"\n---")
+        self.tried <= 16 * (self.bytes.len() + MARGIN) || new.windows(4).any(|four| four == b"\n---")
     }
 
     fn read_more(&mut self, source: &mut impl Read) -> io::Result<bool> {

@@ -381,6 +381,8 @@ fn no_byte_is_awaited_that_is_not_needed() {
     }
     let long = [b"age-encryption.org/v1\n-> ", &[b'a'; 65511][..]].concat();
     is_refused_at_once(&long, 40000, &[wrong], Error::HeaderTooLarge);
+    let bad = [b"age-encryption.org/v1\n-> ", &[b'a'; 9000][..], b"\nbad!\n"].concat();
+    (bad.len() - 6..bad.len()).for_each(|cut| is_refused_at_once(&bad, cut, &[wrong], Error::BadLine(3)));
 }
 
 #[test]
