@@ -10,55 +10,19 @@ use Rattle.age_words.specs.JobOf.{AreWrong, AskForText, Reads}
 use Rattle.age_words.proofs.RefusalLemmas.{shown, wrong}
 use Rattle.age_cli.specs.declared.failure.Failure.{Failure}
 use Rattle.age_commands.specs.declared.task.Task.{Task}
-use Rattle.age_cli.specs.Program.{AnswersRefusal, Begins, Completes, Finishes, FinishesOn, IsInput, IsOutput, IsTaskOf, PerformsOn, PerformsTo, Works}
+use Rattle.age_cli.specs.Program.{AnswersRefusal, Begins, Completes, Finishes, FinishesOn, IsInput, IsOutput, IsTaskOf, PerformsOn, Works}
 
--- IN is a file that was opened, or standard input
-pub file_input : {A : Type 0} (F : Type 0) (remaining : F → Known) (o : Option A) (name : A) (standard : Known)
-    (file : F)
-    → o ≡ Some name → IsInput F remaining o standard (remaining file)
-file_input F remaining None name standard file e = absurd (cc)
-file_input F remaining (Some other) name standard file e = (file, refl)
-
-pub standard_input : {A : Type 0} (F : Type 0) (remaining : F → Known) (o : Option A) (standard : Known) → o ≡ None
-    → IsInput F remaining o standard standard
-standard_input F remaining None standard e = refl
-standard_input F remaining (Some name) standard e = absurd (cc)
-
+-- standard input, where no file is named
 input_is : {A : Type 0} (F : Type 0) (remaining : F → Known) (o : Option A) (standard from : Known) → o ≡ None
     → IsInput F remaining o standard from → from ≡ standard
 input_is F remaining None standard from e h = h
 input_is F remaining (Some name) standard from e h = absurd (cc)
 
--- the same of OUT
-pub file_output : {A : Type 0} (F : Type 0) (contents : F → Known) (o : Option A) (name : A) (standard : Moved)
-    (old new : F)
-    → o ≡ Some name → IsOutput F contents o standard (moved (contents old) (contents new))
-file_output F contents None name standard old new e = absurd (cc)
-file_output F contents (Some other) name standard old new e = (old, new, refl)
-
-pub standard_output : {A : Type 0} (F : Type 0) (contents : F → Known) (o : Option A) (standard : Moved) → o ≡ None
-    → IsOutput F contents o standard standard
-standard_output F contents None standard e = refl
-standard_output F contents (Some name) standard e = absurd (cc)
-
+-- standard output, where no file is named
 output_is : {A : Type 0} (F : Type 0) (contents : F → Known) (o : Option A) (standard sink : Moved) → o ≡ None
     → IsOutput F contents o standard sink → sink ≡ standard
 output_is F contents None standard sink e h = h
 output_is F contents (Some name) standard sink e h = absurd (cc)
-
--- what the task comes to on standard output, or on a file
-pub performs : (F : Type 0) (contents : F → Known) (job : Job) (task : Task) (from : Known) (standard sink : Moved)
-    (r : Result ⊤ Failure) → IsOutput F contents job.output standard sink → PerformsTo job task from sink r
-    → PerformsOn F contents job task from standard r
-performs F contents job task from standard sink (Ok u) o h = (sink, o, h)
-performs F contents job task from standard sink (Err failure) o (fault, named, inl (refused, keeps)) = λ silent.
-    inl (subst (λ (s : Moved). Stays s) (output_is F contents job.output standard sink silent o) keeps)
-performs F contents job task from standard sink (Err failure) o (fault, named, inr h) = λ silent.
-    inr (
-      fault,
-      subst (λ (s : Moved). Works job task from s (Err fault))
-          (output_is F contents job.output standard sink silent o) h,
-    )
 
 begins : (job : Job) (task : Task) (from : Known) (sink : Moved) → IsTaskOf job task
     → Stays sink ⊎ ((fault : FileFault) × Works job task from sink (Err fault)) → Begins job from sink

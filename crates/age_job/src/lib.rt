@@ -3,14 +3,15 @@
 //! format nor how a command line is read.
 //!
 //! ```
-//! let mut input = Watched::new(alloc, open(rt, name)?, 0);
-//! let mut out = create(rt, &job, name)?;
+//! let mut read = ReadFiles::new(rt, &job);
+//! let mut input = Watched::new(alloc, read.open_input(rt, name)?, 0);
+//! let mut out = create(rt, &job, &read, out_name)?;
 //! ```
 //!
 //! `job` has the job, and `ranges` the ranges of its numbers. `files` opens the files that a job
-//! names for reading, `small_files` reads its secrets, each a `secret`, `output` is the file to
-//! write, and `watched` keeps what a failed read told. `fault` and `file_names` have the texts of
-//! errors, `failure` those of `--verbose`.
+//! names for reading, `inode` tells which file each is, and `small_files` reads its secrets, each a
+//! `secret`. `output` is the file to write, and `watched` keeps what a failed read told. `fault`
+//! and `file_names` have the texts of errors, `failure` those of `--verbose`.
 //!
 //! Limits: no contract says what files hold, nor which of them are the same. The scripts under
 //! `tests/` show both.
