@@ -72,7 +72,7 @@ library() {
 
 # Proves and builds the libraries up to age_file, or with the word age_cli up to that, lowest first.
 # age_cipher, and age_job with age_words above it, depend on none of the others: they are proved in
-# parallel with them.
+# parallel with them, and age_recipient in parallel with age_stream.
 libraries() {
     library age_cipher --jobs 1 &
     cipher=$!
@@ -82,10 +82,14 @@ libraries() {
         words=$!
     fi
     # shellcheck disable=SC2086
-    trap 'kill "$cipher" $words 2>/dev/null; exit 130' INT TERM
-    if library age_kdf && library age_header && wait "$cipher" && library age_recipient &&
-        library age_stream && library age_file && [ -n "$words" ]; then
-        library age_commands && wait "$words" && library age_cli || :
+    recipient=
+    trap 'kill "$cipher" $words $recipient 2>/dev/null; exit 130' INT TERM
+    if library age_kdf && library age_header && wait "$cipher"; then
+        library age_recipient --jobs 1 &
+        recipient=$!
+        if library age_stream && wait "$recipient" && library age_file && [ -n "$words" ]; then
+            library age_commands && wait "$words" && library age_cli || :
+        fi
     fi
     wait
     trap - INT TERM

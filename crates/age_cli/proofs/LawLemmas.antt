@@ -5,7 +5,7 @@ use Rattle.std.specs.Io.KnownBytes.{Appends, Keeps}
 use Rattle.age_header.specs.Device.{Bytes, Known, moved}
 use Rattle.age_header.specs.Header.{StanzaParts}
 use Rattle.age_header.proofs.DeviceLemmas.{of-known}
-use Rattle.age_recipient.specs.declared.key.FileKey.{FileKey}
+use Rattle.age_header.specs.declared.file_key.FileKey.{FileKey}
 use Rattle.age_recipient.specs.Choice.{choice}
 use Rattle.age_stream.specs.declared.done.Done.{Done}
 use Rattle.age_stream.specs.Reading.{whole}

@@ -4,7 +4,7 @@
 ghost use Rattle.std.specs.Prelude.{◌≡◌, ◌++◌, List, Some};
 ghost use Rattle.age_header.specs.Device.{Bytes, Known, moved};
 ghost use Rattle.age_header.specs.Header.{StanzaParts};
-ghost use Rattle.age_recipient.specs.declared.key.FileKey.{FileKey};
+ghost use Rattle.age_header.specs.declared.file_key.FileKey.{FileKey};
 ghost use Rattle.age_file.specs.AgeFile.{AgeFile};
 ghost use Rattle.age_job.specs.declared.job.Job.{Job};
 ghost use Rattle.age_words.specs.JobOf.{IsPiped};

@@ -4,7 +4,7 @@ use Rattle.std.proofs.lemmas.List.{map_push, take_more}
 use Rattle.std.specs.Prelude.{⊤, ℕ}
 use Rattle.age_header.specs.Device.{Bytes, Flow, Known, moved}
 use Rattle.age_header.specs.Header.{StanzaParts}
-use Rattle.age_recipient.specs.declared.key.FileKey.{FileKey}
+use Rattle.age_header.specs.declared.file_key.FileKey.{FileKey}
 use Rattle.age_recipient.specs.declared.labels.Labels.{Labels}
 use Rattle.age_recipient.specs.declared.unwrapped.Unwrapped.{Unwrapped}
 use Rattle.age_stream.specs.declared.done.Done.{Done}

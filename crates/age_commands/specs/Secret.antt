@@ -2,7 +2,7 @@
 use Rattle.std.specs.Prelude.{◌^◌, ℕ, List, [], ◌∷◌, map, Result, Ok}
 use Rattle.age_header.specs.Device.{Bytes}
 use Rattle.age_header.specs.Header.{StanzaParts}
-use Rattle.age_recipient.specs.declared.key.FileKey.{FileKey}
+use Rattle.age_header.specs.declared.file_key.FileKey.{FileKey}
 use Rattle.age_recipient.specs.declared.labels.Labels.{Labels}
 use Rattle.age_recipient.specs.declared.labels.Labels.TheVariants.{Alone, Names}
 use Rattle.age_recipient.specs.declared.unwrapped.Unwrapped.{Unwrapped}

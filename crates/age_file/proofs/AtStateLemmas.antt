@@ -1,9 +1,10 @@
 -- A source read from its first byte on.
-use Rattle.std.proofs.Common.{◌≡◌, ℕ, ◌++◌, ◌+◌, ◌-◌, ◌^◌, ◌<◌, ◌≤◌, length, take, drop, min, option_map, sym, ◌∙◌, ap, arith, subst, Option, Some, None, Result, Ok}
-use Rattle.std.proofs.lemmas.List.{length-drop, length-take, length-take-le, drop-drop, drop_all, take-append-drop}
-use Rattle.age_header.specs.Device.{Bytes, Gives, Known, moved}
-use Rattle.age_file.specs.Ranges.{IsWithin}
-use Rattle.age_stream.specs.Offsets.{GivesAt, HasOffsets}
+use Rattle.std.proofs.Common.{◌≡◌, ℕ, [], refl, slice_index, inl, inr, ◌++◌, ◌+◌, ◌-◌, ◌^◌, ◌<◌, ◌≤◌, length, take, drop, min, option_map, sym, ◌∙◌, ap, arith, subst, IfOk, Option, Some, None, Result, Ok}
+use Rattle.std.proofs.lemmas.Bool.{cases_lt}
+use Rattle.std.proofs.lemmas.List.{length-append, length-drop, length-take, length-take-le, drop-drop, drop_all, get_or-append_right, get_or-take, get_or_append_left, take-append-drop}
+use Rattle.age_header.specs.Device.{Bytes, Gives, Grows, Known, flow_by, moved}
+use Rattle.age_file.specs.Ranges.{AtState, GaveFirst, IsWithin}
+use Rattle.age_stream.specs.Offsets.{GaveAt, GivesAt, HasOffsets, StaysGiven}
 
 -- a read at the current offset returns the next bytes
 pub gives-on : {E : Type 0} (told : Known) (size : Option ℕ) (at at2 n : ℕ) (buf : Bytes) (r : Result ℕ E) → r ≡ Ok n
@@ -29,3 +30,59 @@ gives-on {E} told size at at2 n buf r is offsets within le next h =
               ∙ ap (λ x. take n buf ++ x) (drop-drop n at bytes ∙ ap (λ k. drop k bytes) (sym sum)),
           λ e some. let past : length bytes ≤ at = (g.1 e some).0 in drop_all at2 bytes (omega arith),
         )
+
+-- no byte was given yet
+pub first-none : (gave : ℕ → ℕ → Type 0) → GaveFirst gave 0 []
+first-none gave = (refl, λ k lt. absurd (omega (arith, lt)))
+
+-- what was given stays so
+pub first-stays : (old new : ℕ → ℕ → Type 0) (at : ℕ) (bytes : Bytes) → StaysGiven old new
+    → GaveFirst old at bytes → GaveFirst new at bytes
+first-stays old new at bytes stays first = (
+  first.0,
+  λ k lt. stays (0 + k) (slice_index (take at bytes) k) (first.1 k lt),
+)
+
+-- the bytes of one read more
+pub first-then : (old new : ℕ → ℕ → Type 0) (at at2 : ℕ) (past more : Bytes) → StaysGiven old new
+    → GaveFirst old at past → GaveAt new at more → at2 ≡ min (at + length more) (2 ^ 64 - 1)
+    → GaveFirst new at2 (past ++ more)
+first-then old new at at2 past more stays first gave next =
+    let whole : length (past ++ more) ≡ length past + length more = length-append past more in
+    let taken : at ≡ min (length past) (2 ^ 64 - 1) = first.0 in
+    let before : length (take at past) ≡ at = length-take-le at past (omega (arith, taken)) in
+    let all : length (take at2 (past ++ more)) ≡ at2 =
+    length-take-le at2 (past ++ more) (omega (arith, whole, taken, next)) in (
+      omega (arith, whole, taken, next),
+      λ k lt. let under : k < at2 = omega (arith, lt, all) in
+          let here : slice_index (take at2 (past ++ more)) k ≡ slice_index (past ++ more) k =
+          get_or-take at2 (past ++ more) k 0 under in
+          elim (cases_lt k at) [
+            | inl early ↦
+                let value : slice_index (take at past) k ≡ slice_index (past ++ more) k =
+                get_or-take at past k 0 early
+                ∙ sym (get_or_append_left past more 0 k (omega (arith, early, taken))) in
+                subst (new (0 + k)) (value ∙ sym here)
+                (stays (0 + k) (slice_index (take at past) k) (first.1 k (omega (arith, before, early))))
+            | inr late ↦
+                let same : length past ≡ at = omega (arith, late, under, taken, next) in
+                let value : slice_index more (k - at) ≡ slice_index (past ++ more) k =
+                sym (get_or-append_right past more at k 0 same (omega (arith, late))) in
+                subst (new (0 + k)) (value ∙ sym here)
+                (subst (λ p. new p (slice_index more (k - at))) (omega (arith, late))
+                (gave (k - at) (omega (arith, late, under, next))))
+          ],
+    )
+
+-- a read at the current offset adds its bytes to those that were given
+pub grows-on : {D E : Type 0} (told : D → Known) (gave : D → ℕ → ℕ → Type 0) (old new : AtState D) (n : ℕ)
+    (buf : Bytes) (r : Result ℕ E) → r ≡ Ok n → n ≤ length buf → new.at ≡ min (old.at + n) (2 ^ 64 - 1)
+    → StaysGiven (gave old.dev) (gave new.dev) → IfOk r (λ n. GaveAt (gave new.dev) old.at (take n buf))
+    → Grows (flow_by (λ s. option_map (drop s.at) (told s.dev)) (λ s. GaveFirst (gave s.dev) s.at) old new) r buf
+grows-on {D} {E} told gave old new n buf r is le next stays reads =
+    let more : GaveAt (gave new.dev) old.at (take n buf) =
+    subst (λ (x : Result ℕ E). IfOk x (λ k. GaveAt (gave new.dev) old.at (take k buf))) is reads in
+    subst (λ (x : Result ℕ E). Grows (flow_by (λ (s : AtState D). option_map (drop s.at) (told s.dev))
+    (λ (s : AtState D). GaveFirst (gave s.dev) s.at) old new) x buf) (sym is)
+    (λ past first. first-then (gave old.dev) (gave new.dev) old.at new.at past (take n buf) stays first more
+    (next ∙ ap (λ k. min (old.at + k) (2 ^ 64 - 1)) (sym (length-take-le n buf le))))

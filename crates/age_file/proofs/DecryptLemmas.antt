@@ -13,7 +13,7 @@ use Rattle.age_header.specs.Verdict.{HeaderVerdict}
 use Rattle.age_header.proofs.DeviceLemmas.{gave-more, gave-some, gave-then, of-any, of-map, of-more, of-then}
 use Rattle.age_header.proofs.VerdictUniqueLemmas.{found_again}
 use Rattle.age_header.proofs.VerdictTotalLemmas.{some_verdict}
-use Rattle.age_recipient.specs.declared.key.FileKey.{FileKey}
+use Rattle.age_header.specs.declared.file_key.FileKey.{FileKey}
 use Rattle.age_stream.specs.declared.done.Done.{Done}
 use Rattle.age_stream.specs.declared.fault.StreamFault.{StreamFault}
 use Rattle.age_stream.specs.declared.fault.StreamFault.TheVariants as stream

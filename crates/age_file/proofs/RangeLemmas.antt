@@ -4,8 +4,8 @@ use Rattle.std.specs.Prelude.{◌^◌, min, Bool, true, false, IfErr, IfSome, if
 use Rattle.std.specs.Result.{result_map_both}
 use Rattle.std.specs.Str.{bytes_eq}
 use Rattle.std.specs.Io.KnownBytes.{Consumes}
-use Rattle.std.proofs.lemmas.List.{length-append, length-drop}
-use Rattle.age_header.specs.Device.{Bytes, CountsFaultIf, Known, Seen, flow, moved}
+use Rattle.std.proofs.lemmas.List.{append-nil, length-append, length-drop}
+use Rattle.age_header.specs.Device.{Bytes, CountsFaultIf, Known, Seen, flow, flow_by, moved}
 use Rattle.age_header.specs.declared.fault.HeaderFault.{HeaderFault}
 use Rattle.age_header.specs.declared.fault.HeaderFault.TheVariants as header
 use Rattle.age_header.specs.Header.{HeaderParts}
@@ -13,13 +13,14 @@ use Rattle.age_header.specs.Mac.{header_mac}
 use Rattle.age_header.proofs.DeviceLemmas.{of-known}
 use Rattle.age_header.specs.Reader.{Refuses}
 use Rattle.age_header.specs.Verdict.{HeaderVerdict}
-use Rattle.age_recipient.specs.declared.key.FileKey.{FileKey}
+use Rattle.age_header.specs.declared.file_key.FileKey.{FileKey}
 use Rattle.age_recipient.specs.declared.choice.UnlockFault.{UnlockFault}
 use Rattle.age_recipient.specs.declared.choice.UnlockFault.TheVariants as unlock
 use Rattle.age_recipient.specs.Choice.{choice}
 use Rattle.age_stream.specs.declared.fault.StreamFault.{StreamFault}
 use Rattle.age_stream.specs.declared.fault.StreamFault.TheVariants as fault
 use Rattle.age_stream.specs.Counts as counts
+use Rattle.age_stream.specs.Offsets.{StaysGiven}
 use Rattle.age_stream.specs.Ranges as stream
 use Rattle.age_stream.specs.Ranges.{OpensRanges}
 use Rattle.age_stream.specs.Slice.{last_piece, range_outcome}
@@ -28,8 +29,9 @@ use Rattle.age_file.specs.declared.fault.Fault.TheVariants.{BadMac, MixedPassphr
 use Rattle.age_file.specs.AgeFile.{Bounds, is_mixed}
 use Rattle.age_file.specs.Inspect.{Inspects}
 use Rattle.age_file.specs.Device.{IsNoDeviceFault, is_read}
-use Rattle.age_file.specs.Ranges.{BeginsFile, HasHeader, IsOpenFault, IsRangesOf, IsSomeHeader, IsWithin, MissesHeader, MissesRanges, RefusesRanges, ranges_under}
+use Rattle.age_file.specs.Ranges.{AtState, BeginsFile, GaveFirst, GaveHeader, HasHeader, IsOpenFault, IsRangesOf, IsWithin, MissesHeader, MissesRanges, RefusesRanges, ranges_under}
 use Rattle.age_file.specs.Verdict.{Answering, checked, found_in, header_fault, stream_fault, unlock_fault, unlocked}
+use Rattle.age_file.proofs.AtStateLemmas.{first-none, first-stays}
 use Rattle.age_file.proofs.DecryptLemmas.{err-err, found-key, headed, reads-file}
 
 -- a header that was read from the first byte on
@@ -49,12 +51,19 @@ header-found limits (Some b) at x y h old new w i =
       subst (λ x. HeaderVerdict x limits.max_header (Ok (found_in is.text h))) (sym all) (is.verdict (drop at b)),
     )
 
--- the header of some bytes
-pub header-some : (limits : Bounds) (from to : Seen) (h : HeaderParts) → Inspects limits (flow from to) (Ok h)
-    → IsSomeHeader limits h
-header-some limits from to h i =
-    let is = headed limits from to h i in
-    (is.text ++ [], is.text, is.verdict [])
+-- the same whether or not the contents are known
+pub header-gave : {D : Type 0} (to_come : AtState D → Known) (gave : D → ℕ → ℕ → Type 0) (limits : Bounds)
+    (old new : AtState D) (h : HeaderParts) → old.at ≡ 0
+    → Inspects limits (flow_by to_come (λ s. GaveFirst (gave s.dev) s.at) old new) (Ok h)
+    → GaveHeader limits (gave new.dev) new.at h
+header-gave to_come gave limits old new h start i =
+    let is = headed limits _ _ h i in
+    record {
+      text = is.text;
+      gave_text = is.took.grew [] (subst (λ n. GaveFirst (gave old.dev) n []) (sym start) (first-none (gave old.dev)));
+      verdict = subst (λ t. HeaderVerdict t limits.max_header (Ok (found_in is.text h))) (append-nil is.text)
+          (is.verdict []);
+    }
 
 refused : (limits : Bounds) (b : Bytes) (g : HeaderFault) → Refuses b limits.max_header g
     → MissesHeader limits (Some b) (header_fault g)
@@ -206,12 +215,21 @@ payload-refuses limits answers told mid told2 failed failed1 failed2 at max h k 
 
 -- ---- a file that was opened
 
-pub file-begins : (limits : Bounds) (answers : Answering) (was_read : ℕ → ℕ → Type 0) (size : Option ℕ)
-    (chunks : stream.RangeState) (at : ℕ) (h : HeaderParts) (k : FileKey) → IsSomeHeader limits h
+pub file-begins : (limits : Bounds) (answers : Answering) (gave : ℕ → ℕ → Type 0) (size : Option ℕ)
+    (chunks : stream.RangeState) (at : ℕ) (h : HeaderParts) (k : FileKey) → GaveHeader limits gave at h
     → (◌≡◌ {A = Result FileKey Fault} (Ok k) (Err OutOfMemory)) ⊎ (Ok k ≡ unlocked answers h)
-    → stream.BeginsAt k at was_read size chunks → BeginsFile limits answers was_read size chunks
-file-begins limits answers was_read size chunks at h k some key b =
-    record { header = h; some = some; key = k; chosen = found-key (unlocked answers h) k key; at = at; begins = b }
+    → stream.BeginsAt k at gave size chunks → BeginsFile limits answers gave size chunks
+file-begins limits answers gave size chunks at h k first key b =
+    record { header = h; at = at; first = first; key = k; chosen = found-key (unlocked answers h) k key; begins = b }
+
+-- what was given stays so
+pub header-stays : (limits : Bounds) (old new : ℕ → ℕ → Type 0) (at : ℕ) (h : HeaderParts) → StaysGiven old new
+    → GaveHeader limits old at h → GaveHeader limits new at h
+header-stays limits old new at h stays first = record {
+  text = first.text;
+  gave_text = first-stays old new at first.text stays first.gave_text;
+  verdict = first.verdict;
+}
 
 pub file-ranges : (limits : Bounds) (answers : Answering) (told mid told2 : Known) (given given1 given2 at max : ℕ)
     (h : HeaderParts) (k : FileKey) (chunks : stream.RangeState) → mid ≡ told → given1 ≤ given + at

@@ -15,7 +15,7 @@ use Rattle.age_header.proofs.DeviceLemmas.{of-map, of-more, of-then, done_part}
 use Rattle.age_header.proofs.VerdictUniqueLemmas as headers
 use Rattle.age_recipient.specs.declared.choice.UnlockFault.{UnlockFault}
 use Rattle.age_recipient.specs.declared.choice.UnlockFault.TheVariants as unlock
-use Rattle.age_recipient.specs.declared.key.FileKey.{FileKey}
+use Rattle.age_header.specs.declared.file_key.FileKey.{FileKey}
 use Rattle.age_recipient.specs.Choice.{choice}
 use Rattle.age_stream.specs.Reading.{Reading}
 use Rattle.age_file.specs.declared.fault.Fault.{Fault}

@@ -6,7 +6,7 @@ use Rattle.age_header.specs.Device.{Bytes}
 use Rattle.age_header.specs.declared.fault.HeaderFault.{HeaderFault}
 use Rattle.age_header.specs.Verdict.{Found}
 use Rattle.age_header.proofs.VerdictUniqueLemmas as headers
-use Rattle.age_recipient.specs.declared.key.FileKey.{FileKey}
+use Rattle.age_header.specs.declared.file_key.FileKey.{FileKey}
 use Rattle.age_stream.specs.Ranges.{HasPlain, RangeState}
 use Rattle.age_stream.specs.Reading.{payload_reading, whole}
 use Rattle.age_stream.specs.Slice.{IsSlice, plain_len}

@@ -5,7 +5,7 @@ use Rattle.std.specs.Str.{bytes_eq}
 use Rattle.age_header.specs.Device.{Bytes}
 use Rattle.age_header.specs.Header.{StanzaParts, Head}
 use Rattle.age_header.specs.Mac.{header_mac}
-use Rattle.age_recipient.specs.declared.key.FileKey.{FileKey}
+use Rattle.age_header.specs.declared.file_key.FileKey.{FileKey}
 use Rattle.age_stream.specs.Payload.{chunks, payload}
 use Rattle.age_stream.specs.Sizes.{nonce_size, most_chunks}
 

@@ -5,7 +5,7 @@ use Rattle.std.specs.List.{AllZip, concat}
 use Rattle.age_header.specs.Device.{Bytes, Flow, Gave, GaveAtMost, OfGiven, WritesPart, Moved, Took}
 use Rattle.age_header.specs.Header.{StanzaParts, Head}
 use Rattle.age_header.specs.Mac.{header_mac}
-use Rattle.age_recipient.specs.declared.key.FileKey.{FileKey}
+use Rattle.age_header.specs.declared.file_key.FileKey.{FileKey}
 use Rattle.age_recipient.specs.declared.labels.Labels.{Labels}
 use Rattle.age_recipient.specs.Labels.{MayLabel, incompatible}
 use Rattle.age_stream.specs.declared.done.Done.{Done}

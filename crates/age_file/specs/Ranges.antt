@@ -1,11 +1,12 @@
 -- Opening a file for ranges of its plaintext.
-use Rattle.std.specs.Prelude.{◌≡◌, ◌⊎◌, ℕ, ◌+◌, ◌-◌, ◌≤◌, length, drop, IfSome, ⊤, Option, Some, Result, Ok, Err}
+use Rattle.std.specs.Prelude.{◌≡◌, ◌⊎◌, ℕ, ◌+◌, ◌-◌, ◌^◌, ◌≤◌, min, length, take, drop, IfSome, ⊤, Option, Some, Result, Ok, Err}
 use Rattle.std.specs.Result.{result_map_both}
 use Rattle.age_header.specs.Device.{Bytes, CountsFaultIf, Known, Moved, moved_by}
 use Rattle.age_header.specs.declared.fault.HeaderFault.{HeaderFault}
 use Rattle.age_header.specs.Header.{HeaderParts}
 use Rattle.age_header.specs.Verdict.{Found, HeaderVerdict}
-use Rattle.age_recipient.specs.declared.key.FileKey.{FileKey}
+use Rattle.age_header.specs.declared.file_key.FileKey.{FileKey}
+use Rattle.age_stream.specs.Offsets.{GaveAt}
 use Rattle.age_stream.specs.Ranges.{BeginsAt, IsOpened, KeepsVerified, RangeState}
 use Rattle.age_stream.specs.Slice.{last_piece, range_outcome}
 use Rattle.age_file.specs.declared.fault.Fault.{Fault}
@@ -16,12 +17,14 @@ use Rattle.age_file.specs.Stage.{Stage, stage_of, at_header, at_key, at_nonce, a
 use Rattle.age_file.specs.Verdict.{Answering, found_in, header_fault, parts_of, stream_fault, unlocked}
 use Rattle.age_stream.specs.Sizes.{nonce_size}
 
--- a source that is read at offsets, here read from its first byte on: its contents, the next
--- offset, and how many reads have failed
-pub record AtState : Type 0 where
-  pub told : Known
+-- a source that is read at offsets, here read from its first byte on, and the next offset
+pub record AtState (D : Type 0) : Type 0 where
+  pub dev : D
   pub at : ℕ
-  pub failed : ℕ
+
+-- these bytes were given from offset 0 on, and `at` is the next offset, the largest u64 at most
+abbrev pub GaveFirst : (gave : (at byte : ℕ) → Type 0) (at : ℕ) (bytes : Bytes) → Type 0
+GaveFirst gave at bytes = (at ≡ min (length bytes) (2 ^ 64 - 1)) × GaveAt gave 0 (take at bytes)
 
 -- the offset is not past the end of the known bytes
 abbrev pub IsWithin : (told : Known) (at : ℕ) → Type 0
@@ -48,10 +51,12 @@ HasHeader limits told at h =
     IfSome told (λ b. (text : Bytes) × (length text ≡ at)
     × HeaderVerdict b limits.max_header (Ok (found_in text h)))
 
--- some bytes begin with this header
-abbrev pub IsSomeHeader : (limits : Bounds) (h : HeaderParts) → Type 0
-IsSomeHeader limits h =
-    (b : Bytes) × (text : Bytes) × HeaderVerdict b limits.max_header (Ok (found_in text h))
+-- this header was read from the source's first byte on, and `at` is the next offset
+pub record GaveHeader (limits : Bounds) (gave : (at byte : ℕ) → Type 0) (at : ℕ) (h : HeaderParts)
+    : Type 0 where
+  pub text : Bytes
+  pub gave_text : GaveFirst gave at text
+  pub verdict : HeaderVerdict text limits.max_header (Ok (found_in text h))
 
 -- the known bytes begin with no header, and this is its fault; or a read failed, or memory was
 -- refused
@@ -97,16 +102,16 @@ pub record IsRangesOf (limits : Bounds) (answers : Answering) (b : Bytes) (chunk
       + (nonce_size + length (last_piece (drop (length found.text + nonce_size) b)))
 
 -- A reader was opened, whether or not the source's contents are known: under the key that was
--- chosen for a header of some bytes, and for a nonce that was read. Its pieces end where the source
--- does.
-pub record BeginsFile (limits : Bounds) (answers : Answering) (was_read : (at byte : ℕ) → Type 0)
+-- chosen for the header that was read, and for the nonce that was read after it. Its pieces end
+-- where the source does.
+pub record BeginsFile (limits : Bounds) (answers : Answering) (gave : (at byte : ℕ) → Type 0)
     (size : Option ℕ) (chunks : RangeState) : Type 0 where
   pub header : HeaderParts
-  pub some : IsSomeHeader limits header
+  pub at : ℕ
+  pub first : GaveHeader limits gave at header
   pub key : FileKey
   pub chosen : unlocked answers header ≡ Ok key
-  pub at : ℕ
-  pub begins : BeginsAt key at was_read size chunks
+  pub begins : BeginsAt key at gave size chunks
 
 -- Opening a file for ranges failed: with the first fault of the known bytes, a failed read or out
 -- of memory. The contents stayed, and a failed read was counted.
@@ -120,14 +125,14 @@ pub record RefusesRanges (limits : Bounds) (answers : Answering) (source : Moved
 -- what was made of a source, and what became of it: a reader of the file's ranges, which keeps the
 -- last chunk, or the fault. Of the functions `StartsRanges` of age_stream says more.
 abbrev pub StartsFileRanges : {D : Type 0} (told : D → Known) (given failed : D → ℕ)
-    (was_read : D → (at byte : ℕ) → Type 0) (found : D → Option ℕ) (limits : Bounds)
+    (gave : D → (at byte : ℕ) → Type 0) (found : D → Option ℕ) (limits : Bounds)
     (answers : Answering) (old new : D) (r : Result RangeState Fault) → Type 0
-StartsFileRanges told given failed was_read found limits answers old new (Ok chunks) =
+StartsFileRanges told given failed gave found limits answers old new (Ok chunks) =
     (told new ≡ told old)
     × IfSome (told old) (λ b. IsRangesOf limits answers b chunks (given old) (given new))
-    × BeginsFile limits answers (was_read new) (found new) chunks
-    × KeepsVerified (was_read new) chunks
+    × BeginsFile limits answers (gave new) (found new) chunks
+    × KeepsVerified (gave new) chunks
     × (chunks.index ≡ Some (chunks.layout.count - 1)) × (chunks.opened ≡ 1)
     × (failed new ≡ failed old)
-StartsFileRanges told given failed was_read found limits answers old new (Err fault) =
+StartsFileRanges told given failed gave found limits answers old new (Err fault) =
     RefusesRanges limits answers (moved_by told old new) (failed old) (failed new) fault

@@ -4,7 +4,7 @@ use Rattle.std.specs.Prelude.{◌≡◌, ◌⊎◌, ℕ, true, false, ◌++◌, 
 use denote.Ref.{MutBor}
 use Rattle.age_header.specs.Device.{Bytes, CountsFaultIf, Known, WritesPart, Took, flow_by, moved_by}
 use Rattle.age_header.specs.Header.{Head, HeaderParts}
-use Rattle.age_recipient.specs.declared.key.FileKey.{FileKey}
+use Rattle.age_header.specs.declared.file_key.FileKey.{FileKey}
 use Rattle.age_stream.specs.declared.fault.StreamFault.{StreamFault}
 use Rattle.age_stream.specs.Opening.{OpenerState}
 use Rattle.age_stream.specs.Payload.{payload_key}

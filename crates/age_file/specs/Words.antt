@@ -1,7 +1,7 @@
 -- The names of the crates below that a caller's clauses and objects cite, passed on from one place.
 pub use Rattle.age_header.specs.Device.{Bytes, Known}
 pub use Rattle.age_header.specs.Header.{StanzaParts}
-pub use Rattle.age_recipient.specs.declared.key.FileKey.{FileKey}
+pub use Rattle.age_header.specs.declared.file_key.FileKey.{FileKey}
 pub use Rattle.age_recipient.specs.Key.{IsFileKey}
 pub use Rattle.age_recipient.specs.PassphraseHolders.{IsPassError, PairFits, WorkFits}
 pub use Rattle.age_recipient.specs.declared.labels.Labels.{Labels}

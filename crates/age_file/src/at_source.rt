@@ -1,6 +1,6 @@
 //! Sequential reading of a `ReadAt` from its first byte.
 ghost use Rattle.std.specs.Prelude.{◌≡◌, ◌+◌, ◌≤◌, drop, option_map};
-ghost use Rattle.age_file.specs.Ranges.{AtState, IsWithin};
+ghost use Rattle.age_file.specs.Ranges.{AtState, GaveFirst, IsWithin};
 
 use age_header::{DeviceFault, Source};
 use age_stream::ReadAt;
@@ -41,10 +41,9 @@ impl<'a, D: ReadAt, K: Origin> Model for AtSource<'a, D, K> {
     ghost use Rattle.std.specs.Prelude.{◌≡◌, ◌+◌, ◌≤◌};
     ghost use Rattle.age_file.specs.Ranges.{AtState, IsWithin};
 
-    ghost Value = { AtState };
+    ghost Value = { AtState D };
 
-    ghost view = { λ s.
-        record { told = D.bytes s.dev.now; at = s.at; failed = D.failed s.dev.now } };
+    ghost view = { λ s. record { dev = s.dev.now; at = s.at } };
 
     ghost invariant = { λ s. (D.bytes s.dev.now ≡ K.bytes) × (D.given s.dev.now ≤ K.given + s.at)
         × IsWithin (D.bytes s.dev.now) s.at × (s.dev.ghost_name ≡ K.name) };
@@ -56,7 +55,7 @@ impl<'a, D: ReadAt, K: Origin> AtSource<'a, D, K> {
         requires bytes { K.bytes ≡ D.bytes dev.old }
         requires given { K.given ≡ D.given dev.old }
         requires name { K.name ≡ dev.ghost_name }
-        ensures { result ≡ record { told = D.bytes dev.old; at = 0; failed = D.failed dev.old } }
+        ensures { result ≡ record { dev = dev.old; at = 0 } }
     {
         AtSource {
             dev,
@@ -68,11 +67,10 @@ impl<'a, D: ReadAt, K: Origin> AtSource<'a, D, K> {
     /// The `ReadAt`, and the offset after the last byte that was read.
     pub(crate) fn into_parts(self) -> (&'a mut D, u64)
         ensures same_reference { result.0.ghost_name ≡ K.name }
+        ensures unchanged { result.0.now ≡ self.entry.dev }
         ensures at { result.1 ≡ self.entry.at }
         ensures bytes { D.bytes result.0.now ≡ K.bytes }
-        ensures told { D.bytes result.0.now ≡ self.entry.told }
         ensures within { IsWithin (D.bytes result.0.now) result.1 }
-        ensures failed { D.failed result.0.now ≡ self.entry.failed }
         ensures given { D.given result.0.now ≤ K.given + result.1 }
     {
         let AtSource { dev, at, origin: _ } = self;
@@ -81,9 +79,11 @@ impl<'a, D: ReadAt, K: Origin> AtSource<'a, D, K> {
 }
 
 impl<'a, D: ReadAt, K: Origin> Source for AtSource<'a, D, K> {
-    ghost failed = { λ s. s.failed };
+    ghost failed = { λ s. D.failed s.dev };
 
-    ghost to_come = { λ s. option_map (drop s.at) s.told };
+    ghost to_come = { λ s. option_map (drop s.at) (D.bytes s.dev) };
+
+    ghost gave = { λ s. GaveFirst (D.gave s.dev) s.at };
 
     fn read(&mut self, buf: &mut [u8]) -> Result<usize, DeviceFault> {
         let read = self.dev.read_at(self.at, buf);

@@ -3,7 +3,7 @@
 ghost use Rattle.std.specs.Prelude.{◌≡◌, ◌↔◌, ◌⊎◌, ℕ, ◌+◌, List, [], ◌∷◌, ◌++◌, replicate, length, take, drop, Option, Some, None, Ok};
 ghost use Rattle.age_header.specs.Device.{Bytes};
 ghost use Rattle.age_header.specs.Header.{StanzaParts};
-ghost use Rattle.age_recipient.specs.declared.key.FileKey.{FileKey};
+ghost use Rattle.age_header.specs.declared.file_key.FileKey.{FileKey};
 ghost use Rattle.age_recipient.specs.Choice.{choice};
 ghost use Rattle.age_recipient.specs.Key.{IsFileKey};
 ghost use Rattle.age_recipient.specs.Labels.{incompatible};

@@ -55,8 +55,8 @@ pub use age_recipient::{
     WrapFault, first_incompatible, unlock,
 };
 pub use age_stream::{
-    CHUNK_SIZE, Done, FileAt, MemAt, NONCE_SIZE, RangeReader, ReadAt, Refused, SEALED_CHUNK_SIZE,
-    StreamFault, StreamReader, StreamWriter, TAG_SIZE,
+    CHUNK_SIZE, ChunkBuf, Done, FileAt, MemAt, NONCE_SIZE, RangeReader, ReadAt, Refused,
+    SEALED_CHUNK_SIZE, StreamFault, StreamReader, StreamWriter, TAG_SIZE, chunk_nonce,
 };
 pub use copying::BUFFER_SIZE;
 pub use decrypting::decrypt;

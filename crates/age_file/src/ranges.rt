@@ -5,7 +5,7 @@ ghost use Rattle.age_header.specs.Device.{CountsFaultIf};
 ghost use Rattle.age_stream.specs.Ranges.{chunks_of, source_at_of};
 ghost use Rattle.age_file.specs.Device.{is_read};
 ghost use Rattle.age_stream.specs.Writer.{device_of, fault_of};
-ghost use Rattle.age_file.specs.Ranges.{HasHeader, IsOpenFault, IsSomeHeader, MissesHeader, StartsFileRanges};
+ghost use Rattle.age_file.specs.Ranges.{GaveHeader, HasHeader, IsOpenFault, MissesHeader, StartsFileRanges};
 ghost use Rattle.age_file.specs.Verdict.{answers_by};
 
 use crate::at_source::{AtSource, Origin};
@@ -42,7 +42,8 @@ fn header_at<'a, D: ReadAt, K: Origin>(
     ensures given { IfOk result (λ found. D.given found.dev.now ≤ K.given + found.at) }
     ensures uncounted { IfOk result (λ found. D.failed found.dev.now ≡ D.failed dev.old) }
     ensures header { IfOk result (λ found. HasHeader limits.now K.bytes found.at found.header) }
-    ensures some { IfOk result (λ found. IsSomeHeader limits.now found.header) }
+    ensures first { IfOk result
+        (λ found. GaveHeader limits.now (D.gave found.dev.now) found.at found.header) }
     ensures handed_back { IfErr result
         (λ refused. (device_of refused).ghost_name ≡ K.name) }
     ensures misses { IfErr result
@@ -77,12 +78,12 @@ pub fn opened_ranges<'a, D: ReadAt>(
 ) -> Result<RangeReader<'a, D>, Refused<'a, D, Fault>>
     ensures same_reference { IfOk result
         (λ reader. (source_at_of reader).ghost_name ≡ dev.entry.ghost_name) }
-    ensures ranges { IfOk result (λ reader. StartsFileRanges D.bytes D.given D.failed D.was_read
+    ensures ranges { IfOk result (λ reader. StartsFileRanges D.bytes D.given D.failed D.gave
         D.found limits.now (answers_by identities.now (λ i s. meaning i s)) dev.old
         (source_at_of reader).now (Ok (chunks_of reader))) }
     ensures handed_back { IfErr result
         (λ refused. (device_of refused).ghost_name ≡ dev.entry.ghost_name) }
-    ensures refuses { IfErr result (λ refused. StartsFileRanges D.bytes D.given D.failed D.was_read
+    ensures refuses { IfErr result (λ refused. StartsFileRanges D.bytes D.given D.failed D.gave
         D.found limits.now (answers_by identities.now (λ i s. meaning i s)) dev.old
         (device_of refused).now (Err (fault_of refused))) }
 {
@@ -122,11 +123,11 @@ pub fn open_ranges<'a, D: ReadAt>(
 ) -> Result<RangeReader<'a, D>, Fault>
     ensures same_reference { IfOk result
         (λ reader. (source_at_of reader).ghost_name ≡ dev.entry.ghost_name) }
-    ensures ranges { IfOk result (λ reader. StartsFileRanges D.bytes D.given D.failed D.was_read
+    ensures ranges { IfOk result (λ reader. StartsFileRanges D.bytes D.given D.failed D.gave
         D.found limits.now (answers_by identities.now (λ i s. meaning i s)) dev.old
         (source_at_of reader).now (Ok (chunks_of reader))) }
     ensures refuses { IfErr result (λ fault. (last : D) × StartsFileRanges D.bytes D.given D.failed
-        D.was_read D.found limits.now (answers_by identities.now (λ i s. meaning i s))
+        D.gave D.found limits.now (answers_by identities.now (λ i s. meaning i s))
         dev.old last (Err fault)) }
 {
     match opened_ranges(alloc, dev, identities, limits) {

@@ -19,6 +19,7 @@ mod arguments;
 pub mod base64_no_pad;
 mod device;
 mod fault;
+mod file_key;
 mod filling;
 mod header;
 pub mod laws;
@@ -32,6 +33,7 @@ mod writer;
 
 pub use device::{DeviceFault, MemSink, MemSource, ReadSource, Sink, Source, WriteSink, write_all};
 pub use fault::HeaderFault;
+pub use file_key::FileKey;
 pub use filling::fill_from;
 pub use header::Header;
 pub use reader::HeaderReader;

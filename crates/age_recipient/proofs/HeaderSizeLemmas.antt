@@ -9,7 +9,7 @@ use Rattle.age_header.specs.Base64.{IsBase64, base64_of}
 use Rattle.age_header.specs.Header.{Head, IsFullLine, IsStanza, StanzaParts, argument_line, line, version_line}
 use Rattle.age_header.proofs.LengthLemmas.{length-line, length-version_line}
 use Rattle.age_header.proofs.TextLemmas.{signs_size}
-use Rattle.age_recipient.specs.declared.key.FileKey.{FileKey}
+use Rattle.age_header.specs.declared.file_key.FileKey.{FileKey}
 use Rattle.age_recipient.specs.KeyedStanza.{keyed_stanza, keyed_wrap_key}
 use Rattle.age_recipient.specs.PassphraseStanza.{pass_wrap_key, pass_stanza}
 use Rattle.age_recipient.specs.Sealing.{zero_nonce}

@@ -2,7 +2,7 @@
 use Rattle.std.specs.Prelude.{List}
 use Rattle.std.specs.declared.result.Result.{Result}
 use Rattle.std.specs.declared.result.Result.TheVariants.{Ok, Err}
-use Rattle.age_recipient.specs.declared.key.FileKey.{FileKey}
+use Rattle.age_header.specs.declared.file_key.FileKey.{FileKey}
 use Rattle.age_recipient.specs.declared.choice.UnlockFault.{UnlockFault}
 use Rattle.age_recipient.specs.declared.choice.UnlockFault.TheVariants as unlock
 use Rattle.age_recipient.specs.declared.unwrapped.Unwrapped.{Unwrapped}

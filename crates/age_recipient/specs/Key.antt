@@ -1,6 +1,6 @@
 -- A file key as a value.
 use Rattle.std.specs.Prelude.{◌≡◌, ◌<◌, ℕ, length, slice_index}
-use Rattle.age_recipient.specs.declared.key.FileKey.{FileKey}
+use Rattle.age_header.specs.declared.file_key.FileKey.{FileKey}
 
 -- how many bytes a file key has
 abbrev pub file_key_size : ℕ

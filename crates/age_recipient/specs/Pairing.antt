@@ -14,7 +14,7 @@ use Rattle.age_cipher.proofs.OpeningLemmas.{length-sealed, opened-sealed}
 use Rattle.age_header.specs.Base64.{decoded, base64_of}
 use Rattle.age_header.specs.Header.{StanzaParts}
 use Rattle.age_header.proofs.Base64Lemmas.{decoded-base64_of}
-use Rattle.age_recipient.specs.declared.key.FileKey.{FileKey}
+use Rattle.age_header.specs.declared.file_key.FileKey.{FileKey}
 use Rattle.age_recipient.specs.declared.unwrapped.Unwrapped.{Unwrapped}
 use Rattle.age_recipient.specs.declared.unwrapped.Unwrapped.TheVariants.{Key}
 use Rattle.age_recipient.specs.Answer.{decided}

@@ -6,7 +6,7 @@ use Rattle.std.specs.declared.option.Option.{Option}
 use Rattle.std.specs.declared.option.Option.TheVariants.{None, Some}
 use Rattle.age_kdf.specs.Bytes.{Bytes}
 use Rattle.age_cipher.specs.Sealing.{sealed, opened}
-use Rattle.age_recipient.specs.declared.key.FileKey.{FileKey}
+use Rattle.age_header.specs.declared.file_key.FileKey.{FileKey}
 use Rattle.age_recipient.specs.declared.unwrapped.Unwrapped.{Unwrapped}
 use Rattle.age_recipient.specs.declared.unwrapped.Unwrapped.TheVariants as answer
 use Rattle.age_cipher.specs.Bytes.{Key, Nonce, tag_size}

@@ -5,9 +5,8 @@ ghost use Rattle.age_recipient.specs.Answer.{decided};
 ghost use Rattle.age_recipient.specs.Choice.{choice};
 
 use crate::identity::Identity;
-use crate::key::FileKey;
 use crate::unwrapped::{StanzaFault, Unwrapped};
-use age_header::Stanza;
+use age_header::{FileKey, Stanza};
 use std::alloc::{AllocError, Global};
 
 /// Why identities found no file key.

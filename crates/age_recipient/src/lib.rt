@@ -20,7 +20,6 @@
 
 mod choice;
 mod identity;
-mod key;
 mod keyed;
 mod labels;
 mod matched;
@@ -30,9 +29,9 @@ mod sealing;
 mod stanza_list;
 mod unwrapped;
 
+pub use age_header::FileKey;
 pub use choice::{UnlockFault, unlock};
 pub use identity::Identity;
-pub use key::FileKey;
 pub use keyed::{KeyIdentity, KeyPair, KeyRecipient};
 pub use labels::{LabelSet, Labels, first_incompatible};
 pub use matched::Matched;

@@ -11,7 +11,7 @@ pub trait Matched {
 
     ghost use Rattle.std.specs.Prelude.{List, ◌≡◌, Ok};
     ghost use Rattle.age_header.specs.Header.{StanzaParts};
-    ghost use Rattle.age_recipient.specs.declared.key.FileKey.{FileKey};
+    ghost use Rattle.age_header.specs.declared.file_key.FileKey.{FileKey};
     ghost use Rattle.age_recipient.specs.declared.unwrapped.Unwrapped.TheVariants.{Key};
     ghost use Rattle.age_recipient.specs.Key.{IsFileKey};
 

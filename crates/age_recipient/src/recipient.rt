@@ -1,8 +1,7 @@
 //! What wraps a file key into stanzas.
 
-use crate::key::FileKey;
 use crate::labels::{LabelSet, Labels};
-use age_header::Stanza;
+use age_header::{FileKey, Stanza};
 use std::alloc::{AllocError, Global};
 
 /// Why a recipient returned no stanzas.
@@ -18,7 +17,7 @@ pub enum WrapFault {
 pub trait Recipient: Drop {
     ghost use Rattle.std.specs.Prelude.{List, [], ℕ, Result, IfOk};
     ghost use Rattle.age_header.specs.Header.{StanzaParts};
-    ghost use Rattle.age_recipient.specs.declared.key.FileKey.{FileKey};
+    ghost use Rattle.age_header.specs.declared.file_key.FileKey.{FileKey};
     ghost use Rattle.age_recipient.specs.declared.labels.Labels.{Labels};
     ghost use Rattle.age_recipient.specs.declared.labels.Labels.TheVariants.{Names};
     ghost use Rattle.age_recipient.specs.Labels.{MayLabel};

@@ -3,9 +3,9 @@
 ghost use Rattle.std.specs.Prelude.{◌≡◌, length};
 ghost use Rattle.age_recipient.specs.Sealing.{sealed_key, unsealed, sealed_key_size};
 
-use crate::key::FileKey;
 use crate::unwrapped::Unwrapped;
 use age_cipher::{open_in_place, seal_in_place};
+use age_header::FileKey;
 
 /// The body of a stanza: a file key and its tag.
 pub(crate) const SEALED_KEY_SIZE: usize = FILE_KEY_SIZE + 16;

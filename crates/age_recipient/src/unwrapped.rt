@@ -3,7 +3,7 @@
 ghost use Rattle.std.specs.Prelude.{◌≡◌, List, ◌∷◌, IfOk, IfErr};
 ghost use Rattle.age_recipient.specs.Answer.{decided_from};
 
-use crate::key::FileKey;
+use age_header::FileKey;
 use thiserror::Error;
 
 /// Why a stanza of an identity's own type is malformed. This crate's identities check these in this

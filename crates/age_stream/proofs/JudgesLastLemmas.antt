@@ -6,13 +6,13 @@ use Rattle.std.proofs.lemmas.List.{length-drop, length-take-le, drop-drop, take_
 use Rattle.age_kdf.specs.Bytes.{Bytes}
 use Rattle.age_header.specs.Device.{Known}
 use Rattle.age_cipher.proofs.OpeningLemmas.{length-sealed, opened-sealed}
-use Rattle.age_recipient.specs.declared.key.FileKey.{FileKey}
+use Rattle.age_header.specs.declared.file_key.FileKey.{FileKey}
 use Rattle.age_stream.specs.declared.fault.StreamFault.{StreamFault}
 use Rattle.age_stream.specs.declared.fault.StreamFault.TheVariants.{TooManyChunks, Write}
 use Rattle.age_stream.specs.declared.layout.Layout.{Layout}
 use Rattle.age_stream.specs.Opening.{IsAtPiece}
 use Rattle.age_stream.specs.Payload.{pieces, chunk_nonce, payload_key}
-use Rattle.age_stream.specs.Offsets.{EndsBefore, HasAt, WereRead}
+use Rattle.age_stream.specs.Offsets.{EndsBefore, HasAt, GaveAt}
 use Rattle.age_stream.specs.Reading.{opened_at, outcome}
 use Rattle.age_stream.specs.Ranges.{last_len, opens_to, IsOpenFault, IsVerified, JudgesLast, OpensRanges}
 use Rattle.age_stream.specs.Slice.{opening, plain_len, chunk_len, last_piece, last_outcome, range_outcome}
@@ -106,17 +106,17 @@ open-len key max i end n buf after room le opens within =
     (omega arith, λ pos. let some : 0 < length (take n after) = o.some refl pos in omega arith)
 
 -- a last piece that was read, and opens
-pub last-verified : (was_read : ℕ → ℕ → Type 0) (layout : Layout) (max last end n : ℕ) (buf after : Bytes)
+pub last-verified : (gave : ℕ → ℕ → Type 0) (layout : Layout) (max last end n : ℕ) (buf after : Bytes)
     → layout.count ≡ last + 1
-    → WereRead was_read (layout.first + 65552 * last) (take end buf)
+    → GaveAt gave (layout.first + 65552 * last) (take end buf)
     → outcome layout.key max last true (take end buf) ≡ Ok (take n after)
-    → n ≡ chunk_len layout.plain last → IsVerified was_read layout (layout.count - 1)
+    → n ≡ chunk_len layout.plain last → IsVerified gave layout (layout.count - 1)
     (take (chunk_len layout.plain (layout.count - 1)) after)
-last-verified was_read layout max last end n buf after count read opens len =
+last-verified gave layout max last end n buf after count read opens len =
     let o = outcome-opens layout.key max last true (take end buf) (take n after) opens in
     let at : last ≡ layout.count - 1 = omega arith in
     let is_last : nat_eq (last + 1) layout.count ≡ true = eq-eqb (last + 1) layout.count (sym count) in
-    subst (λ i. IsVerified was_read layout i (take (chunk_len layout.plain i) after)) at (record {
+    subst (λ i. IsVerified gave layout i (take (chunk_len layout.plain i) after)) at (record {
       piece = take end buf;
       read = read;
       opens = ap (λ b. opened_at layout.key last b (take end buf)) is_last

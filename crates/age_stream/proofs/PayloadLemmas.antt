@@ -14,7 +14,7 @@ use Rattle.age_stream.specs.Payload.{chunks, pieces, chunk_nonce, is_end, sealed
 use Rattle.age_stream.specs.Reading.{Reading, outcome, outcomes, first_fault, front, stops, reading_from, payload_reading, whole}
 use Rattle.age_stream.proofs.CuttingLemmas.{is_cut, one-cut, filled-cut, AtMost, cut-at_most}
 use Rattle.age_cipher.proofs.OpeningLemmas.{length-sealed, opened_is}
-use Rattle.age_recipient.specs.declared.key.FileKey.{FileKey}
+use Rattle.age_header.specs.declared.file_key.FileKey.{FileKey}
 
 -- a result is one or the other
 pub result_cases : {A F : Type 0} (r : Result A F) → ((t : A) × (r ≡ Ok t)) ⊎ ((f : F) × (r ≡ Err f))

@@ -5,7 +5,7 @@ use Rattle.std.proofs.lemmas.List.{length-take-le, length-drop, drop-drop, get_o
 use Rattle.std.proofs.Math.Seq.{take-add}
 use Rattle.age_kdf.specs.Bytes.{Bytes}
 use Rattle.age_header.specs.Device.{Known}
-use Rattle.age_stream.specs.Offsets.{HasAt, StaysRead, WereRead}
+use Rattle.age_stream.specs.Offsets.{HasAt, StaysGiven, GaveAt}
 
 -- further bytes after those that were read
 pub has-on : (told : Known) (at got n : ℕ) (old new : Bytes) → got + n ≤ length new → length new ≡ length old
@@ -25,8 +25,8 @@ has-on (Some bytes) at got n old new le len same so_far more =
 -- what was read before, and then the next bytes
 pub read-on : (old_read new_read : ℕ → ℕ → Type 0) (at got n : ℕ) (old new : Bytes) → got + n ≤ length new
     → length new ≡ length old → take got new ≡ take got old
-    → StaysRead old_read new_read → WereRead old_read at (take got old)
-    → WereRead new_read (at + got) (take n (drop got new)) → WereRead new_read at (take (got + n) new)
+    → StaysGiven old_read new_read → GaveAt old_read at (take got old)
+    → GaveAt new_read (at + got) (take n (drop got new)) → GaveAt new_read at (take (got + n) new)
 read-on old_read new_read at got n old new le len same stays so_far more k lt =
     let c : length (take (got + n) new) ≡ got + n = length-take-le (got + n) new le in
     let a : length (take got old) ≡ got = length-take-le got old (omega arith) in

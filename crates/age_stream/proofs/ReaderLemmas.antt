@@ -2,7 +2,7 @@
 use Rattle.std.proofs.Common.{◌≡◌, ◌⊎◌, inl, inr, ℕ, Ok}
 use Rattle.std.specs.Prelude.{IsErrOf}
 use Rattle.age_header.specs.Device.{Bytes, Known, GaveAtMost, flow_by}
-use Rattle.age_recipient.specs.declared.key.FileKey.{FileKey}
+use Rattle.age_header.specs.declared.file_key.FileKey.{FileKey}
 use Rattle.age_stream.specs.declared.fault.StreamFault.TheVariants.{Read}
 use Rattle.age_stream.specs.Opening.{OpenerState, Starts}
 use Rattle.age_stream.specs.Reader.{StartsReader}

@@ -5,12 +5,12 @@ use Rattle.std.proofs.lemmas.List.{length-drop, length-take-le, get_or_append_le
 use Rattle.std.proofs.lemmas.Option.{slice_get-get_or}
 use Rattle.age_kdf.specs.Bytes.{Bytes}
 use Rattle.age_stream.specs.declared.layout.Layout.{Layout}
-use Rattle.age_stream.specs.Offsets.{StaysRead}
+use Rattle.age_stream.specs.Offsets.{StaysGiven}
 use Rattle.age_stream.specs.Ranges.{IsVerified, IsVerifiedByte, KeepsVerified, RangeState, kept_text}
 use Rattle.age_stream.specs.Slice.{chunk_len}
 
 -- what was verified stays so
-pub verified-stays : (old new : ℕ → ℕ → Type 0) (layout : Layout) (i : ℕ) (text : Bytes) → StaysRead old new
+pub verified-stays : (old new : ℕ → ℕ → Type 0) (layout : Layout) (i : ℕ) (text : Bytes) → StaysGiven old new
     → IsVerified old layout i text → IsVerified new layout i text
 verified-stays old new layout i text stays v = record {
   piece = v.piece;
@@ -18,29 +18,29 @@ verified-stays old new layout i text stays v = record {
   opens = v.opens;
 }
 
-pub byte-stays : (old new : ℕ → ℕ → Type 0) (layout : Layout) (at byte : ℕ) → StaysRead old new
+pub byte-stays : (old new : ℕ → ℕ → Type 0) (layout : Layout) (at byte : ℕ) → StaysGiven old new
     → IsVerifiedByte old layout at byte → IsVerifiedByte new layout at byte
 byte-stays old new layout at byte stays v = (v.0, verified-stays old new layout (at / 65536) v.0 stays v.1, v.2)
 
 -- the text of the kept chunk
-pub verified-text : (was_read : ℕ → ℕ → Type 0) (s : RangeState) (layout : Layout) (i : ℕ) (text : Bytes)
+pub verified-text : (gave : ℕ → ℕ → Type 0) (s : RangeState) (layout : Layout) (i : ℕ) (text : Bytes)
     → s.layout ≡ layout → s.index ≡ Some i → text ≡ kept_text s i
-    → KeepsVerified was_read s → IsVerified was_read layout i text
-verified-text was_read s layout i text same at is keeps =
-    subst (λ l. IsVerified was_read l i text) same (subst (IsVerified was_read s.layout i) (sym is) (keeps i at))
+    → KeepsVerified gave s → IsVerified gave layout i text
+verified-text gave s layout i text same at is keeps =
+    subst (λ l. IsVerified gave l i text) same (subst (IsVerified gave s.layout i) (sym is) (keeps i at))
 
 -- the last chunk is kept
-pub keeps-last : (was_read : ℕ → ℕ → Type 0) (layout : Layout) (opened : ℕ) (items new : Bytes) → items ≡ new
-    → IsVerified was_read layout (layout.count - 1) (take (chunk_len layout.plain (layout.count - 1)) new)
-    → KeepsVerified was_read (record { layout = layout; index = Some (layout.count - 1); buf = items; opened = opened })
-keeps-last was_read layout opened items new same v i e =
+pub keeps-last : (gave : ℕ → ℕ → Type 0) (layout : Layout) (opened : ℕ) (items new : Bytes) → items ≡ new
+    → IsVerified gave layout (layout.count - 1) (take (chunk_len layout.plain (layout.count - 1)) new)
+    → KeepsVerified gave (record { layout = layout; index = Some (layout.count - 1); buf = items; opened = opened })
+keeps-last gave layout opened items new same v i e =
     let at : layout.count - 1 ≡ i = cc in
-    subst (λ b. IsVerified was_read layout i (take (chunk_len layout.plain i) b)) (sym same)
-    (subst (λ j. IsVerified was_read layout j (take (chunk_len layout.plain j) new)) at v)
+    subst (λ b. IsVerified gave layout i (take (chunk_len layout.plain i) b)) (sym same)
+    (subst (λ j. IsVerified gave layout j (take (chunk_len layout.plain j) new)) at v)
 
 -- so far, one chunk on
 pub verified-on : (old_read new_read : ℕ → ℕ → Type 0) (layout : Layout) (text old new : Bytes) (at done i skip n : ℕ)
-    → StaysRead old_read new_read
+    → StaysGiven old_read new_read
     → at + done ≡ 65536 * i + skip → done ≤ length old → done + n ≤ length new → skip + n ≤ length text
     → length text ≤ 65536 → IsVerified new_read layout i text
     → ((k : ℕ) → k < done → IsVerifiedByte old_read layout (at + k) (slice_index old k))
@@ -78,7 +78,7 @@ verified-on old_read new_read layout text old new at done i skip n stays pos le 
 
 -- each byte is as it was, or was verified
 pub changed-verified : (old_read new_read : ℕ → ℕ → Type 0) (layout : Layout) (old new : Bytes) (at done : ℕ)
-    → StaysRead old_read new_read → drop done new ≡ drop done old
+    → StaysGiven old_read new_read → drop done new ≡ drop done old
     → ((k : ℕ) → k < done → IsVerifiedByte old_read layout (at + k) (slice_index new k))
     → (k : ℕ) → (slice_index new k ≡ slice_index old k) ⊎ IsVerifiedByte new_read layout (at + k) (slice_index new k)
 changed-verified old_read new_read layout old new at done stays rest so_far k = elim (cases_lt k done) [

@@ -26,12 +26,12 @@ GivesAt told size at r buf =
     × (n ≡ 0 → 0 < length buf → IsPast told at × IfSome size (λ s. s ≤ at)))
 
 -- each of xs was read, at its offset from `at` on
-abbrev pub WereRead : (was_read : (at byte : ℕ) → Type 0) (at : ℕ) (xs : Bytes) → Type 0
-WereRead was_read at xs = (k : ℕ) → k < length xs → was_read (at + k) (slice_index xs k)
+abbrev pub GaveAt : (gave : (at byte : ℕ) → Type 0) (at : ℕ) (xs : Bytes) → Type 0
+GaveAt gave at xs = (k : ℕ) → k < length xs → gave (at + k) (slice_index xs k)
 
 -- what was read before stays so
-abbrev pub StaysRead : (old new : (at byte : ℕ) → Type 0) → Type 0
-StaysRead old new = (at byte : ℕ) → old at byte → new at byte
+abbrev pub StaysGiven : (old new : (at byte : ℕ) → Type 0) → Type 0
+StaysGiven old new = (at byte : ℕ) → old at byte → new at byte
 
 -- the offsets of all known bytes fit a u64
 abbrev pub HasOffsets : Known → Type 0

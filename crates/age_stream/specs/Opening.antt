@@ -1,10 +1,11 @@
 -- An opener of pieces between two calls, and what a call does.
-use Rattle.std.specs.Prelude.{ℕ, List, [], ◌++◌, ◌≡◌, ◌≤◌, ◌<◌, ◌+◌, ◌*◌, ◌⊎◌, length, take, drop, option_map, IfSome, Bool, true, false, Option, Some, None, Result, Ok, Err, if◌then◌else◌}
+use Rattle.std.specs.Prelude.{ℕ, List, [], ◌++◌, ◌≡◌, ◌≤◌, ◌<◌, ◌+◌, ◌*◌, ◌⊎◌, length, take, drop, option_map, IfSome, MatchResult, Bool, true, false, Option, Some, None, Result, Ok, Err, if◌then◌else◌}
+use Rattle.std.specs.Bool.{OnFalse}
 use Rattle.age_cipher.specs.Bytes.{Key}
 use Rattle.age_kdf.specs.Bytes.{Bytes}
 use Rattle.age_header.specs.Device.{Known, Flow, Gave, GaveAtMost, GaveSome, OfGiven, WritesPart, Moved, Took}
 use Rattle.std.specs.Io.KnownBytes.{IsAtEnd}
-use Rattle.age_recipient.specs.declared.key.FileKey.{FileKey}
+use Rattle.age_header.specs.declared.file_key.FileKey.{FileKey}
 use Rattle.age_stream.specs.declared.done.Done.{Done}
 use Rattle.age_stream.specs.declared.fault.StreamFault.{StreamFault}
 use Rattle.age_stream.specs.declared.fault.StreamFault.TheVariants.{NonceTruncated, ChunkShort, EmptyFinal, BadChunk, TooManyChunks, Read, Write}
@@ -75,6 +76,10 @@ KeepsState old new (Err fault) =
 -- there is no text, and no byte of another piece
 abbrev pub IsSpent : OpenerState → Type 0
 IsSpent s = (s.text ≡ []) × (s.held ≡ None)
+
+-- after the last piece, and after a fault, nothing is left of a text or of a piece
+abbrev pub IsSpentAfter : (s : OpenerState) (r : Result Bool StreamFault) → Type 0
+IsSpentAfter s r = MatchResult r (λ some. OnFalse some (IsSpent s)) (λ _. IsSpent s)
 
 -- what was given after the bytes that were held fills the buffer, or is all up to the end of the
 -- source; after the last piece nothing was given

@@ -6,7 +6,7 @@ use Rattle.age_cipher.specs.Bytes.{Key, Nonce}
 use Rattle.age_kdf.specs.Bytes.{Bytes}
 use Rattle.age_cipher.specs.Sealing.{sealed}
 use Rattle.age_kdf.specs.Hkdf.{hkdf}
-use Rattle.age_recipient.specs.declared.key.FileKey.{FileKey}
+use Rattle.age_header.specs.declared.file_key.FileKey.{FileKey}
 use Rattle.age_stream.specs.Cutting.{cut}
 use Rattle.age_stream.specs.Sizes.{chunk_size, sealed_chunk_size}
 

@@ -4,14 +4,14 @@ use Rattle.age_cipher.specs.Bytes.{Key}
 use Rattle.age_header.specs.Device.{CountsFaultIf, CountsIf, Known, Moved, moved_by}
 use Rattle.age_kdf.specs.Bytes.{Bytes}
 use denote.Ref.{MutBor}
-use Rattle.age_recipient.specs.declared.key.FileKey.{FileKey}
+use Rattle.age_header.specs.declared.file_key.FileKey.{FileKey}
 use Rattle.age_stream.specs.declared.fault.StreamFault.{StreamFault}
 use Rattle.age_stream.specs.declared.fault.StreamFault.TheVariants.{BadChunk, Read, Write, Memory}
 use Rattle.age_stream.specs.declared.layout.Layout.{Layout}
 use Rattle.age_stream.specs.declared.ranges.RangeReader.{RangeReader}
 use Rattle.age_stream.specs.Counts.{is_read}
 use Rattle.age_stream.specs.Payload.{payload_key}
-use Rattle.age_stream.specs.Offsets.{WereRead}
+use Rattle.age_stream.specs.Offsets.{GaveAt, StaysGiven}
 use Rattle.age_stream.specs.Reading.{opened_at}
 use Rattle.age_stream.specs.Slice.{opening, plain_len, chunk_len, IsSlice, last_piece, last_outcome, range_outcome}
 use Rattle.age_stream.specs.Sizes.{nonce_size, tag_size, chunk_size, sealed_chunk_size}
@@ -49,44 +49,44 @@ pub record IsSound (told : Known) (s : RangeState) : Type 0 where
 
 -- a text was verified as chunk i: it is what a piece opens to at the chunk's number, and this piece
 -- was read at the chunk's offset (C2SP age.md, "Payload")
-pub record IsVerified (was_read : (at byte : ℕ) → Type 0) (layout : Layout) (i : ℕ) (text : Bytes)
+pub record IsVerified (gave : (at byte : ℕ) → Type 0) (layout : Layout) (i : ℕ) (text : Bytes)
     : Type 0 where
   pub piece : Bytes
-  pub read : WereRead was_read (layout.first + sealed_chunk_size * i) piece
+  pub read : GaveAt gave (layout.first + sealed_chunk_size * i) piece
   pub opens : opened_at layout.key i (nat_eq (i + 1) layout.count) piece ≡ Some text
 
 -- a reader was opened on the payload at this offset, whether or not the source's contents are
 -- known: its key is that of the nonce that was read there, and its pieces end where the source does
-pub record BeginsAt (file_key : FileKey) (at : ℕ) (was_read : (at byte : ℕ) → Type 0)
+pub record BeginsAt (file_key : FileKey) (at : ℕ) (gave : (at byte : ℕ) → Type 0)
     (size : Option ℕ) (s : RangeState) : Type 0 where
   pub nonce : Bytes
   pub len : length nonce ≡ nonce_size
-  pub read : WereRead was_read at nonce
+  pub read : GaveAt gave at nonce
   pub key : s.layout.key ≡ payload_key file_key nonce
   pub first : s.layout.first ≡ at + nonce_size
   pub end : size ≡ Some (s.layout.first + s.layout.plain + tag_size * s.layout.count)
 
 -- the kept chunk was verified, whether or not the source's contents are known
-abbrev pub KeepsVerified : (was_read : (at byte : ℕ) → Type 0) (s : RangeState) → Type 0
-KeepsVerified was_read s =
-    (i : ℕ) → s.index ≡ Some i → IsVerified was_read s.layout i (kept_text s i)
+abbrev pub KeepsVerified : (gave : (at byte : ℕ) → Type 0) (s : RangeState) → Type 0
+KeepsVerified gave s =
+    (i : ℕ) → s.index ≡ Some i → IsVerified gave s.layout i (kept_text s i)
 
 -- the byte has this offset in a plaintext: it is a byte of a text that was verified
-abbrev pub IsVerifiedByte : (was_read : (at byte : ℕ) → Type 0) (layout : Layout) (at byte : ℕ)
+abbrev pub IsVerifiedByte : (gave : (at byte : ℕ) → Type 0) (layout : Layout) (at byte : ℕ)
     → Type 0
-IsVerifiedByte was_read layout at byte =
-    (text : Bytes) × IsVerified was_read layout (at / chunk_size) text
+IsVerifiedByte gave layout at byte =
+    (text : Bytes) × IsVerified gave layout (at / chunk_size) text
     × (slice_get text (at % chunk_size) ≡ Some byte)
 
 -- A range from `at` on gave only verified bytes: on Ok(n) the first n bytes of the buffer are, and
 -- on Err each that changed.
-abbrev pub GivesVerified : (was_read : (at byte : ℕ) → Type 0) (layout : Layout) (at : ℕ)
+abbrev pub GivesVerified : (gave : (at byte : ℕ) → Type 0) (layout : Layout) (at : ℕ)
     (old new : Bytes) (r : Result ℕ StreamFault) → Type 0
-GivesVerified was_read layout at old new (Ok n) =
-    (k : ℕ) → k < n → IsVerifiedByte was_read layout (at + k) (slice_index new k)
-GivesVerified was_read layout at old new (Err fault) =
+GivesVerified gave layout at old new (Ok n) =
+    (k : ℕ) → k < n → IsVerifiedByte gave layout (at + k) (slice_index new k)
+GivesVerified gave layout at old new (Err fault) =
     (k : ℕ) → (slice_index new k ≡ slice_index old k)
-    ⊎ IsVerifiedByte was_read layout (at + k) (slice_index new k)
+    ⊎ IsVerifiedByte gave layout (at + k) (slice_index new k)
 
 -- how many bytes a range of n from `at` on has
 abbrev pub range_len : (s : RangeState) (at n : ℕ) → ℕ
@@ -144,18 +144,19 @@ pub record RangeParts (D : Type 0) : Type 0 where
   pub buf : Bytes
 
 -- One call for the range from `at` on that the buffer has room for, whether or not the source's
--- contents are known. `told` gives them, `gave` and `failed` the source's counts, and `was_read`
+-- contents are known. `told` gives them, `count_given` and `failed` the source's counts, and `gave`
 -- the bytes that were read of it.
-pub record ReadsRange {D : Type 0} (told : D → Known) (gave failed : D → ℕ)
-    (was_read : D → (at byte : ℕ) → Type 0) (at : ℕ) (old new : RangeParts D)
+pub record ReadsRange {D : Type 0} (told : D → Known) (count_given failed : D → ℕ)
+    (gave : D → (at byte : ℕ) → Type 0) (at : ℕ) (old new : RangeParts D)
     (r : Result ℕ StreamFault) : Type 0 where
   pub stay : told new.source ≡ told old.source
+  pub stays_given : StaysGiven (gave old.source) (gave new.source)
   pub same : new.chunks.layout ≡ old.chunks.layout
   pub sound : IsSound (told old.source) old.chunks → IsSound (told old.source) new.chunks
-  pub keeps_verified : KeepsVerified (was_read old.source) old.chunks
-      → KeepsVerified (was_read new.source) new.chunks
-  pub verified : KeepsVerified (was_read old.source) old.chunks
-      → GivesVerified (was_read new.source) old.chunks.layout at old.buf new.buf r
+  pub keeps_verified : KeepsVerified (gave old.source) old.chunks
+      → KeepsVerified (gave new.source) new.chunks
+  pub verified : KeepsVerified (gave old.source) old.chunks
+      → GivesVerified (gave new.source) old.chunks.layout at old.buf new.buf r
   pub number : IfOk r (λ n. n ≡ range_len old.chunks at (length old.buf))
   pub filled : IfOk r (λ n. Fills (told old.source) old.chunks at n old.buf new.buf)
   pub stop : IfErr r (Stops (told old.source) old.chunks at
@@ -170,8 +171,8 @@ pub record ReadsRange {D : Type 0} (told : D → Known) (gave failed : D → ℕ
   pub opened : (end : ℕ) → at + range_len old.chunks at (length old.buf) ≤ chunk_size * end
       → new.chunks.opened ≤ old.chunks.opened + (end - first_to_open old.chunks.index at)
   pub given : (end : ℕ) → at + range_len old.chunks at (length old.buf) ≤ chunk_size * end
-      → gave new.source
-      ≤ gave old.source + sealed_span old.chunks.layout (first_to_open old.chunks.index at) end
+      → count_given new.source
+      ≤ count_given old.source + sealed_span old.chunks.layout (first_to_open old.chunks.index at) end
   pub empty : range_len old.chunks at (length old.buf) ≡ 0
       → (new.chunks ≡ old.chunks) × (new.source ≡ old.source)
 
@@ -232,16 +233,17 @@ pub record Probes (source : Moved) (at given given2 : ℕ) : Type 0 where
 
 -- what was made of a source, and what became of it, whether or not its contents are known: a reader
 -- that gives no byte that was not verified, or the fault. `told` gives its contents, `given` and
--- `failed` its counts, `was_read` the bytes that were read of it, and `found` the size that was
+-- `failed` its counts, `gave` the bytes that were read of it, and `found` the size that was
 -- found.
 abbrev pub StartsRanges : {D : Type 0} (told : D → Known) (given failed : D → ℕ)
-    (was_read : D → (at byte : ℕ) → Type 0) (found : D → Option ℕ) (file_key : FileKey)
+    (gave : D → (at byte : ℕ) → Type 0) (found : D → Option ℕ) (file_key : FileKey)
     (max at : ℕ) (old new : D) (r : Result RangeState StreamFault) → Type 0
-StartsRanges told given failed was_read found file_key max at old new r =
+StartsRanges told given failed gave found file_key max at old new r =
     OpensRanges file_key max at (told old) r
     × Probes (moved_by told old new) at (given old) (given new)
+    × StaysGiven (gave old) (gave new)
     × MatchResult r
-    (λ s. BeginsAt file_key at (was_read new) (found new) s × KeepsVerified (was_read new) s
+    (λ s. BeginsAt file_key at (gave new) (found new) s × KeepsVerified (gave new) s
     × (failed new ≡ failed old))
     (λ fault. IsOpenFault fault × CountsFaultIf is_read (failed old) (failed new) fault)
 

@@ -2,12 +2,12 @@
 use Rattle.std.specs.Prelude.{ℕ, ◌≡◌, ◌⊎◌, IfErr, IsErrOf, Bool, true, false, Option, None, Some, Result, Ok, Err}
 use denote.Ref.{MutBor}
 use Rattle.age_header.specs.Device.{Bytes, CountsFaultIf, CountsIf, Flow, GaveAtMost, Known, flow_by}
-use Rattle.age_recipient.specs.declared.key.FileKey.{FileKey}
+use Rattle.age_header.specs.declared.file_key.FileKey.{FileKey}
 use Rattle.age_stream.specs.declared.fault.StreamFault.{StreamFault}
 use Rattle.age_stream.specs.declared.fault.StreamFault.TheVariants.{Read}
 use Rattle.age_stream.specs.declared.reader.StreamReader.{StreamReader}
 use Rattle.age_stream.specs.Counts.{is_read}
-use Rattle.age_stream.specs.Opening.{Advances, OpenerState, Starts}
+use Rattle.age_stream.specs.Opening.{Advances, IsSpentAfter, OpenerState, Starts}
 use Rattle.age_stream.specs.Sizes.{nonce_size}
 use Rattle.age_stream.specs.Writer.{IsRefusedMemory}
 
@@ -38,12 +38,13 @@ is_lent (Ok (Some piece)) = Ok true
 is_lent (Err fault) = Err fault
 
 -- One call of a reader that keeps no fault: a failed read is counted, and a fault is kept. Unless
--- the fault is Read, its opener made the step `Advances`.
+-- the fault is Read, its opener made the step `Advances`. After the last piece, and after a fault, it
+-- holds no byte.
 abbrev pub Lends : (old new : OpenerState) (source : Flow) (before after : ℕ)
     (r : Result Bool StreamFault) → Type 0
 Lends old new source before after r =
     IfErr r (λ fault. new.fault ≡ Some fault) × CountsIf is_read before after r
-    × (IsErrOf r Read ⊎ Advances old new source r)
+    × (IsErrOf r Read ⊎ Advances old new source r) × IsSpentAfter new r
 
 -- the source of a reader, and its opener
 abbrev pub source_of : {S B : Type 0} → StreamReader S B → MutBor S

@@ -3,8 +3,8 @@ ghost use Rattle.std.specs.Prelude.{◌≡◌, ◌^◌, ◌<◌};
 ghost use Rattle.age_stream.specs.Payload.{payload_key, chunk_nonce};
 ghost use Rattle.age_stream.specs.Sizes.{most_chunks};
 
+use age_header::FileKey;
 use age_kdf::hkdf;
-use age_recipient::FileKey;
 
 /// The nonce of chunk i: its number in eleven big-endian bytes, then 1 for the last chunk and 0 for
 /// the others (C2SP `age.md`, "Payload"). Eleven bytes hold the numbers below 2^88.

@@ -2,7 +2,7 @@
 ghost use Rattle.std.specs.Prelude.{◌≡◌, ◌+◌, ◌-◌, ◌/◌, ◌<◌, ◌≤◌, ◌++◌, length, take, drop, min, Some, None, IfOk, OnOk, OnErr, IfErr, if◌then◌else◌};
 ghost use Rattle.age_header.specs.Device.{CountsIf, moved_by};
 ghost use Rattle.age_stream.specs.Counts.{is_read};
-ghost use Rattle.age_stream.specs.Offsets.{StaysRead};
+ghost use Rattle.age_stream.specs.Offsets.{StaysGiven};
 ghost use Rattle.age_stream.specs.Ranges.{BeginsAt, IsLost, IsOpenFault, IsSound, KeepsVerified, OpenedAtLeast, OpensRanges, Probes, ReadsRange, is_kept, kept_text};
 ghost use Rattle.age_stream.specs.Slice.{chunk_len};
 ghost use Rattle.age_stream.specs.Sizes.{tag_size, chunk_buf_size};
@@ -14,7 +14,7 @@ use crate::layout::Layout;
 use crate::loading::{chunk_len, load, load_last, payload_start};
 use crate::read_at::ReadAt;
 use crate::sizes::{CHUNK_SIZE, NONCE_SIZE};
-use age_recipient::FileKey;
+use age_header::FileKey;
 use std::alloc::Global;
 use std::marker::Model;
 
@@ -98,9 +98,10 @@ impl Chunks {
         ensures probes { Probes (moved_by D.bytes dev.old dev.new) payload_at (D.given dev.old)
             (D.given dev.new) }
         ensures opens { OpensRanges key.now max_chunks payload_at (D.bytes dev.old) result }
+        ensures stays_given { StaysGiven (D.gave dev.old) (D.gave dev.new) }
         ensures begins { IfOk result
-            (BeginsAt key.now payload_at (D.was_read dev.new) (D.found dev.new)) }
-        ensures verified { IfOk result (KeepsVerified (D.was_read dev.new)) }
+            (BeginsAt key.now payload_at (D.gave dev.new) (D.found dev.new)) }
+        ensures verified { IfOk result (KeepsVerified (D.gave dev.new)) }
         ensures named { IfErr result IsOpenFault }
         ensures count { CountsIf is_read (D.failed dev.old) (D.failed dev.new) result }
     {
@@ -136,9 +137,9 @@ impl Chunks {
         ensures kept_chunk { OnOk result (self.new.index ≡ Some i) }
         ensures none { OnErr result (self.new.index ≡ None) }
         ensures sound { IsSound (D.bytes dev.old) self.old → IsSound (D.bytes dev.old) self.new }
-        ensures stays_read { StaysRead (D.was_read dev.old) (D.was_read dev.new) }
-        ensures keeps_verified { KeepsVerified (D.was_read dev.old) self.old
-            → KeepsVerified (D.was_read dev.new) self.new }
+        ensures stays_given { StaysGiven (D.gave dev.old) (D.gave dev.new) }
+        ensures keeps_verified { KeepsVerified (D.gave dev.old) self.old
+            → KeepsVerified (D.gave dev.new) self.new }
         ensures lost { IfErr result (IsLost (D.bytes dev.old) self.old i) }
         ensures rises { self.old.opened ≤ self.new.opened }
         ensures counts { OpenedAtLeast self.old self.new.opened
@@ -179,7 +180,7 @@ impl Chunks {
         at: u64,
         buf: &mut [u8],
     ) -> Result<usize, StreamFault>
-        ensures reads { ReadsRange D.bytes D.given D.failed D.was_read at
+        ensures reads { ReadsRange D.bytes D.given D.failed D.gave at
             (record { source = dev.old; chunks = self.old; buf = buf.old })
             (record { source = dev.new; chunks = self.new; buf = buf.new }) result }
     {

@@ -3,7 +3,7 @@ ghost use Rattle.std.specs.Prelude.{◌≡◌, ◌⊎◌, ◌^◌, ◌+◌, ◌-
 ghost use Rattle.std.specs.Bool.{OnTrue, OnFalse};
 ghost use Rattle.age_header.specs.Device.{Counts, CountsIf};
 ghost use Rattle.age_stream.specs.Counts.{is_read};
-ghost use Rattle.age_stream.specs.Offsets.{EndsBefore, HasAt, IsPast, StaysRead, WereRead};
+ghost use Rattle.age_stream.specs.Offsets.{EndsBefore, HasAt, IsPast, StaysGiven, GaveAt};
 ghost use Rattle.age_stream.specs.Ranges.{IsOpenFault, IsThere, IsVerified, JudgesLast, last_len, opens_to};
 ghost use Rattle.age_stream.specs.Slice.{chunk_len};
 ghost use Rattle.age_stream.specs.Sizes.{nonce_size, tag_size, chunk_buf_size};
@@ -40,9 +40,9 @@ fn read_after<D: ReadAt>(
     ensures gives { IfOk result
         (λ n. HasAt (D.bytes dev.old) (at + got) (take n (drop got buf.new))) }
     ensures found { D.found dev.new ≡ D.found dev.old }
-    ensures stays_read { StaysRead (D.was_read dev.old) (D.was_read dev.new) }
+    ensures stays_given { StaysGiven (D.gave dev.old) (D.gave dev.new) }
     ensures read { IfOk result
-        (λ n. WereRead (D.was_read dev.new) (at + got) (take n (drop got buf.new))) }
+        (λ n. GaveAt (D.gave dev.new) (at + got) (take n (drop got buf.new))) }
     ensures end { IfOk result (λ n. n ≡ 0 → IsPast (D.bytes dev.old) (at + got)) }
     ensures given { IfOk result (λ n. D.given dev.new ≤ D.given dev.old + n) }
     ensures none_given { OnErr result (D.given dev.new ≡ D.given dev.old) }
@@ -67,9 +67,9 @@ pub(crate) fn read_full<D: ReadAt>(
     ensures stay { D.bytes dev.new ≡ D.bytes dev.old }
     ensures full { IfOk result (λ all. OnTrue all (HasAt (D.bytes dev.old) at (take end buf.new))) }
     ensures found { D.found dev.new ≡ D.found dev.old }
-    ensures stays_read { StaysRead (D.was_read dev.old) (D.was_read dev.new) }
+    ensures stays_given { StaysGiven (D.gave dev.old) (D.gave dev.new) }
     ensures read { IfOk result
-        (λ all. OnTrue all (WereRead (D.was_read dev.new) at (take end buf.new))) }
+        (λ all. OnTrue all (GaveAt (D.gave dev.new) at (take end buf.new))) }
     ensures short { IfOk result (λ all. OnFalse all (EndsBefore (D.bytes dev.old) (at + end))) }
     ensures given { D.given dev.new ≤ D.given dev.old + end }
     ensures count { Counts (D.failed dev.old) (D.failed dev.new) result }
@@ -105,8 +105,8 @@ pub(crate) fn load<D: ReadAt>(
     ensures stay { D.bytes dev.new ≡ D.bytes dev.old }
     ensures opens { OnOk result (IsThere (D.bytes dev.old) layout
         → opens_to (D.bytes dev.old) layout i ≡ Some (take (chunk_len layout.plain i) buf.new)) }
-    ensures stays_read { StaysRead (D.was_read dev.old) (D.was_read dev.new) }
-    ensures verified { OnOk result (IsVerified (D.was_read dev.new) layout i
+    ensures stays_given { StaysGiven (D.gave dev.old) (D.gave dev.new) }
+    ensures verified { OnOk result (IsVerified (D.gave dev.new) layout i
         (take (chunk_len layout.plain i) buf.new)) }
     ensures lost { IfErr result (λ fault. (fault ≡ StreamFault.Read)
         ⊎ ((fault ≡ StreamFault.BadChunk i)
@@ -137,7 +137,8 @@ pub(crate) fn payload_start<D: ReadAt>(dev: &mut D, at: u64) -> Result<PayloadSt
     ensures ok { IfOk result (λ start. IfSome (D.bytes dev.old) (λ bytes. (start.nonce
         ≡ take nonce_size (drop at bytes))
         × (length bytes ≡ at + nonce_size + start.sealed_len))) }
-    ensures read { IfOk result (λ start. WereRead (D.was_read dev.new) at start.nonce) }
+    ensures stays_given { StaysGiven (D.gave dev.old) (D.gave dev.new) }
+    ensures read { IfOk result (λ start. GaveAt (D.gave dev.new) at start.nonce) }
     ensures found { IfOk result
         (λ start. D.found dev.new ≡ Some (at + nonce_size + start.sealed_len)) }
     ensures err { IfErr result (λ fault. (fault ≡ StreamFault.Read)
@@ -177,9 +178,9 @@ pub(crate) fn load_last<D: ReadAt>(
     requires fits { first + sealed < 2 ^ 64 }
     ensures stay { D.bytes dev.new ≡ D.bytes dev.old }
     ensures found { D.found dev.new ≡ D.found dev.old }
-    ensures stays_read { StaysRead (D.was_read dev.old) (D.was_read dev.new) }
+    ensures stays_given { StaysGiven (D.gave dev.old) (D.gave dev.new) }
     ensures judges { JudgesLast key max first sealed (D.bytes dev.old) buf.new result }
-    ensures verified { IfOk result (λ layout. IsVerified (D.was_read dev.new) layout
+    ensures verified { IfOk result (λ layout. IsVerified (D.gave dev.new) layout
         (layout.count - 1) (take (chunk_len layout.plain (layout.count - 1)) buf.new)) }
     ensures named { IfErr result IsOpenFault }
     ensures given { D.given dev.new ≤ D.given dev.old + last_len sealed }

@@ -5,7 +5,7 @@ ghost use Rattle.age_kdf.specs.Bytes.{Bytes};
 ghost use Rattle.age_cipher.specs.Sealing.{opened};
 ghost use Rattle.age_header.specs.Device.{CountsIf, GaveAtMost, GaveSome, flow_by, moved_by};
 ghost use Rattle.age_stream.specs.Counts.{is_read, is_write};
-ghost use Rattle.age_stream.specs.Opening.{Advances, EndsAt, GivesNonce, GivesText, IsAtPiece, IsSpent, Loses, ReadsPiece, Starts, WritesAll};
+ghost use Rattle.age_stream.specs.Opening.{Advances, EndsAt, GivesNonce, GivesText, IsAtPiece, IsSpentAfter, Loses, ReadsPiece, Starts, WritesAll};
 ghost use Rattle.age_stream.specs.Reading.{outcome};
 ghost use Rattle.age_stream.specs.Sizes.{chunk_size, sealed_chunk_size, most_chunks, nonce_size, tag_size, chunk_buf_size};
 
@@ -15,8 +15,7 @@ use crate::done::Done;
 use crate::fault::StreamFault;
 use crate::sizes::{NONCE_SIZE, SEALED_CHUNK_SIZE, TAG_SIZE};
 use age_cipher::open_in_place;
-use age_header::{Sink, Source, fill_from, write_all};
-use age_recipient::FileKey;
+use age_header::{FileKey, Sink, Source, fill_from, write_all};
 use std::marker::Model;
 
 /// Opens the pieces of a payload in order, each in the same memory. It keeps a fault, and returns
@@ -118,8 +117,7 @@ impl ChunkOpener {
         ensures lost { IfNone self.old.fault
             (OnErr result (Loses self.old.held
             (flow_by S.to_come S.gave source.old source.new))) }
-        ensures blank { IfNone self.old.fault (MatchResult result
-            (λ some. OnFalse some (IsSpent self.new)) (λ _. IsSpent self.new)) }
+        ensures blank { IfNone self.old.fault (IsSpentAfter self.new result) }
     {
         if let Some(fault) = self.fault {
             return Err(fault);

@@ -6,7 +6,7 @@ use crate::chunks::Chunks;
 use crate::fault::StreamFault;
 use crate::read_at::ReadAt;
 use crate::refused::Refused;
-use age_recipient::FileKey;
+use age_header::FileKey;
 use std::alloc::Global;
 
 /// Reads any part of a payload's plaintext from a caller's source. It reads and opens only the
@@ -41,11 +41,11 @@ impl<'a, D: ReadAt> RangeReader<'a, D> {
     ) -> Result<RangeReader<'a, D>, Refused<'a, D, StreamFault>>
         ensures same_reference { IfOk result
             (λ reader. reader.dev.ghost_name ≡ dev.entry.ghost_name) }
-        ensures opens { IfOk result (λ reader. StartsRanges D.bytes D.given D.failed D.was_read
+        ensures opens { IfOk result (λ reader. StartsRanges D.bytes D.given D.failed D.gave
             D.found key.now max_chunks payload_at dev.old reader.dev.now (Ok reader.chunks)) }
         ensures handed_back { IfErr result
             (λ refused. refused.device.ghost_name ≡ dev.entry.ghost_name) }
-        ensures refuses { IfErr result (λ refused. StartsRanges D.bytes D.given D.failed D.was_read
+        ensures refuses { IfErr result (λ refused. StartsRanges D.bytes D.given D.failed D.gave
             D.found key.now max_chunks payload_at dev.old refused.device.now (Err refused.fault)) }
     {
         match Chunks::open(alloc, key, dev, payload_at, max_chunks) {
@@ -74,10 +74,10 @@ impl<'a, D: ReadAt> RangeReader<'a, D> {
     ) -> Result<RangeReader<'a, D>, StreamFault>
         ensures same_reference { IfOk result
             (λ reader. reader.dev.ghost_name ≡ dev.entry.ghost_name) }
-        ensures opens { IfOk result (λ reader. StartsRanges D.bytes D.given D.failed D.was_read
+        ensures opens { IfOk result (λ reader. StartsRanges D.bytes D.given D.failed D.gave
             D.found key.now max_chunks payload_at dev.old reader.dev.now (Ok reader.chunks)) }
         ensures refuses { IfErr result (λ fault. (last : D)
-            × StartsRanges D.bytes D.given D.failed D.was_read D.found key.now max_chunks payload_at
+            × StartsRanges D.bytes D.given D.failed D.gave D.found key.now max_chunks payload_at
             dev.old last (Err fault)) }
     {
         match RangeReader::started(alloc, key, dev, payload_at, max_chunks) {
@@ -112,7 +112,7 @@ impl<'a, D: ReadAt> RangeReader<'a, D> {
     /// and no chunk is kept. A later call reads the source again.
     pub fn read_range(&mut self, at: u64, buf: &mut [u8]) -> Result<usize, StreamFault>
         ensures same_reference { self.new.dev.ghost_name ≡ self.old.dev.ghost_name }
-        ensures reads { ReadsRange D.bytes D.given D.failed D.was_read at
+        ensures reads { ReadsRange D.bytes D.given D.failed D.gave at
             (record { source = self.old.dev.now; chunks = self.old.chunks; buf = buf.old })
             (record { source = self.new.dev.now; chunks = self.new.chunks; buf = buf.new })
             result }

@@ -4,7 +4,7 @@ ghost use Rattle.std.specs.Prelude.{◌≡◌, ◌+◌, ◌-◌, ◌^◌, ℕ, S
 ghost use Rattle.std.specs.declared.option.Option.{Option};
 ghost use Rattle.std.specs.Io.{ReadsAtMost};
 ghost use Rattle.age_header.specs.Device.{Known, Counts};
-ghost use Rattle.age_stream.specs.Offsets.{CountsGiven, FindsSize, GivesAt, HasOffsets, StaysRead, WereRead};
+ghost use Rattle.age_stream.specs.Offsets.{CountsGiven, FindsSize, GivesAt, HasOffsets, StaysGiven, GaveAt};
 
 use age_header::DeviceFault;
 use std::io::{Read, Seek, SeekFrom};
@@ -20,7 +20,7 @@ pub trait ReadAt {
     ghost found: { Self → Option ℕ };
 
     // Whether this byte was read at this offset. The default says nothing.
-    ghost was_read: { Self → (at byte : ℕ) → Type 0 } = { λ _ _ _. ⊤ };
+    ghost gave: { Self → (at byte : ℕ) → Type 0 } = { λ _ _ _. ⊤ };
 
     // The number of bytes read so far, saturating at the largest u64.
     ghost given: { Self → ℕ };
@@ -34,7 +34,7 @@ pub trait ReadAt {
     /// If the size was not found. The failure is counted.
     fn size(&mut self) -> Result<u64, DeviceFault>
         ensures stay { bytes self.new ≡ bytes self.old }
-        ensures stays_read { StaysRead (was_read self.old) (was_read self.new) }
+        ensures stays_given { StaysGiven (gave self.old) (gave self.new) }
         ensures size { FindsSize (bytes self.old) (found self.old) (found self.new) result }
         ensures given { given self.new ≡ given self.old }
         ensures count { Counts (failed self.old) (failed self.new) result };
@@ -50,8 +50,8 @@ pub trait ReadAt {
         ensures bound { ReadsAtMost result buf.new }
         ensures offsets { HasOffsets (bytes self.old) }
         ensures bytes { GivesAt (bytes self.old) (found self.old) at result buf.new }
-        ensures stays_read { StaysRead (was_read self.old) (was_read self.new) }
-        ensures read { IfOk result (λ n. WereRead (was_read self.new) at (take n buf.new)) }
+        ensures stays_given { StaysGiven (gave self.old) (gave self.new) }
+        ensures read { IfOk result (λ n. GaveAt (gave self.new) at (take n buf.new)) }
         ensures given { CountsGiven (given self.old) (given self.new) result }
         ensures count { Counts (failed self.old) (failed self.new) result };
 
@@ -84,7 +84,7 @@ impl<'a> MemAt<'a> {
 impl<'a> ReadAt for MemAt<'a> {
     ghost bytes = { λ s. Some s.bytes.now };
 
-    ghost was_read = { λ s at byte. slice_get s.bytes.now at ≡ Some byte };
+    ghost gave = { λ s at byte. slice_get s.bytes.now at ≡ Some byte };
 
     ghost found = { λ s. Some (length s.bytes.now) };
 

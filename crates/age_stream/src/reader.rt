@@ -3,7 +3,7 @@ ghost use Rattle.std.specs.Prelude.{◌≡◌, ◌⊎◌, ◌≤◌, [], Ok, Err
 ghost use Rattle.std.specs.Borrow.{sem, follows_so};
 ghost use Rattle.age_header.specs.Device.{CountsIf, flow_by, moved_by};
 ghost use Rattle.age_stream.specs.Counts.{is_read, is_write};
-ghost use Rattle.age_stream.specs.Opening.{Advances, EndsAt, WritesAll};
+ghost use Rattle.age_stream.specs.Opening.{Advances, EndsAt, IsSpentAfter, WritesAll};
 ghost use Rattle.age_stream.specs.Reader.{Lends, StartsReader, is_lent};
 ghost use mathlib.Core.Option.{none};
 ghost use mir.Syntax.{named};
@@ -14,8 +14,7 @@ use crate::done::Done;
 use crate::fault::StreamFault;
 use crate::opening::ChunkOpener;
 use crate::refused::Refused;
-use age_header::{Sink, Source};
-use age_recipient::FileKey;
+use age_header::{FileKey, Sink, Source};
 use std::alloc::Global;
 
 /// Reads a payload from a caller's source, and lends its chunks in order, each once it is verified.
@@ -115,6 +114,7 @@ impl<'a, S: Source> StreamReader<'a, S> {
         ensures opens { IfNone self.old.opener.fault (IsErrOf result StreamFault.Read
             ⊎ Advances self.old.opener self.new.opener
             (flow_by S.to_come S.gave self.old.input.now self.new.input.now) result) }
+        ensures blank { IfNone self.old.opener.fault (IsSpentAfter self.new.opener result) }
     {
         self.opener.advance(self.input)
     }

@@ -15,8 +15,7 @@ use crate::done::Done;
 use crate::fault::StreamFault;
 use crate::sizes::{CHUNK_SIZE, TAG_SIZE};
 use age_cipher::seal_in_place;
-use age_header::{DeviceFault, Sink, Source, fill_from, write_all};
-use age_recipient::FileKey;
+use age_header::{DeviceFault, FileKey, Sink, Source, fill_from, write_all};
 use std::marker::Model;
 
 /// Seals the chunks of a plaintext in order, each in the same memory. A full chunk is held until

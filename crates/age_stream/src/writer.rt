@@ -11,8 +11,7 @@ use crate::done::Done;
 use crate::fault::StreamFault;
 use crate::refused::Refused;
 use crate::sealing::ChunkSealer;
-use age_header::{MemSource, Sink, Source, write_all};
-use age_recipient::FileKey;
+use age_header::{FileKey, MemSource, Sink, Source, write_all};
 use std::alloc::Global;
 
 /// Writes a payload to a caller's sink. It must be consumed, by `seal_from`, `finish` or `abandon`.

@@ -78,7 +78,7 @@ impl<'a> ReadAt for CountingReadAt<'a> {
 
     ghost bytes = { λ _. None };
 
-    ghost was_read = { λ s. ⟦<MemAt<'a> as ReadAt>⟧.was_read s.bytes };
+    ghost gave = { λ s. ⟦<MemAt<'a> as ReadAt>⟧.gave s.bytes };
 
     ghost found = { λ s. ⟦<MemAt<'a> as ReadAt>⟧.found s.bytes };
 

@@ -5,7 +5,7 @@ use Rattle.std.proofs.lemmas.List.{drop_at, take-append-drop, take-append-le, ta
 use Rattle.std.proofs.Math.Seq.{take-append-add}
 use Rattle.age_kdf.specs.Bytes.{Bytes}
 use Rattle.age_header.proofs.VerdictUniqueLemmas as headers
-use Rattle.age_recipient.specs.declared.key.FileKey.{FileKey}
+use Rattle.age_header.specs.declared.file_key.FileKey.{FileKey}
 use Rattle.age_stream.specs.Payload.{payload_key}
 use Rattle.age_file.specs.declared.fault.Fault.{Fault}
 use Rattle.age_file.specs.declared.fault.Fault.TheVariants.{NonceTruncated, OutOfMemory}

@@ -14,7 +14,7 @@ use Rattle.age_header.specs.Verdict.{Found, HeaderVerdict}
 use Rattle.age_header.proofs.LengthLemmas.{length-line, length-version_line}
 use Rattle.age_header.proofs.VerdictUniqueLemmas.{begins_found}
 use Rattle.age_header.proofs.TextLemmas.{characters_are}
-use Rattle.age_recipient.specs.declared.key.FileKey.{FileKey}
+use Rattle.age_header.specs.declared.file_key.FileKey.{FileKey}
 use Rattle.age_file.specs.declared.fault.Fault.{Fault}
 use Rattle.age_file.specs.declared.fault.Fault.TheVariants.{BadLine, MixedPassphrase, OutOfMemory}
 use Rattle.age_file.specs.AgeFile.{is_mixed}

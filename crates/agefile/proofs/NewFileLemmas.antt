@@ -7,7 +7,7 @@ use Rattle.age_header.specs.declared.fault.HeaderFault.{HeaderFault}
 use Rattle.age_header.specs.Header.{AreStanzas, Head, IsStanza, StanzaParts}
 use Rattle.age_header.specs.Verdict.{Found, HeaderVerdict}
 use Rattle.age_header.proofs.VerdictUniqueLemmas as headers
-use Rattle.age_recipient.specs.declared.key.FileKey.{FileKey}
+use Rattle.age_header.specs.declared.file_key.FileKey.{FileKey}
 use Rattle.age_recipient.specs.Choice.{choice}
 use Rattle.age_recipient.specs.Key.{IsFileKey}
 use Rattle.age_recipient.specs.KeyedHolders.{key_unwraps}

@@ -7,7 +7,7 @@ use Rattle.age_header.specs.Header.{StanzaParts}
 use Rattle.age_header.specs.Mac.{header_mac}
 use Rattle.age_header.specs.Verdict.{Found}
 use Rattle.age_header.proofs.VerdictUniqueLemmas.{found_begins}
-use Rattle.age_recipient.specs.declared.key.FileKey.{FileKey}
+use Rattle.age_header.specs.declared.file_key.FileKey.{FileKey}
 use Rattle.age_stream.specs.Reading.{Reading}
 use Rattle.age_file.specs.declared.fault.Fault.{Fault}
 use Rattle.age_file.specs.NewFile.{IsHeading}

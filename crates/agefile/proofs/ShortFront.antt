@@ -10,7 +10,7 @@ use Rattle.age_header.specs.Header.{line, version_line, version_size}
 use Rattle.age_header.specs.Verdict.{AreLines, BeginsAsAge, Found, Finds, HeaderVerdict, IsLineText, lines_text}
 use Rattle.age_header.proofs.LengthLemmas.{length-version_line}
 use Rattle.age_header.proofs.VerdictUniqueLemmas as headers
-use Rattle.age_recipient.specs.declared.key.FileKey.{FileKey}
+use Rattle.age_header.specs.declared.file_key.FileKey.{FileKey}
 use Rattle.age_stream.specs.Payload.{payload_key}
 use Rattle.age_file.specs.declared.fault.Fault.{Fault}
 use Rattle.age_file.specs.declared.fault.Fault.TheVariants.{HeaderTruncated, NonceTruncated, OutOfMemory}

@@ -2,7 +2,7 @@
 use Rattle.std.specs.Prelude.{◌≡◌, ◌⊎◌, ◌≤◌, ◌++◌, ℕ, length, None, Vec, Result, Ok, Err}
 use Rattle.std.specs.Global.{Global}
 use Rattle.age_kdf.specs.Bytes.{Bytes}
-use Rattle.age_recipient.specs.declared.key.FileKey.{FileKey}
+use Rattle.age_header.specs.declared.file_key.FileKey.{FileKey}
 use Rattle.age_stream.specs.Payload.{chunks, payload}
 use Rattle.age_file.specs.declared.fault.Fault.{Fault}
 use Rattle.agefile.specs.declared.report.Report.{Report}

@@ -3,7 +3,7 @@
 ghost use Rattle.std.specs.Prelude.{◌≡◌, ◌-◌, ◌^◌, ◌<◌, ◌≤◌, ◌++◌, ℕ, length, min};
 ghost use Rattle.age_kdf.specs.Bytes.{Bytes};
 ghost use Rattle.age_header.specs.Header.{IsStanza};
-ghost use Rattle.age_recipient.specs.declared.key.FileKey.{FileKey};
+ghost use Rattle.age_header.specs.declared.file_key.FileKey.{FileKey};
 ghost use Rattle.age_recipient.specs.Key.{file_key_size};
 ghost use Rattle.age_recipient.specs.KeyedStanza.{keyed_stanza};
 ghost use Rattle.age_recipient.specs.PassphraseHolders.{WorkFits};

@@ -4,7 +4,7 @@ use Rattle.std.proofs.lemmas.Bool.{false≢true}
 use Rattle.age_file.specs.Words.{Bytes}
 use Rattle.age_header.specs.Header.{Head, StanzaParts}
 use Rattle.age_header.specs.Mac.{header_mac}
-use Rattle.age_recipient.specs.declared.key.FileKey.{FileKey}
+use Rattle.age_header.specs.declared.file_key.FileKey.{FileKey}
 use Rattle.age_recipient.specs.declared.labels.Labels.{Labels}
 use Rattle.age_recipient.specs.Key.{IsFileKey}
 use Rattle.age_recipient.specs.KeyedStanza.{keyed_stanza}

@@ -9,7 +9,7 @@ use Rattle.age_header.specs.Mac.{header_mac}
 use Rattle.age_header.specs.Verdict.{BeginsWith, Found, HeaderVerdict}
 use Rattle.age_header.proofs.DeviceLemmas.{of-known}
 use Rattle.age_header.proofs.VerdictUniqueLemmas as headers
-use Rattle.age_recipient.specs.declared.key.FileKey.{FileKey}
+use Rattle.age_header.specs.declared.file_key.FileKey.{FileKey}
 use Rattle.age_recipient.specs.declared.labels.Labels.{Labels}
 use Rattle.age_recipient.specs.declared.unwrapped.Unwrapped.{Unwrapped}
 use Rattle.age_recipient.specs.declared.unwrapped.Unwrapped.TheVariants.{Key}

@@ -4,11 +4,10 @@ ghost use Rattle.std.specs.Prelude.{◌≡◌};
 
 use super::stanza::{keyed_answer, keyed_stanza};
 use crate::identity::Identity;
-use crate::key::FileKey;
 use crate::recipient::{Recipient, WrapFault};
 use crate::stanza_list::{Opener, first_opened};
 use crate::unwrapped::Unwrapped;
-use age_header::Stanza;
+use age_header::{FileKey, Stanza};
 use std::alloc::{AllocError, Global};
 use std::marker::Model;
 

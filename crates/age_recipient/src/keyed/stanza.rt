@@ -4,11 +4,10 @@ ghost use Rattle.std.specs.Prelude.{◌≡◌, Some, map, IfOk};
 ghost use Rattle.std.specs.String.{string_bytes};
 ghost use Rattle.age_recipient.specs.KeyedStanza.{arguments_answer, keyed_answer, keyed_stanza, keyed_wrap_key, salted_answer};
 
-use crate::key::FileKey;
 use crate::sealing::{SEALED_KEY_SIZE, seal_key, unseal_key};
 use crate::stanza_list::{after_type, salt_of};
 use crate::unwrapped::{StanzaFault, Unwrapped};
-use age_header::{Stanza, base64_no_pad};
+use age_header::{FileKey, Stanza, base64_no_pad};
 use age_kdf::hkdf;
 use std::alloc::{AllocError, Global};
 

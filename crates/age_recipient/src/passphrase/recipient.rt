@@ -6,12 +6,11 @@ ghost use Rattle.age_recipient.specs.PassphraseHolders.{IsPassError, WorkFits};
 use super::stanza::{pass_answer, pass_stanza};
 use super::work::MOST_WORK;
 use crate::identity::Identity;
-use crate::key::FileKey;
 use crate::labels::Labels;
 use crate::recipient::{Recipient, WrapFault};
 use crate::stanza_list::{Opener, first_opened};
 use crate::unwrapped::Unwrapped;
-use age_header::Stanza;
+use age_header::{FileKey, Stanza};
 use std::alloc::{AllocError, Global};
 use std::marker::Model;
 

@@ -7,11 +7,10 @@ ghost use Rattle.age_recipient.specs.PassphraseHolders.{most_work};
 ghost use Rattle.age_recipient.specs.Sealing.{sealed_key_size};
 
 use super::work::{is_work_factor, work_at_most};
-use crate::key::FileKey;
 use crate::sealing::{SEALED_KEY_SIZE, seal_key, unseal_key};
 use crate::stanza_list::{after_type, salt_of};
 use crate::unwrapped::{StanzaFault, Unwrapped};
-use age_header::{Stanza, base64_no_pad};
+use age_header::{FileKey, Stanza, base64_no_pad};
 use age_kdf::{ScryptParams, scrypt};
 use std::alloc::{AllocError, Global};
 

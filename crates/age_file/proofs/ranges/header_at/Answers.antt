@@ -1,29 +1,35 @@
 use Rattle.std.proofs.Common.{◌∙◌, ap, drop, option_map, sym, subst}
-use Rattle.age_file.specs.Ranges.{AtState, IsOpenFault, IsWithin, MissesHeader}
-use Rattle.age_file.proofs.RangeLemmas.{header-found, header-missed, header-named, header-some}
+use Rattle.age_file.specs.Ranges.{AtState, GaveHeader, IsOpenFault, IsWithin, MissesHeader}
+use Rattle.age_file.proofs.RangeLemmas.{header-found, header-gave, header-missed, header-named}
 use Rattle.age_file.proofs.ranges.header_at.Goals as goal
 
 pub returns-in-Ok-clause-header : goal.returns-in-Ok-clause-header
 returns-in-Ok-clause-header g c =
-    let told = sym c.into_parts-dev.ensures.told ∙ c.into_parts-dev.ensures.bytes in
+    let told = ap g.D.ReadAt.bytes (sym c.into_parts-dev.ensures.unchanged) ∙ c.into_parts-dev.ensures.bytes in
     header-found c.args.limits.now g.K.Origin.bytes c.into_parts-dev.result.1 _ _ c.in-Ok.header
-    (ap (λ (s : AtState). option_map (drop s.at) s.told) c.new-source.ensures
+    (ap (λ (s : AtState _). option_map (drop s.at) (g.D.ReadAt.bytes s.dev)) c.new-source.ensures
     ∙ ap (option_map (drop 0)) (sym c.requires.bytes))
-    (ap (λ n. option_map (drop n) c.inspect.new.input.told) (sym c.into_parts-dev.ensures.at)
+    (ap (λ n. option_map (drop n) (g.D.ReadAt.bytes c.inspect.new.input.dev)) (sym c.into_parts-dev.ensures.at)
     ∙ ap (option_map (drop c.into_parts-dev.result.1)) told)
     (subst (λ t. IsWithin t c.into_parts-dev.result.1) c.into_parts-dev.ensures.bytes c.into_parts-dev.ensures.within)
     c.in-Ok.ensures.verdict
+
+pub returns-in-Ok-clause-first : goal.returns-in-Ok-clause-first
+returns-in-Ok-clause-first g c =
+    subst (λ n. GaveHeader c.args.limits.now (g.D.ReadAt.gave c.into_parts-dev.result.0.now) n c.in-Ok.header)
+    (sym c.into_parts-dev.ensures.at)
+    (subst (λ d. GaveHeader c.args.limits.now (g.D.ReadAt.gave d) c.inspect.new.input.at c.in-Ok.header)
+    (sym c.into_parts-dev.ensures.unchanged)
+    (header-gave (λ s. option_map (drop s.at) (g.D.ReadAt.bytes s.dev)) g.D.ReadAt.gave c.args.limits.now _ c.inspect.new.input c.in-Ok.header
+    (ap (λ (s : AtState _). s.at) c.new-source.ensures) c.in-Ok.ensures.verdict))
 
 pub returns-in-Err-clause-misses : goal.returns-in-Err-clause-misses
 returns-in-Err-clause-misses g c =
     subst (MissesHeader c.args.limits.now g.K.Origin.bytes) (sym c.of.ensures.fault)
     (header-missed c.args.limits.now g.K.Origin.bytes _ _ c.in-Err.fault
-    (ap (λ (s : AtState). option_map (drop s.at) s.told) c.new-source.ensures
+    (ap (λ (s : AtState _). option_map (drop s.at) (g.D.ReadAt.bytes s.dev)) c.new-source.ensures
     ∙ ap (option_map (drop 0)) (sym c.requires.bytes)) c.in-Err.ensures.verdict)
 
 pub returns-in-Err-clause-named : goal.returns-in-Err-clause-named
 returns-in-Err-clause-named g c = subst IsOpenFault (sym c.of.ensures.fault)
     (header-named c.args.limits.now _ _ c.in-Err.fault c.in-Err.ensures.verdict)
-
-pub returns-in-Ok-clause-some : goal.returns-in-Ok-clause-some
-returns-in-Ok-clause-some g c = header-some c.args.limits.now _ _ c.in-Ok.header c.in-Ok.ensures.verdict

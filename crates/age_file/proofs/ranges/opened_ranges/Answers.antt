@@ -3,7 +3,7 @@ use Rattle.age_header.specs.Header.{StanzaParts}
 use Rattle.age_header.specs.Device.{moved}
 use Rattle.age_file.specs.Ranges.{RefusesRanges}
 use Rattle.age_file.specs.Verdict.{stream_fault}
-use Rattle.age_file.proofs.RangeLemmas.{file-begins, file-ranges, header-refuses, locked-refuses, payload-refuses}
+use Rattle.age_file.proofs.RangeLemmas.{file-begins, file-ranges, header-refuses, header-stays, locked-refuses, payload-refuses}
 use Rattle.age_file.proofs.ranges.opened_ranges.Goals as goal
 
 pub returns-in-Err-clause-refuses : goal.returns-in-Err-clause-refuses
@@ -41,11 +41,12 @@ returns-in-Ok-started-clause-ranges g c =
           c.in-Ok.ensures.given c.max_chunks.ensures.value c.in-Ok.ensures.header
           c.in-Ok-unlock_header.ensures.key opens.0 opens.1,
       file-begins c.args.limits.now answers _ _ _ c.in-Ok.found.at c.in-Ok.found.header
-          c.in-Ok-unlock_header.key c.in-Ok.ensures.some c.in-Ok-unlock_header.ensures.key opens.2.0,
-      opens.2.1,
+          c.in-Ok-unlock_header.key (header-stays _ _ _ _ _ opens.2 c.in-Ok.ensures.first)
+          c.in-Ok-unlock_header.ensures.key opens.3.0,
+      opens.3.1,
       opens.0.0,
       opens.0.1,
-      opens.2.2 ∙ c.in-Ok.ensures.uncounted,
+      opens.3.2 ∙ c.in-Ok.ensures.uncounted,
     )
 
 pub returns-clause-refuses : goal.returns-clause-refuses
@@ -68,4 +69,4 @@ returns-clause-refuses g c =
     (g.D.ReadAt.failed met.device.now) c.in-Ok.found.at c.max_chunks.result c.in-Ok.found.header
     c.in-Ok-unlock_header.key met.fault c.in-Ok.ensures.stay c.in-Ok.ensures.uncounted
     c.max_chunks.ensures.value c.in-Ok.ensures.header c.in-Ok-unlock_header.ensures.key refuses.0
-    refuses.2.0 refuses.1.stay refuses.2.1))
+    refuses.3.0 refuses.1.stay refuses.3.1))

@@ -1,6 +1,6 @@
 use Rattle.std.proofs.Common.{List, map}
 use Rattle.age_header.specs.Header.{StanzaParts}
-use Rattle.age_recipient.specs.declared.key.FileKey.{FileKey}
+use Rattle.age_header.specs.declared.file_key.FileKey.{FileKey}
 use Rattle.age_file.specs.NewFile.{Gathered}
 use Rattle.age_header.specs.Device.{seen_by}
 use Rattle.age_file.proofs.DecryptLemmas.{headed}

@@ -2,12 +2,12 @@ use Rattle.std.proofs.Common.{rules, arith, length, ◌≡◌, subst}
 use Rattle.std.proofs.lemmas.Bool.{OnTrue_at}
 use Rattle.std.proofs.lemmas.List.{take_all}
 use Rattle.age_kdf.specs.Bytes.{Bytes}
-use Rattle.age_stream.specs.Offsets.{WereRead}
+use Rattle.age_stream.specs.Offsets.{GaveAt}
 use Rattle.age_stream.proofs.loading.payload_start.Goals as goal
 
 pub returns-in-Ok-true-clause-read : goal.returns-in-Ok-true-clause-read
 returns-in-Ok-true-clause-read g c =
     let nonce : Bytes = c.read_full.new.buf in
     let len : length nonce ≡ 16 = search rules in
-    subst (WereRead (g.D.ReadAt.was_read c.read_full.new.dev) c.args.at) (take_all 16 nonce (omega (arith, len)))
+    subst (GaveAt (g.D.ReadAt.gave c.read_full.new.dev) c.args.at) (take_all 16 nonce (omega (arith, len)))
     (OnTrue_at c.in-Ok-true.field-0-test c.in-Ok-true.ensures.read)

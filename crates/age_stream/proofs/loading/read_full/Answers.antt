@@ -21,10 +21,10 @@ loop-got-preserved g c =
       so_far = has-on told c.args.at got n c.loop-got.buf c.read_after.new.buf room same c.read_after.ensures.prefix
           old.so_far more;
       found = c.read_after.ensures.found ∙ old.found;
-      kept = λ at byte was. c.read_after.ensures.stays_read at byte (old.kept at byte was);
-      read = read-on (g.D.ReadAt.was_read c.loop-got.dev) (g.D.ReadAt.was_read c.read_after.new.dev) c.args.at got n
+      kept = λ at byte was. c.read_after.ensures.stays_given at byte (old.kept at byte was);
+      read = read-on (g.D.ReadAt.gave c.loop-got.dev) (g.D.ReadAt.gave c.read_after.new.dev) c.args.at got n
           c.loop-got.buf c.read_after.new.buf room same c.read_after.ensures.prefix
-          c.read_after.ensures.stays_read old.read c.in_ok-n.ensures.read;
+          c.read_after.ensures.stays_given old.read c.in_ok-n.ensures.read;
       given = omega (arith, c.in_ok-n.ensures.given, old.given);
       failed = c.in_ok-n.ensures.count ∙ old.failed;
     }

@@ -1,5 +1,5 @@
 use Rattle.std.proofs.Common.{length, ◌-◌, ◌≡◌, ◌+◌, ◌≤◌, take}
-use Rattle.age_stream.specs.Offsets.{HasAt, StaysRead, WereRead}
+use Rattle.age_stream.specs.Offsets.{HasAt, StaysGiven, GaveAt}
 use Rattle.age_stream.proofs.loading.read_full.Given as goal
 
 abbrev pub invariant-loop-got : goal.invariant-loop-got
@@ -9,8 +9,8 @@ invariant-loop-got g l = record {
   within : l.got ≤ l.end;
   so_far : HasAt (g.D.ReadAt.bytes l.fn.dev) l.at (take l.got l.buf);
   found : g.D.ReadAt.found l.dev ≡ g.D.ReadAt.found l.fn.dev;
-  kept : StaysRead (g.D.ReadAt.was_read l.fn.dev) (g.D.ReadAt.was_read l.dev);
-  read : WereRead (g.D.ReadAt.was_read l.dev) l.at (take l.got l.buf);
+  kept : StaysGiven (g.D.ReadAt.gave l.fn.dev) (g.D.ReadAt.gave l.dev);
+  read : GaveAt (g.D.ReadAt.gave l.dev) l.at (take l.got l.buf);
   given : g.D.ReadAt.given l.dev ≤ g.D.ReadAt.given l.fn.dev + l.got;
   failed : g.D.ReadAt.failed l.dev ≡ g.D.ReadAt.failed l.fn.dev;
 }

@@ -51,7 +51,7 @@ returns-in-Ok-load_last-clause-verified g c =
     let new = c.load_last.new.buf in
     let same : length new ≡ length c.into_bytes-buf.result.items = search rules in
     let len : c.into_bytes-buf.result.len ≡ length c.into_bytes-buf.result.items = search rules in
-    keeps-last (g.D.ReadAt.was_read c.load_last.new.dev) c.in-Ok-load_last.layout 1 _ new
+    keeps-last (g.D.ReadAt.gave c.load_last.new.dev) c.in-Ok-load_last.layout 1 _ new
     (written-all new c.into_bytes-buf.result.items c.into_bytes-buf.result.len same len)
     c.in-Ok-load_last.ensures.verified
 
@@ -65,7 +65,7 @@ returns-in-Ok-load_last-clause-begins g c =
     record {
       nonce = start.nonce;
       len = search rules;
-      read = λ k lt. c.load_last.ensures.stays_read (c.args.payload_at + k) (slice_index start.nonce k)
+      read = λ k lt. c.load_last.ensures.stays_given (c.args.payload_at + k) (slice_index start.nonce k)
           (c.in_ok-start.ensures.read k lt);
       key = judged.0 ∙ c.payload_key-key.ensures;
       first = first;

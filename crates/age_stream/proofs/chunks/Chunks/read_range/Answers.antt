@@ -23,6 +23,7 @@ returns g c =
     record {
       reads = record {
         stay = inv.stay;
+        stays_given = inv.kept;
         same = inv.layout;
         sound = inv.sound;
         keeps_verified = inv.keeps;
@@ -101,13 +102,14 @@ returns-in-Err g c =
     record {
       reads = record {
         stay = c.hold-held.ensures.stay ∙ inv.stay;
+        stays_given = λ at byte was. c.hold-held.ensures.stays_given at byte (inv.kept at byte was);
         same = c.hold-held.ensures.same ∙ inv.layout;
         sound = λ told_so. subst (λ x. IsSound x h) inv.stay (c.hold-held.ensures.sound
             (subst (λ x. IsSound x l) (sym inv.stay) (inv.sound told_so)));
         keeps_verified = λ keeps. c.hold-held.ensures.keeps_verified (inv.keeps keeps);
-        verified = λ keeps. changed-verified (g.D.ReadAt.was_read c.loop-done.dev)
-            (g.D.ReadAt.was_read c.hold-held.new.dev) s.layout c.args.buf.now c.loop-done.buf at c.loop-done.done
-            c.hold-held.ensures.stays_read inv.rest (inv.verified keeps);
+        verified = λ keeps. changed-verified (g.D.ReadAt.gave c.loop-done.dev)
+            (g.D.ReadAt.gave c.hold-held.new.dev) s.layout c.args.buf.now c.loop-done.buf at c.loop-done.done
+            c.hold-held.ensures.stays_given inv.rest (inv.verified keeps);
         number = tt;
         filled = tt;
         stop = record {
@@ -200,6 +202,7 @@ loop-done-preserved g c =
     c.hold-held.ensures.given in
     record {
       stay = c.hold-held.ensures.stay ∙ inv.stay;
+      kept = λ at byte was. c.hold-held.ensures.stays_given at byte (inv.kept at byte was);
       layout = lies;
       sound = sound;
       len = c.put-n.auto.buf ∙ inv.len;
@@ -213,10 +216,10 @@ loop-done-preserved g c =
           done i skip n pos (omega (arith, room)) part size (opens told_so) (inv.prefix told_so)
           (put-prefix c.loop-done.buf (take n (drop skip t)) c.put-n.new.buf done n (omega (arith, room)) sized put);
       keeps = λ keeps. c.hold-held.ensures.keeps_verified (inv.keeps keeps);
-      verified = λ keeps. verified-on (g.D.ReadAt.was_read c.loop-done.dev) (g.D.ReadAt.was_read c.hold-held.new.dev)
+      verified = λ keeps. verified-on (g.D.ReadAt.gave c.loop-done.dev) (g.D.ReadAt.gave c.hold-held.new.dev)
           s.layout t c.loop-done.buf c.put-n.new.buf at done i skip n
-          c.hold-held.ensures.stays_read pos (omega (arith, room)) (omega (arith, room, new_len)) part size
-          (verified-text (g.D.ReadAt.was_read c.hold-held.new.dev) h s.layout i t lies c.in_default.ensures.kept_chunk
+          c.hold-held.ensures.stays_given pos (omega (arith, room)) (omega (arith, room, new_len)) part size
+          (verified-text (g.D.ReadAt.gave c.hold-held.new.dev) h s.layout i t lies c.in_default.ensures.kept_chunk
           c.text.ensures.text (c.hold-held.ensures.keeps_verified (inv.keeps keeps)))
           (inv.verified keeps) (put-prefix c.loop-done.buf (take n (drop skip t)) c.put-n.new.buf done n
           (omega (arith, room)) sized put);

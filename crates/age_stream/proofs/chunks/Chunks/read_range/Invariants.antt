@@ -1,4 +1,5 @@
 use Rattle.std.proofs.Common.{length, ◌-◌, ◌≡◌, ◌+◌, ◌*◌, ◌/◌, ◌%◌, ◌≤◌, ◌<◌, ◌⊎◌, take, drop, slice_index, ℕ, Some}
+use Rattle.age_stream.specs.Offsets.{StaysGiven}
 use Rattle.age_stream.specs.Ranges.{HasPlain, IsSound, IsVerifiedByte, KeepsVerified, OpenedAtLeast, first_to_open, sealed_span}
 use Rattle.age_stream.specs.Sizes.{chunk_size}
 use Rattle.age_stream.proofs.chunks.Chunks.read_range.Given as goal
@@ -9,6 +10,7 @@ invariant-loop-done g l =
     let told = g.D.ReadAt.bytes l.fn.dev in
     record {
       stay : g.D.ReadAt.bytes l.dev ≡ told;
+      kept : StaysGiven (g.D.ReadAt.gave l.fn.dev) (g.D.ReadAt.gave l.dev);
       layout : l.self.layout ≡ s.layout;
       sound : IsSound told s → IsSound told l.self;
       len : length l.buf ≡ length l.fn.buf;
@@ -18,10 +20,10 @@ invariant-loop-done g l =
       below : l.at + l.done ≤ chunk_size * l.i + l.skip;
       rest : drop l.done l.buf ≡ drop l.done l.fn.buf;
       prefix : IsSound told s → HasPlain told s.layout l.at (take l.done l.buf);
-      keeps : KeepsVerified (g.D.ReadAt.was_read l.fn.dev) s
-          → KeepsVerified (g.D.ReadAt.was_read l.dev) l.self;
-      verified : KeepsVerified (g.D.ReadAt.was_read l.fn.dev) s → (k : ℕ) → k < l.done
-          → IsVerifiedByte (g.D.ReadAt.was_read l.dev) s.layout (l.at + k) (slice_index l.buf k);
+      keeps : KeepsVerified (g.D.ReadAt.gave l.fn.dev) s
+          → KeepsVerified (g.D.ReadAt.gave l.dev) l.self;
+      verified : KeepsVerified (g.D.ReadAt.gave l.fn.dev) s → (k : ℕ) → k < l.done
+          → IsVerifiedByte (g.D.ReadAt.gave l.dev) s.layout (l.at + k) (slice_index l.buf k);
       counts : OpenedAtLeast s l.self.opened (l.i - first_to_open s.index l.at);
       rises : s.opened ≤ l.self.opened;
       opened : l.self.opened ≤ s.opened + (l.i - first_to_open s.index l.at);
