@@ -3,3 +3,4 @@ mod OutputLemmas
 mod RangeLemmas
 mod SecretLemmas
 mod TaskLemmas
+mod VerifiedLemmas

@@ -1,13 +1,13 @@
 -- What the command `range` writes and returns.
-use Rattle.std.specs.Prelude.{◌≡◌, ◌⊎◌, ◌<◌, ◌≤◌, ◌+◌, ◌*◌, ◌-◌, ℕ, ⊤, length, None, Some, Result, Ok, Err}
+use Rattle.std.specs.Prelude.{◌≡◌, ◌⊎◌, ◌<◌, ◌≤◌, ◌+◌, ◌*◌, ◌-◌, ℕ, ⊤, length, slice_index, Option, None, Some, Result, Ok, Err}
 use Rattle.age_header.specs.Device.{Bytes, Known, Moved, Took, Stays}
 use Rattle.age_stream.specs.declared.layout.Layout.{Layout}
-use Rattle.age_stream.specs.Ranges.{HasPlain, RangeState, opens_to, range_len}
+use Rattle.age_stream.specs.Ranges.{HasPlain, IsVerifiedByte, RangeState, opens_to, range_len}
 use Rattle.age_stream.specs.Sizes.{chunk_size}
 use Rattle.age_file.specs.declared.fault.Fault.{Fault}
 use Rattle.age_file.specs.declared.fault.Fault.TheVariants.{BadChunk, Read, Write}
 use Rattle.age_file.specs.AgeFile.{Bounds}
-use Rattle.age_file.specs.Ranges.{IsRangesOf, MissesRanges}
+use Rattle.age_file.specs.Ranges.{BeginsFile, IsOpenFault, IsRangesOf, MissesRanges}
 use Rattle.age_file.specs.Verdict.{Answering}
 
 -- the plaintext's n bytes from offset `at` on were written
@@ -63,3 +63,55 @@ abbrev pub Ranging : (limits : Bounds) (answers : Answering) (at len : ℕ) (tol
 Ranging limits answers at len None sink result = ⊤
 Ranging limits answers at len (Some b) sink result =
     Unopened limits answers b sink result ⊎ OpensPart limits answers b at len sink result
+
+-- ---- any source, whether or not its contents are known
+
+-- n bytes of a plaintext from `at` on were written, each of which was verified
+pub record WritesVerified (gave : (at byte : ℕ) → Type 0) (layout : Layout) (at n : ℕ)
+    (sink : Moved) : Type 0 where
+  pub part : Bytes
+  pub size : length part ≡ n
+  pub verified : (k : ℕ) → k < length part
+      → IsVerifiedByte gave layout (at + k) (slice_index part k)
+  pub appends : Took sink part
+
+-- a fault with which the work on an opened file may end
+abbrev pub IsPartFault : Fault → Type 0
+IsPartFault fault = ((i : ℕ) × (fault ≡ BadChunk i)) ⊎ ((fault ≡ Read) ⊎ (fault ≡ Write))
+
+-- Of an opened file at most `len` bytes from `at` on were written: all that there are, or some
+abbrev pub WritesAny : (gave : (at byte : ℕ) → Type 0) (s : RangeState) (at len : ℕ)
+    (sink : Moved) (result : Result ⊤ Fault) → Type 0
+WritesAny gave s at len sink (Ok _) =
+    WritesVerified gave s.layout at (range_len s at len) sink
+WritesAny gave s at len sink (Err fault) =
+    IsPartFault fault
+    × ((n : ℕ) × (n ≤ range_len s at len) × WritesVerified gave s.layout at n sink)
+
+-- the same of the next bytes, which are of one chunk
+abbrev pub WritesNextAny : (gave : (at byte : ℕ) → Type 0) (s : RangeState) (at left : ℕ)
+    (sink : Moved) (result : Result ℕ Fault) → Type 0
+WritesNextAny gave s at left sink (Ok n) = WritesVerified gave s.layout at n sink
+WritesNextAny gave s at left sink (Err fault) = WritesAny gave s at left sink (Err fault)
+
+-- no file was opened, and nothing was written
+abbrev pub OpensNone : (sink : Moved) (result : Result ⊤ Fault) → Type 0
+OpensNone sink (Ok _) = ⊥
+OpensNone sink (Err fault) = IsOpenFault fault × Stays sink
+
+-- A file was opened, under the key that was chosen for its header, and a part of its plaintext was
+-- written. `source` is the source when the file was open, and `new` at the end.
+pub record OpensVerified {D : Type 0} (gave : D → (at byte : ℕ) → Type 0) (found : D → Option ℕ)
+    (limits : Bounds) (answers : Answering) (at len : ℕ) (new : D) (sink : Moved)
+    (result : Result ⊤ Fault) : Type 0 where
+  pub source : D
+  pub state : RangeState
+  pub begins : BeginsFile limits answers (gave source) (found source) state
+  pub writes : WritesAny (gave new) state at len sink result
+
+-- What `range` returns and writes, of any source. `gave` has the bytes that were given of it.
+abbrev pub RangingAny : {D : Type 0} (gave : D → (at byte : ℕ) → Type 0) (found : D → Option ℕ)
+    (limits : Bounds) (answers : Answering) (at len : ℕ) (new : D) (sink : Moved)
+    (result : Result ⊤ Fault) → Type 0
+RangingAny gave found limits answers at len new sink result =
+    OpensNone sink result ⊎ OpensVerified gave found limits answers at len new sink result

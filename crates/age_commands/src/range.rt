@@ -1,10 +1,11 @@
 //! The command `range`: a part of the plaintext of a file of the format.
 ghost use Rattle.std.specs.Prelude.{◌≤◌, ◌<◌, ◌≡◌, ◌+◌, ◌-◌, ◌^◌, ◌%◌, ◌∷◌, [], length, min, IfOk};
-ghost use Rattle.age_stream.specs.Ranges.{IsSound, chunks_of, range_len, source_at_of};
+ghost use Rattle.age_stream.specs.Offsets.{StaysGiven};
+ghost use Rattle.age_stream.specs.Ranges.{IsSound, KeepsVerified, chunks_of, range_len, source_at_of};
 ghost use Rattle.age_stream.specs.Sizes.{chunk_size};
 ghost use Rattle.age_job.specs.Job.{IsInRange};
 ghost use Rattle.age_job.specs.declared.ranges.TheConstants.{MOST_OFFSET};
-ghost use Rattle.age_commands.specs.Range.{Ranging, WritesNext, WritesRange};
+ghost use Rattle.age_commands.specs.Range.{Ranging, RangingAny, WritesNext, WritesNextAny, WritesAny, WritesRange};
 ghost use Rattle.age_commands.specs.Secret.{answers_of, limits_of};
 ghost use Rattle.age_header.specs.Device.{moved_by};
 
@@ -25,8 +26,11 @@ pub fn range_of<D: ReadAt, W: Sink>(
     out: &mut W,
 ) -> Result<(), Fault>
     requires { IsInRange job.now }
-    ensures { Ranging (limits_of job.now) (answers_of secret job.now.max_work) job.now.at
+    ensures known { Ranging (limits_of job.now) (answers_of secret job.now.max_work) job.now.at
         job.now.len (D.bytes input.old) (moved_by W.taken out.old out.new) result }
+    ensures any { RangingAny D.gave D.found (limits_of job.now)
+        (answers_of secret job.now.max_work) job.now.at job.now.len input.new
+        (moved_by W.taken out.old out.new) result }
 {
     let Ok(identity) = SecretIdentity::new(alloc, job, secret) else {
         return Err(Fault::OutOfMemory);
@@ -46,8 +50,11 @@ fn range_by<D: ReadAt, W: Sink>(
     out: &mut W,
 ) -> Result<(), Fault>
     requires { IsInRange job.now }
-    ensures { Ranging (limits_of job.now) (λ stanzas. meaning identity stanzas ∷ []) job.now.at
-        job.now.len (D.bytes input.old) (moved_by W.taken out.old out.new) result }
+    ensures known { Ranging (limits_of job.now) (λ stanzas. meaning identity stanzas ∷ [])
+        job.now.at job.now.len (D.bytes input.old) (moved_by W.taken out.old out.new) result }
+    ensures any { RangingAny D.gave D.found (limits_of job.now)
+        (λ stanzas. meaning identity stanzas ∷ []) job.now.at job.now.len input.new
+        (moved_by W.taken out.old out.new) result }
 {
     let Ok(identities) = vec![in alloc; identity] else {
         return Err(Fault::OutOfMemory);
@@ -56,7 +63,13 @@ fn range_by<D: ReadAt, W: Sink>(
         return Err(Fault::OutOfMemory);
     };
     match open_ranges(alloc, input, identities.as_slice(), &limits_of(job)) {
-        Ok(mut reader) => { write_range(&mut reader, job.at, job.len, piece.as_mut_slice(), out) }
+        Ok(mut reader) => {
+            let written = write_range(&mut reader, job.at, job.len, piece.as_mut_slice(), out);
+            let source = reader.into_inner();
+            // The proof reads from this what the source gave.
+            let _ = &*source;
+            written
+        }
         Err(fault) => Err(fault),
     }
 }
@@ -72,8 +85,13 @@ fn write_range<D: ReadAt, W: Sink>(
     requires at { at ≤ MOST_OFFSET }
     requires len { len ≤ MOST_OFFSET }
     requires piece { length piece.old ≡ CHUNK_SIZE }
-    ensures { let told = D.bytes (source_at_of reader.old).now in
+    ensures same_reference { (source_at_of reader.new).ghost_name
+        ≡ (source_at_of reader.old).ghost_name }
+    ensures known { let told = D.bytes (source_at_of reader.old).now in
         IsSound told (chunks_of reader.old) → WritesRange told (chunks_of reader.old) at len
+        (moved_by W.taken out.old out.new) result }
+    ensures any { KeepsVerified (D.gave (source_at_of reader.old).now) (chunks_of reader.old)
+        → WritesAny (D.gave (source_at_of reader.new).now) (chunks_of reader.old) at len
         (moved_by W.taken out.old out.new) result }
 {
     let mut at = at;
@@ -103,6 +121,8 @@ fn write_next<D: ReadAt, W: Sink>(
     requires end { at + left < 2 ^ 64 }
     requires left { 0 < left }
     requires piece { length piece.old ≡ CHUNK_SIZE }
+    ensures same_reference { (source_at_of reader.new).ghost_name
+        ≡ (source_at_of reader.old).ghost_name }
     ensures piece { length piece.new ≡ CHUNK_SIZE }
     ensures stay { D.bytes (source_at_of reader.new).now ≡ D.bytes (source_at_of reader.old).now }
     ensures same { (chunks_of reader.new).layout ≡ (chunks_of reader.old).layout }
@@ -112,6 +132,14 @@ fn write_next<D: ReadAt, W: Sink>(
         ≡ range_len (chunks_of reader.old) at (min left (chunk_size - at % chunk_size))) }
     ensures writes { let told = D.bytes (source_at_of reader.old).now in
         IsSound told (chunks_of reader.old) → WritesNext told (chunks_of reader.old) at left
+        (moved_by W.taken out.old out.new) result }
+    ensures stays_given { StaysGiven (D.gave (source_at_of reader.old).now)
+        (D.gave (source_at_of reader.new).now) }
+    ensures keeps_verified { let gave = D.gave (source_at_of reader.old).now in
+        KeepsVerified gave (chunks_of reader.old)
+        → KeepsVerified (D.gave (source_at_of reader.new).now) (chunks_of reader.new) }
+    ensures any { KeepsVerified (D.gave (source_at_of reader.old).now) (chunks_of reader.old)
+        → WritesNextAny (D.gave (source_at_of reader.new).now) (chunks_of reader.old) at left
         (moved_by W.taken out.old out.new) result }
 {
     let most = left.min(CHUNK_SIZE as u64 - at % CHUNK_SIZE as u64) as usize;

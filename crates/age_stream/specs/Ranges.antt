@@ -172,7 +172,8 @@ pub record ReadsRange {D : Type 0} (told : D → Known) (count_given failed : D 
       → new.chunks.opened ≤ old.chunks.opened + (end - first_to_open old.chunks.index at)
   pub given : (end : ℕ) → at + range_len old.chunks at (length old.buf) ≤ chunk_size * end
       → count_given new.source
-      ≤ count_given old.source + sealed_span old.chunks.layout (first_to_open old.chunks.index at) end
+      ≤ count_given old.source
+      + sealed_span old.chunks.layout (first_to_open old.chunks.index at) end
   pub empty : range_len old.chunks at (length old.buf) ≡ 0
       → (new.chunks ≡ old.chunks) × (new.source ≡ old.source)
 

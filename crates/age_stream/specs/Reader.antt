@@ -38,8 +38,8 @@ is_lent (Ok (Some piece)) = Ok true
 is_lent (Err fault) = Err fault
 
 -- One call of a reader that keeps no fault: a failed read is counted, and a fault is kept. Unless
--- the fault is Read, its opener made the step `Advances`. After the last piece, and after a fault, it
--- holds no byte.
+-- the fault is Read, its opener made the step `Advances`. After the last piece, and after a fault,
+-- it holds no byte.
 abbrev pub Lends : (old new : OpenerState) (source : Flow) (before after : ℕ)
     (r : Result Bool StreamFault) → Type 0
 Lends old new source before after r =

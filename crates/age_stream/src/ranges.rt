@@ -86,6 +86,14 @@ impl<'a, D: ReadAt> RangeReader<'a, D> {
         }
     }
 
+    /// The source. What the reader knows of it is lost.
+    pub fn into_inner(self) -> &'a mut D
+        ensures same_reference { result.ghost_name ≡ self.entry.dev.ghost_name }
+        ensures unchanged { result.now ≡ self.entry.dev.now }
+    {
+        self.dev
+    }
+
     /// The plaintext's length in bytes.
     pub fn plain_len(&self) -> u64
         ensures { result ≡ self.now.chunks.layout.plain }

@@ -1,5 +1,6 @@
 use Rattle.std.proofs.Common.{rules, inr, refl}
 use Rattle.age_commands.proofs.RangeLemmas.{stopped, written, written_part}
+use Rattle.age_commands.proofs.VerifiedLemmas as verified
 use Rattle.age_commands.proofs.range.write_next.Goals as goal
 
 pub returns-in-Err-clause-writes : goal.returns-in-Err-clause-writes
@@ -19,3 +20,19 @@ returns-in-Err-write_all-clause-writes g c = λ sound.
       written_part _ _ c.args.at c.in-Ok.n _ _ c.read_range.new.buf _ _ _ (search rules)
           (c.in-Ok.ensures.reads.filled.1 sound) (search rules) c.in-Err-write_all.ensures.text.1,
     )
+
+pub returns-in-Err-clause-any : goal.returns-in-Err-clause-any
+returns-in-Err-clause-any g c = λ keeps.
+    verified.stopped _ _ _ c.args.at c.args.left _ _ _ _ _ _ _ c.from.ensures c.in-Err.ensures.reads.stop
+
+pub returns-in-Ok-write_all-clause-any : goal.returns-in-Ok-write_all-clause-any
+returns-in-Ok-write_all-clause-any g c = λ keeps.
+    verified.written _ _ c.args.at c.in-Ok.n c.read_range.new.buf _ _ _ (search rules)
+    (c.in-Ok.ensures.reads.verified keeps) c.in-Ok-write_all.ensures.text
+
+pub returns-in-Err-write_all-clause-any : goal.returns-in-Err-write_all-clause-any
+returns-in-Err-write_all-clause-any g c = λ keeps. (
+  inr (inr refl),
+  verified.written_part _ _ c.args.at c.in-Ok.n _ _ c.read_range.new.buf _ _ _ (search rules)
+      (c.in-Ok.ensures.reads.verified keeps) (search rules) c.in-Err-write_all.ensures.text.1,
+)

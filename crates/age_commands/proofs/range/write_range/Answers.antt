@@ -1,12 +1,21 @@
-use Rattle.std.proofs.Common.{◌≡◌, ◌∙◌, ◌+◌, ◌-◌, ◌%◌, ℕ, ap, arith, min, subst, sym}
+use Rattle.std.proofs.Common.{◌≤◌, ◌<◌, ◌≡◌, ◌∙◌, ◌+◌, ◌-◌, ◌%◌, ℕ, ap, arith, min, subst, sym}
 use Rattle.age_header.specs.Device.{Known}
 use Rattle.age_stream.specs.declared.layout.Layout.{Layout}
 use Rattle.age_stream.specs.Ranges.{IsSound}
 use Rattle.age_commands.proofs.RangeLemmas.{failed_on, joined, some_on, whole_on}
+use Rattle.age_commands.proofs.VerifiedLemmas as verified
 use Rattle.age_commands.proofs.range.write_range.Goals as goal
 
-pub returns-in-Err : goal.returns-in-Err
-returns-in-Err g c = λ sound.
+pub returns-in-Err-clause-any : goal.returns-in-Err-clause-any
+returns-in-Err-clause-any g c = λ keeps.
+    let inv = c.loop-left.invariant in
+    verified.failed_on _ _ c.args.reader.now.chunks c.loop-left.reader.chunks c.args.at c.args.len c.loop-left.at
+    c.loop-left.left _ _ _ _
+    c.write_next.ensures.stays_given inv.same inv.end inv.begin inv.some (inv.verified keeps)
+    (c.in-Err.ensures.any (inv.keeps keeps))
+
+pub returns-in-Err-clause-known : goal.returns-in-Err-clause-known
+returns-in-Err-clause-known g c = λ sound.
     let inv = c.loop-left.invariant in
     failed_on _ _ _ _ c.args.at c.args.len c.loop-left.at c.loop-left.left _ _ _ _ inv.stay inv.same inv.end inv.begin
     inv.some inv.whole (inv.written sound)
@@ -29,6 +38,7 @@ loop-left-preserved g c =
       begin = omega arith;
       within = omega arith;
       piece = c.in-Ok.ensures.piece;
+      same_reference = c.write_next.ensures.same_reference ∙ inv.same_reference;
       stay = c.in-Ok.ensures.stay ∙ inv.stay;
       same = c.in-Ok.ensures.same ∙ inv.same;
       sound = λ sound. subst (λ (k : Known). IsSound k c.write_next.new.reader.chunks) inv.stay
@@ -41,4 +51,27 @@ loop-left-preserved g c =
           (inv.written sound)
           (c.in-Ok.ensures.writes (subst (λ (k : Known). IsSound k c.loop-left.reader.chunks) (sym inv.stay)
           (inv.sound sound)));
+      given = λ at byte was. c.write_next.ensures.stays_given at byte (inv.given at byte was);
+      keeps = λ keeps. c.write_next.ensures.keeps_verified (inv.keeps keeps);
+      verified = λ keeps. verified.joined _ _ _ _ c.args.at (c.loop-left.at - c.args.at) c.loop-left.at c.in-Ok.n
+          (c.loop-left.at + c.in-Ok.n - c.args.at) _ _ _ c.write_next.ensures.stays_given inv.same (omega arith)
+          (omega arith) (inv.verified keeps) (c.in-Ok.ensures.any (inv.keeps keeps));
     }
+
+pub returns-in-Ok-eq0-clause-any : goal.returns-in-Ok-eq0-clause-any
+returns-in-Ok-eq0-clause-any g c = λ keeps.
+    let inv = c.loop-left.invariant in
+    let at = c.loop-left.at in
+    let left = c.loop-left.left in
+    let plain = c.args.reader.now.chunks.layout.plain in
+    let n = c.in-Ok-eq0.field-0 in
+    let none : n ≡ 0 = c.in-Ok-eq0.field-0-test in
+    let number : n ≡ min (min left (65536 - at % 65536)) (plain - at) =
+    c.in-Ok-eq0.ensures.number ∙ ap (λ (p : ℕ). min (min left (65536 - at % 65536)) (p - at))
+    (ap (λ (l : Layout). l.plain) inv.same) in
+    let some : at - c.args.at ≤ min c.args.len (plain - c.args.at) = inv.some in
+    let more : 0 < left = omega (arith, c.loop-left-test.true) in
+    verified.joined _ _ _ _ c.args.at (at - c.args.at) at n (min c.args.len (plain - c.args.at)) _ _ _
+    c.write_next.ensures.stays_given inv.same (omega (arith, inv.begin))
+    (omega (arith, none, number, more, some, inv.end, inv.begin)) (inv.verified keeps)
+    (c.in-Ok-eq0.ensures.any (inv.keeps keeps))

@@ -1,6 +1,7 @@
 use Rattle.std.proofs.Common.{◌≤◌, ◌<◌, ◌≡◌, ◌+◌, ◌-◌, ◌^◌, length}
-use Rattle.age_stream.specs.Ranges.{IsSound, range_len}
-use Rattle.age_commands.specs.Range.{WritesPlain}
+use Rattle.age_stream.specs.Offsets.{StaysGiven}
+use Rattle.age_stream.specs.Ranges.{IsSound, KeepsVerified, range_len}
+use Rattle.age_commands.specs.Range.{WritesPlain, WritesVerified}
 use Rattle.age_commands.proofs.RangeLemmas.{IsWhole}
 use Rattle.age_commands.proofs.range.write_range.Given as goal
 use Rattle.age_header.specs.Device.{moved_by}
@@ -14,6 +15,7 @@ invariant-loop-left g l =
       begin : l.fn.at ≤ l.at;
       within : l.at + l.left < 2 ^ 64;
       piece : length l.piece ≡ 65536;
+      same_reference : l.reader.dev.ghost_name ≡ l.fn.reader.dev.ghost_name;
       stay : g.D.ReadAt.bytes l.reader.dev.now ≡ told;
       same : l.reader.chunks.layout ≡ s.layout;
       sound : IsSound told s → IsSound told l.reader.chunks;
@@ -21,6 +23,12 @@ invariant-loop-left g l =
       whole : IsWhole s.layout.plain l.fn.at l.at l.left;
       written : IsSound told s
           → WritesPlain told s.layout l.fn.at (l.at - l.fn.at) (moved_by g.W.Sink.taken l.fn.out l.out);
+      given : StaysGiven (g.D.ReadAt.gave l.fn.reader.dev.now) (g.D.ReadAt.gave l.reader.dev.now);
+      keeps : KeepsVerified (g.D.ReadAt.gave l.fn.reader.dev.now) s
+          → KeepsVerified (g.D.ReadAt.gave l.reader.dev.now) l.reader.chunks;
+      verified : KeepsVerified (g.D.ReadAt.gave l.fn.reader.dev.now) s
+          → WritesVerified (g.D.ReadAt.gave l.reader.dev.now) s.layout l.fn.at (l.at - l.fn.at)
+          (moved_by g.W.Sink.taken l.fn.out l.out);
     }
 
 abbrev pub decreases-loop-left : goal.decreases-loop-left

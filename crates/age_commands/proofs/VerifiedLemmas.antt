@@ -1,0 +1,165 @@
+-- What is written of a range of any source, piece by piece.
+use Rattle.std.proofs.Common.{◌≡◌, ◌∙◌, ◌++◌, ◌∷◌, List, Result, map, ◌+◌, ◌-◌, ◌<◌, ◌≤◌, ℕ, [], ap, arith, inl, inr, length, min, refl, slice_index, subst, sym, take, Option, Err}
+use Rattle.std.specs.Prelude.{⊤}
+use Rattle.std.proofs.KnownBytes.{Appends-nil, Appends-trans, Keeps-refl}
+use Rattle.std.proofs.lemmas.List.{length-append, length-take, length-take-le, take-append-le, get_or-take, get_or_append_left, get_or-append-add}
+use Rattle.std.proofs.lemmas.Bool.{cases_lt}
+use Rattle.std.specs.Io.KnownBytes.{Appends}
+use Rattle.age_header.specs.Device.{Bytes, Known, moved}
+use Rattle.age_header.specs.Header.{StanzaParts}
+use Rattle.age_recipient.specs.declared.unwrapped.Unwrapped.{Unwrapped}
+use Rattle.age_stream.proofs.VerifiedLemmas.{byte-stays}
+use Rattle.age_stream.specs.declared.fault.StreamFault.{StreamFault}
+use Rattle.age_stream.specs.declared.layout.Layout.{Layout}
+use Rattle.age_stream.specs.Offsets.{StaysGiven}
+use Rattle.age_stream.specs.Ranges.{IsVerifiedByte, RangeState, Stops, range_len}
+use Rattle.age_file.specs.declared.fault.Fault.{Fault}
+use Rattle.age_file.specs.AgeFile.{Bounds}
+use Rattle.age_file.specs.Ranges.{BeginsFile, IsOpenFault}
+use Rattle.age_file.specs.Verdict.{Answering, stream_fault}
+use Rattle.age_commands.specs.Range.{RangingAny, WritesAny, WritesVerified}
+
+-- nothing is written
+pub nothing : (gave : ℕ → ℕ → Type 0) (layout : Layout) (at n : ℕ) (old : Known) → n ≡ 0
+    → WritesVerified gave layout at n (moved old old)
+nothing gave layout at n old none = record {
+  part = [];
+  size = sym none;
+  verified = λ k lt. absurd (omega arith);
+  appends = Appends-nil old;
+}
+
+-- verified bytes have a verified prefix
+prefix : (gave : ℕ → ℕ → Type 0) (layout : Layout) (at n : ℕ) (xs : Bytes)
+    → ((k : ℕ) → k < length xs → IsVerifiedByte gave layout (at + k) (slice_index xs k))
+    → (k : ℕ) → k < length (take n xs) → IsVerifiedByte gave layout (at + k) (slice_index (take n xs) k)
+prefix gave layout at n xs verified k lt =
+    let l : length (take n xs) ≡ min n (length xs) = length-take n xs in
+    subst (IsVerifiedByte gave layout (at + k)) (sym (get_or-take n xs k 0 (omega (arith, l, lt))))
+    (verified k (omega (arith, l, lt)))
+
+filled : (gave : ℕ → ℕ → Type 0) (layout : Layout) (at n : ℕ) (buf : Bytes) → n ≤ length buf
+    → ((k : ℕ) → k < n → IsVerifiedByte gave layout (at + k) (slice_index buf k))
+    → (k : ℕ) → k < length (take n buf) → IsVerifiedByte gave layout (at + k) (slice_index (take n buf) k)
+filled gave layout at n buf le verified k lt =
+    let l : length (take n buf) ≡ n = length-take-le n buf le in
+    subst (IsVerifiedByte gave layout (at + k)) (sym (get_or-take n buf k 0 (omega (arith, l, lt))))
+    (verified k (omega (arith, l, lt)))
+
+-- a piece was written
+pub written : (gave : ℕ → ℕ → Type 0) (layout : Layout) (at n : ℕ) (buf rest : Bytes) (old new : Known)
+    → n ≤ length buf → ((k : ℕ) → k < n → IsVerifiedByte gave layout (at + k) (slice_index buf k))
+    → Appends old new (take n (buf ++ rest)) → WritesVerified gave layout at n (moved old new)
+written gave layout at n buf rest old new le verified a = record {
+  part = take n buf;
+  size = length-take-le n buf le;
+  verified = filled gave layout at n buf le verified;
+  appends = subst (Appends old new) (take-append-le n buf rest le) a;
+}
+
+-- a prefix of a piece was written
+pub written_part : (gave : ℕ → ℕ → Type 0) (layout : Layout) (at n k most : ℕ) (buf rest : Bytes) (old new : Known)
+    → n ≤ length buf → ((k : ℕ) → k < n → IsVerifiedByte gave layout (at + k) (slice_index buf k)) → n ≤ most
+    → Appends old new (take k (take n (buf ++ rest)))
+    → (x : ℕ) × (x ≤ most) × WritesVerified gave layout at x (moved old new)
+written_part gave layout at n k most buf rest old new le verified low a =
+    let l : length (take k (take n buf)) ≡ min k (length (take n buf)) = length-take k (take n buf) in
+    let m : length (take n buf) ≡ n = length-take-le n buf le in (
+      length (take k (take n buf)),
+      omega (arith, l, m, low),
+      record {
+        part = take k (take n buf);
+        size = refl;
+        verified = prefix gave layout at k (take n buf) (filled gave layout at n buf le verified);
+        appends = subst (λ xs. Appends old new (take k xs)) (take-append-le n buf rest le) a;
+      },
+    )
+
+-- a range that stops within its first piece has written nothing
+pub stopped : (gave : ℕ → ℕ → Type 0) (told : Known) (s : RangeState) (at left most : ℕ) (was buf : Bytes)
+    (opened : ℕ) (fault : StreamFault) (named : Fault) (old : Known) → named ≡ stream_fault fault
+    → Stops told s at most was buf opened fault → WritesAny gave s at left (moved old old) (Err named)
+stopped gave told s at left most was buf opened fault named old is stops = (
+  elim stops.lost [
+    | inl failed ↦ inr (inl (is ∙ ap stream_fault failed))
+    | inr lost ↦ inl (stops.chunk, is ∙ ap stream_fault lost.0)
+  ],
+  (0, omega arith, nothing gave s.layout at 0 old refl),
+)
+
+-- two parts that follow one another are one
+pub joined : (early late : ℕ → ℕ → Type 0) (layout same : Layout) (at k from n m : ℕ) (old mid new : Known)
+    → StaysGiven early late → same ≡ layout → from ≡ at + k → m ≡ k + n
+    → WritesVerified early layout at k (moved old mid) → WritesVerified late same from n (moved mid new)
+    → WritesVerified late layout at m (moved old new)
+joined early late layout same at k from n m old mid new stays el ef em one more =
+    let all : length (one.part ++ more.part) ≡ length one.part + length more.part = length-append one.part more.part in
+    let a : length one.part ≡ k = one.size in
+    let b : length more.part ≡ n = more.size in
+    record {
+      part = one.part ++ more.part;
+      size = omega (arith, all, a, b, em);
+      verified = λ j lt. elim (cases_lt j (length one.part)) [
+        | inl before ↦
+            subst (IsVerifiedByte late layout (at + j)) (sym (get_or_append_left one.part more.part 0 j before))
+            (byte-stays early late layout (at + j) (slice_index one.part j) stays (one.verified j before))
+        | inr ge ↦
+            let i : ℕ = j - length one.part in
+            let sum : j ≡ length one.part + i = omega (arith, ge) in
+            let place : from + i ≡ at + j = omega (arith, ef, a, ge) in
+            let value : slice_index (one.part ++ more.part) j ≡ slice_index more.part i =
+            ap (slice_index (one.part ++ more.part)) sum ∙ get_or-append-add one.part more.part i 0 in
+            subst (IsVerifiedByte late layout (at + j)) (sym value)
+            (subst (λ x. IsVerifiedByte late layout x (slice_index more.part i)) place
+            (subst (λ l. IsVerifiedByte late l (from + i) (slice_index more.part i)) el
+            (more.verified i (omega (arith, lt, all, ge)))))
+      ];
+      appends = Appends-trans old mid new one.part more.part one.appends more.appends;
+    }
+
+-- a range that fails after a part
+pub failed_on : (early late : ℕ → ℕ → Type 0) (s t : RangeState) (begin len at left : ℕ) (old mid new : Known)
+    (fault : Fault) → StaysGiven early late → t.layout ≡ s.layout → at + left ≡ begin + len → begin ≤ at
+    → at - begin ≤ range_len s begin len
+    → WritesVerified early s.layout begin (at - begin) (moved old mid)
+    → WritesAny late t at left (moved mid new) (Err fault) → WritesAny late s begin len (moved old new) (Err fault)
+failed_on early late s t begin len at left old mid new fault stays el end low some one (which, (n, within, more)) =
+    let plain : t.layout.plain ≡ s.layout.plain = ap (λ (l : Layout). l.plain) el in (
+      which,
+      (
+        at - begin + n,
+        omega (arith, within, plain, end, low, some),
+        joined early late s.layout t.layout begin (at - begin) at n (at - begin + n) old mid new stays el
+            (omega (arith, low)) refl one more,
+      ),
+    )
+
+-- a source that was opened, by one identity in a list
+pub ranged : {D X : Type 0} (gave : D → ℕ → ℕ → Type 0) (found : D → Option ℕ) (m : X → List StanzaParts → Unwrapped)
+    (items : List X) (x : X) (l limits : Bounds) (at len : ℕ) (source new : D) (s : RangeState) (old taken : Known)
+    (r : Result ⊤ Fault) → items ≡ x ∷ [] → l ≡ limits
+    → BeginsFile l (λ stanzas. map (λ i. m i stanzas) items) (gave source) (found source) s
+    → WritesAny (gave new) s at len (moved old taken) r
+    → RangingAny gave found limits (λ stanzas. m x stanzas ∷ []) at len new (moved old taken) r
+ranged gave found m items x l limits at len source new s old taken r one is begins writes = inr (record {
+  source = source;
+  state = s;
+  begins = subst (λ (k : Bounds). BeginsFile k (λ stanzas. m x stanzas ∷ []) (gave source) (found source) s) is
+      (subst (λ xs. BeginsFile l (λ stanzas. map (λ i. m i stanzas) xs) (gave source) (found source) s) one begins);
+  writes = writes;
+})
+
+-- one that was not
+pub unopened : {D : Type 0} (gave : D → ℕ → ℕ → Type 0) (found : D → Option ℕ) (limits : Bounds) (answers : Answering)
+    (at len : ℕ) (new : D) (old : Known) (fault : Fault) → IsOpenFault fault
+    → RangingAny gave found limits answers at len new (moved old old) (Err fault)
+unopened gave found limits answers at len new old fault named = inl (named, Keeps-refl old)
+
+pub ranging_meant : {D : Type 0} (gave : D → ℕ → ℕ → Type 0) (found : D → Option ℕ)
+    (f g : List StanzaParts → Unwrapped) (limits : Bounds) (at len : ℕ) (new : D) (old taken : Known)
+    (r : Result ⊤ Fault) → f ≡ g
+    → RangingAny gave found limits (λ s. f s ∷ []) at len new (moved old taken) r
+    → RangingAny gave found limits (λ s. g s ∷ []) at len new (moved old taken) r
+ranging_meant gave found f g limits at len new old taken r same h =
+    subst (λ (m : List StanzaParts → Unwrapped). RangingAny gave found limits (λ s. m s ∷ []) at len new
+    (moved old taken) r) same h
