@@ -14,6 +14,9 @@ const VERSION: &[u8] = b"age-encryption.org/v1\n";
 
 const END: &[u8] = b"--- AAAAAAAAAAAAAAAAAAAAAAAAAAAAAAAAAAAAAAAAAAA\n";
 
+/// The last character has four bits of the MAC, here 0001, and two that must be 0.
+const OTHER_END: &[u8] = b"--- AAAAAAAAAAAAAAAAAAAAAAAAAAAAAAAAAAAAAAAAAAE\n";
+
 const BAD_END: &[u8] = b"--- AAAAAAAAAAAAAAAAAAAAAAAAAAAAAAAAAAAAAAAAAAB\n";
 
 const FULL: &[u8] = b"AAAAAAAAAAAAAAAAAAAAAAAAAAAAAAAAAAAAAAAAAAAAAAAAAAAAAAAAAAAAAAAA";
@@ -72,6 +75,11 @@ fn reader_accepts_headers_and_numbers_bad_lines(rt: HostRuntime) {
         rt.alloc(),
         &[
             ("one stanza", &[VERSION, b"-> a\n\n", END], Ok((1, 0))),
+            (
+                "another MAC",
+                &[VERSION, b"-> a\n\n", OTHER_END],
+                Ok((1, 0)),
+            ),
             (
                 "bytes after the header",
                 &[VERSION, b"-> a\n\n", END, b"xyz"],
@@ -222,6 +230,7 @@ fn expect_size(rt: &impl Abort, alloc: Global, stanzas: &[(&[&str], usize)], siz
 fn written_headers_are_read_back(rt: HostRuntime) {
     let alloc = rt.alloc();
     expect_size(&rt, alloc, &[(&["a"], 0)], 76);
+    expect_size(&rt, alloc, &[(&["a"], 1)], 78);
     expect_size(&rt, alloc, &[(&["scrypt", SALT, "9"], 32)], 149);
     expect_size(&rt, alloc, &[(&["scrypt", SALT, "18"], 32)], 150);
     expect_size(&rt, alloc, &[(&[KEY, SALT], 32)], 156);
@@ -229,6 +238,9 @@ fn written_headers_are_read_back(rt: HostRuntime) {
     expect_size(&rt, alloc, &[(&["plug"], 48), (&[KEY, SALT], 32)], 230);
     let text = written(&rt, alloc, &[(&["plug"], 48)]);
     let spelled = joined(&rt, alloc, &[VERSION, b"-> plug\n", FULL, b"\n\n", END]);
+    assert_eq!(rt; text.as_slice(), spelled.as_slice());
+    let text = written(&rt, alloc, &[(&["a"], 1)]);
+    let spelled = joined(&rt, alloc, &[VERSION, b"-> a\nAA\n", END]);
     assert_eq!(rt; text.as_slice(), spelled.as_slice());
 }
 

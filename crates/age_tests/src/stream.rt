@@ -146,7 +146,7 @@ fn empty_payload_has_one_empty_chunk(rt: HostRuntime) {
 fn pieces_of_any_size_read_back(rt: HostRuntime) {
     let alloc = rt.alloc();
     let plain = plain_of(&rt, alloc, 131_073);
-    for size in [1_000, 65_537] {
+    for size in [1, 7, 65_536, 65_537] {
         let (_, payload) = written(&rt, alloc, plain.as_slice(), size);
         let (text, chunks) = read(&rt, alloc, payload.as_slice(), 65_551);
         assert!(rt; text == plain, "pieces of {size} bytes");

@@ -1,6 +1,7 @@
-//! A call that failed is counted once and not tried again, though it was interrupted or would have
-//! blocked.
+//! Devices over a reader or a writer. A call that failed is counted once and not tried again,
+//! though it was interrupted or would have blocked.
 
+use crate::plaintexts::plain_of;
 use age_header::{ReadSource, Sink, Source, WriteSink, write_all};
 use std::io;
 use std::io::{ErrorKind, Read, Write};
@@ -51,6 +52,20 @@ impl Write for LateWriter {
     }
 }
 
+/// Takes all that it is given.
+#[derive(Drop)]
+struct Nowhere;
+
+impl Write for Nowhere {
+    fn write(&mut self, piece: &[u8]) -> io::Result<usize> {
+        Ok(piece.len())
+    }
+
+    fn flush(&mut self) -> io::Result<()> {
+        Ok(())
+    }
+}
+
 #[test]
 fn failed_read_is_not_retried(rt: HostRuntime) {
     for error in PASSING {
@@ -84,5 +99,20 @@ fn failed_write_is_not_retried(rt: HostRuntime) {
         let writer = sink.into_inner();
         assert_eq!(rt; writer.calls, 2);
         assert_eq!(rt; writer.taken.as_slice(), b"abc".as_slice());
+    }
+}
+
+/// A call of each length up to 70,000 moves as many bytes as it is given: a device fails at no
+/// length of its own.
+#[test]
+fn each_length_is_read_and_written(rt: HostRuntime) {
+    let bytes = plain_of(&rt, rt.alloc(), 70_000);
+    let mut buf = plain_of(&rt, rt.alloc(), 70_000);
+    for n in 1..=70_000 {
+        let (piece, _) = bytes.as_slice().split_at(n);
+        let mut source = ReadSource::new(piece);
+        assert_eq!(rt; source.read(buf.as_mut_slice()), Ok(n), "{n} bytes");
+        let mut sink = WriteSink::new(Nowhere);
+        assert_eq!(rt; sink.write(piece), Ok(n), "{n} bytes");
     }
 }

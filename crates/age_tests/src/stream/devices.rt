@@ -69,6 +69,46 @@ impl<F: Seek> Seek for SlowFile<F> {
     }
 }
 
+/// A file that has these bytes from offset `begin` on, and is read nowhere before.
+#[derive(Drop)]
+pub(super) struct FarFile<'a> {
+    bytes: &'a [u8],
+    begin: u64,
+    at: u64,
+}
+
+impl<'a> FarFile<'a> {
+    pub(super) fn new(bytes: &'a [u8], begin: u64) -> FarFile<'a> {
+        FarFile {
+            bytes,
+            begin,
+            at: 0,
+        }
+    }
+}
+
+impl Read for FarFile<'_> {
+    fn read(&mut self, buf: &mut [u8]) -> io::Result<usize> {
+        let Some(skipped) = self.at.checked_sub(self.begin) else {
+            return Err(io::Error::from(ErrorKind::Other));
+        };
+        let mut rest = self.bytes.get(skipped as usize..).unwrap_or(&[]);
+        let n = rest.read(buf)?;
+        self.at = self.at.saturating_add(n as u64);
+        Ok(n)
+    }
+}
+
+impl Seek for FarFile<'_> {
+    fn seek(&mut self, to: SeekFrom) -> io::Result<u64> {
+        self.at = match to {
+            SeekFrom::Start(at) => at,
+            _ => self.begin.saturating_add(self.bytes.len() as u64),
+        };
+        Ok(self.at)
+    }
+}
+
 /// A file whose seek with this number, counted from 1, fails, though it has moved the file.
 #[derive(Drop)]
 pub(super) struct FailingSeek<F> {

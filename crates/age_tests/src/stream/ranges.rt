@@ -1,6 +1,6 @@
 //! Ranges of a plaintext, over memory, over a file, and over sources that are slow or fail.
 
-use super::devices::{FailingSeek, SlowFile};
+use super::devices::{FailingSeek, FarFile, SlowFile};
 use super::{EMPTY, KEY, written};
 use crate::devices::CountingReadAt;
 use crate::plaintexts::{expect_range, plain_of};
@@ -36,9 +36,9 @@ const ROWS: [((u64, usize), usize, u64); 8] = [
     ((0, 0), 0, 4),
 ];
 
-/// Those ranges of the payload after the first nine bytes.
-fn rows<T: Abort, D: ReadAt>(rt: &T, alloc: Global, dev: &mut D) {
-    let mut reader = RangeReader::open(alloc, &KEY, dev, 9, 3).expect(rt, "no fault");
+/// Those ranges of the payload at this offset.
+fn rows<T: Abort, D: ReadAt>(rt: &T, alloc: Global, dev: &mut D, payload_at: u64) {
+    let mut reader = RangeReader::open(alloc, &KEY, dev, payload_at, 3).expect(rt, "no fault");
     assert_eq!(rt; reader.plain_len(), 140_000);
     assert_eq!(rt; reader.opened(), 1);
     for (place, n, opened) in ROWS {
@@ -52,7 +52,7 @@ fn rows<T: Abort, D: ReadAt>(rt: &T, alloc: Global, dev: &mut D) {
 fn ranges_of_memory_are_slices(rt: HostRuntime) {
     let bytes = payload_of(&rt, rt.alloc(), 140_000);
     let mut dev = MemAt::new(bytes.as_slice());
-    rows(&rt, rt.alloc(), &mut dev);
+    rows(&rt, rt.alloc(), &mut dev, 9);
     assert_eq!(rt; dev.given(), 16 + 8_944 + 65_552 + 65_552 + 8_944);
 }
 
@@ -62,13 +62,22 @@ fn ranges_of_a_file_are_slices(rt: HostRuntime) {
     let bytes = payload_of(&rt, rt.alloc(), 140_000);
     fs::write(&rt, "ranges.tmp", bytes.as_slice()).expect(&rt, "no fault");
     let mut whole = FileAt::new(File::open(&rt, "ranges.tmp").expect(&rt, "no fault"));
-    rows(&rt, rt.alloc(), &mut whole);
+    rows(&rt, rt.alloc(), &mut whole, 9);
     let mut slow = FileAt::new(SlowFile::new(File::open(&rt, "ranges.tmp").expect(
         &rt, "no fault",
     )));
-    rows(&rt, rt.alloc(), &mut slow);
+    rows(&rt, rt.alloc(), &mut slow, 9);
     fs::remove_file(&rt, "ranges.tmp").expect(&rt, "no fault");
     assert_eq!(rt; whole.given(), slow.given());
+}
+
+/// A payload that begins near offset 2^50: no file has to be so long.
+#[test]
+fn ranges_far_behind_are_slices(rt: HostRuntime) {
+    let bytes = payload_of(&rt, rt.alloc(), 140_000);
+    let begin = 1_125_899_906_842_500;
+    let mut far = FileAt::new(FarFile::new(bytes.as_slice(), begin));
+    rows(&rt, rt.alloc(), &mut far, begin + 9);
 }
 
 /// Each chunk that is opened costs one read of a source that gives all it is asked for, and the
@@ -117,6 +126,8 @@ fn failed_read_leaves_the_chunks_before_it(rt: HostRuntime) {
             Err(fault) => assert!(rt; failing < 3 && fault == StreamFault::Read, "read {failing}"),
         }
         assert_eq!(rt; dev.failures(), 1, "read {failing}");
+        let mut reader = RangeReader::open(alloc, &KEY, &mut dev, 9, 3).expect(&rt, "no fault");
+        expect_range(&rt, alloc, &mut reader, (0, 140_000), Ok(140_000), 140_000);
     }
 }
 
