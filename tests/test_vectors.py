@@ -1,0 +1,123 @@
+"""The test vectors of tests/vectors/: what is stored is what tests/make_vectors.py makes; agep ends on
+each in the fault, with its number or part, that it was made for; and Debian's Go library of age ends
+as expected, but for the differences that the README lists."""
+
+import os
+import re
+import shutil
+import subprocess
+import unittest
+
+import make_vectors
+import testkit
+from messages import TEXTS
+from program import TESTS, read, scratch, write
+
+GO = "/usr/share/gocode"
+AGE = "src/filippo.io/age"
+# Beside the reader of the library, which the Debian package skips, since it would download vectors.
+FOLDER_TEST = b"""package age_test
+
+import (
+	"os"
+	"path/filepath"
+	"testing"
+)
+
+func TestFolder(t *testing.T) {
+	names, err := filepath.Glob(os.Getenv("VECTORS") + "/*")
+	if err != nil {
+		t.Fatal(err)
+	}
+	for _, name := range names {
+		contents, err := os.ReadFile(name)
+		if err != nil {
+			t.Fatal(err)
+		}
+		t.Run(filepath.Base(name), func(t *testing.T) { testVector(t, contents) })
+	}
+}
+"""
+
+
+def expected(case, way):
+    """What a vector that was made so ends in, in a way that names the first fault."""
+    if case.is_armored:
+        return testkit.Found("NotAge", None, b"")
+    fault, *words = case.fault
+    word = TEXTS.get((words[0], 0), str(words[0])) if words else None
+    if fault == "Malformed" and isinstance(way, testkit.InC):
+        word = None
+    return testkit.Found(fault, word, case.text if fault is None or way.releases else b"")
+
+
+def compare(test, way):
+    """Compares what each vector ends in with what it was made for."""
+    for case in make_vectors.cases():
+        vector = testkit.parse(case.name, case.stored)
+        if testkit.why_skipped(vector, way):
+            continue
+        with test.subTest(f"{way.name}, {case.name}"):
+            found = way.open(vector)
+            test.assertIsNone(testkit.differs(vector, found, way))
+            if way.is_exact:
+                test.assertEqual(found, expected(case, way))
+
+
+class Stored(unittest.TestCase):
+    def test_made(self):
+        """tests/make_vectors.py makes what is stored. Another zlib may compress it to other bytes."""
+        stored, wrong = testkit.load(make_vectors.FOLDER)
+        self.assertEqual(wrong, [])
+        made = {case.name: testkit.parse(case.name, case.stored) for case in make_vectors.cases()}
+        self.assertEqual([vector.name for vector in stored], sorted(made))
+        self.assertEqual([vector.name for vector in stored if vector != made[vector.name]], [])
+
+    def test_size(self):
+        """They have at most 300 KB."""
+        self.assertLessEqual(sum(entry.stat().st_size for entry in os.scandir(make_vectors.FOLDER)), 300_000)
+
+    def test_faults(self):
+        """Each fault that a file alone can have is among them, and each part of a malformed stanza."""
+        words = {word for case in make_vectors.cases() for word in case.fault if isinstance(word, str)}
+        self.assertEqual(words, {*testkit.NAMES.values(), "ArgCount", "Salt", "WorkFactorText", "WorkFactorTooHigh", "BodyLength"})
+
+
+class Program(unittest.TestCase):
+    def test_faults(self):
+        """agep ends in the fault of each vector, and releases what comes before it."""
+        compare(self, testkit.Agep())
+
+
+@unittest.skipUnless(shutil.which("go") and os.path.exists(f"{GO}/{AGE}/testkit_test.go"), "Go or its library of age is missing")
+class Go(unittest.TestCase):
+    """Debian's Go library of age, by its own reader of vectors."""
+
+    def put(self, folder):
+        """The vectors as that reader takes them: in its version none is compressed, and each is for an
+        identity that it has. Returns their names."""
+        names = []
+        for case in make_vectors.cases():
+            if not any("example.org/key" in value for _, value in case.secrets):
+                head = case.stored.partition(b"\n\n")[0].replace(b"\ncompressed: zlib", b"")
+                write(f"{folder}/{case.name}", head + b"\n\n" + case.file)
+                names.append(case.name)
+        return names
+
+    def test_differences(self):
+        """It ends on each vector as expected, but for those in the README's table."""
+        folder = scratch()
+        os.makedirs(f"{folder}/vectors")
+        shutil.copytree(f"{GO}/{AGE}", f"{folder}/{AGE}")
+        write(f"{folder}/{AGE}/folder_test.go", FOLDER_TEST)
+        names = self.put(f"{folder}/vectors")
+        environment = os.environ | {
+            "GO111MODULE": "off", "GOPATH": f"{folder}:{GO}", "GOCACHE": f"{folder}/cache", "GOFLAGS": "", "VECTORS": f"{folder}/vectors",
+        }
+        words = ["go", "test", "-v", "-run", "^TestFolder$", "filippo.io/age"]
+        done = subprocess.run(words, env=environment, cwd=folder, capture_output=True, text=True, timeout=300)
+        ended = re.findall(r"^    --- (PASS|FAIL): TestFolder/(\S+) ", done.stdout, re.M)
+        self.assertEqual(sorted(name for _, name in ended), sorted(names), done.stdout[-2000:] + done.stderr)
+        differing = read(f"{TESTS}/vectors/README.md").decode().partition("## What differs")[2]
+        listed = re.findall(r"^\| `(\w+)` \|", differing, re.M)
+        self.assertEqual([name for how, name in ended if how == "FAIL"], listed)
