@@ -1,4 +1,4 @@
-"""Decrypts files that were cut at each offset, or changed at each offset, and headers of great size.
+"""Decrypts files that were changed at each offset, and one with two stanzas that was cut at each.
 
 A row of a table is a first and a last offset, and what the program says at each of them. Nothing is
 written, since the damage is before the end of the only chunk."""
@@ -9,10 +9,6 @@ from fixture import KEY, PASSPHRASE, SALT, SEED
 from messages import message
 from program import ProgramCase, fault
 
-VERSION = b"age-encryption.org/v1\n"
-ZERO_MAC = b"A" * 43
-CHUNK = 65536
-
 CUT_HEADER = message("HeaderTruncated")
 CUT_NONCE = message("NonceTruncated")
 CUT_CHUNK = message("ChunkShort", 0)
@@ -21,7 +17,6 @@ NO_MATCH = message("NoMatch")
 WRONG_KEY = message("WrongKey")
 BAD_MAC = message("BadMac")
 BAD_CHUNK = message("BadChunk", 0)
-TOO_LARGE = message("HeaderTooLarge")
 
 
 def bad_line(number):
@@ -34,11 +29,8 @@ def malformed(why):
 
 def with_another_stanza():
     """A key's file of nothing, with a stanza of another type before the key's."""
-    arguments, wrap_key = reference.key_stanza(KEY, SALT)
-    body = reference.signs(reference.sealed(wrap_key, bytes(12), SEED[:16]))
-    text = VERSION + b"-> plug\n" + reference.signs(bytes(48)) + b"\n\n-> " + b" ".join(arguments) + b"\n" + body + b"\n---"
-    mac = reference.hmac.digest(reference.hkdf(SEED[:16], b"", b"header"), text, "sha256")
-    return text + b" " + reference.signs(mac) + b"\n" + fixture.for_keys(b"", KEY)[156:]
+    stanzas = reference.stanza_text([b"plug"], bytes(48)) + reference.wrapped(reference.key_stanza(KEY, SALT), SEED[:16])
+    return reference.ended(reference.VERSION + stanzas, SEED[:16]) + fixture.for_keys(b"", KEY)[156:]
 
 
 def changed(file, signs, at):
@@ -78,26 +70,15 @@ class DamagedFiles(ProgramCase):
                         came[at] = (ran.status, ran.err, ran.out)
                 self.assertEqual(came, {})
 
-    def cut(self, words, file, header):
-        """A file of nothing: its header, a nonce of 16 bytes and a tag."""
+    def test_another_stanza_cut(self):
+        """A file of nothing with another stanza cut in its header, its nonce of 16 bytes, or its tag."""
+        file, header = with_another_stanza(), 230
         self.assertEqual(len(file), header + 32)
         rows = [
             (0, header - 1, CUT_HEADER), (header, header + 15, CUT_NONCE), (header + 16, header + 31, CUT_CHUNK),
             (header + 32, header + 32, None),
         ]
-        self.table(words, len(file) + 1, rows, lambda at: file[:at])
-
-    def test_passphrase_cut(self):
-        """A passphrase's file cut."""
-        self.cut(["decrypt", "-p", "pass"], fixture.for_passphrase(b""), 150)
-
-    def test_key_cut(self):
-        """A key's file cut."""
-        self.cut(["decrypt", "-k", "key"], fixture.for_keys(b"", KEY), 156)
-
-    def test_another_stanza_cut(self):
-        """A file with another stanza cut."""
-        self.cut(["decrypt", "-k", "key"], with_another_stanza(), 230)
+        self.table(["decrypt", "-k", "key"], len(file) + 1, rows, lambda at: file[:at])
 
     def test_passphrase_changed(self):
         """A passphrase's file changed at an offset."""
@@ -127,42 +108,3 @@ class DamagedFiles(ProgramCase):
         ] + keyed_rows(file, 229, 74, 3)
         signs = [(30, 93), (138, 180), (186, 228)]
         self.table(["decrypt", "-k", "key"], len(file), rows, lambda at: changed(file, signs, at))
-
-    def test_two_chunks(self):
-        """A passphrase's file of two chunks cut: the chunks before the damage are written."""
-        plain = bytes(i % 251 for i in range(65537))
-        file = fixture.for_passphrase(plain)
-        self.assertEqual(len(file), 65735)
-        for size, line, written in [
-            (182, BAD_CHUNK, 0), (65717, BAD_CHUNK, 0), (65718, BAD_CHUNK, 0), (65719, message("ChunkShort", 1), CHUNK),
-            (65733, message("ChunkShort", 1), CHUNK), (65734, message("EmptyFinal", 1), CHUNK),
-        ]:
-            with self.subTest(f"{size} bytes: {line}"):
-                self.says(line, "decrypt", "-p", "pass", input=file[:size], out=plain[:written])
-        with self.subTest("whole"):
-            self.writes(plain, "decrypt", "-p", "pass", input=file)
-
-
-class GreatHeaders(ProgramCase):
-    END = b"--- " + ZERO_MAC + b"\n"
-
-    def test_stanzas(self):
-        """10,911 stanzas are in 65,536 bytes, and one more is too large."""
-        ran = self.run_agep("inspect", input=VERSION + b"-> a\n\n" * 10911 + self.END)
-        self.assert_ended(ran, 0, "", None)
-        self.assertIn(b"\nstanzas 10911\n", ran.out)
-        self.assertIn(b"\nheader 65536 bytes\n", ran.out)
-        self.says(TOO_LARGE, "inspect", input=VERSION + b"-> a\n\n" * 10912 + self.END)
-
-    def test_wide(self):
-        """30,000 arguments; a line without an end."""
-        wide = VERSION + b"->" + b" a" * 30000 + b"\n\n" + self.END
-        self.writes(wide, "inspect", "-r", input=wide)
-        self.says(TOO_LARGE, "inspect", input=VERSION + b"A" * 65514)
-
-    def test_work_factors(self):
-        """A work factor of 60,001 digits."""
-        for factor, why in [(b"1" + b"0" * 60000, "WorkFactorTooHigh"), (b"0" * 60000, "WorkFactorText")]:
-            with self.subTest(why):
-                text = VERSION + b"-> scrypt " + reference.signs(SALT) + b" " + factor + b"\n" + ZERO_MAC + b"\n" + self.END
-                self.says(malformed(why), "decrypt", "-p", "pass", input=text)

@@ -15,9 +15,10 @@ from pathlib import Path
 sys.path.append(str(Path(__file__).resolve().parent.parent / "share/generate"))
 import codes
 
-import fixture
-from messages import TEXTS, message
-from program import AGEP, fault, version
+import test_vectors
+import testkit
+from messages import message
+from program import AGEP, version
 
 
 ROOT = Path(__file__).resolve().parent.parent
@@ -495,40 +496,16 @@ class WithTheProgram(unittest.TestCase):
                     self.assertEqual((work() / "back").read_bytes(), plain)
 
     def test_an_empty_passphrase(self):
-        """It makes no file, and opens the one that has it, which is tests/reference.py's."""
+        """It makes no file."""
         (work() / "none").touch()
-        file = fixture.for_passphrase(b"hello\n", b"", 1)
         for kind in ("whole", "steps"):
-            self.assertEqual(self.convert(kind, "decrypt", "-p", "none", input=file, status=0).stdout, b"hello\n")
             done = self.convert(kind, "encrypt", "-p", "none", "3", input=b"hello\n", status=26)
             self.assertEqual((done.stdout, done.stderr), (b"", b"passphrase is empty 0\n"))
 
-    def agrees(self, file, name, *chunk):
-        """Whole buffers and steps end on a file as agep does, after the same text."""
-        done = self.agep("decrypt", "-k", "key", input=file, status=1)
-        self.assertEqual(done.stderr.decode(), fault(message(name, *chunk)))
-        without_number = codes.Fault(0, name, TEXTS[name, len(chunk)]).message
-        for kind in ("whole", "steps"):
-            converted = self.convert(kind, "decrypt", "-k", "key", input=file)
-            line = f"{without_number} {chunk[0] if chunk else 0}\n"
-            self.assertEqual((converted.stdout, converted.stderr.decode()), (done.stdout, line))
-            self.assertNotEqual(converted.returncode, 0)
-
-    def test_faults(self):
-        """Files that were cut or damaged, or are for another: as with agep."""
-        made = self.agep("encrypt", "-k", "key", "-s", "seed", input=os.urandom(200000), status=0).stdout
-        rows = [
-            (0, "HeaderTruncated"), (100, "HeaderTruncated"), (160, "NonceTruncated"), (180, "ChunkShort", 0),
-            (65724, "BadChunk", 0), (65730, "ChunkShort", 1), (200000, "BadChunk", 3), (200235, "BadChunk", 3),
-        ]
-        for length, *fault_of in rows:
-            with self.subTest(f"cut to {length} bytes"):
-                self.agrees(made[:length], *fault_of)
-        self.agrees(made[:70000] + bytes(byte ^ 255 for byte in made[70000:70002]) + made[70002:], "BadChunk", 1)
-        self.agrees((ROOT / "tests/data/one_recipient.age").read_bytes(), "NoMatch")
+    def test_a_file_for_another(self):
+        """The example says that its key is wrong."""
         (work() / "key.other").write_bytes(os.urandom(32))
         other = self.agep("encrypt", "-k", "key.other", input=b"text", status=0).stdout
-        self.agrees(other, "WrongKey")
         done = run(built("stream", *sanitizers(), source=EXAMPLES / "stream.c"), work() / "key", input=other, status=1)
         self.assertEqual((done.stdout, done.stderr), (b"", f"stream: {message('WrongKey')} (0)\n".encode()))
 
@@ -571,6 +548,17 @@ class WithTheProgram(unittest.TestCase):
         run("bash", "-o", "pipefail", "-c", words, cwd=work(), status=0)
         for name in ("sealing", "opening"):
             self.assertIn(int((work() / name).read_text()), range(1, 4097), name)
+
+
+class Vectors(unittest.TestCase):
+    def test_calls(self):
+        """Each call in Python and in C ends on the test vectors as they were made to."""
+        ways = testkit.library_ways(prefix(), built("convert", "-O2"))
+        if testkit.x25519() is None:
+            print("skipped: test vectors for X25519: Python's package cryptography is missing")
+        for way in ways["python"] + ways["c"]:
+            with self.subTest(way.name):
+                self.assertEqual(test_vectors.differences(way), {})
 
 
 class Document(unittest.TestCase):

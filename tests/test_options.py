@@ -19,12 +19,8 @@ CHUNK = reference.CHUNK
 
 def with_header(size):
     """A key's file of hello whose header has so many bytes: a stanza of another type comes first."""
-    arguments, wrap_key = reference.key_stanza(KEY, SALT)
-    grease = b"a" * (size - 156 - 12)
-    body = reference.signs(reference.sealed(wrap_key, bytes(12), SEED[:16]))
-    text = b"age-encryption.org/v1\n-> grease " + grease + b"\n\n-> " + b" ".join(arguments) + b"\n" + body + b"\n---"
-    mac = reference.hmac.digest(reference.hkdf(SEED[:16], b"", b"header"), text, "sha256")
-    file = text + b" " + reference.signs(mac) + b"\n"
+    grease = reference.stanza_text([b"grease", b"a" * (size - 156 - 12)], b"")
+    file = reference.ended(reference.VERSION + grease + reference.wrapped(reference.key_stanza(KEY, SALT), SEED[:16]), SEED[:16])
     assert len(file) == size
     return file + fixture.for_keys(HELLO, KEY)[156:]
 

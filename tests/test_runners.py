@@ -1,13 +1,14 @@
 """The runners of the tests themselves: over a program whose output and status are known, what must
 fail does, with its last line and its status."""
 
+import hashlib
 import os
 import shutil
 import subprocess
 import textwrap
 import unittest
 
-from program import ROOT, TESTS, read, scratch, write
+from program import ROOT, TESTS, scratch, write
 
 PROGRAM = b"#!/bin/sh\necho out\necho err >&2\nexit 3\n"
 RIGHT = ["out", "2> err", "[status 3]"]
@@ -51,14 +52,14 @@ CASES = """
 """
 
 
-class Runners(unittest.TestCase):
+class Tree(unittest.TestCase):
     @classmethod
     def setUpClass(cls):
         """A tree with the runners, and a program that prints and returns what is known."""
         cls.tree = scratch() + "/tree"
         os.makedirs(cls.tree + "/crates/agep/out")
         shutil.copytree(TESTS, cls.tree + "/tests", ignore=lambda folder, names: [name for name in names if folder == TESTS and (
-            name in ("cli", "library", "planted", "__pycache__") or name.startswith("test_"))])
+            name in ("cli", "library", "planted", "vectors", "__pycache__") or name.startswith("test_"))])
         os.mkdir(cls.tree + "/tests/cli")
         for name in ("docs", "README.md", "CHANGELOG.md"):
             os.symlink(f"{ROOT}/{name}", f"{cls.tree}/{name}")
@@ -66,12 +67,19 @@ class Runners(unittest.TestCase):
             write(f"{cls.tree}/{name}", text)
             os.chmod(f"{cls.tree}/{name}", 0o755)
 
-    def ended(self, script, *names):
-        """The last line and the status of a runner."""
+    def said(self, script, *names):
+        """The lines and the status of a runner."""
         words = [f"{self.tree}/tests/{script}", *names]
         done = subprocess.run(words, stdin=subprocess.DEVNULL, capture_output=True, timeout=120)
-        return done.stdout.decode().splitlines()[-1:], done.returncode
+        return done.stdout.decode().splitlines(), done.returncode
 
+    def ended(self, script, *names):
+        """The last line and the status of a runner."""
+        lines, status = self.said(script, *names)
+        return lines[-1:], status
+
+
+class Runners(Tree):
     def test_transcripts(self):
         """A transcript with another byte, line or status fails."""
         rows = [
@@ -99,3 +107,74 @@ class Runners(unittest.TestCase):
         write(self.tree + "/tests/test_gone.py", gone.encode())
         self.addCleanup(os.remove, self.tree + "/tests/test_gone.py")
         self.assertEqual(self.ended("unit.sh"), (["2 passed, 9 failed"], 1))
+
+
+class Testkit(Tree):
+    """tests/testkit, over a program that does what the file says which it opens."""
+
+    SUM = hashlib.sha256(b"out").hexdigest()
+    RIGHT = ["expect: success", f"payload: {SUM}", "passphrase: x"]
+
+    @classmethod
+    def setUpClass(cls):
+        super().setUpClass()
+        write(cls.tree + "/crates/agep/out/agep", b"#!/bin/sh\nexec sh\n")
+
+    def vectors(self, rows):
+        """What the runner says of vectors, each its lines and its script, whose names are numbers."""
+        folder = scratch()
+        for number, (lines, script) in enumerate(rows):
+            write(f"{folder}/{number:02}", "\n".join([*lines, "", script]).encode())
+        return self.said("testkit", folder, "agep")
+
+    def test_expectations(self):
+        """A vector passes only with what it expects, all that is released, and nothing else."""
+        def fails(line, status=1):
+            return f"echo 'agep: {line}' >&2; exit {status}"
+
+        out, summed, nothing = "printf out", f"payload: {self.SUM}", f"payload: {hashlib.sha256().hexdigest()}"
+        chunk, mac, none, miss = map(fails, ("chunk 1 is damaged", "header check failed", "not an age file", "no key fits this file"))
+        right = [
+            ("success", summed, out), ("no match", "", miss), ("no match", "", fails("wrong passphrase or key")), ("HMAC failure", "", mac),
+            ("header failure", "", none), ("header failure", "", fails("bad header line 2")), ("payload failure", summed, f"{out}; {chunk}"),
+            ("payload failure", nothing, chunk), ("payload failure", "", chunk), ("success", f"{summed}\narmored: yes", none),
+            ("armor failure", "armored: yes", none),
+        ]
+        wrong = [
+            ("success", summed, "printf Out"), ("success", summed, f"{out}; {chunk}"), ("success", summed, f"{out}; echo warning >&2"),
+            ("success", summed, f"{out}; exit 1"), ("no match", "", mac), ("no match", "", ""), ("no match", "", f"{out}; {miss}"),
+            ("HMAC failure", "", none), ("header failure", "", mac), ("header failure", "", f"{out}; {none}"),
+            ("header failure", "", fails("not an age file", 2)), ("header failure", "", fails("not an age file.")),
+            ("payload failure", summed, out), ("payload failure", summed, chunk), ("payload failure", nothing, f"{out}; {chunk}"),
+            ("payload failure", "", mac), ("success", f"{summed}\narmored: yes", out), ("armor failure", "armored: yes", fails("header is cut short")),
+        ]
+        rows = [(filter(None, [f"expect: {expect}", more, "passphrase: x"]), script) for expect, more, script in right + wrong]
+        lines, status = self.vectors(rows)
+        failed = [line.split(": ")[1] for line in lines if line.startswith("FAILED: ")]
+        self.assertEqual(failed, [f"{number:02}" for number in range(len(right), len(rows))])
+        self.assertEqual((lines[-1], status), (f"{len(right)} passed, {len(wrong)} failed", 1))
+        self.assertEqual(self.vectors([(self.RIGHT, out)]), (["1 passed, 0 failed"], 0))
+
+    def test_unknown_lines(self):
+        """An unknown key or value is an error that names the file and the line."""
+        expect, payload, passphrase = self.RIGHT
+        rows = [
+            ([*self.RIGHT, "payloads: x"], "line 4: unknown key: 'payloads'"), ([*self.RIGHT, "Comment: x"], "line 4: unknown key: 'Comment'"),
+            (["expect: Success", payload, passphrase], "line 1: unknown value of expect: 'Success'"),
+            ([expect, "payload: 00", passphrase], "line 2: unknown value of payload: '00'"),
+            ([*self.RIGHT, "compressed: gzip"], "line 4: unknown value of compressed: 'gzip'"),
+            ([*self.RIGHT, "armored: no"], "line 4: unknown value of armored: 'no'"),
+            ([*self.RIGHT, "file key: xx"], "line 4: unknown value of file key: 'xx'"),
+            ([*self.RIGHT, "identity: "], "line 4: unknown value of identity: ''"), ([*self.RIGHT, expect], "line 4: second line of expect"),
+            ([payload, passphrase], "line 3: no line of expect before the empty line"),
+            ([expect, passphrase], "line 3: no line of payload before the empty line"),
+        ]
+        errors = [f"FAILED: {number:02}: {error}" for number, (_, error) in enumerate(rows)]
+        self.assertEqual(self.vectors([(lines, "") for lines, _ in rows]), ([*errors, f"0 passed, {len(rows)} failed"], 1))
+
+    def test_skipped(self):
+        """A kind of identity that the program lacks is named. A folder without a vector fails."""
+        lines = ["expect: no match", "passphrase: x", "identity: AGE-SECRET-KEY-PQ-1QQ"]
+        skipped = "skipped: 00: agep: no identity of kind AGE-SECRET-KEY-PQ-"
+        self.assertEqual(self.vectors([(lines, "")]), ([skipped, "0 passed, 0 failed"], 0))
+        self.assertEqual(self.vectors([])[1], 1)

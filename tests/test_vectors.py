@@ -10,8 +10,9 @@ import unittest
 
 import make_vectors
 import testkit
-from messages import TEXTS
-from program import TESTS, read, scratch, write
+from messages import TEXTS, message
+from program import TESTS, ProgramCase, read, scratch, write
+from test_headers import header_in
 
 GO = "/usr/share/gocode"
 AGE = "src/filippo.io/age"
@@ -51,17 +52,18 @@ def expected(case, way):
     return testkit.Found(fault, word, case.text if fault is None or way.releases else b"")
 
 
-def compare(test, way):
-    """Compares what each vector ends in with what it was made for."""
+def differences(way):
+    """How vectors end in another way than they were made for."""
+    found = {}
     for case in make_vectors.cases():
         vector = testkit.parse(case.name, case.stored)
         if testkit.why_skipped(vector, way):
             continue
-        with test.subTest(f"{way.name}, {case.name}"):
-            found = way.open(vector)
-            test.assertIsNone(testkit.differs(vector, found, way))
-            if way.is_exact:
-                test.assertEqual(found, expected(case, way))
+        ended = way.open(vector)
+        wanted = expected(case, way)
+        if difference := testkit.differs(vector, ended, way) or (way.is_exact and ended != wanted and f"{ended} is not {wanted}"):
+            found[case.name] = difference
+    return found
 
 
 class Stored(unittest.TestCase):
@@ -83,10 +85,21 @@ class Stored(unittest.TestCase):
         self.assertEqual(words, {*testkit.NAMES.values(), "ArgCount", "Salt", "WorkFactorText", "WorkFactorTooHigh", "BodyLength"})
 
 
-class Program(unittest.TestCase):
-    def test_faults(self):
+class Program(ProgramCase):
+    def test_decrypt(self):
         """agep ends in the fault of each vector, and releases what comes before it."""
-        compare(self, testkit.Agep())
+        self.assertEqual(differences(testkit.Agep()), {})
+
+    def test_inspect(self):
+        """inspect ends in the fault of each malformed header, and writes each other one as it is."""
+        for case in make_vectors.cases():
+            fault_of = ("NotAge",) if case.is_armored else case.fault
+            with self.subTest(case.name):
+                if fault_of[0] in ("NotAge", "BadLine", "HeaderTruncated", "HeaderTooLarge"):
+                    self.says(message(*fault_of), "inspect", input=case.file)
+                    self.says(message(*fault_of), "inspect", "--raw", input=case.file)
+                else:
+                    self.writes(header_in(case.file), "inspect", "--raw", input=case.file)
 
 
 @unittest.skipUnless(shutil.which("go") and os.path.exists(f"{GO}/{AGE}/testkit_test.go"), "Go or its library of age is missing")

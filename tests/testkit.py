@@ -100,7 +100,9 @@ def parse(name, data):
         if not line and end:
             break
         key, colon, value = line.decode("utf-8", "surrogateescape").partition(": ")
-        if not end or not colon or key not in VALUES:
+        if not end:
+            raise Unreadable(f"{name}: line {number}: no empty line before the end of the file")
+        if not colon or key not in VALUES:
             raise Unreadable(f"{name}: line {number}: unknown key: {key!a}")
         if not re.fullmatch(VALUES[key], value):
             raise Unreadable(f"{name}: line {number}: unknown value of {key}: {value!a}")
@@ -265,12 +267,11 @@ def why_skipped(vector, way):
 def next_chunk(vector, size):
     """The text of the full chunk behind these bytes of the plaintext, if it opens under the flag that its
     place does not have. A reader that tries both flags may release it, and so it is in `payload`."""
-    mac = vector.file.index(b"\n---") + 1
-    _, nonce_and_chunks = vector.file[mac:].split(b"\n", 1)
-    chunks = nonce_and_chunks[16 + size // CHUNK * SEALED :]
+    payload = vector.file.partition(b"\n---")[2].partition(b"\n")[2]
+    chunks = payload[16 + size // CHUNK * SEALED :]
     if len(vector.file_key) != 16 or len(chunks) < SEALED:
         return b""
-    key, place = hkdf(vector.file_key, nonce_and_chunks[:16], b"payload"), (size // CHUNK, len(chunks) > SEALED)
+    key, place = hkdf(vector.file_key, payload[:16], b"payload"), (size // CHUNK, len(chunks) > SEALED)
     # The cipher is an XOR, so sealing opens.
     text = sealed_chunk(key, *place, chunks[:CHUNK])[:CHUNK]
     return text if sealed_chunk(key, *place, text) == chunks[:SEALED] else b""
