@@ -11,6 +11,7 @@ released before: what is expected follows from these.
 import base64
 import functools
 import hashlib
+import hmac
 import os
 import shutil
 import sys
@@ -33,9 +34,18 @@ PAYLOAD_KEY = hkdf(FILE_KEY, NONCE, b"payload")
 # Of more bytes than these the file is compressed.
 PLAIN_SIZE = 1000
 
-# The X25519 secrets of the identity and of the share of a stanza, and the identity's text (BIP 173).
+# The X25519 secrets of an identity and of a stanza's share, and the identity's text (BIP 173).
 X_SECRET, X_SHARE = SEED[8:40], SEED[4:36]
 X_IDENTITY = "AGE-SECRET-KEY-1PQYS5ZCVP58Q7YQ3ZGF3G9GKZUVPJXSMRSW3U8EQYY3ZXFP9YCNSVR35NC"
+
+
+def key_identity(key):
+    return "identity", f"example.org/key {key.hex()}"
+
+
+BY_PASSPHRASE = (("passphrase", PASSPHRASE.decode()),)
+BY_KEY = (key_identity(KEY),)
+BY_X25519 = (("identity", X_IDENTITY),)
 
 
 class Case(NamedTuple):
@@ -48,7 +58,7 @@ class Case(NamedTuple):
     file: bytes
     fault: tuple = (None,)
     text: bytes = b""
-    secrets: tuple = (("passphrase", PASSPHRASE.decode()),)
+    secrets: tuple = BY_PASSPHRASE
     more: bytes = b""
     is_armored: bool = False
 
@@ -64,14 +74,6 @@ class Case(NamedTuple):
         fields += [("compressed", "zlib")] * (len(self.file) > PLAIN_SIZE)
         head = "".join(f"{key}: {value}\n" for key, value in [*fields, ("comment", self.comment)])
         return head.encode() + b"\n" + (zlib.compress(self.file, 9) if len(self.file) > PLAIN_SIZE else self.file)
-
-
-def key_identity(key):
-    return "identity", f"example.org/key {key.hex()}"
-
-
-BY_KEY = (key_identity(KEY),)
-BY_X25519 = (("identity", X_IDENTITY),)
 
 
 # Lines of headers, each of a stanza or more.
@@ -118,6 +120,9 @@ def plain_and_chunks(size):
 
 
 PAYLOAD = NONCE + chunk(0, True, HELLO)
+OPENS, NO_MATCH, WRONG_KEY, BAD_MAC = (None,), ("NoMatch",), ("WrongKey",), ("BadMac",)
+ARG_COUNT, BAD_SALT, BODY_LENGTH = ("Malformed", "ArgCount"), ("Malformed", "Salt"), ("Malformed", "BodyLength")
+WORK_TEXT, TOO_HIGH, MIXED = ("Malformed", "WorkFactorText"), ("Malformed", "WorkFactorTooHigh"), ("MixedPassphrase",)
 
 
 def age_file(lines, payload=PAYLOAD):
@@ -125,8 +130,14 @@ def age_file(lines, payload=PAYLOAD):
 
 
 GOOD = age_file(SCRYPT)
-EMPTY = age_file(SCRYPT, NONCE + chunk(0, True, b""))
-HEADER = ended(VERSION + SCRYPT, FILE_KEY)
+HEADER = age_file(SCRYPT, b"")
+EMPTY = HEADER + NONCE + chunk(0, True, b"")
+
+
+def files(prefix, fault, rows, secrets=BY_PASSPHRASE):
+    """Files that end alike: the rows are their names, comments and lines."""
+    for name, comment, lines in rows:
+        yield Case(f"{prefix}_{name}", comment, age_file(lines), fault, HELLO if fault == OPENS else b"", secrets)
 
 
 def versions():
@@ -163,10 +174,10 @@ def argument_lines():
         ("indented", "a space comes before the arrow", b" -> a\n"),
         ("empty_line", "an empty line stands before the first stanza", b"\n-> a\n"),
     ):
-        yield Case(f"arguments_{name}", comment, age_file(line + body), ("BadLine", 2))
+        yield from files("arguments", ("BadLine", 2), [(name, comment, line + body)])
         if name in ("no_arguments", "trailing_space", "no_arrow"):
-            yield Case(f"arguments_{name}_second", f"{comment}, in the second stanza", age_file(GREASE + line + body), ("BadLine", 6), secrets=BY_KEY)
-    yield Case("arguments_none", "the header has no stanza", age_file(b""), ("BadLine", 2))
+            yield from files("arguments", ("BadLine", 6), [(f"{name}_second", f"{comment}, in the second stanza", GREASE + line + body)], BY_KEY)
+    yield from files("arguments", ("BadLine", 2), [("none", "the header has no stanza", b"")])
 
 
 def body_lines():
@@ -189,16 +200,15 @@ def body_lines():
         ("full_line_not_canonical", "the pad bits of a short line behind a full one are not zero", zeros + b"AB\n", 4),
         ("missing", "a stanza has no body line", b"", 3),
     ):
-        yield Case(f"body_{name}", comment, age_file(b"-> a\n" + body), ("BadLine", line))
+        yield from files("body", ("BadLine", line), [(name, comment, b"-> a\n" + body)])
 
 
 def end_lines():
-    start, mac = HEADER.rsplit(b" ", 1)
-    mac = mac[:-1]
+    start, mac = HEADER[:-1].rsplit(b" ", 1)
     for name, comment, end in (
         ("42_signs", "the MAC has 42 characters", b" " + mac[:-1]),
         ("44_signs", "the MAC has 44 characters, which are 33 bytes", b" " + mac + b"A"),
-        ("not_canonical", "the pad bits of the MAC are not zero", b" " + mac[:-1] + bytes([mac[-1] + 1])),
+        ("not_canonical", "the pad bits of the MAC are not zero", b" " + not_canonical(mac)),
         ("padding", "the MAC is padded", b" " + mac + b"="),
         ("no_space", "no space comes before the MAC", mac),
         ("two_spaces", "two spaces come before the MAC", b"  " + mac),
@@ -212,94 +222,92 @@ def end_lines():
 
 
 def macs():
-    def with_mac(mac):
-        return HEADER.rsplit(b" ", 1)[0] + b" " + signs(mac) + b"\n" + PAYLOAD
-
     text = HEADER.rsplit(b" ", 1)[0]
-    hmac_key = hkdf(FILE_KEY, b"", b"header")
-    rows = (
-        ("changed", "a bit of the MAC is changed", with_other_mac(GOOD)),
-        ("zeros", "the MAC is zeros", with_mac(bytes(32))),
-        ("of_the_space", "the MAC is also of the space behind the dashes", with_mac(hmac_sha256(hmac_key, text + b" "))),
-        ("without_the_dashes", "the MAC is not of the dashes", with_mac(hmac_sha256(hmac_key, text[:-3]))),
-        ("of_the_file_key", "the key of the MAC is the file key", with_mac(hmac_sha256(FILE_KEY, text))),
-        ("of_another_file_key", "the key of the MAC comes from another file key", ended(VERSION + SCRYPT, NONCE) + PAYLOAD),
-        ("and_payload", "the MAC is changed, and nothing follows it", with_other_mac(HEADER)),
-    )
-    for name, comment, file in rows:
-        yield Case(f"mac_{name}", comment, file, ("BadMac",))
-    kept = age_file(GREASE + KEYED)
-    for name, comment, file in (
-        ("other_argument", "an argument of a stanza of another type was changed", kept.replace(b"~!", b"~~")),
-        ("other_body", "the body of a stanza of another type was changed", kept.replace(b"AAEC", b"AAED")),
-        ("stanza_removed", "a stanza of another type was removed", kept.replace(GREASE, b"")),
-        ("stanzas_swapped", "the order of the stanzas was changed", kept.replace(GREASE + KEYED, KEYED + GREASE)),
+    key = hkdf(FILE_KEY, b"", b"header")
+    for name, comment, mac in (
+        ("zeros", "the MAC is zeros", bytes(32)),
+        ("of_the_space", "the MAC is also of the space behind the dashes", hmac.digest(key, text + b" ", "sha256")),
+        ("without_the_dashes", "the MAC is not of the dashes", hmac.digest(key, text[:-3], "sha256")),
+        ("of_the_file_key", "the key of the MAC is the file key", hmac.digest(FILE_KEY, text, "sha256")),
+        ("of_another_file_key", "the key of the MAC comes from another file key", hmac.digest(hkdf(NONCE, b"", b"header"), text, "sha256")),
     ):
-        yield Case(f"mac_{name}", comment, file, ("BadMac",), secrets=BY_KEY)
+        yield Case(f"mac_{name}", comment, text + b" " + signs(mac) + b"\n" + PAYLOAD, BAD_MAC)
+    kept = age_file(GREASE + KEYED)
+    for name, comment, file, secrets in (
+        ("changed", "a bit of the MAC is changed", with_other_mac(GOOD), BY_PASSPHRASE),
+        ("and_payload", "the MAC is changed, and nothing follows it", with_other_mac(HEADER), BY_PASSPHRASE),
+        ("other_argument", "an argument of a stanza of another type was changed", kept.replace(b"~!", b"~~"), BY_KEY),
+        ("other_body", "the body of a stanza of another type was changed", kept.replace(b"AAEC", b"AAED"), BY_KEY),
+        ("stanza_removed", "a stanza of another type was removed", kept.replace(GREASE, b""), BY_KEY),
+        ("stanzas_swapped", "the order of the stanzas was changed", kept.replace(GREASE + KEYED, KEYED + GREASE), BY_KEY),
+    ):
+        yield Case(f"mac_{name}", comment, file, BAD_MAC, secrets=secrets)
 
 
-def hmac_sha256(key, text):
-    import hmac
-
-    return hmac.digest(key, text, "sha256")
-
-
-def malformed_scrypt():
+def scrypt_arguments():
     salt, body = signs(SALT), sealed(bytes(32), bytes(12), FILE_KEY)
-    _, wrap_key = passphrase_stanza(PASSPHRASE, 1, SALT)
-    rows = [
-        ("argument_missing", "there is no work factor", "ArgCount", scrypt_lines(salt)),
-        ("argument_more", "there is an argument more", "ArgCount", scrypt_lines(salt, b"1", b"1")),
-        ("arguments_alone", "there are neither salt nor work factor", "ArgCount", stanza_text([b"scrypt"], body)),
-        ("salt_short", "the salt has 15 bytes", "Salt", scrypt_lines(signs(SALT[1:]), b"1")),
-        ("salt_long", "the salt has 17 bytes", "Salt", scrypt_lines(signs(SALT + b"\0"), b"1")),
-        ("salt_21_signs", "the salt has 21 characters", "Salt", scrypt_lines(salt[:-1], b"1")),
-        ("salt_padding", "the salt is padded", "Salt", scrypt_lines(salt + b"==", b"1")),
-        ("salt_not_canonical", "the pad bits of the salt are not zero", "Salt", scrypt_lines(salt[:-1] + b"x", b"1")),
-        ("salt_url_alphabet", "the salt has a character of the other alphabet of base64", "Salt", scrypt_lines(salt[:-2] + b"_w", b"1")),
-    ]
-    rows += [
-        (f"work_factor_{name}", f"the work factor is {work}", "WorkFactorText", scrypt_lines(salt, work.encode()))
-        for name, work in (
-            ("0", "0"), ("leading_zero", "01"), ("plus", "+1"), ("minus", "-1"), ("letter_behind", "1a"), ("hex", "0x1"), ("point", "1.0"),
-            ("underscore", "1_0"), ("letter_before", "a1"), ("comma", "1,0"),
+    yield from files("scrypt_argument", ARG_COUNT, (
+        ("missing", "there is no work factor", scrypt_lines(salt)), ("more", "there is an argument more", scrypt_lines(salt, b"1", b"1")),
+        ("none", "there are neither salt nor work factor", stanza_text([b"scrypt"], body)),
+    ))
+    yield from files("scrypt_salt", BAD_SALT, ((name, comment, scrypt_lines(other, b"1")) for name, comment, other in bad_salts()))
+    yield from files("scrypt_work_factor", WORK_TEXT, (
+        (name, f"the work factor is {work}", scrypt_lines(salt, work.encode())) for name, work in (
+            ("0", "0"), ("leading_zero", "01"), ("plus", "+1"), ("minus", "-1"), ("letter_behind", "1a"), ("letter_before", "a1"),
+            ("hex", "0x1"), ("point", "1.0"), ("comma", "1,0"), ("underscore", "1_0"),
         )
-    ]
-    rows += [
-        (f"work_factor_{work}", f"the work factor is {comment}", "WorkFactorTooHigh", scrypt_lines(salt, str(work).encode()))
-        for work, comment in (
+    ))
+    yield from files("scrypt_work_factor", TOO_HIGH, (
+        (str(work), f"the work factor is {comment}", scrypt_lines(salt, str(work).encode())) for work, comment in (
             (23, "one more than the greatest that is usually accepted"), (31, "more than 30"), (64, "2^6"), (257, "2^8 + 1"),
             (65537, "2^16 + 1"), (2**32 + 1, "2^32 + 1"), (2**64 + 1, "2^64 + 1"), (10**40, "10^40"),
         )
-    ]
-    rows += [
-        ("work_factor_60001_digits", "the work factor is 10^60000", "WorkFactorTooHigh", scrypt_lines(salt, b"1" + b"0" * 60000)),
-        ("work_factor_60000_zeros", "the work factor is 60,000 zeros", "WorkFactorText", scrypt_lines(salt, b"0" * 60000)),
-    ]
-    rows += [
-        (f"body_{len(key) + 16}", f"the body has {len(key) + 16} bytes, a sealed file key of {len(key)}", "BodyLength",
-         scrypt_lines(body=sealed(wrap_key, bytes(12), key)))
-        for key in (b"", FILE_KEY[:15], FILE_KEY + b"\0", FILE_KEY * 2, FILE_KEY * 3)
-    ]
-    rows += [
-        ("body_empty", "the body is empty", "BodyLength", scrypt_lines(body=b"")),
-        ("order_arguments", "an argument is missing, and the salt and the body are too short", "ArgCount", scrypt_lines(salt[1:], body=b"")),
-        ("order_salt", "the salt, the work factor's text and the body are malformed", "Salt", scrypt_lines(salt[1:], b"0", body=b"")),
-        ("order_work_factor_text", "the work factor's text and the body are malformed", "WorkFactorText", scrypt_lines(salt, b"099", body=b"")),
-        ("order_work_factor", "the work factor is too high and the body empty", "WorkFactorTooHigh", scrypt_lines(salt, b"99", body=b"")),
-    ]
-    for name, comment, part, lines in rows:
-        yield Case(f"scrypt_{name}", comment, age_file(lines), ("Malformed", part))
-    file = with_other_mac(ended(VERSION + scrypt_lines(salt, b"0"), FILE_KEY))
-    yield Case("scrypt_order_mac", "the work factor is 0, the MAC changed, and nothing follows it", file, ("Malformed", "WorkFactorText"))
+    ))
+    yield from files("scrypt_work_factor", TOO_HIGH, [("60001_digits", "the work factor is 10^60000", scrypt_lines(salt, b"1" + b"0" * 60000))])
+    yield from files("scrypt_work_factor", WORK_TEXT, [("60000_zeros", "the work factor is 60,000 zeros", scrypt_lines(salt, b"0" * 60000))])
 
 
-def other_scrypt():
+def bad_salts():
+    """Salts of a stanza that are malformed."""
+    salt = signs(SALT)
+    return (
+        ("short", "the salt has 15 bytes", signs(SALT[1:])), ("long", "the salt has 17 bytes", signs(SALT + b"\0")),
+        ("21_signs", "the salt has 21 characters", salt[:-1]), ("padding", "the salt is padded", salt + b"=="),
+        ("not_canonical", "the pad bits of the salt are not zero", not_canonical(salt)),
+        ("url_alphabet", "the salt has a character of the other alphabet of base64", salt[:-2] + b"_w"),
+    )
+
+
+def not_canonical(text):
+    """The base64 text with another last character, which has the same bytes."""
+    return text[:-1] + bytes([text[-1] + 1])
+
+
+def scrypt_bodies():
+    salt = signs(SALT)
+    _, wrap_key = passphrase_stanza(PASSPHRASE, 1, SALT)
+    yield from files("scrypt_body", BODY_LENGTH, (
+        (str(size), f"the body has {size} bytes, a sealed file key of {size - 16}", scrypt_lines(body=sealed(wrap_key, bytes(12), SEED[: size - 16])))
+        for size in (16, 31, 33, 48, 64)
+    ))
+    yield from files("scrypt_body", BODY_LENGTH, [("empty", "the body is empty", scrypt_lines(body=b""))])
+    for name, comment, fault, lines in (
+        ("arguments", "an argument is missing, and the salt and the body are malformed", ARG_COUNT, scrypt_lines(salt[1:], body=b"")),
+        ("salt", "the salt, the work factor's text and the body are malformed", BAD_SALT, scrypt_lines(salt[1:], b"0", body=b"")),
+        ("work_factor_text", "the work factor's text and the body are malformed", WORK_TEXT, scrypt_lines(salt, b"099", body=b"")),
+        ("work_factor", "the work factor is too high and the body empty", TOO_HIGH, scrypt_lines(salt, b"99", body=b"")),
+    ):
+        yield from files("scrypt_order", fault, [(name, comment, lines)])
+    file = with_other_mac(age_file(scrypt_lines(salt, b"0"), b""))
+    yield Case("scrypt_order_mac", "the work factor is 0, the MAC changed, and nothing follows it", file, WORK_TEXT)
+
+
+def scrypt_files():
     salt = signs(SALT)
     _, wrap_key = passphrase_stanza(PASSPHRASE, 1, SALT)
     body = sealed(wrap_key, bytes(12), FILE_KEY)
     without_label = hashlib.scrypt(PASSPHRASE, salt=SALT, n=2, r=8, p=1, dklen=32)
-    for name, comment, lines in (
+    yield from files("scrypt_wrong", WRONG_KEY, (
         ("passphrase", "the passphrase is another one", wrapped(passphrase_stanza(PASSPHRASE[:-1], 1, SALT), FILE_KEY)),
         ("tag", "the last byte of the body's tag is changed", scrypt_lines(body=changed(body, -1))),
         ("ciphertext", "the first byte of the body is changed", scrypt_lines(body=changed(body, 0))),
@@ -307,20 +315,15 @@ def other_scrypt():
         ("salt", "the salt is not the one of the body", scrypt_lines(signs(NONCE), b"1")),
         ("label", "scrypt's salt has no label", scrypt_lines(body=sealed(without_label, bytes(12), FILE_KEY))),
         ("nonce", "the nonce of the body is 1", scrypt_lines(body=sealed(wrap_key, bytes(11) + b"\1", FILE_KEY))),
-    ):
-        yield Case(f"scrypt_wrong_{name}", comment, age_file(lines), ("WrongKey",))
-    for work in (2, 9, 10, 15):
-        file = age_file(wrapped(passphrase_stanza(PASSPHRASE, work, SALT), FILE_KEY))
-        yield Case(f"scrypt_work_{work}", f"the work factor is {work}", file, text=HELLO)
-    uppercase = stanza_text([b"Scrypt", salt, b"1"], body)
-    yield Case("scrypt_uppercase", "the type begins with a capital", age_file(uppercase), ("NoMatch",))
-    for name, comment, lines in (
-        ("twice", "two passphrase stanzas", SCRYPT * 2), ("grease_before", "another stanza before", GREASE + SCRYPT),
-        ("grease_behind", "another stanza behind", SCRYPT + GREASE), ("malformed", "another stanza behind a malformed one", scrypt_lines(salt) + GREASE),
-    ):
-        yield Case(f"scrypt_not_alone_{name}", f"the passphrase stanza is not alone: {comment}", age_file(lines), ("MixedPassphrase",))
-    file = age_file(SCRYPT + KEYED)
-    yield Case("scrypt_not_alone_key", "a key's stanza beside a passphrase's, opened by the key", file, ("MixedPassphrase",), secrets=BY_KEY)
+    ))
+    works = [(work, wrapped(passphrase_stanza(PASSPHRASE, work, SALT), FILE_KEY)) for work in (2, 9, 10, 15)]
+    yield from files("scrypt_work", OPENS, ((str(work), f"the work factor is {work}", lines) for work, lines in works))
+    yield from files("scrypt", NO_MATCH, [("uppercase", "the type begins with a capital", SCRYPT.replace(b"scrypt", b"Scrypt"))])
+    yield from files("scrypt_not_alone", MIXED, (
+        ("twice", "there are two passphrase stanzas", SCRYPT * 2), ("grease_before", "another stanza comes before", GREASE + SCRYPT),
+        ("grease_behind", "another stanza follows", SCRYPT + GREASE), ("malformed", "another stanza follows a malformed one", scrypt_lines(salt) + GREASE),
+    ))
+    yield from files("scrypt_not_alone", MIXED, [("key", "a key's stanza, which opens, is beside a passphrase's", SCRYPT + KEYED)], BY_KEY)
 
 
 def passphrases():
@@ -328,97 +331,95 @@ def passphrases():
     for name, comment, passphrase in (
         ("empty", "the passphrase is empty", ""), ("space", "the passphrase begins and ends with a space", " correct horse "),
         ("colon", "the passphrase has a colon and a space", "expect: no match"), ("utf_8", "the passphrase is not ASCII", "pässwörd ☃ 🦆"),
-        ("nfd", "a letter of the passphrase is decomposed, and is not the composed one", "pa\u0308sswo\u0308rd ☃ 🦆"),
+        ("nfd", "letters of the passphrase are decomposed, which makes another one", "pa\u0308sswo\u0308rd ☃ 🦆"),
         ("cr", "the passphrase ends with CR", "correct horse\r"),
         ("64", "the passphrase fills a block of SHA-256", longest[:64]), ("65", "the passphrase is a byte longer than a block of SHA-256", longest),
     ):
-        file = age_file(wrapped(passphrase_stanza(passphrase.encode(), 1, SALT), FILE_KEY))
-        yield Case(f"passphrase_{name}", comment, file, text=HELLO, secrets=(("passphrase", passphrase),))
-    wrong, right = ("passphrase", "correct hors"), ("passphrase", PASSPHRASE.decode())
-    yield Case("passphrase_second", "the second of two passphrases opens the file", GOOD, text=HELLO, secrets=(wrong, right))
-    yield Case("passphrase_none_of_two", "neither of two passphrases opens the file", GOOD, ("WrongKey",), secrets=(wrong, wrong))
-    file = age_file(wrapped(passphrase_stanza(longest[:64].encode() + b"x", 1, SALT), FILE_KEY))
-    yield Case("passphrase_65_other", "the last byte of a passphrase of 65 is another one", file, ("WrongKey",), secrets=(("passphrase", longest),))
-    yield Case("no_match_passphrase", "a key's file is opened by a passphrase", age_file(KEYED), ("NoMatch",))
-    yield Case("no_match_grease", "a file without a known stanza is opened by a passphrase", age_file(GREASE), ("NoMatch",))
+        lines = wrapped(passphrase_stanza(passphrase.encode(), 1, SALT), FILE_KEY)
+        yield from files("passphrase", OPENS, [(name, comment, lines)], (("passphrase", passphrase),))
+    lines = wrapped(passphrase_stanza(longest[:64].encode() + b"x", 1, SALT), FILE_KEY)
+    yield from files("passphrase", WRONG_KEY, [("65_other", "the last byte of a passphrase of 65 is another one", lines)], (("passphrase", longest),))
+    wrong, (right,) = ("passphrase", "correct hors"), BY_PASSPHRASE
+    yield from files("passphrase", OPENS, [("second", "the second of two passphrases opens the file", SCRYPT)], (wrong, right))
+    yield from files("passphrase", WRONG_KEY, [("none_of_two", "neither of two passphrases opens the file", SCRYPT)], (wrong, wrong))
+    yield from files("no_match", NO_MATCH, (
+        ("passphrase", "a key's file is opened by a passphrase", KEYED), ("grease", "a file without a known stanza is opened by a passphrase", GREASE),
+    ))
+    yield from files("no_match", NO_MATCH, [("key", "a passphrase's file is opened by a key", SCRYPT)], BY_KEY)
+    yield Case("no_match_mac", "no stanza is for the passphrase, and the MAC is changed", with_other_mac(age_file(KEYED)), NO_MATCH)
+
+
+def malformed_keyed():
+    other, body = key_lines(key=OTHER_KEY), sealed(key_stanza(KEY, SALT)[1], bytes(12), FILE_KEY)
+    for fault, rows in (
+        (ARG_COUNT, (
+            ("argument_missing", "there is no salt", stanza_text([b"example.org/key"], body)),
+            ("argument_more", "there is an argument more", key_lines(signs(SALT), b"1")),
+            ("order_arguments", "an argument is missing and the body empty", stanza_text([b"example.org/key"], b"")),
+        )),
+        (BAD_SALT, (
+            *((f"salt_{name}", comment, key_lines(salt)) for name, comment, salt in bad_salts()),
+            ("order_salt", "the salt and the body are malformed", key_lines(b"A", body=b"")),
+            ("malformed_behind_another", "a malformed stanza follows one for another key", other + key_lines(b"A")),
+        )),
+        (BODY_LENGTH, (
+            ("body_31", "the body has 31 bytes", key_lines(body=body[:31])), ("body_33", "the body has 33 bytes", key_lines(body=body + b"\0")),
+            ("body_empty", "the body is empty", key_lines(body=b"")),
+            ("malformed_before", "a malformed stanza comes before one that opens", key_lines(body=b"") + KEYED),
+        )),
+    ):
+        yield from files("key", fault, rows, BY_KEY)
 
 
 def keyed():
-    salt, other = signs(SALT), key_lines(key=OTHER_KEY)
-    _, wrap_key = key_stanza(KEY, SALT)
-    body = sealed(wrap_key, bytes(12), FILE_KEY)
-    malformed = [
-        ("argument_missing", "there is no salt", "ArgCount", stanza_text([b"example.org/key"], body)),
-        ("argument_more", "there is an argument more", "ArgCount", key_lines(salt, b"1")),
-        ("salt_short", "the salt has 15 bytes", "Salt", key_lines(signs(SALT[1:]))),
-        ("salt_long", "the salt has 17 bytes", "Salt", key_lines(signs(SALT + b"\0"))),
-        ("salt_padding", "the salt is padded", "Salt", key_lines(salt + b"==")),
-        ("salt_not_canonical", "the pad bits of the salt are not zero", "Salt", key_lines(salt[:-1] + b"x")),
-        ("body_31", "the body has 31 bytes", "BodyLength", key_lines(body=body[:31])),
-        ("body_33", "the body has 33 bytes", "BodyLength", key_lines(body=body + b"\0")),
-        ("body_empty", "the body is empty", "BodyLength", key_lines(body=b"")),
-        ("order_salt", "the salt and the body are malformed", "Salt", key_lines(salt[1:], body=b"")),
-        ("order_arguments", "an argument is missing and the body empty", "ArgCount", stanza_text([b"example.org/key"], b"")),
-        ("malformed_before", "a malformed stanza before one that opens", "BodyLength", key_lines(body=b"") + KEYED),
-        ("malformed_behind_another", "a malformed stanza behind one for another key", "Salt", other + key_lines(salt[1:])),
-    ]
-    for name, comment, part, lines in malformed:
-        yield Case(f"key_{name}", comment, age_file(lines), ("Malformed", part), secrets=BY_KEY)
-    for name, comment, lines in (
-        ("key", "the key is another one", other), ("of_two", "both stanzas are for other keys", other + key_lines(key=SEED[8:40])),
+    other, third, body = key_lines(key=OTHER_KEY), SEED[8:40], sealed(key_stanza(KEY, SALT)[1], bytes(12), FILE_KEY)
+    yield from files("key_wrong", WRONG_KEY, (
+        ("key", "the key is another one", other), ("of_two", "both stanzas are for other keys", other + key_lines(key=third)),
         ("tag", "the last byte of the body's tag is changed", key_lines(body=changed(body, -1))),
         ("salt", "the salt is not the one of the body", key_lines(signs(NONCE))),
-    ):
-        yield Case(f"key_wrong_{name}", comment, age_file(lines), ("WrongKey",), secrets=BY_KEY)
-    for name, comment, lines in (
-        ("alone", "the key's stanza is alone", KEYED), ("first", "the key's stanza is the first of two", KEYED + other),
-        ("second", "the key's stanza is the second of two", other + KEYED), ("twice", "the same stanza stands twice", KEYED * 2),
-        ("malformed_behind", "a malformed stanza behind one that opens", KEYED + key_lines(body=b"")),
-        ("behind_grease", "stanzas of other types before, between and behind", GREASE + other + GREASE + KEYED + GREASE),
-        ("behind_48_bytes", "a body of 48 bytes, which ends with an empty line", stanza_text([b"a"], bytes(48)) + KEYED),
-        ("behind_96_bytes", "a body of 96 bytes, which ends with an empty line", stanza_text([b"a"], bytes(96)) + KEYED),
-        ("behind_each_argument_byte", "arguments of all bytes from 33 to 126", stanza_text([b"a", bytes(range(33, 127))], b"") + KEYED),
-        ("behind_x25519", "an X25519 stanza before", X + KEYED),
-    ):
-        yield Case(f"key_{name}", comment, age_file(lines), text=HELLO, secrets=BY_KEY)
-    for name, comment, fault, keys in (
-        ("second_of_two_keys", "the second of two keys opens the file", (None,), (OTHER_KEY, KEY)),
-        ("none_of_two_keys", "neither of two keys opens the file", ("WrongKey",), (OTHER_KEY, SEED[8:40])),
-    ):
-        yield Case(f"key_{name}", comment, age_file(KEYED), fault, b"" if fault[0] else HELLO, tuple(map(key_identity, keys)))
-    yield Case("key_uppercase", "the type ends with a capital", age_file(KEYED.replace(b"key", b"keY")), ("NoMatch",), secrets=BY_KEY)
-    yield Case("no_match_key", "a passphrase's file is opened by a key", GOOD, ("NoMatch",), secrets=BY_KEY)
+    ), BY_KEY)
+    yield from files("key", OPENS, (
+        ("first", "the key's stanza is the first of two", KEYED + other), ("twice", "the same stanza stands twice", KEYED * 2),
+        ("malformed_behind", "a malformed stanza follows one that opens", KEYED + key_lines(body=b"")), *among_others(KEYED, other, X),
+    ), BY_KEY)
+    yield from files("key", OPENS, [("second_of_two_keys", "the second of two keys opens the file", KEYED)], (key_identity(OTHER_KEY), *BY_KEY))
+    yield from files("key", WRONG_KEY, [("none_of_two_keys", "neither of two keys opens the file", KEYED)], (key_identity(OTHER_KEY), key_identity(third)))
+    yield from files("key", NO_MATCH, [("uppercase", "the type ends with a capital", KEYED.replace(b"key", b"keY"))], BY_KEY)
+
+
+def among_others(lines, other, foreign):
+    """Files with a stanza that opens: alone, and with others for another key and of other types."""
+    return (
+        ("alone", "the stanza is alone", lines), ("second", "the stanza is the second of two", other + lines),
+        ("behind_another_kind", "the stanza follows one of the other kind", foreign + lines),
+        ("grease", "stanzas of other types come before, between and behind", GREASE + other + GREASE + lines + GREASE),
+        ("behind_48_bytes", "a body of 48 bytes ends with an empty line", stanza_text([b"a"], bytes(48)) + lines),
+        ("behind_96_bytes", "a body of 96 bytes ends with an empty line", stanza_text([b"a"], bytes(96)) + lines),
+        ("behind_each_argument_byte", "an argument has all bytes from 33 to 126", stanza_text([b"a", bytes(range(33, 127))], b"") + lines),
+    )
 
 
 def x25519_files():
     share, other = x25519(X_SHARE), x25519_lines(secret=SEED[12:44])
-    _, wrap_key = x25519_stanza(x25519(X_SECRET), X_SHARE)
-    body = sealed(wrap_key, bytes(12), FILE_KEY)
-    for name, comment, lines in (
-        ("alone", "the stanza is alone", X), ("second", "the stanza is the second of two", other + X),
-        ("grease", "stanzas of other types before, between and behind", GREASE + other + GREASE + X + GREASE),
-        ("behind_48_bytes", "a body of 48 bytes, which ends with an empty line", stanza_text([b"a"], bytes(48)) + X),
-        ("behind_each_argument_byte", "arguments of all bytes from 33 to 126", stanza_text([b"a", bytes(range(33, 127))], b"") + X),
-        ("behind_key", "a key's stanza before", KEYED + X),
+    body = sealed(x25519_stanza(x25519(X_SECRET), X_SHARE)[1], bytes(12), FILE_KEY)
+    for fault, rows in (
+        (OPENS, among_others(X, other, KEYED)),
+        (NO_MATCH, (
+            ("wrong", "the stanza is for another key", other), ("wrong_tag", "the last byte of the body's tag is changed", x25519_lines(body=changed(body, -1))),
+            ("lowercase", "the type begins with a small letter", X.replace(b"X25519", b"x25519")),
+        )),
+        (("Malformed",), (
+            ("argument_missing", "there is no share", stanza_text([b"X25519"], body)),
+            ("argument_more", "there is an argument more", x25519_lines(signs(share), b"1")),
+            ("share_short", "the share has 31 bytes", x25519_lines(signs(share[1:]))),
+            ("share_long", "the share has 33 bytes", x25519_lines(signs(share + b"\0"))),
+            ("share_not_canonical", "the pad bits of the share are not zero", x25519_lines(not_canonical(signs(share)))),
+            ("share_zero", "the share is a point of low order", x25519_lines(signs(bytes(32)))),
+            ("body_31", "the body has 31 bytes", x25519_lines(body=body[:31])), ("body_33", "the body has 33 bytes", x25519_lines(body=body + b"\0")),
+        )),
     ):
-        yield Case(f"x25519_{name}", comment, age_file(lines), text=HELLO, secrets=BY_X25519)
-    for name, comment, lines in (
-        ("wrong", "the stanza is for another key", other), ("wrong_tag", "the last byte of the body's tag is changed", x25519_lines(body=changed(body, -1))),
-        ("lowercase", "the type begins with a small letter", X.replace(b"X25519", b"x25519")),
-    ):
-        yield Case(f"x25519_{name}", comment, age_file(lines), ("NoMatch",), secrets=BY_X25519)
-    for name, comment, lines in (
-        ("argument_missing", "there is no share", stanza_text([b"X25519"], body)),
-        ("argument_more", "there is an argument more", x25519_lines(signs(share), b"1")),
-        ("share_short", "the share has 31 bytes", x25519_lines(signs(share[1:]))),
-        ("share_long", "the share has 33 bytes", x25519_lines(signs(share + b"\0"))),
-        ("share_not_canonical", "the pad bits of the share are not zero", x25519_lines(signs(share)[:-1] + bytes([signs(share)[-1] + 1]))),
-        ("share_zero", "the share is a point of low order", x25519_lines(signs(bytes(32)))),
-        ("body_31", "the body has 31 bytes", x25519_lines(body=body[:31])),
-        ("body_33", "the body has 33 bytes", x25519_lines(body=body + b"\0")),
-    ):
-        yield Case(f"x25519_{name}", comment, age_file(lines), ("Malformed",), secrets=BY_X25519)
-    yield Case("x25519_mac", "a bit of the MAC is changed", with_other_mac(age_file(GREASE + X)), ("BadMac",), secrets=BY_X25519)
+        yield from files("x25519", fault, rows, BY_X25519)
+    yield Case("x25519_mac", "a bit of the MAC is changed", with_other_mac(age_file(GREASE + X)), BAD_MAC, secrets=BY_X25519)
 
 
 def limits():
@@ -447,81 +448,80 @@ def sizes():
         yield Case(f"size_{size}", f"a plaintext of {size:,} bytes", age_file(SCRYPT, NONCE + b"".join(chunks)), text=plain)
 
 
-def payloads():
-    """Damaged payloads: the fault and its chunk. The chunks before it are released."""
-    short = filler(1, True, 100)
-    two = [filled(0, False), chunk(1, True, short)]
-    two_full = [filled(0, False), filled(1, True)]
-    three = [filled(0, False), filled(1, False), chunk(2, True, HELLO)]
-    one = [chunk(0, True, HELLO)]
-    key = hkdf(NONCE, NONCE, b"payload")
-    more = {
-        "flag_missing_full": filler(0, False), "flag_missing_second_full": filler(1, False), "flag_early": filler(0, True),
-        "flag_early_second": filler(1, True), "removed_last": filler(0, False),
-    }
-    for name, comment, fault, number, chunks in (
-        ("tag_first", "the tag of the only chunk is changed", "BadChunk", 0, [changed(one[0], -1)]),
-        ("ciphertext_first", "the first byte of the only chunk is changed", "BadChunk", 0, [changed(one[0], 0)]),
-        ("tag_of_two", "the tag of the first of two chunks is changed", "BadChunk", 0, [changed(two[0], -1), two[1]]),
-        ("tag_second", "the tag of the second chunk is changed", "BadChunk", 1, [two[0], changed(two[1], -1)]),
-        ("tag_second_full", "the tag of a second chunk that is full is changed", "BadChunk", 1, [two[0], changed(two_full[1], -1)]),
-        ("tag_second_of_three", "the tag of the second of three chunks is changed", "BadChunk", 1, [three[0], changed(three[1], -1), three[2]]),
-        ("tag_third", "the tag of the third chunk is changed", "BadChunk", 2, [*three[:2], changed(three[2], -1)]),
-        ("no_chunk", "no chunk follows the nonce", "ChunkShort", 0, []),
-        ("flag_missing", "the only chunk has no flag", "BadChunk", 0, [chunk(0, False, HELLO)]),
-        ("flag_missing_empty", "an empty chunk has no flag", "BadChunk", 0, [chunk(0, False, b"")]),
-        ("flag_missing_full", "the only chunk is full and has no flag", "BadChunk", 0, [filled(0, False)]),
-        ("flag_missing_second", "the second chunk has no flag", "BadChunk", 1, [two[0], chunk(1, False, short)]),
-        ("flag_missing_second_full", "the second chunk is full and has no flag", "BadChunk", 1, three[:2]),
-        ("flag_early", "the first of two chunks has the flag", "BadChunk", 0, [filled(0, True), two[1]]),
-        ("flag_early_second", "the second of three chunks has the flag", "BadChunk", 1, [three[0], filled(1, True), three[2]]),
-        ("flag_early_chunk_0", "two files' only chunks follow each other", "BadChunk", 0, one * 2),
-        ("flag_255", "the flag is 255", "BadChunk", 0, [sealed(PAYLOAD_KEY, bytes(11) + b"\xff", HELLO)]),
-        ("flag_in_front", "the flag is the first byte of the nonce", "BadChunk", 0, [sealed(PAYLOAD_KEY, b"\1" + bytes(11), HELLO)]),
-        ("counter_from_1", "the first chunk is counted as 1", "BadChunk", 0, [chunk(1, True, HELLO)]),
-        ("counter_stays", "the second chunk is counted as 0", "BadChunk", 1, [two[0], chunk(0, True, short)]),
-        ("counter_skips", "the second chunk is counted as 2", "BadChunk", 1, [two[0], chunk(2, True, short)]),
-        ("counter_little_endian", "the counter begins with its least byte", "BadChunk", 1, [two[0], chunk(1 << 80, True, short)]),
-        ("swapped", "the first two of three chunks are swapped", "BadChunk", 0, [three[1], three[0], three[2]]),
-        ("repeated", "the first chunk stands twice", "BadChunk", 1, [two[0], two[0], two[1]]),
-        ("removed_first", "the first chunk is missing", "BadChunk", 0, two[1:]),
-        ("removed_second", "the second of three chunks is missing", "BadChunk", 1, [three[0], three[2]]),
-        ("removed_last", "the last chunk is missing", "BadChunk", 0, two[:1]),
-        ("empty_last", "an empty chunk follows a full one", "EmptyFinal", 1, [filled(0, False), chunk(1, True, b"")]),
-        ("empty_last_third", "an empty chunk follows two full ones", "EmptyFinal", 2, [*three[:2], chunk(2, True, b"")]),
-        ("empty_last_damaged", "an empty chunk with a wrong tag follows a full one", "EmptyFinal", 1, [two[0], bytes(16)]),
-        ("empty_first", "an empty chunk comes before the others", "BadChunk", 0, [chunk(0, False, b""), *three[1:]]),
-        ("short_in_front", "a chunk that is not full comes before another", "BadChunk", 0, [chunk(0, False, filler(0, False, 100)), two[1]]),
-        ("long_chunk", "a chunk has 65,537 bytes", "BadChunk", 0, [filled(0, True, CHUNK + 1)]),
-        ("another_key", "the payload's key comes from the nonce twice", "BadChunk", 0, [sealed_chunk(key, 0, True, HELLO)]),
-    ):
+def payloads(rows):
+    """Damaged payloads: the rows are their names, comments, faults, chunks of the faults, the sealed chunks,
+    and where it is released too the text of the chunk at fault. The chunks before it are released."""
+    for name, comment, fault, number, chunks, *more in rows:
         text = b"".join(filler(i, False) for i in range(number))
-        yield Case(f"payload_{name}", comment, age_file(SCRYPT, NONCE + b"".join(chunks)), (fault, number), text, more=more.get(name, b""))
+        yield Case(f"payload_{name}", comment, age_file(SCRYPT, NONCE + b"".join(chunks)), (fault, number), text, more=b"".join(more))
+
+
+ONE = chunk(0, True, HELLO)
+FIRST, SECOND, THIRD = filled(0, False), filled(1, False), chunk(2, True, HELLO)
+LAST, LAST_FULL = filled(1, True, 100), filled(1, True)
+
+
+def damaged_chunks():
+    key = hkdf(NONCE, NONCE, b"payload")
+    yield from payloads((
+        ("tag_first", "the tag of the only chunk is changed", "BadChunk", 0, [changed(ONE, -1)]),
+        ("ciphertext_first", "the first byte of the only chunk is changed", "BadChunk", 0, [changed(ONE, 0)]),
+        ("tag_of_two", "the tag of the first of two chunks is changed", "BadChunk", 0, [changed(FIRST, -1), LAST]),
+        ("tag_second", "the tag of the second chunk is changed", "BadChunk", 1, [FIRST, changed(LAST, -1)]),
+        ("tag_second_full", "the tag of a second chunk that is full is changed", "BadChunk", 1, [FIRST, changed(LAST_FULL, -1)]),
+        ("tag_second_of_three", "the tag of the second of three chunks is changed", "BadChunk", 1, [FIRST, changed(SECOND, -1), THIRD]),
+        ("tag_third", "the tag of the third chunk is changed", "BadChunk", 2, [FIRST, SECOND, changed(THIRD, -1)]),
+        ("another_key", "the payload's key comes from the nonce twice", "BadChunk", 0, [sealed_chunk(key, 0, True, HELLO)]),
+        ("swapped", "the first two of three chunks are swapped", "BadChunk", 0, [SECOND, FIRST, THIRD]),
+        ("repeated", "the first chunk stands twice", "BadChunk", 1, [FIRST, FIRST, LAST]),
+        ("removed_all", "no chunk follows the nonce", "ChunkShort", 0, []),
+        ("removed_first", "the first chunk is missing", "BadChunk", 0, [LAST]),
+        ("removed_second", "the second of three chunks is missing", "BadChunk", 1, [FIRST, THIRD]),
+        ("removed_last", "the last chunk is missing", "BadChunk", 0, [FIRST], filler(0, False)),
+        ("removed_last_of_three", "the last of three chunks is missing", "BadChunk", 1, [FIRST, SECOND], filler(1, False)),
+        ("empty_last", "an empty chunk follows a full one", "EmptyFinal", 1, [FIRST, chunk(1, True, b"")]),
+        ("empty_last_third", "an empty chunk follows two full ones", "EmptyFinal", 2, [FIRST, SECOND, chunk(2, True, b"")]),
+        ("empty_last_damaged", "an empty chunk with a wrong tag follows a full one", "EmptyFinal", 1, [FIRST, bytes(16)]),
+        ("empty_first", "an empty chunk comes before the others", "BadChunk", 0, [chunk(0, False, b""), SECOND, THIRD]),
+        ("short_first", "a chunk that is not full comes before another", "BadChunk", 0, [filled(0, False, 100), LAST]),
+        ("long", "a chunk has 65,537 bytes", "BadChunk", 0, [filled(0, True, CHUNK + 1)]),
+    ))
     yield Case("payload_nonce", "a bit of the nonce is changed", age_file(SCRYPT, changed(PAYLOAD, 0)), ("BadChunk", 0))
 
 
+def flags_and_counters():
+    yield from payloads((
+        ("flag_missing", "the only chunk has no flag", "BadChunk", 0, [chunk(0, False, HELLO)]),
+        ("flag_missing_empty", "an empty chunk has no flag", "BadChunk", 0, [chunk(0, False, b"")]),
+        ("flag_missing_second", "the second chunk has no flag", "BadChunk", 1, [FIRST, filled(1, False, 100)]),
+        ("flag_early", "the first of two chunks has the flag", "BadChunk", 0, [filled(0, True), LAST], filler(0, True)),
+        ("flag_early_second", "the second of three chunks has the flag", "BadChunk", 1, [FIRST, LAST_FULL, THIRD], filler(1, True)),
+        ("flag_early_short", "two files' only chunks follow each other", "BadChunk", 0, [ONE, ONE]),
+        ("flag_255", "the flag is 255", "BadChunk", 0, [sealed(PAYLOAD_KEY, bytes(11) + b"\xff", HELLO)]),
+        ("flag_in_front", "the flag is the first byte of the nonce", "BadChunk", 0, [sealed(PAYLOAD_KEY, b"\1" + bytes(11), HELLO)]),
+        ("counter_from_1", "the first chunk is counted as 1", "BadChunk", 0, [chunk(1, True, HELLO)]),
+        ("counter_stays", "the second chunk is counted as 0", "BadChunk", 1, [FIRST, filled(0, True, 100)]),
+        ("counter_skips", "the second chunk is counted as 2", "BadChunk", 1, [FIRST, filled(2, True, 100)]),
+        ("counter_little_endian", "the counter begins with its least byte", "BadChunk", 1, [FIRST, filled(1 << 80, True, 100)]),
+    ))
+
+
 def ends():
-    """Bytes behind the last chunk, and files of two chunks that are cut."""
+    """Bytes behind the last chunk, and a file of two chunks that is cut."""
     for name, comment, size in (
-        ("", "a last chunk that is not full", 6), ("_full", "a full last chunk", CHUNK), ("_second", "a second chunk that is not full", CHUNK + 6),
-        ("_second_full", "a second chunk that is full", 2 * CHUNK),
+        ("short", "a last chunk that is not full", 6), ("full", "a full last chunk", CHUNK), ("second", "a second chunk that is not full", CHUNK + 6),
+        ("second_full", "a second chunk that is full", 2 * CHUNK),
     ):
         plain, chunks = plain_and_chunks(size)
         before = CHUNK * (len(chunks) - 1)
+        more = plain[before:] if size % CHUNK == 0 else b""
         for count in (1, 15, 16, 17):
             file = age_file(SCRYPT, NONCE + b"".join(chunks) + bytes(count))
-            more = plain[before:] if size % CHUNK == 0 else b""
-            yield Case(f"behind{name}_{count}", f"{count} bytes follow {comment}", file, ("BadChunk", len(chunks) - 1), plain[:before], more=more)
-    _, chunks = plain_and_chunks(CHUNK + 100)
-    text = filler(0, False)
-    for rest, fault, number in (
-        (-65536, "BadChunk", 0), (-1, "BadChunk", 0), (0, "BadChunk", 0), (1, "ChunkShort", 1), (15, "ChunkShort", 1), (16, "EmptyFinal", 1),
-        (17, "BadChunk", 1), (115, "BadChunk", 1),
-    ):
-        payload = b"".join(chunks)[: len(chunks[0]) + rest]
-        chunk_of, size = ("first", len(payload)) if rest < 0 else ("second", rest)
-        yield Case(f"cut_{chunk_of}_{size}", f"of two chunks the {chunk_of} is cut to {size:,} bytes", age_file(SCRYPT, NONCE + payload),
-                   (fault, number), text * number, more=b"" if rest else text)
+            yield Case(f"behind_{name}_{count}", f"{count} bytes follow {comment}", file, ("BadChunk", len(chunks) - 1), plain[:before], more=more)
+    for size in (16, CHUNK, CHUNK + 15):
+        yield from payloads([(f"cut_first_{size}", f"the first of two chunks is cut to {size:,} bytes", "BadChunk", 0, [FIRST[:size]])])
+    for size, fault in ((1, "ChunkShort"), (15, "ChunkShort"), (16, "EmptyFinal"), (17, "BadChunk"), (115, "BadChunk")):
+        yield from payloads([(f"cut_second_{size}", f"the second of two chunks is cut to {size} bytes", fault, 1, [FIRST, LAST[:size]])])
 
 
 def cuts():
@@ -538,10 +538,16 @@ def armored():
     yield Case("armor", "a file in ASCII armor, which this project refuses", file, text=HELLO, is_armored=True)
 
 
+GROUPS = (
+    versions, argument_lines, body_lines, end_lines, macs, scrypt_arguments, scrypt_bodies, scrypt_files, passphrases, malformed_keyed, keyed,
+    x25519_files, limits, sizes, damaged_chunks, flags_and_counters, ends, cuts, armored,
+)
+
+
+@functools.cache
 def cases():
-    for group in (versions, argument_lines, body_lines, end_lines, macs, malformed_scrypt, other_scrypt, passphrases, keyed, x25519_files,
-                  limits, sizes, payloads, ends, cuts, armored):
-        yield from group()
+    """All vectors, by their names."""
+    return sorted((case for group in GROUPS for case in group()), key=lambda case: case.name)
 
 
 def make(folder):

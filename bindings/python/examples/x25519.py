@@ -29,6 +29,18 @@ def bech32_bytes(text, prefix):
     return int(bits[:256], 2).to_bytes(32, "big")
 
 
+def text_of(share):
+    return base64.b64encode(share).decode().rstrip("=")
+
+
+def share_of(text):
+    """The share of a base64 text, whose pad bits are zero."""
+    share = base64.b64decode(text + "=", validate=True)
+    if len(share) != 32 or text_of(share) != text:
+        raise ValueError("malformed X25519 share")
+    return share
+
+
 def public_of(secret):
     return secret.public_key().public_bytes(Encoding.Raw, PublicFormat.Raw)
 
@@ -48,7 +60,7 @@ class X25519Recipient:
         secret = X25519PrivateKey.generate()
         share = public_of(secret)
         body = cipher(secret, self.public, share, self.public).encrypt(bytes(12), file_key, None)
-        return [Stanza(("X25519", base64.b64encode(share).decode().rstrip("=")), body)]
+        return [Stanza(("X25519", text_of(share)), body)]
 
 
 class X25519Identity:
@@ -59,9 +71,9 @@ class X25519Identity:
         for args, body in stanzas:
             if args[0] != "X25519":
                 continue
-            if len(args) != 2 or len(args[1]) != 43 or len(body) != 32:
+            if len(args) != 2 or len(body) != 32:
                 raise ValueError("malformed X25519 stanza")
-            share = base64.b64decode(args[1] + "=", validate=True)
+            share = share_of(args[1])
             try:
                 return cipher(self.secret, share, share, public_of(self.secret)).decrypt(bytes(12), body, None)
             except InvalidTag:
