@@ -11,10 +11,9 @@ import unittest
 from unittest import mock
 
 import agefile
-from agefile import AgeError, Code, Key, Passphrase, Stanza
-from support import AGEP, KEY, ROOT, TEXT, InFolder, message, text
+from agefile import Key, Passphrase, Stanza
+from support import AGEP, KEY, ROOT, InFolder, message, text
 
-import fixture
 import reference
 
 SIZES = (0, 1, 65536, 65537, 150000)
@@ -123,13 +122,6 @@ class Reference(unittest.TestCase):
             self.assertEqual(stanza.args, tuple(argument.decode() for argument in arguments))
             other = reference.age_file(SEED, [reference.passphrase_stanza(passphrase, 2, SEED[32:])], b"text")
             self.assertEqual(agefile.decrypt(other, identities=Passphrase(passphrase)), b"text")
-
-    def test_an_empty_final_chunk(self):
-        file = fixture.for_keys(text(TEXT), bytes(range(32)), empty_final=True)
-        for number, opened in enumerate(ways_to_open(KEY)):
-            with self.subTest(number), self.assertRaises(AgeError) as caught:
-                opened(file)
-            self.assertEqual((caught.exception.code, caught.exception.place), (Code.EMPTY_FINAL, 1))
 
 
 class Fresh(unittest.TestCase):
