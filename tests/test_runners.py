@@ -138,7 +138,7 @@ class Testkit(Tree):
             ("success", summed, out), ("no match", "", miss), ("no match", "", fails("wrong passphrase or key")), ("HMAC failure", "", mac),
             ("header failure", "", none), ("header failure", "", fails("bad header line 2")), ("payload failure", summed, f"{out}; {chunk}"),
             ("payload failure", nothing, chunk), ("payload failure", "", chunk), ("success", f"{summed}\narmored: yes", none),
-            ("armor failure", "armored: yes", none),
+            ("armor failure", "armored: yes", none), ("success", f"{summed}\narmored: yes\nidentity: AGE-SECRET-KEY-1QQ", none),
         ]
         wrong = [
             ("success", summed, "printf Out"), ("success", summed, f"{out}; {chunk}"), ("success", summed, f"{out}; echo warning >&2"),

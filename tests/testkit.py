@@ -72,6 +72,11 @@ class Vector(NamedTuple):
     comment: str
     file: bytes
 
+    @property
+    def tried(self):
+        """The secrets to open it with: armor is refused whatever they are."""
+        return (Secret("passphrase", b"x"),) if self.is_armored else self.secrets
+
 
 class Found(NamedTuple):
     """What opening a file ended in: the name of the fault or None, the number or the part that it names,
@@ -92,7 +97,7 @@ def secret_of(key, value):
 
 
 def parse(name, data):
-    """A vector of its bytes."""
+    """The vector of a file's bytes."""
     fields, secrets, number = {}, [], 0
     while True:
         line, end, data = data.partition(b"\n")
@@ -115,8 +120,11 @@ def parse(name, data):
 
 
 def whole(name, number, fields, secrets, data):
-    if "expect" not in fields or (fields["expect"] == "success" and "payload" not in fields):
-        raise Unreadable(f"{name}: line {number}: no line of {'payload' if 'expect' in fields else 'expect'} before the empty line")
+    """The vector of the lines before the empty line of this number, and of the bytes behind it."""
+    needed = ("expect", "payload") if fields.get("expect") == "success" else ("expect",)
+    for key in needed:
+        if key not in fields:
+            raise Unreadable(f"{name}: line {number}: no line of {key} before the empty line")
     if "compressed" in fields:
         try:
             data = zlib.decompress(data)
@@ -152,26 +160,21 @@ def found_of(code, place, part, text):
     return Found(fault, part if fault == "Malformed" else str(place) if (fault, 1) in messages.TEXTS else None, text)
 
 
-def missed(founds):
-    """What several secrets end in, of which none fits."""
-    return next((found for found in founds if found.fault == "WrongKey"), founds[0])
-
-
+# A way to open files, below, has `releases`: whether the chunks before a fault come out; and `is_exact`:
+# whether the fault is the first of docs/FORMAT.md, which that of ranges need not be.
 class InTurn:
-    """A way to open files, as those below: `releases` if the chunks before a fault come out, `is_exact` if
-    the fault is the first of docs/FORMAT.md, which that of ranges need not be. It takes one
-    secret a run: the first that fits, or finds a fault, decides."""
+    """A program that takes one secret a run: the first that fits, or finds a fault, decides."""
 
     def lacks(self, secret):
         return secret.kind not in ("passphrase", KEY)
 
     def open(self, vector):
         founds = []
-        for secret in vector.secrets:
+        for secret in vector.tried:
             founds.append(self.open_with(("-p" if secret.kind == "passphrase" else "-k", secret_file(secret.value)), vector.file))
             if EXPECT.get(founds[-1].fault) != "no match":
                 return founds[-1]
-        return missed(founds)
+        return next((found for found in founds if found.fault == "WrongKey"), founds[0])
 
 
 @functools.cache
@@ -224,7 +227,7 @@ class InPython:
     def open(self, vector):
         out = io.BytesIO()
         try:
-            self.call(vector.file, out, [self.kinds[secret.kind](secret.value) for secret in vector.secrets])
+            self.call(vector.file, out, [self.kinds[secret.kind](secret.value) for secret in vector.tried])
         except agefile().AgeError as error:
             return found_of(error.code, error.place, PARTS.get(error.detail), out.getvalue())
         except ValueError:
@@ -260,8 +263,10 @@ def calls_in_python():
 
 def why_skipped(vector, way):
     """Why a vector is not run in a way, or None."""
-    lacking = [secret.kind for secret in vector.secrets if way.lacks(secret)]
-    return f"no identity of kind {lacking[0]}" if lacking else None if vector.secrets else "no passphrase or identity is given"
+    lacking = [secret.kind for secret in vector.tried if way.lacks(secret)]
+    if lacking:
+        return f"no identity of kind {lacking[0]}"
+    return None if vector.tried else "no passphrase or identity is given"
 
 
 def next_chunk(vector, size):
