@@ -16,6 +16,7 @@ from test_headers import header_in
 
 GO = "/usr/share/gocode"
 AGE = "src/filippo.io/age"
+HAS_GO = shutil.which("go") and all(os.path.exists(f"{GO}/{name}") for name in (f"{AGE}/testkit_test.go", "src/golang.org/x/crypto"))
 # Beside the reader of the library, which the Debian package skips, since it would download vectors.
 FOLDER_TEST = b"""package age_test
 
@@ -102,7 +103,7 @@ class Program(ProgramCase):
                     self.writes(header_in(case.file), "inspect", "--raw", input=case.file)
 
 
-@unittest.skipUnless(shutil.which("go") and os.path.exists(f"{GO}/{AGE}/testkit_test.go"), "Go or its library of age is missing")
+@unittest.skipUnless(HAS_GO, "Go, or its library of age or x/crypto, is missing")
 class Go(unittest.TestCase):
     """Debian's Go library of age, by its own reader of vectors."""
 
