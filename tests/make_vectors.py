@@ -532,7 +532,7 @@ def cuts():
 
 
 def armored():
-    lines = base64.encodebytes(GOOD).replace(b"\n", b"")
+    lines = base64.b64encode(GOOD)
     body = b"".join(lines[at : at + 64] + b"\n" for at in range(0, len(lines), 64))
     file = b"-----BEGIN AGE ENCRYPTED FILE-----\n" + body + b"-----END AGE ENCRYPTED FILE-----\n"
     yield Case("armor", "a file in ASCII armor, which this project refuses", file, text=HELLO, is_armored=True)

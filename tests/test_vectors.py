@@ -72,9 +72,9 @@ class Stored(unittest.TestCase):
         """tests/make_vectors.py makes what is stored. Another zlib may compress it to other bytes."""
         stored, wrong = testkit.load(make_vectors.FOLDER)
         self.assertEqual(wrong, [])
-        made = {case.name: testkit.parse(case.name, case.stored) for case in make_vectors.cases()}
-        self.assertEqual([vector.name for vector in stored], sorted(made))
-        self.assertEqual([vector.name for vector in stored if vector != made[vector.name]], [])
+        made = [testkit.parse(case.name, case.stored) for case in make_vectors.cases()]
+        self.assertEqual([vector.name for vector in stored], [vector.name for vector in made])
+        self.assertEqual([one.name for one, other in zip(stored, made) if one != other], [])
 
     def test_size(self):
         """They have at most 300 KB."""

@@ -160,7 +160,7 @@ def found_of(code, place, part, text):
     return Found(fault, part if fault == "Malformed" else str(place) if (fault, 1) in messages.TEXTS else None, text)
 
 
-# A way to open files, below, has `releases`: whether the chunks before a fault come out; and `is_exact`:
+# A way to open files has `releases`: whether the chunks before a fault come out; and `is_exact`:
 # whether the fault is the first of docs/FORMAT.md, which that of ranges need not be.
 class InTurn:
     """A program that takes one secret a run: the first that fits, or finds a fault, decides."""
