@@ -123,7 +123,7 @@ encrypts e = cc
 pub words_decrypt : OkIsAgeFile → (F : Type 0) (remaining contents : F → Known) (words : List Bytes) (b xs : Bytes)
     (new : Known) → IsPiped command.Decrypt words
     → FinishesWords F remaining contents words (Some b) (moved (Some xs) new) → Gained (word_limits words) b xs new
-words_decrypt law F remaining contents words b xs new pipe (job, makes, done) =
+words_decrypt law F remaining contents words b xs new pipe (job, makes, done, ranges) =
     let p = piped command.Decrypt words job pipe makes in
     subst (λ (n : ℕ). Gained (record { max_header = n; max_chunks = 2 ^ 88 }) b xs new) p.max_header
     (done_decrypt law job b xs new p.is
@@ -132,7 +132,7 @@ words_decrypt law F remaining contents words b xs new pipe (job, makes, done) =
 pub words_encrypt : (F : Type 0) (remaining contents : F → Known) (words : List Bytes) (plain xs : Bytes) (new : Known)
     → IsPiped command.Encrypt words → FinishesWords F remaining contents words (Some plain) (moved (Some xs) new)
     → Made (word_limits words) plain xs new
-words_encrypt F remaining contents words plain xs new pipe (job, makes, done) =
+words_encrypt F remaining contents words plain xs new pipe (job, makes, done, ranges) =
     let p = piped command.Encrypt words job pipe makes in
     subst (λ (n : ℕ). Made (record { max_header = n; max_chunks = 2 ^ 88 }) plain xs new) p.max_header
     (done_encrypt job plain xs new p.is

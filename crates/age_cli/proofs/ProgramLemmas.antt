@@ -4,13 +4,14 @@ use Rattle.std.specs.Prelude.{⊤}
 use Rattle.age_header.specs.Device.{Bytes, Known, Moved, Stays, moved}
 use Rattle.age_file.specs.declared.fault.Fault.{Fault as FileFault}
 use Rattle.age_job.specs.declared.job.Job.{Job}
+use Rattle.age_job.specs.declared.secret.Secret.{Secret}
 use Rattle.age_words.specs.declared.fault.WordsFault.{WordsFault}
 use Rattle.age_words.specs.declared.fault.WordsFault.TheVariants.{Memory, Refused}
 use Rattle.age_words.specs.JobOf.{AreWrong, AskForText, Reads}
 use Rattle.age_words.proofs.RefusalLemmas.{shown, wrong}
 use Rattle.age_cli.specs.declared.failure.Failure.{Failure}
 use Rattle.age_commands.specs.declared.task.Task.{Task}
-use Rattle.age_cli.specs.Program.{AnswersRefusal, Begins, Completes, Finishes, FinishesOn, IsInput, IsOutput, IsTaskOf, PerformsOn, Works}
+use Rattle.age_cli.specs.Program.{AnswersRefusal, Begins, Completes, Finishes, FinishesOn, IsInput, IsOutput, IsTaskOf, PerformsOn, Works, CompletesRange, IsSecretFor, WorksOnRange}
 
 -- standard input, where no file is named
 input_is : {A : Type 0} (F : Type 0) (remaining : F → Known) (o : Option A) (standard from : Known) → o ≡ None
@@ -31,12 +32,21 @@ begins job task from sink is (inr (fault, h)) = inr (task, is, fault, h)
 
 pub completes : (F : Type 0) (remaining contents : F → Known) (job : Job) (task : Task) (from source : Known)
     (sink : Moved) (r : Result ⊤ Failure) → IsTaskOf job task → IsInput F remaining job.input from source
-    → PerformsOn F contents job task source sink r → Completes F remaining contents job from sink r
+    → PerformsOn F contents job.output (Works job task source) sink r → Completes F remaining contents job from sink r
 completes F remaining contents job task from source sink (Ok u) is i (target, o, w) = λ other.
     (source, i, (target, o, (task, is, w)))
 completes F remaining contents job task from source sink (Err failure) is i h = λ none silent.
     subst (λ (k : Known). Begins job k sink) (input_is F remaining job.input from source none i)
     (begins job task source sink is (h silent))
+
+pub completes_range : (F : Type 0) (contents : F → Known) (job : Job) (secret : Secret) (sink : Moved)
+    (r : Result ⊤ Failure) → IsSecretFor job secret
+    → PerformsOn F contents job.output (WorksOnRange job secret) sink r → CompletesRange F contents job sink r
+completes_range F contents job secret sink (Ok u) is h = (secret, is, h)
+completes_range F contents job secret sink (Err failure) is h = λ silent. elim (h silent) [
+  | inl keeps ↦ inl keeps
+  | inr x ↦ inr (secret, is, x.0, x.1)
+]
 
 -- what is done from standard input to standard output
 pub alone : (F : Type 0) (remaining contents : F → Known) (job : Job) (from : Known) (sink : Moved) → job.input ≡ None

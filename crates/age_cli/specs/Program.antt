@@ -8,6 +8,7 @@ use Rattle.age_job.specs.declared.job.Command.{Command}
 use Rattle.age_job.specs.declared.job.Command.TheVariants as command
 use Rattle.age_job.specs.declared.job.Job.{Job}
 use Rattle.age_job.specs.Secret.{IsFileKeyOf, IsNewSecret, IsSecretOf}
+use Rattle.age_job.specs.declared.secret.Secret.{Secret}
 use Rattle.age_words.specs.declared.fault.WordsFault.{WordsFault}
 use Rattle.age_words.specs.declared.fault.WordsFault.TheVariants.{Memory, Refused}
 use Rattle.age_words.specs.JobOf.{IsShown, Makes, header_limit}
@@ -16,6 +17,8 @@ use Rattle.age_cli.specs.declared.failure.Fault.TheVariants.{AgeFile}
 use Rattle.age_commands.specs.declared.task.Task.{Task}
 use Rattle.age_commands.specs.declared.task.Task.TheVariants as task
 use Rattle.age_commands.specs.Output.{Ends}
+use Rattle.age_commands.specs.Range.{RangingAny}
+use Rattle.age_commands.specs.Secret.{answers_of, limits_of}
 use Rattle.age_commands.specs.Task.{Performs, PerformsQuietly}
 
 -- a task of this command, with the secrets that the job's options name
@@ -43,13 +46,27 @@ Works job task from sink result =
     × Performs job task from (moved sink.before taken) work
     × PerformsQuietly task sink.before taken work × Ends sink taken work result
 
--- the same with what a failure names as its fault; memory may be refused before
-abbrev pub PerformsTo : (job : Job) (task : Task) (from : Known) (sink : Moved)
+-- `range` on a file, of which the size alone is known: what `range_of` says of any source
+abbrev pub RangesFile : (job : Job) (secret : Secret) (sink : Moved) (work : Result ⊤ FileFault)
+    → Type 0
+RangesFile job secret sink work =
+    (size : Option ℕ) × RangingAny (λ _ _ _. ⊤) (λ found. found) (limits_of job)
+    (answers_of secret job.max_work) job.at job.len size sink work
+
+-- the same through a buffer before the output
+abbrev pub WorksOnRange : (job : Job) (secret : Secret) (sink : Moved)
+    (result : Result ⊤ FileFault) → Type 0
+WorksOnRange job secret sink result =
+    (taken : Known) × (work : Result ⊤ FileFault)
+    × RangesFile job secret (moved sink.before taken) work × Ends sink taken work result
+
+-- what work comes to with what a failure names as its fault; memory may be refused before
+abbrev pub PerformsTo : (works : Result ⊤ FileFault → Type 0) (sink : Moved)
     (result : Result ⊤ Failure) → Type 0
-PerformsTo job task from sink (Ok _) = Works job task from sink (Ok tt)
-PerformsTo job task from sink (Err failure) =
+PerformsTo works sink (Ok _) = works (Ok tt)
+PerformsTo works sink (Err failure) =
     (fault : FileFault) × (failure.fault ≡ AgeFile fault)
-    × (((fault ≡ OutOfMemory) × Stays sink) ⊎ Works job task from sink (Err fault))
+    × (((fault ≡ OutOfMemory) × Stays sink) ⊎ works (Err fault))
 
 -- the bytes to come from IN: from standard input, or from a file that was opened
 abbrev pub IsInput : {A : Type 0} (F : Type 0) (remaining : F → Known) (name : Option A)
@@ -64,16 +81,15 @@ IsOutput F contents None standard sink = sink ≡ standard
 IsOutput F contents (Some name) standard sink =
     (old new : F) × (sink ≡ moved (contents old) (contents new))
 
--- What a task comes to that writes to OUT: it is done. Or it failed: then standard output is as it
--- was, or has what the task wrote. Of a file nothing is said then.
-abbrev pub PerformsOn : (F : Type 0) (contents : F → Known) (job : Job) (task : Task)
-    (from : Known) (sink : Moved) (result : Result ⊤ Failure) → Type 0
-PerformsOn F contents job task from sink (Ok _) =
-    (target : Moved) × IsOutput F contents job.output sink target
-    × Works job task from target (Ok tt)
-PerformsOn F contents job task from sink (Err failure) =
-    job.output ≡ None
-    → Stays sink ⊎ ((fault : FileFault) × Works job task from sink (Err fault))
+-- What work comes to that writes to OUT: it is done. Or it failed: then standard output is as it
+-- was, or has what the work wrote. Of a file nothing is said then.
+abbrev pub PerformsOn : {A : Type 0} (F : Type 0) (contents : F → Known) (name : Option A)
+    (works : Moved → Result ⊤ FileFault → Type 0) (sink : Moved) (result : Result ⊤ Failure)
+    → Type 0
+PerformsOn F contents name works sink (Ok _) =
+    (target : Moved) × IsOutput F contents name sink target × works target (Ok tt)
+PerformsOn F contents name works sink (Err failure) =
+    name ≡ None → Stays sink ⊎ ((fault : FileFault) × works sink (Err fault))
 
 -- a task of the job's command is done
 abbrev pub Finishes : (job : Job) (from : Known) (sink : Moved) → Type 0
@@ -95,6 +111,30 @@ FinishesOn F remaining contents job from sink =
     (source : Known) × IsInput F remaining job.input from source
     × ((target : Moved) × IsOutput F contents job.output sink target × Finishes job source target)
 
+-- the secret that the job's options name
+abbrev pub IsSecretFor : (job : Job) (secret : Secret) → Type 0
+IsSecretFor job secret = IsSecretOf job.pass job.key job.more_keys.items secret
+
+-- a range is done, under a secret that the job's options name, and written to its OUT
+abbrev pub FinishesRange : (F : Type 0) (contents : F → Known) (job : Job) (sink : Moved) → Type 0
+FinishesRange F contents job sink =
+    (secret : Secret) × IsSecretFor job secret
+    × ((target : Moved) × IsOutput F contents job.output sink target
+    × WorksOnRange job secret target (Ok tt))
+
+-- nothing was written, or a range ended with a fault
+abbrev pub BeginsRange : (job : Job) (sink : Moved) → Type 0
+BeginsRange job sink =
+    Stays sink
+    ⊎ ((secret : Secret) × IsSecretFor job secret × (fault : FileFault)
+    × WorksOnRange job secret sink (Err fault))
+
+-- what `range` comes to
+abbrev pub CompletesRange : (F : Type 0) (contents : F → Known) (job : Job) (sink : Moved)
+    (result : Result ⊤ Failure) → Type 0
+CompletesRange F contents job sink (Ok _) = FinishesRange F contents job sink
+CompletesRange F contents job sink (Err failure) = job.output ≡ None → BeginsRange job sink
+
 -- what the job's work comes to, but for `range`
 abbrev pub Completes : (F : Type 0) (remaining contents : F → Known) (job : Job) (from : Known)
     (sink : Moved) (result : Result ⊤ Failure) → Type 0
@@ -109,6 +149,7 @@ abbrev pub FinishesWords : (F : Type 0) (remaining contents : F → Known) (word
 FinishesWords F remaining contents words from sink =
     (job : Job) × Makes words job
     × (job.command ≢ command.Range → FinishesOn F remaining contents job from sink)
+    × (job.command ≡ command.Range → FinishesRange F contents job sink)
 
 -- the limits that the words set
 abbrev pub word_limits : (words : List Bytes) → Bounds
@@ -119,6 +160,7 @@ abbrev pub BeginsWords : (words : List Bytes) (from : Known) (sink : Moved) → 
 BeginsWords words from sink =
     (job : Job) × Makes words job
     × (job.input ≡ None → job.output ≡ None → Begins job from sink)
+    × (job.command ≡ command.Range → job.output ≡ None → BeginsRange job sink)
 
 -- How a refusal is answered: memory by status 1, a text that was asked for by 0, or 1 if it was not
 -- written, and wrong words by 2. But for the text nothing is written.

@@ -3,15 +3,15 @@ ghost use Rattle.std.specs.Prelude.{◌≡◌, ◌≢◌, ◌≤◌, ◌⊎◌, 
 ghost use Rattle.age_job.specs.Job.{IsInRange};
 ghost use Rattle.age_words.specs.JobOf.{AreWrong, AskForText};
 ghost use Rattle.age_cli.specs.Program.{AnswersRefusal, Begins, BeginsWords, FinishesWords};
-ghost use Rattle.age_cli.specs.Program.{Completes, FinishesOn, IsTaskOf, PerformsOn};
+ghost use Rattle.age_cli.specs.Program.{BeginsRange, Completes, CompletesRange, FinishesOn, FinishesRange, IsTaskOf, PerformsOn, Works, WorksOnRange};
 ghost use Rattle.age_header.specs.Device.{Stays, moved_by};
 
 use crate::failure::Failure;
 use crate::work::{kept_prefix, perform_to, range_to};
 use age_commands::{Seed, Task, seed_of};
 use age_job::{
-    Command, Job, Lines, ReadFiles, SEED_LEN, Watched, create, read_encrypt_secrets, read_file_key,
-    read_rewrap_secrets, read_secret,
+    Command, Job, Lines, ReadFiles, SEED_LEN, Secret, Watched, create, read_encrypt_secrets,
+    read_file_key, read_rewrap_secrets, read_secret,
 };
 use age_words::{WordsFault, read_words};
 use std::alloc::Global;
@@ -77,6 +77,11 @@ pub fn run_job<F: Files + AllocGlobal, R: Read, W: Write + IsTerminal, E: Write>
     ensures output { job.now.output ≢ None → out.new ≡ out.old }
     ensures begins { result ≡ 1 → job.now.input ≡ None → job.now.output ≡ None
         → Begins job.now (R.remaining input.old) (moved_by W.contents out.old out.new) }
+    ensures finishes_range { result ≡ 0 → job.now.command ≡ Command.Range
+        → FinishesRange F.File ⟦<F::File as Write>⟧.contents job.now
+        (moved_by W.contents out.old out.new) }
+    ensures begins_range { result ≡ 1 → job.now.command ≡ Command.Range → job.now.output ≡ None
+        → BeginsRange job.now (moved_by W.contents out.old out.new) }
 {
     match perform(rt, job, input, out) {
         Ok(()) => DONE,
@@ -96,6 +101,8 @@ fn perform<'a, F: Files + AllocGlobal, R: Read, W: Write + IsTerminal>(
     ensures completes { Completes F.File ⟦<F::File as Read>⟧.remaining
         ⟦<F::File as Write>⟧.contents job.now (R.remaining input.old)
         (moved_by W.contents out.old out.new) result }
+    ensures ranges { job.now.command ≡ Command.Range → CompletesRange F.File
+        ⟦<F::File as Write>⟧.contents job.now (moved_by W.contents out.old out.new) result }
     ensures input { job.now.input ≢ None → input.new ≡ input.old }
     ensures output { job.now.output ≢ None → out.new ≡ out.old }
 {
@@ -150,6 +157,7 @@ fn seed_from(bytes: &[u8; SEED_LEN]) -> Seed {
 }
 
 /// Like `perform`, for a range, whose input is read at offsets.
+#[tactic(auto, using(crate::proofs::ProgramLemmas::completes_range))]
 fn perform_range<'a, F: Files + AllocGlobal, W: Write>(
     rt: &F,
     job: &'a Job,
@@ -158,6 +166,8 @@ fn perform_range<'a, F: Files + AllocGlobal, W: Write>(
 ) -> Result<(), Failure<'a>>
     requires range { IsInRange job.now }
     requires command { job.now.command ≡ Command.Range }
+    ensures completes { CompletesRange F.File ⟦<F::File as Write>⟧.contents job.now
+        (moved_by W.contents out.old out.new) result }
     ensures output { job.now.output ≢ None → out.new ≡ out.old }
 {
     let secret = read_secret(rt, job, read)?;
@@ -165,6 +175,23 @@ fn perform_range<'a, F: Files + AllocGlobal, W: Write>(
         unreachable!();
     };
     let file = read.open_seekable(rt, name.as_str())?;
+    range_on(rt, job, read, secret, file, out)
+}
+
+/// Creates the output, and writes a range of this file to it.
+fn range_on<'a, F: Files + AllocGlobal, W: Write>(
+    rt: &F,
+    job: &'a Job,
+    read: &ReadFiles<'a>,
+    secret: Secret,
+    file: F::File,
+    out: &mut W,
+) -> Result<(), Failure<'a>>
+    requires { IsInRange job.now }
+    ensures performs { PerformsOn F.File ⟦<F::File as Write>⟧.contents job.now.output
+        (WorksOnRange job.now secret) (moved_by W.contents out.old out.new) result }
+    ensures output { job.now.output ≢ None → out.new ≡ out.old }
+{
     let mut input = Watched::new(rt.alloc(), file, kept_prefix(job));
     match &job.output {
         Some(name) => {
@@ -189,8 +216,8 @@ fn perform_on<'a, F: Files + AllocGlobal, R: Read, W: Write>(
     out: &mut W,
 ) -> Result<(), Failure<'a>>
     requires { IsInRange job.now }
-    ensures performs { PerformsOn F.File ⟦<F::File as Write>⟧.contents job.now task
-        (R.remaining input.old) (moved_by W.contents out.old out.new) result }
+    ensures performs { PerformsOn F.File ⟦<F::File as Write>⟧.contents job.now.output
+        (Works job.now task (R.remaining input.old)) (moved_by W.contents out.old out.new) result }
     ensures output { job.now.output ≢ None → out.new ≡ out.old }
 {
     let mut input = Watched::new(rt.alloc(), input, kept_prefix(job));

@@ -3,11 +3,21 @@ use Rattle.age_cli.proofs.ProgramLemmas.{answered, failed, refused, stays_known}
 use Rattle.age_cli.proofs.program.run.Goals as goal
 
 pub returns-in-Ok-clause-finishes : goal.returns-in-Ok-clause-finishes
-returns-in-Ok-clause-finishes g c = λ done. inr (c.in-Ok.job, c.in-Ok.ensures.reads, c.run_job.ensures.finishes done)
+returns-in-Ok-clause-finishes g c = λ done. inr (
+  c.in-Ok.job,
+  c.in-Ok.ensures.reads,
+  c.run_job.ensures.finishes done,
+  c.run_job.ensures.finishes_range done,
+)
 
 pub returns-in-Ok-clause-begins : goal.returns-in-Ok-clause-begins
 returns-in-Ok-clause-begins g c =
-    λ failed. inr (inr (c.in-Ok.job, c.in-Ok.ensures.reads, c.run_job.ensures.begins failed))
+    λ failed. inr (inr (
+      c.in-Ok.job,
+      c.in-Ok.ensures.reads,
+      c.run_job.ensures.begins failed,
+      c.run_job.ensures.begins_range failed,
+    ))
 
 pub returns-in-Err-clause-refused : goal.returns-in-Err-clause-refused
 returns-in-Err-clause-refused g c = λ two.
