@@ -62,28 +62,36 @@ mark() {
     touch -r "$3" "$1"
 }
 
-# Proves and builds a library, with these flags. What fails here fails again in the build that
-# needs the library, which says why.
+# Proves and builds a library, with these flags. Where it took some seconds, it says so on standard
+# error, and how many libraries are left: `finished` has a line for each that is built. What fails
+# here fails again in the build that needs the library, which says why.
 library() {
     name=$1
     shift
-    (cd "$root/crates/$name" && exec rt lib "$@") >/dev/null 2>&1 </dev/null
+    start=$(date +%s)
+    (cd "$root/crates/$name" && exec rt lib "$@") >/dev/null 2>&1 </dev/null || return
+    echo "$name" >>"$finished"
+    took=$(($(date +%s) - start))
+    [ "$took" -lt 3 ] || echo "proved $name in $took s, $((all - $(wc -l <"$finished"))) libraries left" >&2
 }
 
 # Proves and builds the libraries up to age_file, or with the word age_cli up to that, lowest first.
 # age_cipher, and age_job with age_words above it, depend on none of the others: they are proved in
 # parallel with them, and age_recipient in parallel with age_stream.
 libraries() {
+    finished=$(mktemp)
+    all=6
+    words=
+    [ "$1" != age_cli ] || all=10
     library age_cipher --jobs 1 &
     cipher=$!
-    words=
     if [ "$1" = age_cli ]; then
         { library age_job --jobs 1 && library age_words --jobs 1; } &
         words=$!
     fi
-    # shellcheck disable=SC2086
     recipient=
-    trap 'kill "$cipher" $words $recipient 2>/dev/null; exit 130' INT TERM
+    # shellcheck disable=SC2086
+    trap 'kill "$cipher" $words $recipient 2>/dev/null; rm -f "$finished"; exit 130' INT TERM
     if library age_kdf && library age_header && wait "$cipher"; then
         library age_recipient --jobs 1 &
         recipient=$!
@@ -92,6 +100,7 @@ libraries() {
         fi
     fi
     wait
+    rm -f "$finished"
     trap - INT TERM
 }
 
@@ -105,6 +114,9 @@ built=$root/crates/agep/out/built
 build_program() {
     need_rt "$1" program
     echo "$1: building the program; its proofs are checked first, so a first build takes minutes" >&2
+    if [ -d "$root/crates/age_kdf/out" ] && [ ! -f "$built" ]; then
+        echo "$1: a build was interrupted; this one goes on with what it had proved" >&2
+    fi
     seconds=$(date +%s)
     began=$(mktemp)
     libraries age_cli

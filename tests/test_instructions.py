@@ -1,0 +1,49 @@
+"""The instructions that a chunk and scrypt cost, as valgrind counts them: a path that gives the same
+bytes by more work is seen. Where valgrind is missing, nothing is counted."""
+
+import re
+import shutil
+import subprocess
+import unittest
+
+from program import AGEP, ProgramCase, read, write
+
+# By the level that the program was built for. A limit is a tenth above what was counted; the toolchain
+# may move it.
+CHUNK = {"x86-64-v2": 1_040_000, "x86-64-v3": 348_000}
+# Of scrypt's turns for each KiB of its memory.
+KIB = {"x86-64-v2": 12_700, "x86-64-v3": 10_200}
+
+
+def counted(*words):
+    """The instructions of a run."""
+    tool = ["valgrind", "--tool=callgrind", "--callgrind-out-file=/dev/null"]
+    done = subprocess.run([*tool, AGEP, *words], stdin=subprocess.DEVNULL, stdout=subprocess.DEVNULL, stderr=subprocess.PIPE)
+    if done.returncode != 0:
+        raise AssertionError(done.stderr.decode())
+    return int(re.search(rb"Collected : (\d+)", done.stderr)[1])
+
+
+@unittest.skipUnless(shutil.which("valgrind"), "valgrind is missing")
+class Instructions(ProgramCase):
+    def setUp(self):
+        super().setUp()
+        self.level = read(AGEP[: -len("agep")] + "built").split(b"\n")[0].decode()
+
+    def test_chunk(self):
+        """What the second of two full chunks costs."""
+        for name, chunks in (("one", 1), ("two", 2)):
+            write(name, bytes(65536 * chunks))
+            self.writes(b"", "encrypt", "-k", "key", "-s", "seed", "-o", name + ".age", name)
+        for words in ("encrypt -k key -s seed -o made %s", "decrypt -k key -o back %s.age"):
+            with self.subTest(words):
+                one, two = (counted(*(words % name).split()) for name in ("one", "two"))
+                self.assertLessEqual(two - one, CHUNK[self.level])
+                self.assertGreater(two - one, 65536)
+
+    def test_scrypt(self):
+        """What work factor 10 costs beside 9: 512 KiB more."""
+        write("hello", b"hello\n")
+        nine, ten = (counted("encrypt", "-p", "pass", "-w", work, "-s", "seed", "-o", "made", "hello") for work in ("9", "10"))
+        self.assertLessEqual(ten - nine, 512 * KIB[self.level])
+        self.assertGreater(ten - nine, 512 * 1024)
