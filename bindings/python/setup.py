@@ -1,0 +1,20 @@
+"""The package is Python alone. A wheel with the shared library inside is for one platform: it needs
+glibc 2.17 or newer."""
+
+from pathlib import Path
+
+from setuptools import Distribution, setup
+from wheel.bdist_wheel import bdist_wheel
+
+
+class Package(Distribution):
+    def has_ext_modules(self):
+        return Path("agefile/lib").is_dir()
+
+
+class Wheel(bdist_wheel):
+    def get_tag(self):
+        return "py3", "none", "any" if self.root_is_pure else "manylinux_2_17_x86_64"
+
+
+setup(distclass=Package, cmdclass={"bdist_wheel": Wheel})
