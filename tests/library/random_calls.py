@@ -23,9 +23,10 @@ sys.path.insert(0, os.path.join(os.path.dirname(os.path.abspath(__file__)), ".."
 import model
 import reference
 from model import MOST, NULL, SEALED, TAG, TEXT
+from program import version
 
 AT_START, REFUSING, THREADS = 1, 2, 4
-VERSION = 0x000400
+VERSION = int("".join(f"{int(number):02x}" for number in version().split(".")), 16)
 # In the order of driver.c. Of each argument: a struct's size, or "n" for a number, "b" for bytes with a length,
 # "o" for bytes that are written, "s" for an array of structs.
 CALLS = {
