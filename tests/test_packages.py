@@ -13,15 +13,34 @@ import unittest
 from pathlib import Path
 
 import fixture
+import stand_in
 from program import AGEP
+from program import version as last_release
 
 sys.path.append(str(Path(__file__).resolve().parent / "library"))
 import model
 
 ROOT = Path(__file__).resolve().parent.parent
 SECRET = ROOT / "tests/data/passphrase.age"
-# The oldest glibc that the binaries need: docs/PACKAGES.md says so.
-GLIBC = (2, 34)
+# The oldest glibc that the programs and the library need: docs/PACKAGES.md says so.
+GLIBC, GLIBC_OF_LIBRARY = (2, 34), (2, 14)
+# What a caller's environment may say of the tools. No byte may depend on it.
+ENVIRONMENT = {
+    "LC_ALL": "C", "TZ": "Asia/Tokyo", "SOURCE_DATE_EPOCH": "1", "CC": "false", "CFLAGS": "-O0 -g", "CPPFLAGS": "-DX", "LDFLAGS": "-s",
+    "XZ_OPT": "-0", "XZ_DEFAULTS": "-0", "GZIP": "-1", "TAR_OPTIONS": "--mode=777", "POSIXLY_CORRECT": "1", "CDPATH": "/",
+    "DEB_BUILD_OPTIONS": "noopt nostrip", "DEB_BUILD_PROFILES": "nodoc", "DEB_CFLAGS_APPEND": "-O0", "DEBEMAIL": "a@b", "DH_VERBOSE": "1",
+    "DH_COMPAT": "9", "RUSTFLAGS": "-O", "CARGO_ENCODED_RUSTFLAGS": "-O", "PYTHONPATH": "/absent", "PYTHONHOME": "/absent",
+    "PYTHONOPTIMIZE": "2", "PYTHONHASHSEED": "3", "PYTHONWARNINGS": "error", "GIT_DIR": "/absent", "AGEP_CPU": "x86-64-v2",
+    "BASH_FUNC_cp%%": "() { false; }",
+}
+
+
+def glibc(path):
+    """The newest version of glibc that a file needs, of which it needs nothing but the C library."""
+    needed = re.findall(r"NEEDED +(\S+)", run("objdump", "-p", path))
+    if not {"libc.so.6", "ld-linux-x86-64.so.2"} >= set(needed):
+        raise AssertionError(f"{path} needs {needed}")
+    return max((int(major), int(minor)) for major, minor in re.findall(r"GLIBC_(\d+)\.(\d+)", run("objdump", "-T", path)))
 
 
 def run(*words, **options):
@@ -36,6 +55,18 @@ def needs(*tools):
     return unittest.skipIf(missing, f"{' and '.join(missing)} missing")
 
 
+def in_a_namespace(script):
+    """The words that run a command after this script, which may mount what it likes."""
+    return ["unshare", *(() if os.geteuid() == 0 else ("-r",)), "-m", "sh", "-c", f'{script}; exec "$@"', "sh"]
+
+
+WITHOUT_PROC = in_a_namespace("mount -t tmpfs none /proc")
+
+
+def can_mount():
+    return subprocess.run([*WITHOUT_PROC, "true"], capture_output=True).returncode == 0
+
+
 @needs("dpkg-buildpackage", "dh", "dh_python3", "cargo", "xz")
 class Packages(unittest.TestCase):
     @classmethod
@@ -44,12 +75,11 @@ class Packages(unittest.TestCase):
         cls.addClassCleanup(shutil.rmtree, cls.work)
         (cls.work / "other folder").mkdir()
         cls.dist = made()
-        other = os.environ | {"LC_ALL": "C", "TZ": "Asia/Tokyo", "TMPDIR": str(cls.work / "other folder")}
+        cls.version = run(ROOT / "package", "--version").strip()
+        cls.for_debian, cls.for_python = (cls.version.replace("-dev", between) for between in ("~dev", ".dev"))
+        cls.for_python = cls.for_python.replace(".dev.", ".dev")
+        other = os.environ | ENVIRONMENT | {"TMPDIR": str(cls.work / "other folder")}
         run(ROOT / "package", cls.work / "other folder/again", umask=0o077, env=other)
-
-    @functools.cached_property
-    def version(self):
-        return re.search(r"^## (\d[\d.]*) ", (ROOT / "CHANGELOG.md").read_text(), re.M).group(1)
 
     def one(self, pattern):
         (found,) = self.dist.glob(pattern)
@@ -58,21 +88,55 @@ class Packages(unittest.TestCase):
     def unpacked(self, *patterns):
         """A folder with what the packages of these names hold."""
         root = Path(tempfile.mkdtemp(dir=self.work))
-        for deb in {deb for pattern in patterns for deb in self.dist.glob(pattern)}:
-            run("dpkg-deb", "-x", deb, root)
+        for path in {path for pattern in patterns for path in self.dist.glob(pattern)}:
+            words = {".deb": ("dpkg-deb", "-x", path, root), ".whl": ("unzip", "-q", path, "-d", root)}
+            run(*words.get(path.suffix, ("tar", "-xf", path, "-C", root)))
         return root
 
     def test_the_same_bytes_again(self):
         sums = [(folder / "SHA256SUMS").read_text() for folder in (self.dist, self.work / "other folder/again")]
         self.assertEqual(sums[0], sums[1])
-        self.assertEqual(len(sums[0].splitlines()), 7)
         run("sha256sum", "-c", "SHA256SUMS", cwd=self.dist)
+
+    def test_names(self):
+        debs = [f"{name}_{self.for_debian}_amd64.deb" for name in ("agep", "libagefile1", "libagefile-dev")]
+        names = [
+            *debs, f"python3-agefile_{self.for_debian}_all.deb", f"cushionduck_{self.for_debian}.dsc", f"cushionduck_{self.for_debian}.tar.xz",
+            f"agefile-{self.for_python}-py3-none-manylinux_2_17_x86_64.whl", f"agefile-{self.version}.crate",
+            f"agep-{self.version}-linux-x86_64.tar.xz", "SHA256SUMS",
+        ]
+        self.assertEqual(sorted(path.name for path in self.dist.iterdir()), sorted(names))
 
     @needs("lintian")
     def test_lintian(self):
-        debs = sorted(self.dist.glob("*.deb"))
-        said = run("lintian", "--fail-on", "error,warning", "--tag-display-limit", "0", *debs)
-        self.assertEqual(said, "")
+        """It says nothing but what an override explains, and each override is used."""
+        packages = [*sorted(self.dist.glob("*.deb")), *self.dist.glob("*.dsc")]
+        self.assertEqual(run("lintian", "--display-info", "--tag-display-limit", "0", *packages), "")
+
+    def test_source_package(self):
+        """Where the toolchain is it builds the Debian packages to the last byte; else it says what it needs."""
+        tree = self.work / "unpacked"
+        run("dpkg-source", "-x", self.one("*.dsc"), tree)
+        words = ("dpkg-buildpackage", "-b", "-us", "-uc", "-d")
+        without = os.environ | {"PATH": stand_in.without_rt(os.environ["PATH"])}
+        done = subprocess.run(words, cwd=tree, env=without, capture_output=True, text=True)
+        self.assertIn("package: to build the packages, the command rt of the Rattle toolchain is needed\n", done.stderr)
+        run(*words, cwd=tree, env=stand_in.toolchain(self.work / "kit"))
+        for deb in self.dist.glob("*.deb"):
+            self.assertEqual((self.work / deb.name).read_bytes(), deb.read_bytes(), deb.name)
+
+    def test_documents(self):
+        """The links of each README.md lead somewhere in its package, and the licence is in each."""
+        for name, pages in ("agep_*.deb", 2), ("agep-*.tar.xz", 2), ("python3-agefile*.deb", 1), ("*.crate", 1), ("*.whl", 0):
+            with self.subTest(name):
+                tree = self.unpacked(name)
+                texts = {path: path.read_text() for path in [*tree.rglob("README.md"), *tree.rglob("METADATA")]}
+                targets = [path.parent / link for path, text in texts.items() for link in re.findall(r"\]\(([^)#:]+)", text)]
+                self.assertEqual([path for path in targets if not path.exists()], [])
+                self.assertEqual(len([path for path in texts if path.name == "README.md"]), pages)
+                licence = "Permission is hereby granted, free of charge, to any person obtaining a copy"
+                self.assertIn(licence, "".join(path.read_text() for path in [*tree.rglob("LICENSE"), *tree.rglob("copyright")]))
+                self.assertEqual({path.name for path in tree.rglob("*.md")} >= {"USE.md", "CHANGELOG.md"}, pages == 2)
 
     @needs("dpkg")
     def test_installed_and_removed(self):
@@ -102,7 +166,7 @@ class Packages(unittest.TestCase):
         self.assertEqual(run(agep, "decrypt", "-p", self.work / "pass", SECRET), "hello\n")
         for build in ("agep-x86-64", "agep-x86-64-v3"):
             self.assertIn(b"\x7fELF", (root / "usr/lib/agep" / build).read_bytes()[:4])
-        self.assertEqual(run(root / "usr/lib/agep/agep-x86-64", "--version"), f"agep {self.version}\n")
+        self.assertEqual(run(root / "usr/lib/agep/agep-x86-64", "--version"), f"agep {last_release()}\n")
         (self.work / "stick").mkdir()
         alone = shutil.copy(agep, self.work / "stick")
         self.assertEqual(run(alone, "decrypt", "-p", self.work / "pass", SECRET), "hello\n")
@@ -114,24 +178,25 @@ class Packages(unittest.TestCase):
     @needs("man")
     def test_manual_page(self):
         page = self.unpacked("agep_*.deb") / "usr/share/man/man1/agep.1.gz"
-        self.assertIn("agep", run("man", "-l", page, env=os.environ | {"LC_ALL": "C.UTF-8"}))
+        self.assertIn(f"\nagep {self.version} ", run("man", "-l", page, env=os.environ | {"LC_ALL": "C.UTF-8", "MANWIDTH": "200"}))
 
     def test_libraries_that_are_needed(self):
-        root = self.unpacked("*.deb")
-        for path in root.rglob("*"):
-            if path.is_symlink() or not path.is_file() or path.read_bytes()[:4] != b"\x7fELF":
-                continue
-            needed = re.findall(r"GLIBC_(\d+)\.(\d+)", run("objdump", "-T", path))
-            self.assertLessEqual(max((int(major), int(minor)) for major, minor in needed), GLIBC, path)
-            names = re.findall(r"NEEDED +(\S+)", run("objdump", "-p", path))
-            self.assertLessEqual(set(names), {"libc.so.6", "ld-linux-x86-64.so.2"}, path)
+        """The oldest glibc of programs and libraries is that of the documents, and of the wheel's tag."""
+        root = self.unpacked("*.deb", "*.whl")
+        files = [path for path in root.rglob("*") if path.is_file() and path.read_bytes()[:4] == b"\x7fELF"]
+        libraries = {path for path in files if ".so" in path.name}
+        self.assertEqual((len(libraries), len(files)), (5, 8))
+        self.assertEqual(max(glibc(path) for path in libraries), GLIBC_OF_LIBRARY)
+        self.assertEqual(max(glibc(path) for path in files), GLIBC)
+        (facts,) = self.unpacked("*.whl").rglob("WHEEL")
+        self.assertIn("Root-Is-Purelib: false\nTag: py3-none-manylinux_2_17_x86_64\n", facts.read_text())
 
     @needs("cc", "pkg-config")
     def test_a_program_in_c(self):
         root = self.unpacked("libagefile*.deb")
         library = root / "usr/lib/x86_64-linux-gnu"
         config = os.environ | {"PKG_CONFIG_PATH": str(library / "pkgconfig")}
-        self.assertEqual(run("pkg-config", "--modversion", "agefile", env=config), f"{self.version}\n")
+        self.assertEqual(run("pkg-config", "--modversion", "agefile", env=config), f"{self.for_debian}\n")
         flags = run("pkg-config", "--cflags", "--libs", "agefile", env=config).split()
         source = root / "usr/share/doc/libagefile-dev/examples/stream.c"
         run("cc", "-O2", "-o", self.work / "stream", source, *flags, f"-Wl,-rpath,{library}")
@@ -159,7 +224,7 @@ class Packages(unittest.TestCase):
         run(sys.executable, "-m", "venv", folder)
         run(folder / "bin/pip", "install", "--no-index", "--no-deps", self.one("*.whl"))
         said = run(folder / "bin/python", "-c", "import agefile; print(agefile.__version__, agefile.library_version())")
-        self.assertEqual(said, f"{self.version} {self.version}\n")
+        self.assertEqual(said, f"{self.for_python} {last_release()}\n")
         run(folder / "bin/pip", "uninstall", "-y", "agefile")
         self.assertEqual(list(folder.rglob("agefile*")), [])
 
@@ -170,7 +235,7 @@ class Packages(unittest.TestCase):
             "LD_LIBRARY_PATH": str(root / "usr/lib/x86_64-linux-gnu"),
         }
         said = run("/usr/bin/python3", "-c", "import agefile; print(agefile.__version__)", env=environment)
-        self.assertEqual(said, f"{self.version}\n")
+        self.assertEqual(said, f"{self.for_python}\n")
 
     def test_the_crate(self):
         root = self.unpacked("libagefile-dev*.deb", "libagefile[0-9]*.deb")
@@ -193,28 +258,32 @@ class Packages(unittest.TestCase):
         run("cargo", "run", "--offline", "--quiet", cwd=tree / "user", env=environment)
 
     def test_the_tarball(self):
-        root = self.work / "anywhere"
-        root.mkdir()
-        run("tar", "-xf", self.one("*.tar.xz"), "-C", root, "--strip-components=1")
-        self.assertEqual(run(root / "bin/agep", "--version"), f"agep {self.version} ({level()})\n")
-        self.assertTrue((root / "lib/pkgconfig/agefile.pc").exists())
+        """In a home, by the commands of docs/PACKAGES.md."""
+        home = self.work / "home"
+        home.mkdir()
+        shutil.copy(self.one("agep-*.tar.xz"), home)
+        shutil.copy(ROOT / "bindings/c/examples/stream.c", home / "program.c")
+        commands = re.findall(r"^\$ (.*)$", (ROOT / "docs/PACKAGES.md").read_text(), re.MULTILINE)
+        self.assertEqual(len(commands), 3)
+        words = "; ".join(["set -e", *commands, "agep --version", "ldd program"])
+        said = run("bash", "-c", words, cwd=home, env={"HOME": str(home), "PATH": os.environ["PATH"]})
+        self.assertIn(f"agep {self.version} ({level()})\n", said)
+        self.assertIn(f" => {home}/.local/lib/", said)
+
+    @unittest.skipUnless(can_mount(), "no mount namespace")
+    def test_static_program(self):
+        """It runs in a root that has nothing else."""
+        (tree,) = self.unpacked("agep-*.tar.xz").iterdir()
+        root = Path(tempfile.mkdtemp(dir=self.work))
+        shutil.copy(tree / "bin/agep-static", root)
+        (root / "pass").write_text("correct horse\n")
+        shutil.copy(SECRET, root / "file")
+        self.assertEqual(run(*in_a_namespace(":"), "chroot", root, "/agep-static", "decrypt", "-p", "pass", "file"), "hello\n")
 
 
 # A stand-in for a build: it prints its name and its second word.
 STAND_IN = '#include <stdio.h>\nint main(int n, char **words) { return n < 2 || printf("%%s %%s\\n", "%s", words[1]) < 0; }\n'
 BUILDS = ("agep-x86-64-v3", "agep-x86-64")
-
-
-def in_a_namespace(script):
-    """The words that run a command after this script, which may mount what it likes."""
-    return ["unshare", *(() if os.geteuid() == 0 else ("-r",)), "-m", "sh", "-c", f'{script}; exec "$@"', "sh"]
-
-
-WITHOUT_PROC = in_a_namespace("mount -t tmpfs none /proc")
-
-
-def can_mount():
-    return subprocess.run([*WITHOUT_PROC, "true"], capture_output=True).returncode == 0
 
 
 @needs("cc")
@@ -388,7 +457,7 @@ class ForPython(unittest.TestCase):
 class ForRust(unittest.TestCase):
     @classmethod
     def setUpClass(cls):
-        tarball = made_one("the tarball", "*.tar.xz")
+        tarball = made_one("the tarball", "agep-*.tar.xz")
         cls.tree = Path(tempfile.mkdtemp())
         cls.addClassCleanup(shutil.rmtree, cls.tree)
         run("tar", "-xf", tarball, "-C", cls.tree, "--strip-components=1")

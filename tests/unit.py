@@ -21,7 +21,7 @@ sys.dont_write_bytecode = True
 import program
 
 # They build something first, which takes long, or test this file: each has a script of its own.
-ALONE = {"test_avx2", "test_library", "test_packages", "test_runners"}
+ALONE = {"test_avx2", "test_library", "test_packages", "test_releases", "test_runners"}
 
 
 class Result(unittest.TestResult):

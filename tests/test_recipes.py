@@ -1,0 +1,96 @@
+"""The recipes of docs/USE.md that a transcript cannot run: the table of cron and the service of systemd,
+with the program as ./install puts it, in an environment like theirs."""
+
+import fcntl
+import os
+import re
+import shlex
+import subprocess
+import unittest
+
+from program import ROOT, made_once, read, scratch, write
+
+PASSPHRASE = b"correct horse\n"
+
+
+@made_once
+def installed():
+    """A PREFIX with the program."""
+    prefix = scratch() + "/local"
+    subprocess.run([ROOT + "/install", prefix], check=True, stdout=subprocess.DEVNULL)
+    return prefix
+
+
+def block(kind):
+    """The block of this kind in docs/USE.md, with folders of a scratch folder in place of the system's."""
+    (text,) = re.findall(f"^```{kind}\n(.*?)^```$", read(ROOT + "/docs/USE.md").decode(), re.MULTILINE | re.DOTALL)
+    root = scratch()
+    for name in ("srv", "etc"):
+        os.mkdir(f"{root}/{name}")
+        text = text.replace(f"/{name}/", f"{root}/{name}/").replace(f"cd /{name} ", f"cd {root}/{name} ")
+    os.chdir(f"{root}/srv")
+    return text.replace("/usr/local", installed())
+
+
+def run(line, **environment):
+    done = subprocess.run(["/bin/sh", "-c", line], env=environment, stdin=subprocess.DEVNULL, capture_output=True, timeout=60)
+    return done.stdout + done.stderr
+
+
+class Cron(unittest.TestCase):
+    def setUp(self):
+        table = block("crontab")
+        path, self.job = re.fullmatch(r"PATH=(\S+)\n(?:\S+ ){5}(.*)\n", table).groups()
+        self.assertNotIn("%", self.job, "cron ends a line there")
+        self.path = path
+        os.mkdir("data")
+        write("data/a", b"text")
+        self.secret = re.search(r"-p (\S+)", self.job)[1]
+        write(self.secret, PASSPHRASE)
+
+    def says(self, expected):
+        said = run(self.job, PATH=self.path, HOME="/", SHELL="/bin/sh", LOGNAME="root").decode()
+        self.assertEqual(said, expected)
+
+    def test_backup(self):
+        """It says nothing, and the backup has the file."""
+        self.says("")
+        opened = run(f"agep decrypt -p {self.secret} data.age | tar xO data/a", PATH=self.path)
+        self.assertEqual(opened, b"text")
+
+    def test_locked(self):
+        """While another run has the lock, a line says that there is no backup."""
+        with open("lock", "w") as lock:
+            fcntl.flock(lock, fcntl.LOCK_EX)
+            self.says("no backup: the last one still runs\n")
+        self.assertFalse(os.path.exists("data.age"))
+
+    def test_failure(self):
+        """The reason is said, and the old backup stays."""
+        write("data.age", b"old")
+        os.remove(self.secret)
+        self.says(f"agep: cannot open {self.secret}\nagep: opening {self.secret}: No such file or directory\n")
+        self.assertEqual(read("data.age"), b"old")
+
+
+class Systemd(unittest.TestCase):
+    # Where systemd looks for a program without a path.
+    FOLDERS = "/usr/local/bin:/usr/bin:/bin"
+
+    def test_service(self):
+        service = block("ini")
+        name, secret = re.search(r"^LoadCredential=(\w+):(\S+)$", service, re.MULTILINE).groups()
+        write(name, bytes(32))
+        self.assertRegex(secret, "/etc/")
+        write("dump", b"text")
+        environment = {"PATH": self.FOLDERS.replace("/usr/local", installed()), "CREDENTIALS_DIRECTORY": os.getcwd()}
+        lines = re.findall("^ExecStart=(.*)$", service, re.MULTILINE)
+        self.assertEqual([shlex.split(line)[0] for line in lines], ["agep", "mv"])
+        self.assertEqual([run(line, **environment) for line in lines], [b"", b""])
+        self.assertEqual(run("agep decrypt -k key dump.age", **environment), b"text")
+        os.remove("dump")
+        self.assertIn(b"dump: No such file or directory\n", run(lines[0], **environment))
+
+
+if __name__ == "__main__":
+    unittest.main()

@@ -1,0 +1,232 @@
+"""Versions, the folder of the packages, and ./release, in a repository of its own with the files at hand
+and a stand-in for the toolchain."""
+
+import os
+import re
+import shutil
+import subprocess
+import tempfile
+import unittest
+from pathlib import Path
+
+import program
+import stand_in
+
+ROOT = Path(program.ROOT)
+LAST = program.version()
+# Beginnings of a change log.
+RELEASED, UNRELEASED = "# Changes\n\n## 0.7.1 (2026-12-24)\n\n- This.\n", "# Changes\n\n## Unreleased\n\n- That.\n"
+
+
+def setUpModule():
+    subprocess.run([ROOT / "package", "--build"], check=True, stderr=subprocess.DEVNULL)
+
+
+class Case(unittest.TestCase):
+    """A repository with the files at hand, and one commit."""
+
+    def setUp(self):
+        self.work = Path(tempfile.mkdtemp())
+        self.addCleanup(shutil.rmtree, self.work)
+        self.tree = self.work / "tree"
+        self.environment = stand_in.toolchain(self.work / "kit") | {"AGEP_CPU": "x86-64", "GIT_CONFIG_GLOBAL": "/dev/null"}
+        for name in self.git("ls-files", "-co", "--exclude-standard", "-z", cwd=ROOT).split("\0"):
+            if (ROOT / name).is_file():
+                (self.tree / name).parent.mkdir(parents=True, exist_ok=True)
+                shutil.copy2(ROOT / name, self.tree / name)
+        self.git("init", "-q")
+        self.git("config", "user.name", "Name")
+        self.git("config", "user.email", "name@host")
+        self.commit()
+
+    def run_here(self, *words, cwd=None):
+        return subprocess.run(words, cwd=cwd or self.tree, env=self.environment, capture_output=True, text=True)
+
+    def right(self, *words, **options):
+        done = self.run_here(*words, **options)
+        self.assertEqual(done.returncode, 0, f"{words}\n{done.stdout}{done.stderr}")
+        return done.stdout
+
+    def refused(self, line, *words, status=1):
+        done = self.run_here(*words)
+        self.assertEqual((done.returncode, done.stderr), (status, f"{line}\n"))
+
+    def git(self, *words, **options):
+        return self.right("git", *words, **options).strip()
+
+    def write(self, name, text):
+        (self.tree / name).write_text(text)
+
+    def commit(self):
+        """Commits all, and returns the beginning of the commit's name."""
+        self.git("add", "-A")
+        self.git("commit", "-q", "--allow-empty", "-m", "All")
+        return self.git("rev-parse", "HEAD")[:10]
+
+
+class Versions(Case):
+    def assert_version(self, expected):
+        self.assertEqual(self.right("./package", "--version"), f"{expected}\n")
+
+    def test_commits(self):
+        """A release is the commit of its heading, with nothing above it; others are of the next version."""
+        self.write("CHANGELOG.md", RELEASED)
+        self.commit()
+        self.assert_version("0.7.1")
+        self.write("README.md", "text")
+        commit = self.commit()
+        self.assert_version(f"0.8.0-dev.1+g{commit}")
+        self.write("CHANGELOG.md", UNRELEASED + RELEASED)
+        commit = self.commit()
+        self.assert_version(f"0.8.0-dev.2+g{commit}")
+
+    def test_one_commit(self):
+        """What is above the heading makes no release, also if one commit wrote both."""
+        self.write("CHANGELOG.md", UNRELEASED + RELEASED)
+        commit = self.commit()
+        self.assert_version(f"0.8.0-dev.0+g{commit}")
+
+    def test_changes(self):
+        """With local changes the version names the tree, which git ignores none of."""
+        self.write("CHANGELOG.md", RELEASED)
+        commit = self.commit()
+        for name in ("README.md", "bindings/python/agefile/new.py"):
+            self.write(name, "text")
+            self.assertNotEqual(self.git("status", "--porcelain"), "")
+            version = self.right("./package", "--version").strip()
+            self.git("add", "-A")
+            self.assertEqual(version, f"0.8.0-dev.0+g{commit}.t{self.git('write-tree')[:10]}")
+        self.git("reset", "-q", "--hard")
+        self.write("passphrase", "text")
+        self.assert_version("0.7.1")
+
+    def test_no_repository(self):
+        """A folder within a repository is not that repository."""
+        (self.tree / ".git").rename(self.work / ".git")
+        done = self.run_here("./package", "--version")
+        self.assertEqual((done.returncode, done.stdout), (1, ""))
+        self.assertIn("package: no commit of git tells the version: ", done.stderr)
+
+
+class Folder(Case):
+    def setUp(self):
+        super().setUp()
+        self.dist = self.work / "dist"
+        self.dist.mkdir()
+        # The tarball alone takes a third of the time.
+        tools = stand_in.tools_but(self.work / "tools", "dpkg-buildpackage", "unzip", "cargo")
+        self.environment["PATH"] = f"{self.work}/kit/bin:{tools}"
+
+    def put(self, *names):
+        for name in names:
+            (self.dist / name).write_text(name)
+
+    def names(self):
+        return {path.name for path in self.dist.iterdir()}
+
+    def test_files_of_others(self):
+        """They stay, and are in no sums; a file with the name of a package is not replaced."""
+        others = {"mine.deb", "backup.tar.xz", "agep_0.1.0_amd64.deb", "notes.txt"}
+        self.put(*others)
+        said = self.right("./package", self.dist)
+        sums = (self.dist / "SHA256SUMS").read_text()
+        self.assertEqual(re.findall("^skipped: ([^,]*), ", said, re.MULTILINE), ["the Debian packages", "the wheel", "the crate for Rust"])
+        made = {line[66:] for line in sums.splitlines()}
+        self.assertEqual(self.names(), others | made | {"SHA256SUMS"})
+        self.assertEqual([(self.dist / name).read_text() for name in others], [*others])
+
+        self.write("README.md", "text")
+        self.right("./package", self.dist)
+        made_then = {line[66:] for line in (self.dist / "SHA256SUMS").read_text().splitlines()}
+        self.assertEqual((made & made_then, len(made)), (set(), len(made_then)))
+        self.assertEqual(self.names(), others | made_then | {"SHA256SUMS"})
+
+        (self.dist / "SHA256SUMS").unlink()
+        first = min(made_then)
+        self.refused(f"package: {self.dist} has another {first}", "./package", self.dist)
+        self.assertEqual(self.names(), others | made_then)
+
+    def test_sums_of_others(self):
+        """Nothing is removed where SHA256SUMS names what is no package, or is signed."""
+        self.put("debian.iso")
+        (self.dist / "SHA256SUMS").write_text(f"{'0' * 64}  debian.iso\n")
+        line = f"package: SHA256SUMS in {self.dist} is of others: it names debian.iso"
+        self.refused(line, "./package", self.dist)
+        (self.dist / "SHA256SUMS").write_text("")
+        self.put("SHA256SUMS.sig")
+        self.refused(f"package: {self.dist} has a signed release", "./package", self.dist)
+        self.assertEqual(self.names(), {"debian.iso", "SHA256SUMS", "SHA256SUMS.sig"})
+
+    def test_words(self):
+        usage = "usage: ./package [--build | --version | --stage FOLDER | FOLDER]"
+        self.assertEqual(self.right("./package", "--help"), f"{usage}\n")
+        self.assertEqual(self.right("./package", "-h"), f"{usage}\n")
+        for words in (["--other"], [""], ["a", "b"], ["--build", "a"], ["--version", "a"], ["--stage"], ["--stage", "a", "b"]):
+            with self.subTest(words):
+                self.refused(usage, "./package", *words, status=2)
+
+
+class Release(Case):
+    def setUp(self):
+        super().setUp()
+        self.key, self.folder = self.work / "key", self.work / "release"
+        self.right("ssh-keygen", "-q", "-t", "ed25519", "-N", "", "-C", "", "-f", self.key)
+        public = " ".join((self.work / "key.pub").read_text().split()[:2])
+        self.signer = f'maintainers namespaces="git,cushionduck" {public}'
+        self.write("share/signers", f"{self.signer}\n")
+        self.write(".ci/run", f"#!/bin/sh\ngit log -1 --format=%s >>{self.work}/gate\ntest ! -e {self.work}/wrong\n")
+        _, _, older = (ROOT / "CHANGELOG.md").read_text().partition(f"\n## {LAST} ")
+        self.write("CHANGELOG.md", f"{UNRELEASED}\n## {LAST} {older}")
+        self.before = self.commit()
+
+    def release(self, version="0.9.2"):
+        return ("./release", version, self.key, self.folder)
+
+    def test_release(self):
+        """The gate runs over the commit of the heading, which is tagged. The sums are signed, and a fresh
+        clone makes the same packages, by the commands of docs/PACKAGES.md."""
+        done = self.run_here(*self.release())
+        self.assertEqual(done.returncode, 0, done.stdout + done.stderr)
+        self.assertIn("\n+ cmp dist/SHA256SUMS ", done.stderr)
+        self.assertEqual((self.work / "gate").read_text(), "Release 0.9.2\n")
+        self.assertEqual(self.git("rev-parse", "0.9.2^{commit}"), self.git("rev-parse", "HEAD"))
+        self.assertEqual(self.git("log", "-1", "--format=%p")[:7], self.before[:7])
+        self.assertRegex((self.tree / "CHANGELOG.md").read_text(), r"^# Changes\n\n## 0\.9\.2 \(\d{4}-\d\d-\d\d\)\n\n- That\.\n")
+        self.assertIn("0x00_09_02", (self.tree / "crates/agefile/src/version.rt").read_text())
+        names = sorted(path.name for path in self.folder.iterdir())
+        self.assertEqual([name for name in names if "SUMS" in name], ["SHA256SUMS", "SHA256SUMS.sig"])
+        self.assertEqual([name for name in names if "SUMS" not in name and not re.search(r"[-_]0\.9\.2[-_.]", name)], [])
+        self.refused("release: 0.9.2 is not above 0.9.2", *self.release())
+
+    def test_gate(self):
+        """After a gate that failed there is no tag, and nothing is packed."""
+        self.write("../wrong", "")
+        done = self.run_here(*self.release())
+        self.assertEqual((done.returncode, done.stderr.splitlines()[-1]), (1, "release: the gate failed"))
+        self.assertEqual(self.git("tag"), "")
+        self.assertFalse(self.folder.exists())
+
+    def test_refused(self):
+        """Nothing is changed then."""
+        usage = "usage: ./release VERSION KEY FOLDER"
+        self.assertEqual(self.right("./release", "--help"), f"{usage}\n")
+        self.refused(usage, "./release", "0.9.2", status=2)
+        self.refused("release: 1.2 is no version like 1.2.3", *self.release("1.2"))
+        self.refused("release: 0.0.9 is not above " + LAST, *self.release("0.0.9"))
+        self.write("README.md", "text")
+        self.refused("release: there are local changes", *self.release())
+        self.git("reset", "-q", "--hard")
+        self.folder.mkdir()
+        (self.folder / "file").touch()
+        self.refused(f"release: {self.folder} is not empty", *self.release())
+        self.assertEqual((self.git("rev-parse", "HEAD")[:10], self.git("tag")), (self.before, ""))
+        self.write("share/signers", "")
+        self.commit()
+        self.refused(f"release: share/signers lacks this key; first commit there the line: {self.signer}", *self.release())
+        self.write("CHANGELOG.md", RELEASED)
+        self.commit()
+        self.refused("release: CHANGELOG.md has nothing that is unreleased", *self.release())
+
+
+if __name__ == "__main__":
+    unittest.main()
