@@ -188,8 +188,9 @@ class Packages(unittest.TestCase):
         self.assertEqual((len(libraries), len(files)), (5, 8))
         self.assertEqual(max(glibc(path) for path in libraries), GLIBC_OF_LIBRARY)
         self.assertEqual(max(glibc(path) for path in files), GLIBC)
-        (facts,) = self.unpacked("*.whl").rglob("WHEEL")
-        self.assertIn("Root-Is-Purelib: false\nTag: py3-none-manylinux_2_17_x86_64\n", facts.read_text())
+        (facts,) = self.unpacked("*.whl").glob("*.dist-info")
+        self.assertIn("Root-Is-Purelib: false\nTag: py3-none-manylinux_2_17_x86_64\n", (facts / "WHEEL").read_text())
+        self.assertRegex((facts / "METADATA").read_text(), r"\nRequires-Dist: fsspec .*; extra == 'fsspec'\n")
 
     @needs("cc", "pkg-config")
     def test_a_program_in_c(self):

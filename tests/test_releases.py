@@ -11,15 +11,33 @@ from pathlib import Path
 
 import program
 import stand_in
+from test_packages import needs, run
 
 ROOT = Path(program.ROOT)
 LAST = program.version()
+# Words for git that take this repository, whoever owns it.
+HERE = (f"--git-dir={ROOT}/.git", f"--work-tree={ROOT}")
 # Beginnings of a change log.
 RELEASED, UNRELEASED = "# Changes\n\n## 0.7.1 (2026-12-24)\n\n- This.\n", "# Changes\n\n## Unreleased\n\n- That.\n"
 
 
 def setUpModule():
     subprocess.run([ROOT / "package", "--build"], check=True, stderr=subprocess.DEVNULL)
+
+
+class PastReleases(unittest.TestCase):
+    def test_commits(self):
+        """Each release of the change log has a tag, or its commit in docs/PACKAGES.md: one whose program has
+        this version."""
+        if run("git", *HERE, "rev-parse", "--is-shallow-repository") == "true\n":
+            self.skipTest("the repository is shallow")
+        rows = dict(re.findall(r"^\| ([\d.]+) \| `(\w+)` \|$", (ROOT / "docs/PACKAGES.md").read_text(), re.MULTILINE))
+        versions = re.findall(r"^## (\d[\d.]*)", (ROOT / "CHANGELOG.md").read_text(), re.MULTILINE)
+        self.assertEqual(set(rows) - set(versions), set())
+        for version in versions:
+            with self.subTest(version):
+                options = run("git", *HERE, "show", f"{rows.get(version, version)}:crates/age_words/src/options.rt")
+                self.assertIn(f'"{version}"', options)
 
 
 class Case(unittest.TestCase):
@@ -30,7 +48,7 @@ class Case(unittest.TestCase):
         self.addCleanup(shutil.rmtree, self.work)
         self.tree = self.work / "tree"
         self.environment = stand_in.toolchain(self.work / "kit") | {"AGEP_CPU": "x86-64", "GIT_CONFIG_GLOBAL": "/dev/null"}
-        for name in self.git("ls-files", "-co", "--exclude-standard", "-z", cwd=ROOT).split("\0"):
+        for name in self.git(*HERE, "ls-files", "-co", "--exclude-standard", "-z", cwd=ROOT).split("\0"):
             if (ROOT / name).is_file():
                 (self.tree / name).parent.mkdir(parents=True, exist_ok=True)
                 shutil.copy2(ROOT / name, self.tree / name)
@@ -108,6 +126,7 @@ class Versions(Case):
         self.assertIn("package: no commit of git tells the version: ", done.stderr)
 
 
+@needs("xz")
 class Folder(Case):
     def setUp(self):
         super().setUp()
@@ -166,6 +185,7 @@ class Folder(Case):
                 self.refused(usage, "./package", *words, status=2)
 
 
+@needs("ssh-keygen")
 class Release(Case):
     def setUp(self):
         super().setUp()

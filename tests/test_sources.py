@@ -57,7 +57,7 @@ class Columns(unittest.TestCase):
 
     def test_scripts(self):
         """Comments of scripts have at most 100 columns."""
-        names = [f"{ROOT}/{name}" for name in ("agep", "install", "share/build.sh")]
+        names = [f"{ROOT}/{name}" for name in ("agep", "install", "package", "release", "share/build.sh")]
         for kind in ("sh", "bash", "py"):
             names += glob.glob(f"{ROOT}/tests/*.{kind}") + glob.glob(f"{ROOT}/bench/*.{kind}")
         self.assert_narrow(names)
