@@ -27,8 +27,8 @@ def setUpModule():
 
 class PastReleases(unittest.TestCase):
     def test_commits(self):
-        """Each release of the change log has a tag, or its commit in docs/PACKAGES.md: one whose program has
-        this version."""
+        """Each release of the change log has a commit, that of its heading or the one in docs/PACKAGES.md, whose
+        program has this version."""
         if run("git", *HERE, "rev-parse", "--is-shallow-repository") == "true\n":
             self.skipTest("the repository is shallow")
         rows = dict(re.findall(r"^\| ([\d.]+) \| `(\w+)` \|$", (ROOT / "docs/PACKAGES.md").read_text(), re.MULTILINE))
@@ -36,7 +36,8 @@ class PastReleases(unittest.TestCase):
         self.assertEqual(set(rows) - set(versions), set())
         for version in versions:
             with self.subTest(version):
-                options = run("git", *HERE, "show", f"{rows.get(version, version)}:crates/age_words/src/options.rt")
+                commit = rows.get(version) or run("git", *HERE, "log", "-1", "--format=%H", f"-S## {version} (").strip()
+                options = run("git", *HERE, "show", f"{commit}:crates/age_words/src/options.rt")
                 self.assertIn(f'"{version}"', options)
 
 
