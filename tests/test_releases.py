@@ -200,7 +200,7 @@ class Release(Case):
         self.write("CHANGELOG.md", f"{UNRELEASED}\n## {LAST} {older}")
         self.before = self.commit()
 
-    def release(self, version="0.9.2"):
+    def release(self, version="80.9.2"):
         return ("./release", version, self.key, self.folder)
 
     def test_release(self):
@@ -209,15 +209,15 @@ class Release(Case):
         done = self.run_here(*self.release())
         self.assertEqual(done.returncode, 0, done.stdout + done.stderr)
         self.assertIn("\n+ cmp dist/SHA256SUMS ", done.stderr)
-        self.assertEqual((self.work / "gate").read_text(), "Release 0.9.2\n")
-        self.assertEqual(self.git("rev-parse", "0.9.2^{commit}"), self.git("rev-parse", "HEAD"))
+        self.assertEqual((self.work / "gate").read_text(), "Release 80.9.2\n")
+        self.assertEqual(self.git("rev-parse", "80.9.2^{commit}"), self.git("rev-parse", "HEAD"))
         self.assertEqual(self.git("log", "-1", "--format=%p")[:7], self.before[:7])
-        self.assertRegex((self.tree / "CHANGELOG.md").read_text(), r"^# Changes\n\n## 0\.9\.2 \(\d{4}-\d\d-\d\d\)\n\n- That\.\n")
-        self.assertIn("0x00_09_02", (self.tree / "crates/agefile/src/version.rt").read_text())
+        self.assertRegex((self.tree / "CHANGELOG.md").read_text(), r"^# Changes\n\n## 80\.9\.2 \(\d{4}-\d\d-\d\d\)\n\n- That\.\n")
+        self.assertIn("0x50_09_02", (self.tree / "crates/agefile/src/version.rt").read_text())
         names = sorted(path.name for path in self.folder.iterdir())
         self.assertEqual([name for name in names if "SUMS" in name], ["SHA256SUMS", "SHA256SUMS.sig"])
-        self.assertEqual([name for name in names if "SUMS" not in name and not re.search(r"[-_]0\.9\.2[-_.]", name)], [])
-        self.refused("release: 0.9.2 is not above 0.9.2", *self.release())
+        self.assertEqual([name for name in names if "SUMS" not in name and not re.search(r"[-_]80\.9\.2[-_.]", name)], [])
+        self.refused("release: 80.9.2 is not above 80.9.2", *self.release())
 
     def test_gate(self):
         """After a gate that failed there is no tag, and nothing is packed."""
@@ -231,7 +231,7 @@ class Release(Case):
         """Nothing is changed then."""
         usage = "usage: ./release VERSION KEY FOLDER"
         self.assertEqual(self.right("./release", "--help"), f"{usage}\n")
-        self.refused(usage, "./release", "0.9.2", status=2)
+        self.refused(usage, "./release", "80.9.2", status=2)
         self.refused("release: 1.2 is no version like 1.2.3", *self.release("1.2"))
         self.refused("release: 0.0.9 is not above " + LAST, *self.release("0.0.9"))
         self.write("README.md", "text")
