@@ -16,24 +16,20 @@ esac
 """
 
 
-def without_rt(path):
-    """The folders of this PATH that have no toolchain."""
-    return ":".join(folder for folder in path.split(":") if not os.path.exists(f"{folder}/rt"))
-
-
-def toolchain(folder):
-    """An environment in which the command rt is the stand-in, in this folder."""
-    os.makedirs(f"{folder}/bin")
-    with open(f"{folder}/bin/rt", "w") as file:
-        file.write(RT.format(root=ROOT, rt=shutil.which("rt")))
-    os.chmod(f"{folder}/bin/rt", 0o755)
-    return os.environ | {"PATH": f"{folder}/bin:{os.environ['PATH']}"}
-
-
 def tools_but(folder, *hidden):
-    """Makes a folder with links to the tools of the system but these."""
+    """Makes a folder with links to the tools that are there, but these."""
     os.mkdir(folder)
-    for name in os.listdir("/usr/bin"):
-        if name not in hidden:
-            os.symlink(f"/usr/bin/{name}", f"{folder}/{name}")
-    return folder
+    for place in filter(os.path.isdir, os.environ["PATH"].split(":")):
+        for name in os.listdir(place):
+            if name not in hidden and not os.path.lexists(f"{folder}/{name}"):
+                os.symlink(f"{place}/{name}", f"{folder}/{name}")
+    return os.environ | {"PATH": str(folder)}
+
+
+def toolchain(folder, *hidden):
+    """An environment in which the command rt is the stand-in, and these tools are hidden."""
+    environment = tools_but(folder, "rt", *hidden)
+    with open(f"{folder}/rt", "w") as file:
+        file.write(RT.format(root=ROOT, rt=shutil.which("rt")))
+    os.chmod(f"{folder}/rt", 0o755)
+    return environment

@@ -118,7 +118,7 @@ class Packages(unittest.TestCase):
         tree = self.work / "unpacked"
         run("dpkg-source", "-x", self.one("*.dsc"), tree)
         words = ("dpkg-buildpackage", "-b", "-us", "-uc", "-d")
-        without = os.environ | {"PATH": stand_in.without_rt(os.environ["PATH"])}
+        without = stand_in.tools_but(self.work / "tools", "rt")
         done = subprocess.run(words, cwd=tree, env=without, capture_output=True, text=True)
         self.assertIn("package: to build the packages, the command rt of the Rattle toolchain is needed\n", done.stderr)
         run(*words, cwd=tree, env=stand_in.toolchain(self.work / "kit"))

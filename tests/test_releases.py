@@ -1,7 +1,6 @@
 """Versions, the folder of the packages, and ./release, in a repository of its own with the files at hand
 and a stand-in for the toolchain."""
 
-import os
 import re
 import shutil
 import subprocess
@@ -17,6 +16,7 @@ ROOT = Path(program.ROOT)
 LAST = program.version()
 # Words for git that take this repository, whoever owns it.
 HERE = (f"--git-dir={ROOT}/.git", f"--work-tree={ROOT}")
+AUTHOR = ("-c", "user.name=Name", "-c", "user.email=name@host")
 # Beginnings of a change log.
 RELEASED, UNRELEASED = "# Changes\n\n## 0.7.1 (2026-12-24)\n\n- This.\n", "# Changes\n\n## Unreleased\n\n- That.\n"
 
@@ -41,22 +41,33 @@ class PastReleases(unittest.TestCase):
                 self.assertIn(f'"{version}"', options)
 
 
+@program.made_once
+def files_at_hand():
+    """A repository with all files at hand, in one commit."""
+    tree = Path(program.scratch()) / "files"
+    for name in run("git", *HERE, "ls-files", "-co", "--exclude-standard", "-z", cwd=ROOT).split("\0"):
+        if (ROOT / name).is_file():
+            (tree / name).parent.mkdir(parents=True, exist_ok=True)
+            shutil.copy2(ROOT / name, tree / name)
+    run("git", "init", "-q", cwd=tree)
+    run("git", "add", "-A", cwd=tree)
+    run("git", *AUTHOR, "commit", "-q", "-m", "All", cwd=tree)
+    return tree
+
+
 class Case(unittest.TestCase):
-    """A repository with the files at hand, and one commit."""
+    """A clone of this repository. ./package makes no Debian packages, which takes less time."""
+
+    HIDDEN = ("dpkg-buildpackage",)
 
     def setUp(self):
         self.work = Path(tempfile.mkdtemp())
         self.addCleanup(shutil.rmtree, self.work)
         self.tree = self.work / "tree"
-        self.environment = stand_in.toolchain(self.work / "kit") | {"AGEP_CPU": "x86-64", "GIT_CONFIG_GLOBAL": "/dev/null"}
-        for name in self.git(*HERE, "ls-files", "-co", "--exclude-standard", "-z", cwd=ROOT).split("\0"):
-            if (ROOT / name).is_file():
-                (self.tree / name).parent.mkdir(parents=True, exist_ok=True)
-                shutil.copy2(ROOT / name, self.tree / name)
-        self.git("init", "-q")
+        self.environment = stand_in.toolchain(self.work / "tools", *self.HIDDEN) | {"AGEP_CPU": "x86-64"}
+        run("git", "clone", "-q", files_at_hand(), self.tree)
         self.git("config", "user.name", "Name")
         self.git("config", "user.email", "name@host")
-        self.commit()
 
     def run_here(self, *words, cwd=None):
         return subprocess.run(words, cwd=cwd or self.tree, env=self.environment, capture_output=True, text=True)
@@ -129,13 +140,12 @@ class Versions(Case):
 
 @needs("xz")
 class Folder(Case):
+    HIDDEN = ("dpkg-buildpackage", "unzip", "cargo")
+
     def setUp(self):
         super().setUp()
         self.dist = self.work / "dist"
         self.dist.mkdir()
-        # The tarball alone takes a third of the time.
-        tools = stand_in.tools_but(self.work / "tools", "dpkg-buildpackage", "unzip", "cargo")
-        self.environment["PATH"] = f"{self.work}/kit/bin:{tools}"
 
     def put(self, *names):
         for name in names:
@@ -146,25 +156,20 @@ class Folder(Case):
 
     def test_files_of_others(self):
         """They stay, and are in no sums; a file with the name of a package is not replaced."""
-        others = {"mine.deb", "backup.tar.xz", "agep_0.1.0_amd64.deb", "notes.txt"}
-        self.put(*others)
+        others, old = ["mine.deb", "backup.tar.xz", "agep_0.1.0_amd64.deb"], "agep-0.1.0-linux-x86_64.tar.xz"
+        self.put(*others, old)
+        (self.dist / "SHA256SUMS").write_text(f"{'0' * 64}  {old}\n")
         said = self.right("./package", self.dist)
-        sums = (self.dist / "SHA256SUMS").read_text()
         self.assertEqual(re.findall("^skipped: ([^,]*), ", said, re.MULTILINE), ["the Debian packages", "the wheel", "the crate for Rust"])
-        made = {line[66:] for line in sums.splitlines()}
-        self.assertEqual(self.names(), others | made | {"SHA256SUMS"})
-        self.assertEqual([(self.dist / name).read_text() for name in others], [*others])
-
-        self.write("README.md", "text")
-        self.right("./package", self.dist)
-        made_then = {line[66:] for line in (self.dist / "SHA256SUMS").read_text().splitlines()}
-        self.assertEqual((made & made_then, len(made)), (set(), len(made_then)))
-        self.assertEqual(self.names(), others | made_then | {"SHA256SUMS"})
+        version = self.right("./package", "--version").strip()
+        made = f"agep-{version}-linux-x86_64.tar.xz"
+        self.assertEqual(self.names(), {*others, made, "SHA256SUMS"})
+        self.assertEqual((self.dist / "SHA256SUMS").read_text()[64:], f"  {made}\n")
+        self.assertEqual([(self.dist / name).read_text() for name in others], others)
 
         (self.dist / "SHA256SUMS").unlink()
-        first = min(made_then)
-        self.refused(f"package: {self.dist} has another {first}", "./package", self.dist)
-        self.assertEqual(self.names(), others | made_then)
+        self.refused(f"package: {self.dist} has another {made}", "./package", self.dist)
+        self.assertEqual(self.names(), {*others, made})
 
     def test_sums_of_others(self):
         """Nothing is removed where SHA256SUMS names what is no package, or is signed."""
