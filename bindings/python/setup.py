@@ -1,5 +1,5 @@
-"""The package is Python alone. A wheel with the shared library inside is for one platform: it needs
-glibc 2.17 or newer."""
+"""The package is Python alone. A wheel with the shared library inside is for one platform, with glibc
+2.17 or newer."""
 
 from pathlib import Path
 
