@@ -1,5 +1,6 @@
 """What the repository's texts hold themselves to: lines of at most 100 columns, the README's blocks of
-code, the planted bugs that docs/PROMISES.md names, programs that the compiler has to refuse."""
+code, the toolchain, the planted bugs that docs/PROMISES.md names, programs that the compiler has to
+refuse."""
 
 import concurrent.futures
 import glob
@@ -103,6 +104,16 @@ class Documents(unittest.TestCase):
             self.assertEqual(found - edits, set())
         with self.subTest("each that is there is named"):
             self.assertEqual(edits - found, set())
+
+
+class Toolchain(unittest.TestCase):
+    def test_line(self):
+        """README.md names the toolchain at hand. Another one is named as a skip, and fails nothing."""
+        named = re.findall(r"^rattle-kit-.*$", text_of(ROOT + "/README.md"), re.MULTILINE)
+        self.assertTrue(named)
+        at_hand = subprocess.run(["rt", "version"], capture_output=True, text=True).stdout.strip()
+        if at_hand not in named:
+            self.skipTest(f"README.md does not name the toolchain {at_hand or 'that is missing here'}")
 
 
 class OutOfMemory(unittest.TestCase):
