@@ -5,6 +5,7 @@ import os
 
 from messages import message
 from program import ProgramCase, fault, preload
+from reference import VERSION
 
 COMMANDS = [
     "encrypt -p pass -w 1 -s seed hello", "decrypt -p pass pass_1.age", "encrypt -k key -s seed hello",
@@ -15,6 +16,9 @@ COMMANDS = [
     "inspect data/three_recipients.age", "inspect -r data/ssh_recipients.age",
     "inspect -f data/passphrase.key data/passphrase.age", "inspect -H 12", "help inspect",
 ]
+# How many refusals change nothing: that of the room for all words at once, without which their list
+# grows, and five while wrong words are shown, whose text is then written in parts.
+HARMLESS = {"inspect -H 12": 6}
 
 
 class Allocations(ProgramCase):
@@ -35,14 +39,24 @@ class Allocations(ProgramCase):
             with self.subTest(words):
                 usual = self.run_agep(*words.split())
                 *refused, last = self.refusals(*words.split())
-                out_of_memory = 0
+                harmless = 0
                 for ran in refused:
-                    if (ran.status, ran.err, ran.out) == (1, fault(message("OutOfMemory")).encode(), b""):
-                        out_of_memory += 1
-                    else:
+                    if (ran.status, ran.err, ran.out) != (1, fault(message("OutOfMemory")).encode(), b""):
                         self.assert_ended(ran, usual.status, usual.err, usual.out)
-                self.assertGreater(out_of_memory, 0)
+                        harmless += 1
+                self.assertGreater(len(refused), 6)
+                self.assertEqual(harmless, HARMLESS.get(words, 1))
                 self.assert_ended(last, usual.status, usual.err, usual.out)
+
+    def test_header_line(self):
+        """A line of a header takes at most twice its bytes in one piece."""
+        with open("long", "wb") as file:
+            file.write(VERSION + b"-> %s\n\n--- %s\n" % (b"a" * 1_000_000, b"A" * 43))
+        words = ("inspect", "-r", "-H", "16777216", "long")
+        for most, ends in ((2_001_000, ("", None)), (999_999, (fault(message("OutOfMemory")), b""))):
+            with self.subTest(most):
+                ran = self.run_agep(*words, env={"LARGE": str(most), "LD_PRELOAD": preload("refuse")})
+                self.assert_ended(ran, int(ends[0] != ""), *ends)
 
     def test_explained(self):
         """With -v memory is out, or the second line says less, or all is as ever."""
