@@ -8,8 +8,8 @@ import unittest
 
 from program import AGEP, ProgramCase, read, write
 
-# By the level that the program was built for. A limit is a tenth above what was counted; the toolchain
-# may move it.
+# By the level that the program was built for. A limit is a tenth above what was counted; the
+# toolchain may move it.
 CHUNK = {"x86-64-v2": 1_040_000, "x86-64-v3": 348_000}
 # Of scrypt's turns for each KiB of its memory.
 KIB = {"x86-64-v2": 12_700, "x86-64-v3": 10_200}
