@@ -1,9 +1,10 @@
 -- What a job that is done has written, where input and output are known.
 use Rattle.std.proofs.Common.{◌≡◌, ◌∙◌, ◌++◌, ◌^◌, ℕ, ap, inl, inr, refl, subst, sym, List, None, Some, Result, Ok, Err}
-use Rattle.std.specs.Prelude.{⊤, ◌↔◌}
+use Rattle.std.specs.Prelude.{⊤, ◌↔◌, Bool, Option}
 use Rattle.std.specs.Io.KnownBytes.{Appends, Keeps}
 use Rattle.age_header.specs.Device.{Bytes, Known, moved}
-use Rattle.age_header.specs.Header.{StanzaParts}
+use Rattle.age_header.specs.Header.{HeaderParts, StanzaParts}
+use Rattle.age_header.specs.Verdict.{HeaderVerdict}
 use Rattle.age_header.proofs.DeviceLemmas.{of-known}
 use Rattle.age_header.specs.declared.file_key.FileKey.{FileKey}
 use Rattle.age_recipient.specs.Choice.{choice}
@@ -14,18 +15,20 @@ use Rattle.age_file.specs.declared.limits.Fresh.{Fresh}
 use Rattle.age_file.specs.AgeFile.{AgeFile, Bounds}
 use Rattle.age_file.specs.Decrypt.{Decrypts, DecryptsText}
 use Rattle.age_file.specs.NewFile.{EncryptsText, Gathering}
-use Rattle.age_file.specs.Verdict.{Answering, IsVerdict}
+use Rattle.age_file.specs.Rewrap.{Rewraps, RewrapsText, Rewrapped}
+use Rattle.age_file.specs.Verdict.{Answering, IsVerdict, found_in}
 use Rattle.age_job.specs.declared.job.Command.{Command}
 use Rattle.age_job.specs.declared.job.Command.TheVariants as command
 use Rattle.age_job.specs.declared.job.Job.{Job}
 use Rattle.age_commands.specs.declared.task.Task.{Task}
 use Rattle.age_commands.specs.declared.task.Task.TheVariants as task
+use Rattle.age_commands.specs.Inspect.{Inspecting, InspectsText, IsShown, check_of}
 use Rattle.age_commands.specs.Output.{Ends}
-use Rattle.age_words.specs.JobOf.{IsPiped}
+use Rattle.age_words.specs.JobOf.{IsPiped, Makes}
 use Rattle.age_words.proofs.PipedLemmas.{piped}
 use Rattle.age_cli.proofs.ProgramLemmas.{alone}
 use Rattle.age_cli.specs.Program.{Finishes, FinishesWords, IsTaskFor, Works, word_limits}
-use Rattle.age_commands.specs.Secret.{answers_of, limits_of}
+use Rattle.age_commands.specs.Secret.{answers_of, gathering_of, limits_of}
 use Rattle.age_commands.specs.Task.{Encrypting, unseen, without_counts}
 
 -- the output ends with what was appended
@@ -113,6 +116,62 @@ pub done_encrypt : (job : Job) (plain xs : Bytes) (new : Known) → job.command 
 done_encrypt job plain xs new one (task, is, w) =
     encrypt_done job plain xs new task (subst (λ (x : Command). IsTaskFor x job task) one is) w
 
+-- the output gained the input with another header
+abbrev pub Rewrote : (limits : Bounds) (b xs : Bytes) (new : Known) → Type 0
+Rewrote limits b xs new = (answers : Answering) × (c : Bytes) × Rewrapped limits answers b c × (new ≡ Some (xs ++ c))
+
+rewrote : (limits : Bounds) (answers : Answering) (gathered : FileKey → Gathering) (b xs : Bytes) (taken new : Known)
+    (work : Result ⊤ Fault) → Rewraps limits answers gathered (unseen (Some b)) (moved (Some xs) taken) work
+    → Ends (moved (Some xs) new) taken work (Ok tt) → Rewrote limits b xs new
+rewrote limits answers gathered b xs taken new (Err fault) r (inl (ended, keeps)) = absurd (cc)
+rewrote limits answers gathered b xs taken new (Err fault) r (inr (failed, rest)) = absurd (cc)
+rewrote limits answers gathered b xs taken new (Ok u) r (inl (ended, keeps)) =
+    let t = of-known (λ x. RewrapsText limits answers gathered x (moved (Some xs) taken) (Ok u)) (unseen (Some b)) b
+    refl r in (answers, t.0, t.1.0, grown xs t.0 taken new t.2 keeps)
+rewrote limits answers gathered b xs taken new (Ok u) r (inr (failed, rest)) = absurd (cc)
+
+rewrap_done : (job : Job) (b xs : Bytes) (new : Known) (task : Task) → IsTaskFor command.Rewrap job task
+    → Works job task (Some b) (moved (Some xs) new) (Ok tt) → Rewrote (limits_of job) b xs new
+rewrap_done job b xs new (task.Rewrap old other salt) is (taken, work, r, quiet, ends) =
+    rewrote (limits_of job) (answers_of old job.max_work) (gathering_of other job.work salt) b xs taken new work r ends
+rewrap_done job b xs new (task.Encrypt secret seed) is w = absurd is
+rewrap_done job b xs new (task.Decrypt secret) is w = absurd is
+rewrap_done job b xs new (task.Inspect key) is w = absurd is
+
+pub done_rewrap : (job : Job) (b xs : Bytes) (new : Known) → job.command ≡ command.Rewrap
+    → Finishes job (Some b) (moved (Some xs) new) → Rewrote (limits_of job) b xs new
+done_rewrap job b xs new one (task, is, w) =
+    rewrap_done job b xs new task (subst (λ (x : Command). IsTaskFor x job task) one is) w
+
+-- the output gained what is shown of the header with which the input begins
+abbrev pub Showed : (limits : Bounds) (raw : Bool) (b xs : Bytes) (new : Known) → Type 0
+Showed limits raw b xs new =
+    (header : HeaderParts) × (text : Bytes) × HeaderVerdict b limits.max_header (Ok (found_in text header))
+    × ((key : Option Bytes) × (shown : Bytes) × IsShown raw header (check_of key header) shown × (new ≡ Some (xs ++ shown)))
+
+showed : (limits : Bounds) (raw : Bool) (key : Option Bytes) (b xs : Bytes) (taken new : Known) (work : Result ⊤ Fault)
+    → Inspecting limits raw key (unseen (Some b)) (moved (Some xs) taken) work
+    → Ends (moved (Some xs) new) taken work (Ok tt) → Showed limits raw b xs new
+showed limits raw key b xs taken new (Err fault) i (inl (ended, keeps)) = absurd (cc)
+showed limits raw key b xs taken new (Err fault) i (inr (failed, rest)) = absurd (cc)
+showed limits raw key b xs taken new (Ok u) i (inl (ended, keeps)) =
+    let t = of-known (λ x. InspectsText limits raw key x (moved (Some xs) taken) (Ok u)) (unseen (Some b)) b refl i in
+    (t.0, t.1, t.2, (key, t.3.0, t.3.1, grown xs t.3.0 taken new t.3.2 keeps))
+showed limits raw key b xs taken new (Ok u) i (inr (failed, rest)) = absurd (cc)
+
+inspect_done : (job : Job) (b xs : Bytes) (new : Known) (task : Task) → IsTaskFor command.Inspect job task
+    → Works job task (Some b) (moved (Some xs) new) (Ok tt) → Showed (limits_of job) job.raw b xs new
+inspect_done job b xs new (task.Inspect key) is (taken, work, i, quiet, ends) =
+    showed (limits_of job) job.raw key b xs taken new work i ends
+inspect_done job b xs new (task.Encrypt secret seed) is w = absurd is
+inspect_done job b xs new (task.Decrypt secret) is w = absurd is
+inspect_done job b xs new (task.Rewrap old other salt) is w = absurd is
+
+pub done_inspect : (job : Job) (b xs : Bytes) (new : Known) → job.command ≡ command.Inspect
+    → Finishes job (Some b) (moved (Some xs) new) → Showed (limits_of job) job.raw b xs new
+done_inspect job b xs new one (task, is, w) =
+    inspect_done job b xs new task (subst (λ (x : Command). IsTaskFor x job task) one is) w
+
 decrypts : command.Decrypt ≡ command.Range → ⊥
 decrypts e = cc
 
@@ -137,3 +196,30 @@ words_encrypt F remaining contents words plain xs new pipe (job, makes, done, ra
     subst (λ (n : ℕ). Made (record { max_header = n; max_chunks = 2 ^ 88 }) plain xs new) p.max_header
     (done_encrypt job plain xs new p.is
     (alone F remaining contents job _ _ p.input p.output (done (λ range. absurd (encrypts (sym p.is ∙ range))))))
+
+rewraps : command.Rewrap ≡ command.Range → ⊥
+rewraps e = cc
+
+inspects : command.Inspect ≡ command.Range → ⊥
+inspects e = cc
+
+pub words_rewrap : (F : Type 0) (remaining contents : F → Known) (words : List Bytes) (b xs : Bytes) (new : Known)
+    → IsPiped command.Rewrap words → FinishesWords F remaining contents words (Some b) (moved (Some xs) new)
+    → Rewrote (word_limits words) b xs new
+words_rewrap F remaining contents words b xs new pipe (job, makes, done, ranges) =
+    let p = piped command.Rewrap words job pipe makes in
+    subst (λ (n : ℕ). Rewrote (record { max_header = n; max_chunks = 2 ^ 88 }) b xs new) p.max_header
+    (done_rewrap job b xs new p.is
+    (alone F remaining contents job _ _ p.input p.output (done (λ range. absurd (rewraps (sym p.is ∙ range))))))
+
+pub words_inspect : (F : Type 0) (remaining contents : F → Known) (words : List Bytes) (b xs : Bytes) (new : Known)
+    → IsPiped command.Inspect words → FinishesWords F remaining contents words (Some b) (moved (Some xs) new)
+    → (job : Job) × Makes words job × Showed (word_limits words) job.raw b xs new
+words_inspect F remaining contents words b xs new pipe (job, makes, done, ranges) =
+    let p = piped command.Inspect words job pipe makes in (
+      job,
+      makes,
+      subst (λ (n : ℕ). Showed (record { max_header = n; max_chunks = 2 ^ 88 }) job.raw b xs new) p.max_header
+          (done_inspect job b xs new p.is
+          (alone F remaining contents job _ _ p.input p.output (done (λ range. absurd (inspects (sym p.is ∙ range)))))),
+    )

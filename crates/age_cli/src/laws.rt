@@ -1,13 +1,17 @@
 //! What status 0 means, over the definitions alone: a function that does nothing, with laws as its
 //! contract.
 
-ghost use Rattle.std.specs.Prelude.{◌≡◌, ◌++◌, List, Some};
+ghost use Rattle.std.specs.Prelude.{◌≡◌, ◌++◌, List, Ok, Option, Some};
 ghost use Rattle.age_header.specs.Device.{Bytes, Known, moved};
-ghost use Rattle.age_header.specs.Header.{StanzaParts};
+ghost use Rattle.age_header.specs.Header.{HeaderParts, StanzaParts};
+ghost use Rattle.age_header.specs.Verdict.{HeaderVerdict};
 ghost use Rattle.age_header.specs.declared.file_key.FileKey.{FileKey};
 ghost use Rattle.age_file.specs.AgeFile.{AgeFile};
 ghost use Rattle.age_job.specs.declared.job.Job.{Job};
-ghost use Rattle.age_words.specs.JobOf.{IsPiped};
+ghost use Rattle.age_words.specs.JobOf.{IsPiped, Makes};
+ghost use Rattle.age_file.specs.Rewrap.{Rewrapped};
+ghost use Rattle.age_file.specs.Verdict.{Answering, found_in};
+ghost use Rattle.age_commands.specs.Inspect.{IsShown, check_of};
 ghost use Rattle.age_cli.specs.Program.{Finishes, FinishesWords, word_limits};
 ghost use Rattle.age_commands.specs.Secret.{limits_of};
 
@@ -18,9 +22,12 @@ use std::rt::Files;
 
 /// Where the contents of input and output are known, a `decrypt` that `run_job` has done means that
 /// the input is an age file, and that the output gained its whole plaintext, and nothing else. An
-/// `encrypt` means that the output gained an age file of the input, and nothing else.
+/// `encrypt` means that the output gained an age file of the input, and nothing else. Of `rewrap`
+/// it is the input with another header, and of `inspect` what is shown of the header with which the
+/// input begins: its text with `-r`, else its table.
 ///
-/// The same stands on the words of a `run` that ended with status 0, where they name no file.
+/// The same stands on the words of a `run` that ended with status 0, where they name no file. A
+/// `range` names one, so its law is `FinishesRange`.
 pub fn done_jobs<F: Files>()
     ensures decrypt { (job : Job) (b xs : Bytes) (new : Known) → job.command ≡ Command.Decrypt
         → Finishes job (Some b) (moved (Some xs) new)
@@ -42,6 +49,32 @@ pub fn done_jobs<F: Files>()
         (Some plain) (moved (Some xs) new)
         → (stanzas : List StanzaParts) × (k : FileKey) × (b : Bytes)
         × AgeFile (word_limits words) k stanzas plain b × (new ≡ Some (xs ++ b)) }
+    ensures rewrap { (job : Job) (b xs : Bytes) (new : Known) → job.command ≡ Command.Rewrap
+        → Finishes job (Some b) (moved (Some xs) new)
+        → (answers : Answering) × (c : Bytes) × Rewrapped (limits_of job) answers b c
+        × (new ≡ Some (xs ++ c)) }
+    ensures rewrap_words { (words : List Bytes) (b xs : Bytes) (new : Known)
+        → IsPiped Command.Rewrap words
+        → FinishesWords F.File ⟦<F::File as Read>⟧.remaining ⟦<F::File as Write>⟧.contents words
+        (Some b) (moved (Some xs) new)
+        → (answers : Answering) × (c : Bytes) × Rewrapped (word_limits words) answers b c
+        × (new ≡ Some (xs ++ c)) }
+    ensures inspect { (job : Job) (b xs : Bytes) (new : Known) → job.command ≡ Command.Inspect
+        → Finishes job (Some b) (moved (Some xs) new)
+        → (header : HeaderParts) × (text : Bytes)
+        × HeaderVerdict b (limits_of job).max_header (Ok (found_in text header))
+        × ((key : Option Bytes) × (shown : Bytes)
+        × IsShown job.raw header (check_of key header) shown
+        × (new ≡ Some (xs ++ shown))) }
+    ensures inspect_words { (words : List Bytes) (b xs : Bytes) (new : Known)
+        → IsPiped Command.Inspect words
+        → FinishesWords F.File ⟦<F::File as Read>⟧.remaining ⟦<F::File as Write>⟧.contents words
+        (Some b) (moved (Some xs) new)
+        → (job : Job) × Makes words job × ((header : HeaderParts) × (text : Bytes)
+        × HeaderVerdict b (word_limits words).max_header (Ok (found_in text header))
+        × ((key : Option Bytes) × (shown : Bytes)
+        × IsShown job.raw header (check_of key header) shown
+        × (new ≡ Some (xs ++ shown)))) }
 {
     ok_is_age_file();
 }
