@@ -147,7 +147,8 @@ done_rewrap job b xs new one (task, is, w) =
 abbrev pub Showed : (limits : Bounds) (raw : Bool) (b xs : Bytes) (new : Known) → Type 0
 Showed limits raw b xs new =
     (header : HeaderParts) × (text : Bytes) × HeaderVerdict b limits.max_header (Ok (found_in text header))
-    × ((key : Option Bytes) × (shown : Bytes) × IsShown raw header (check_of key header) shown × (new ≡ Some (xs ++ shown)))
+    × ((key : Option Bytes) × (shown : Bytes) × IsShown raw header (check_of key header) shown
+    × (new ≡ Some (xs ++ shown)))
 
 showed : (limits : Bounds) (raw : Bool) (key : Option Bytes) (b xs : Bytes) (taken new : Known) (work : Result ⊤ Fault)
     → Inspecting limits raw key (unseen (Some b)) (moved (Some xs) taken) work
