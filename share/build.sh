@@ -72,7 +72,7 @@ library() {
     (cd "$root/crates/$name" && exec rt lib "$@") >/dev/null 2>&1 </dev/null || return
     echo "$name" >>"$finished"
     took=$(($(date +%s) - start))
-    [ "$took" -lt 3 ] || echo "proved $name in $took s, $((all - $(wc -l <"$finished"))) libraries left" >&2
+    [ "$took" -lt 3 ] || echo "proved $name in $took s, $((all - $(wc -l <"$finished"))) left" >&2
 }
 
 # Proves and builds the libraries up to age_file, or with the word age_cli up to that, lowest first.
