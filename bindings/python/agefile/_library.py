@@ -19,7 +19,6 @@ FILE_KEY = 16
 NONCE = 16
 SALT = 16
 STANZA_ROOM = 128
-HEADER_ROOM = 65536 + NONCE
 SONAME = "libagefile.so.1"
 
 number = ctypes.c_uint64
