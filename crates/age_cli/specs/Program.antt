@@ -33,7 +33,10 @@ IsTaskFor command.Rewrap job (task.Rewrap old new salt) =
 IsTaskFor command.Inspect job (task.Inspect key) = IsFileKeyOf job.raw job.file_key key
 IsTaskFor command job task = ⊥
 
--- a task of the job
+-- A task of this job: its secret is a passphrase if a passphrase file alone is named, else one key
+-- or more, and no more than key files are named; `rewrap` has the old one and the new one in their
+-- roles, and no new passphrase is empty; `inspect` has a file key exactly if `-f` names one,
+-- without `-r`.
 abbrev pub IsTaskOf : (job : Job) (task : Task) → Type 0
 IsTaskOf job task = IsTaskFor job.command job task
 

@@ -40,14 +40,23 @@ pub fn run<F: Files + AllocGlobal, R: Read, W: Write + IsTerminal, E: Write>(
     out: &mut W,
     err: &mut E,
 ) -> u8
+    // 0, 1 or 2.
     ensures status { result ≤ 2 }
+    // Status 2 comes only where something is wrong with the words; then neither was the input read
+    // nor the output written.
     ensures refused { result ≡ 2 → (input.new ≡ input.old) × (out.new ≡ out.old)
         × AreWrong (map (λ word. word.now) words.now) }
+    // With status 0 nothing was written to standard error.
     ensures quiet { result ≡ 0 → err.new ≡ err.old }
+    // Status 0: `clap` shows a text that the words ask for, or the words make a job and a task of
+    // its command was done, from its IN to its OUT: from standard input or a file that was opened,
+    // to standard output or a file that was opened.
     ensures finishes { result ≡ 0 → AskForText (map (λ word. word.now) words.now)
         ⊎ FinishesWords F.File ⟦<F::File as Read>⟧.remaining ⟦<F::File as Write>⟧.contents
         (map (λ word. word.now) words.now) (R.remaining input.old)
         (moved_by W.contents out.old out.new) }
+    // Status 1: the words ask for a text that could not be written, the output is as it was, or a
+    // task of a job of these words ended with a fault.
     ensures begins { result ≡ 1 → AskForText (map (λ word. word.now) words.now)
         ⊎ (Stays (moved_by W.contents out.old out.new)
         ⊎ BeginsWords (map (λ word. word.now) words.now) (R.remaining input.old)
@@ -68,18 +77,31 @@ pub fn run_job<F: Files + AllocGlobal, R: Read, W: Write + IsTerminal, E: Write>
     err: &mut E,
 ) -> u8
     requires { IsInRange job.now }
+    // 0 or 1.
     ensures status { result ≤ 1 }
+    // With status 0 nothing was written to standard error.
     ensures quiet { result ≡ 0 → err.new ≡ err.old }
+    // Status 0: a task of the job's command was done, with some secret of the kind that the options
+    // name and some seed. Without IN and OUT, where the contents of both are known, the output
+    // gained exactly what the library says, and nothing else.
     ensures finishes { result ≡ 0 → job.now.command ≢ Command.Range
         → FinishesOn F.File ⟦<F::File as Read>⟧.remaining ⟦<F::File as Write>⟧.contents job.now
         (R.remaining input.old) (moved_by W.contents out.old out.new) }
+    // No standard input is read if the job names IN.
     ensures input { job.now.input ≢ None → input.new ≡ input.old }
+    // Nothing is written to standard output if the job names OUT.
     ensures output { job.now.output ≢ None → out.new ≡ out.old }
+    // Status 1: the output is as it was, or such a task ended with a fault: what the library says
+    // was written with this fault; after a failed write the output has what it had, and a prefix of
+    // what the library wrote.
     ensures begins { result ≡ 1 → job.now.input ≡ None → job.now.output ≡ None
         → Begins job.now (R.remaining input.old) (moved_by W.contents out.old out.new) }
+    // Status 0 of a range: it was done, under a secret that the options name, over a file of which
+    // the size alone is known.
     ensures finishes_range { result ≡ 0 → job.now.command ≡ Command.Range
         → FinishesRange F.File ⟦<F::File as Write>⟧.contents job.now
         (moved_by W.contents out.old out.new) }
+    // Status 1 of a range: nothing was written, or a range ended with a fault.
     ensures begins_range { result ≡ 1 → job.now.command ≡ Command.Range → job.now.output ≡ None
         → BeginsRange job.now (moved_by W.contents out.old out.new) }
 {

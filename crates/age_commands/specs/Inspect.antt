@@ -56,8 +56,8 @@ abbrev pub last_lines : (len : ℕ) (checked : Check) → Bytes
 last_lines len checked =
     codes "\nheader " ++ (decimal len ++ (codes " bytes\ncheck " ++ (check_name checked ++ codes "\n")))
 
--- The table of a header: its version, the number of its stanzas, a line for each, the base64 of its
--- MAC, its length (at most the largest u64), and what the check of the MAC found.
+-- The table has the version, the number of stanzas, for each its index, the length of its body and
+-- its arguments, the base64 of the MAC, the length of the header, and the result of the check.
 pub record IsTable (header : HeaderParts) (checked : Check) (shown : Bytes) : Type 0 where
   pub characters : Bytes
   pub text : Bytes

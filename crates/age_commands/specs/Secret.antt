@@ -25,7 +25,8 @@ use Rattle.age_job.specs.declared.secret.Secret.TheVariants.{Passphrase, Keys}
 abbrev pub limits_of : Job → Bounds
 limits_of job = record { max_header = job.max_header; max_chunks = 2 ^ 88 }
 
--- the identity of a secret: that of a passphrase has this greatest work factor
+-- The identity of a passphrase has that passphrase and the job's greatest work factor; that of keys
+-- asks them in order, and the first answer that decides is its answer.
 abbrev pub identity_of : (secret : Secret) (max_work : ℕ) → SecretIdentity
 identity_of (Passphrase pass) max_work =
     identity.Passphrase (record { pass = pass.items; max = max_work })
@@ -44,7 +45,8 @@ unwraps_of (identity.Keys keys) stanzas = keys_unwrap keys.items stanzas
 abbrev pub answers_of : (secret : Secret) (max_work : ℕ) → Answering
 answers_of secret max_work = λ stanzas. unwraps_of (identity_of secret max_work) stanzas ∷ []
 
--- the recipient of a secret, with this salt: that of a passphrase has this work factor
+-- The recipient of a passphrase has that passphrase, the salt and the job's work factor; the
+-- recipient of keys gives one stanza for each, in order.
 abbrev pub recipient_of : (secret : Secret) (work : ℕ) (salt : Bytes) → SecretRecipient
 recipient_of (Passphrase pass) work salt =
     recipient.Passphrase (record { pass = pass.items; salt = salt; work = work })

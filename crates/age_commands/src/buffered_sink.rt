@@ -98,7 +98,10 @@ impl<'a, W: Write, K: Start> BufferedSink<'a, W, K> {
     /// Ends the sink after this work: writes what it holds, unless a write has failed. So verified
     /// chunks arrive after a fault too. A failed write replaces the fault.
     pub fn finish(self, work: Result<(), Fault>) -> Finished<'a, W>
+        // The writer is the one that it began with.
         ensures writer { result.out.ghost_name ≡ K.writer }
+        // It wrote all that it held; or a write failed, and the output has what it had, and a
+        // prefix of what was written to the sink.
         ensures ends { Ends (moved K.contents (W.contents result.out.now))
             (taken_by self.entry) work result.result }
     {

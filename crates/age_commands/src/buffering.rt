@@ -16,6 +16,7 @@ const HEADER_BUFFER_LEN: usize = 8_192;
 /// The limits of this job.
 pub fn limits_of(job: &Job) -> Limits
     requires { IsInRange job.now }
+    // The limits are those of `-H` and 2^88 chunks.
     ensures { result ≡ limits_of job.now }
 {
     let Some(limits) = Limits::new(job.max_header, MOST_CHUNKS) else {
@@ -69,8 +70,10 @@ pub fn source_at_offsets<F: Read + Seek + Drop>(
     alloc: Global,
     file: F,
 ) -> Result<FileAt<BufReader<F>>, Fault>
+    // The contents of a file are not known.
     ensures bytes { IfOk result
         (λ source. ⟦<FileAt<BufReader<F>> as ReadAt>⟧.bytes source ≡ None) }
+    // No byte was read.
     ensures given { IfOk result (λ source. ⟦<FileAt<BufReader<F>> as ReadAt>⟧.given source ≡ 0) }
     ensures err { IfErr result (λ fault. fault ≡ Fault.OutOfMemory) }
 {

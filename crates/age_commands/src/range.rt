@@ -26,8 +26,16 @@ pub fn range_of<D: ReadAt, W: Sink>(
     out: &mut W,
 ) -> Result<(), Fault>
     requires { IsInRange job.now }
+    // The plaintext's bytes from the job's offset on, as many as there are up to the job's length,
+    // of the payload that opens under this secret's identity and these limits. Before a chunk that
+    // does not open exactly the bytes before it were written; after a failed read or write a prefix
+    // of the range. If the file does not open, nothing was written, and the fault is that of
+    // opening it.
     ensures known { Ranging (limits_of job.now) (answers_of secret job.now.max_work) job.now.at
         job.now.len (D.bytes input.old) (moved_by W.taken out.old out.new) result }
+    // Of any source, as a file, each byte that was written was verified at its place, in order from
+    // the job's offset on and no more than its length, on Ok all that there are. A fault is one of
+    // opening, after which nothing was written, or a damaged chunk, a failed read or write.
     ensures any { RangingAny D.gave D.found (limits_of job.now)
         (answers_of secret job.now.max_work) job.now.at job.now.len input.new
         (moved_by W.taken out.old out.new) result }

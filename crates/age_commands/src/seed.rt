@@ -17,9 +17,11 @@ pub struct Seed {
 /// The seed of these bytes, if they are 48: the first 16 are the file key, the next 16 the nonce,
 /// and the last 16 the salt.
 pub fn seed_of(bytes: &[u8]) -> Option<Seed>
+    // The first 16 bytes are the file key, the next 16 the nonce, the last 16 the salt.
     ensures some { IfSome result (λ seed. (seed.fresh.file_key.0 ≡ take 16 bytes.now)
         × (seed.fresh.nonce ≡ take 16 (drop 16 bytes.now))
         × (seed.salt ≡ drop 16 (drop 16 bytes.now))) }
+    // They are not 48.
     ensures none { IfNone result (length bytes.now ≢ 48) }
 {
     let (file_key, rest) = bytes.split_at_checked(16)?;

@@ -35,8 +35,13 @@ pub fn perform_between<R: Read, W: Sink>(
     out: &mut W,
 ) -> Result<(), Fault>
     requires { IsInRange job.now }
+    // Each command returns and writes what the library says of the recipient, the identity and the
+    // limits that the job and its secrets mean; `encrypt` passes the seed's file key, nonce and
+    // salt, and `rewrap` its salt.
     ensures performs { Performs job.now task (R.remaining input.old)
         (moved_by W.taken out.old out.new) result }
+    // On a fault of the header or its key, or out of memory, the sink is as it was, also where its
+    // contents are not known; but `inspect` shows a header whose MAC is wrong.
     ensures quiet { PerformsQuietly task out.old out.new result }
 {
     match task {

@@ -103,8 +103,8 @@ pub record NewFile (limits : Bounds) (fresh : Fresh) (gathered : Gathering) (pla
   pub spelled : gained ≡ text ++ payload fresh.file_key fresh.nonce plain
   pub file : AgeFile limits fresh.file_key stanzas plain gained
 
--- what was written of a plaintext of too many chunks: the header, the nonce, and the sealed chunks
--- with an index below max_chunks - 1
+-- The beginning of a file of too many chunks: the header, the nonce and the sealed chunks with an
+-- index below the limit less one.
 pub record FileBelowLimit (limits : Bounds) (fresh : Fresh) (gathered : Gathering) (plain : Bytes)
     (gained : Bytes) : Type 0 where
   pub stanzas : List StanzaParts

@@ -56,7 +56,9 @@ abbrev pub BeginsRewrapped : (limits : Bounds) (answers : Answering)
 BeginsRewrapped limits answers gathered b sink =
     (c : Bytes) × IsRewrapped limits answers gathered b c × WritesPart sink c
 
--- What is returned where b was to come, and what is written.
+-- What rewrapping b returns and writes. If a write failed, a prefix of the rewrapped file was
+-- written; if a read failed, nothing or a prefix. `TooManyChunks` is returned only if the source
+-- returned 2^105 bytes or more, a prefix was written, and it has as many bytes.
 abbrev pub RewrapsText : (limits : Bounds) (answers : Answering) (gathered : FileKey → Gathering)
     (b : Bytes) (sink : Moved) (result : Result (Unit {0}) Fault) → Type 0
 RewrapsText limits answers gathered b sink (Ok done) =

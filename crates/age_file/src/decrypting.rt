@@ -38,11 +38,18 @@ pub fn decrypt<S: Source, W: Sink>(
     identities: &[Box<dyn Identity>],
     limits: &Limits,
 ) -> Result<Done, Fault>
+    // The verdict on the bytes that the source gave is returned, and its plaintext was written; on
+    // Ok the counts are its length and the number of the payload's pieces. If a device failed, a
+    // prefix of that plaintext was written.
     ensures decrypts { Decrypts limits.now (answers_by identities.now (λ i s. meaning i s))
         (flow_by S.to_come S.gave input.old input.new) (moved_by W.taken out.old out.new) result }
+    // On a fault of a header or its key, a truncated nonce, a refusal, recipients that do not go
+    // together, or out of memory the sink is as it was, whether or not its contents are known.
     ensures quiet { IsQuiet out.old out.new result }
     ensures reads { CountsIf is_read (S.failed input.old) (S.failed input.new) result }
     ensures writes { CountsIf is_write (W.failed out.old) (W.failed out.new) result }
+    // If it ended at piece i, or at a write after 65,536 i bytes: at most the header, the nonce,
+    // the pieces up to and including piece i and one byte were read.
     ensures took { IfErr result (TookUpTo limits.now (flow_by S.to_come S.gave input.old input.new)
         (moved_by W.taken out.old out.new)) }
 {

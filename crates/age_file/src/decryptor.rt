@@ -53,11 +53,14 @@ impl<'a, S: Source> Decryptor<'a, S> {
     ) -> Result<Decryptor<'a, S>, Refused<'a, S, Fault>>
         ensures same_reference { IfOk result
             (λ d. (input_of d).ghost_name ≡ input.entry.ghost_name) }
+        // It holds the header that `inspect` returns, in which a `scrypt` stanza is alone.
         ensures starts { IfOk result (λ d. StartsDecryptor S.to_come S.gave S.failed limits.now
             input.old (input_of d).now (Ok (header_of d))) }
+        // It keeps the limits.
         ensures limits { IfOk result (λ d. limits_of d ≡ limits.now) }
         ensures handed_back { IfErr result
             (λ refused. (device_of refused).ghost_name ≡ input.entry.ghost_name) }
+        // Otherwise the fault of `inspect`, or `MixedPassphrase`.
         ensures refuses { IfErr result (λ refused. StartsDecryptor S.to_come S.gave S.failed
             limits.now input.old (device_of refused).now (Err (fault_of refused))) }
     {
@@ -79,9 +82,12 @@ impl<'a, S: Source> Decryptor<'a, S> {
     pub fn new(alloc: Global, input: &'a mut S, limits: &Limits) -> Result<Decryptor<'a, S>, Fault>
         ensures same_reference { IfOk result
             (λ d. (input_of d).ghost_name ≡ input.entry.ghost_name) }
+        // It holds the header that `inspect` returns, in which a `scrypt` stanza is alone.
         ensures starts { IfOk result (λ d. StartsDecryptor S.to_come S.gave S.failed limits.now
             input.old (input_of d).now (Ok (header_of d))) }
+        // It keeps the limits.
         ensures limits { IfOk result (λ d. limits_of d ≡ limits.now) }
+        // As `started`, of some state of the source, which is not handed back.
         ensures refuses { IfErr result (λ fault. (last : S)
             × StartsDecryptor S.to_come S.gave S.failed limits.now input.old last (Err fault)) }
     {
@@ -111,12 +117,15 @@ impl<'a, S: Source> Decryptor<'a, S> {
     ) -> Result<StreamReader<'a, S>, Refused<'a, S, Fault>>
         ensures same_reference { IfOk result
             (λ reader. (source_of reader).ghost_name ≡ (input_of self.entry).ghost_name) }
+        // A reader before piece 0 under the key that the identities choose; at most 16 bytes were
+        // read.
         ensures starts { IfOk result
             (λ reader. StartsUnder S.to_come S.gave S.failed (limits_of self.entry)
             (unlocked (answers_by identities.now (λ i s. meaning i s)) (header_of self.entry))
             (input_of self.entry).now (source_of reader).now (Ok (opener_of reader))) }
         ensures handed_back { IfErr result
             (λ refused. (device_of refused).ghost_name ≡ (input_of self.entry).ghost_name) }
+        // Otherwise the fault up to the MAC, or of a nonce that was not read, or out of memory.
         ensures misses { IfErr result
             (λ refused. StartsUnder S.to_come S.gave S.failed (limits_of self.entry)
             (unlocked (answers_by identities.now (λ i s. meaning i s)) (header_of self.entry))
@@ -154,10 +163,13 @@ impl<'a, S: Source> Decryptor<'a, S> {
     ) -> Result<StreamReader<'a, S>, Fault>
         ensures same_reference { IfOk result
             (λ reader. (source_of reader).ghost_name ≡ (input_of self.entry).ghost_name) }
+        // A reader before piece 0 under the key that the identities choose; at most 16 bytes were
+        // read.
         ensures starts { IfOk result
             (λ reader. StartsUnder S.to_come S.gave S.failed (limits_of self.entry)
             (unlocked (answers_by identities.now (λ i s. meaning i s)) (header_of self.entry))
             (input_of self.entry).now (source_of reader).now (Ok (opener_of reader))) }
+        // As `unlocked`, of some state of the source, which is not handed back.
         ensures misses { IfErr result
             (λ fault. (last : S) × StartsUnder S.to_come S.gave S.failed (limits_of self.entry)
             (unlocked (answers_by identities.now (λ i s. meaning i s)) (header_of self.entry))

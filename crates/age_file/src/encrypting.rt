@@ -41,16 +41,31 @@ pub fn encrypt<S: Source, W: Sink>(
     fresh: &Fresh,
     limits: &Limits,
 ) -> Result<Done, Fault>
+    // On Ok the file of the recipients' stanzas, the plaintext, the file key and the nonce was
+    // written, and the counts are the plaintext's length and the number of its chunks. On any other
+    // result none of the reasons that [refused] names holds; if a device failed, a prefix of that
+    // file was written.
     ensures encrypts { EncryptsGiven limits.now fresh.now
         (gathering_by recipients.now (λ r k. wraps r k) (λ r. the_labels r) fresh.now.file_key)
         (flow_by S.to_come S.gave plain.old plain.new) (moved_by W.taken out.old out.new) result }
+    // The first that applies: the first refusal, with its recipient's index; the least index from 1
+    // up of a recipient whose labels do not go together with those of recipient 0; no stanza; a
+    // `scrypt` stanza that is not alone; a header over the limit. The labels are some that the
+    // recipients may have returned.
     ensures refused { IfErr result (RefusesFirst limits.now fresh.now.file_key
         (gathering_by recipients.now (λ r k. wraps r k) (λ r. the_labels r) fresh.now.file_key)) }
+    // On a fault of a header or its key, a truncated nonce, a refusal, recipients that do not go
+    // together, or out of memory the sink is as it was, whether or not its contents are known.
     ensures quiet { IsQuiet out.old out.new result }
+    // If a failed read is returned and something was written, the source's known contents had
+    // 65,536 bytes or more. That the first chunk's read failed no clause can say: nothing is known
+    // of a source after a failed read.
     ensures spared { result ≡ Err Fault.Read
         → (out.new ≡ out.old) ⊎ FillsChunk (flow_by S.to_come S.gave plain.old plain.new) }
     ensures reads { CountsIf is_read (S.failed plain.old) (S.failed plain.new) result }
     ensures writes { CountsIf is_write (W.failed out.old) (W.failed out.new) result }
+    // At a write or with too many chunks, after n full sealed chunks: at most 65,536 (n + 2) bytes
+    // of plaintext were read.
     ensures took { IfErr result (TookWhileEncrypting limits.now fresh.now
         (gathering_by recipients.now (λ r k. wraps r k) (λ r. the_labels r) fresh.now.file_key)
         (flow_by S.to_come S.gave plain.old plain.new) (moved_by W.taken out.old out.new)) }
@@ -102,6 +117,7 @@ pub fn write_front<W: Sink>(
     nonce: &[u8; 16],
     out: &mut W,
 ) -> Result<(), DeviceFault>
+    // The header and then the nonce; on an error a prefix of both.
     ensures text { (text : Bytes) × Head header.now.stanzas header.now.mac text
         × Writes (moved_by W.taken out.old out.new) result (text ++ nonce.now) }
     ensures count { Counts (W.failed out.old) (W.failed out.new) result }

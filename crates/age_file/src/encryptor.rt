@@ -48,11 +48,14 @@ impl Encryptor {
         fresh: &Fresh,
         limits: &Limits,
     ) -> Result<Encryptor, Fault>
+        // It holds the header that `encrypt` writes for the same recipients, fresh values and
+        // limits.
         ensures ok { IfOk result (λ e. (e.fresh ≡ fresh.now) × (e.limits ≡ limits.now)
             × (e.header.mac ≡ header_mac fresh.now.file_key.0 e.header.stanzas)
             × ((text : Bytes) × IsHeading limits.now fresh.now.file_key
             (gathering_by recipients.now (λ r k. wraps r k) (λ r. the_labels r) fresh.now.file_key)
             e.header.stanzas text)) }
+        // The first reason why there is none, in the order of `encrypt`, or out of memory.
         ensures err { IfErr result (FailsHeading limits.now fresh.now.file_key
             (gathering_by recipients.now (λ r k. wraps r k) (λ r. the_labels r)
             fresh.now.file_key)) }
@@ -79,10 +82,13 @@ impl Encryptor {
     ) -> Result<StreamWriter<'a, W>, Refused<'a, W, Fault>>
         ensures same_reference { IfOk result
             (λ writer. (sink_of writer).ghost_name ≡ out.entry.ghost_name) }
+        // That header and the nonce were written, and chunk 0 is the next.
         ensures starts { IfOk result (λ writer. StartsFile W.taken W.failed self out.old
             (sink_of writer).now (Ok (sealer_of writer))) }
         ensures handed_back { IfErr result
             (λ refused. (device_of refused).ghost_name ≡ out.entry.ghost_name) }
+        // On a failed write a prefix of both was written, and the failure is counted; on out of
+        // memory the sink is unchanged.
         ensures loses { IfErr result (λ refused. StartsFile W.taken W.failed self out.old
             (device_of refused).now (Err (fault_of refused))) }
     {
@@ -110,8 +116,10 @@ impl Encryptor {
     ) -> Result<StreamWriter<'a, W>, Fault>
         ensures same_reference { IfOk result
             (λ writer. (sink_of writer).ghost_name ≡ out.entry.ghost_name) }
+        // That header and the nonce were written, and chunk 0 is the next.
         ensures starts { IfOk result (λ writer. StartsFile W.taken W.failed self out.old
             (sink_of writer).now (Ok (sealer_of writer))) }
+        // As `started`, of some state of the sink, which is not handed back.
         ensures loses { IfErr result (λ fault. (last : W)
             × StartsFile W.taken W.failed self out.old last (Err fault)) }
     {

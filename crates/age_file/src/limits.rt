@@ -46,8 +46,10 @@ impl Limits {
     /// = 309,485,009,821,345,068,724,781,056. Returns `None` exactly if a number is out of its
     /// range.
     pub fn new(max_header: usize, max_chunks: u128) -> Option<Limits>
+        // They are in their ranges, and hold their numbers.
         ensures some { IfSome result (λ limits. IsBounds limits
             × (limits ≡ record { max_header = max_header; max_chunks = max_chunks })) }
+        // One of them is outside of its range.
         ensures none { IfNone result
             (IsBounds (record { max_header = max_header; max_chunks = max_chunks }) → ⊥) }
     {
@@ -67,6 +69,7 @@ impl Limits {
     /// The maximum size of a header in bytes.
     pub fn max_header(&self) -> usize
         ensures value { result ≡ self.now.max_header }
+        // It is in the range that `new` accepts.
         ensures range { IsBounds self.now }
     {
         self.max_header
@@ -75,6 +78,7 @@ impl Limits {
     /// The maximum number of chunks of a payload.
     pub fn max_chunks(&self) -> u128
         ensures value { result ≡ self.now.max_chunks }
+        // It is in the range that `new` accepts.
         ensures range { IsBounds self.now }
     {
         self.max_chunks

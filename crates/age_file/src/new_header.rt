@@ -28,10 +28,12 @@ pub fn header_for(
     key: &FileKey,
     limits: &Limits,
 ) -> Result<Header, Fault>
+    // It is the header that `encrypt` writes.
     ensures ok { IfOk result (λ h. (h.mac ≡ header_mac key.now.0 h.stanzas)
         × ((text : Bytes) × IsHeading limits.now key.now
         (gathering_by recipients.now (λ r k. wraps r k) (λ r. the_labels r) key.now)
         h.stanzas text)) }
+    // The first reason why there is none, in the order of `encrypt`, or out of memory.
     ensures err { IfErr result (FailsHeading limits.now key.now
         (gathering_by recipients.now (λ r k. wraps r k) (λ r. the_labels r) key.now)) }
 {

@@ -78,11 +78,18 @@ pub fn opened_ranges<'a, D: ReadAt>(
 ) -> Result<RangeReader<'a, D>, Refused<'a, D, Fault>>
     ensures same_reference { IfOk result
         (λ reader. (source_at_of reader).ghost_name ≡ dev.entry.ghost_name) }
+    // The payload begins after the file's header, under the key that the identities choose; its
+    // length is the plaintext's, the last chunk is kept, and at most the header, the nonce and the
+    // last piece were read. For a file too, the header was read from the first byte on, the key is
+    // the one that was chosen for it, and the last chunk was verified.
     ensures ranges { IfOk result (λ reader. StartsFileRanges D.bytes D.given D.failed D.gave
         D.found limits.now (answers_by identities.now (λ i s. meaning i s)) dev.old
         (source_at_of reader).now (Ok (chunks_of reader))) }
     ensures handed_back { IfErr result
         (λ refused. (device_of refused).ghost_name ≡ dev.entry.ghost_name) }
+    // The first that applies: the faults of `decrypt` up to a truncated nonce, too many chunks, the
+    // last chunk's; a failed read, which is counted, or out of memory may come before. For a file
+    // too, no refusal of a recipient and no failed write.
     ensures refuses { IfErr result (λ refused. StartsFileRanges D.bytes D.given D.failed D.gave
         D.found limits.now (answers_by identities.now (λ i s. meaning i s)) dev.old
         (device_of refused).now (Err (fault_of refused))) }
@@ -123,9 +130,14 @@ pub fn open_ranges<'a, D: ReadAt>(
 ) -> Result<RangeReader<'a, D>, Fault>
     ensures same_reference { IfOk result
         (λ reader. (source_at_of reader).ghost_name ≡ dev.entry.ghost_name) }
+    // The payload begins after the file's header, under the key that the identities choose; its
+    // length is the plaintext's, the last chunk is kept, and at most the header, the nonce and the
+    // last piece were read. For a file too, the header was read from the first byte on, the key is
+    // the one that was chosen for it, and the last chunk was verified.
     ensures ranges { IfOk result (λ reader. StartsFileRanges D.bytes D.given D.failed D.gave
         D.found limits.now (answers_by identities.now (λ i s. meaning i s)) dev.old
         (source_at_of reader).now (Ok (chunks_of reader))) }
+    // As `opened_ranges`, of some state of the source, which is not handed back.
     ensures refuses { IfErr result (λ fault. (last : D) × StartsFileRanges D.bytes D.given D.failed
         D.gave D.found limits.now (answers_by identities.now (λ i s. meaning i s))
         dev.old last (Err fault)) }

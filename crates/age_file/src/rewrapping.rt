@@ -35,9 +35,15 @@ pub fn rewrap<S: Source, W: Sink>(
     recipients: &[Box<dyn Recipient>],
     limits: &Limits,
 ) -> Result<(), Fault>
+    // On Ok the rewrapped file was written: the text of the new recipients' stanzas with their MAC
+    // under the same file key, then every byte that followed the old header, unchanged. Otherwise
+    // the first that applies: the faults of `decrypt` up to the MAC, of the old header; those of
+    // `encrypt`, of the new header; or out of memory.
     ensures rewraps { Rewraps limits.now (answers_by identities.now (λ i s. meaning i s))
         (gathering_by recipients.now (λ r k. wraps r k) (λ r. the_labels r))
         (flow_by S.to_come S.gave input.old input.new) (moved_by W.taken out.old out.new) result }
+    // On a fault of a header or its key, a truncated nonce, a refusal, recipients that do not go
+    // together, or out of memory the sink is as it was, whether or not its contents are known.
     ensures quiet { IsQuiet out.old out.new result }
     ensures reads { CountsIf is_read (S.failed input.old) (S.failed input.new) result }
     ensures writes { CountsIf is_write (W.failed out.old) (W.failed out.new) result }

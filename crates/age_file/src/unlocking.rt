@@ -24,8 +24,11 @@ pub fn unlock_header(
     identities: &[Box<dyn Identity>],
     header: &Header,
 ) -> Result<FileKey, Fault>
+    // The file key that the identities choose, if the header's MAC is right under it; otherwise the
+    // first fault, or out of memory.
     ensures key { (result ≡ Err Fault.OutOfMemory)
         ⊎ (result ≡ unlocked (answers_by identities.now (λ i s. meaning i s)) header.now) }
+    // It is no device's fault.
     ensures no_device { IfErr result IsNoDeviceFault }
 {
     if is_mixed(header.stanzas()) {

@@ -65,17 +65,19 @@ Took sink bytes = Appends sink.before sink.after bytes
 abbrev pub Stays : (sink : Moved) → Type 0
 Stays sink = Keeps sink.before sink.after
 
--- a fault that is the device's raises its count by one, or leaves it at the largest u64; any other
--- leaves it
+-- A fault of this device comes only where its count of failures rose by one, or is the largest u64;
+-- any other fault leaves the count.
 abbrev pub CountsFaultIf : {E : Type 0} (is_own : E → Bool) (old new : ℕ) (fault : E) → Type 0
 CountsFaultIf is_own old new fault =
     new ≡ (if is_own fault then min (old + 1) (2 ^ 64 - 1) else old)
 
--- the same of a result; an Ok leaves the count
+-- That kind of fault is returned only where the device's count of failures rose by one, or is the
+-- largest u64; if it rose, that fault is returned. Any other result leaves the count.
 abbrev pub CountsIf : {A E : Type 0} (is_own : E → Bool) (old new : ℕ) (r : Result A E) → Type 0
 CountsIf is_own old new r = MatchResult r (λ _. new ≡ old) (CountsFaultIf is_own old new)
 
--- the same where each fault is the device's
+-- An error is the device's: the count of failures rises by one, up to the largest u64. An Ok leaves
+-- it.
 abbrev pub Counts : {A E : Type 0} (old new : ℕ) (r : Result A E) → Type 0
 Counts old new r = CountsIf (λ _. true) old new r
 

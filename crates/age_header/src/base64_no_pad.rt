@@ -18,6 +18,7 @@ const ALPHABET: &str = "ABCDEFGHIJKLMNOPQRSTUVWXYZabcdefghijklmnopqrstuvwxyz0123
 /// The engine for base64 without padding, canonical. It holds a table, so make it once for many
 /// lines.
 pub fn engine() -> GeneralPurpose
+    // An engine for the standard's alphabet, without padding, that decodes canonical text alone.
     ensures { IsPlain result }
 {
     let Ok(alphabet) = Alphabet::new(ALPHABET) else {
@@ -33,8 +34,11 @@ pub fn decode(
     text: &[u8],
 ) -> Result<Option<Vec<u8>>, AllocError>
     requires { IsPlain engine.now }
+    // The bytes whose base64 the characters are, if there are such bytes.
     ensures value { IfOk result (λ o. option_map (λ v. v.items) o ≡ decoded text.now) }
+    // The characters are the base64 of the bytes.
     ensures some { IfOk result (λ o. IfSome o (λ v. IsBase64 v.items text.now)) }
+    // They are the base64 of no bytes.
     ensures none { IfOk result (λ o. IfNone o ((b : Bytes) → IsBase64 b text.now → ⊥)) }
 {
     match engine.decode(alloc, text) {

@@ -29,8 +29,11 @@ pub trait Source {
     /// error nothing is known of the bytes.
     fn read(&mut self, buf: &mut [u8]) -> Result<usize, DeviceFault>
         ensures bound { ReadsAtMost result buf.new }
+        // An error raises the count of failures, an Ok leaves it.
         ensures count { Counts (failed self.old) (failed self.new) result }
+        // On Ok the next bytes are at the start of the buffer; 0 with room only at the end.
         ensures bytes { Gives (moved_by to_come self.old self.new) result buf.new }
+        // What the source gave grew by these bytes, on an error by none.
         ensures gave { Grows (flow_by to_come gave self.old self.new) result buf.new };
 
     /// The number of failed reads, saturating at the largest `u64`.
@@ -50,7 +53,10 @@ pub trait Sink {
     /// nonempty piece. On an error nothing was written.
     fn write(&mut self, piece: &[u8]) -> Result<usize, DeviceFault>
         ensures bound { IfOk result (λ n. n ≤ length piece.now) }
+        // An error raises the count of failures, an Ok leaves it.
         ensures count { Counts (failed self.old) (failed self.new) result }
+        // On Ok the first n bytes were appended, at least one of a nonempty piece; on an error
+        // none.
         ensures bytes { Takes (moved_by taken self.old self.new) result piece.now };
 
     /// The number of failed writes, saturating at the largest `u64`.
@@ -61,7 +67,9 @@ pub trait Sink {
 /// Writes the whole piece, in as many writes as the sink needs. On an error a prefix of it was
 /// written; an interrupted call is not repeated.
 pub fn write_all<W: Sink>(out: &mut W, piece: &[u8]) -> Result<(), DeviceFault>
+    // On Ok the piece was written, on an error a prefix of it.
     ensures text { Writes (moved_by W.taken out.old out.new) result piece.now }
+    // After a failed write the sink's count of failures rose by one; otherwise it stays.
     ensures count { Counts (W.failed out.old) (W.failed out.new) result }
 {
     let mut at = 0;
@@ -130,8 +138,11 @@ pub struct MemSink {
 impl MemSink {
     /// Makes a sink that appends to this vector, with no failure counted.
     pub fn new(out: Vec<u8>) -> MemSink
+        // Its known contents are the vector's.
         ensures bytes { ⟦<MemSink as Sink>⟧.taken result ≡ Some out.items }
+        // No failure is counted.
         ensures count { ⟦<MemSink as Sink>⟧.failed result ≡ 0 }
+        // The room is the vector's spare capacity.
         ensures spare { spare_of result ≡ vec_capacity out - vec_len out }
     {
         MemSink { out, failures: 0 }
@@ -153,11 +164,17 @@ impl Sink for MemSink {
 
     fn write(&mut self, piece: &[u8]) -> Result<usize, DeviceFault>
         ensures bound { IfOk result (λ n. n ≤ length piece.now) }
+        // An error raises the count of failures, an Ok leaves it.
         ensures count { Counts self.old.failures self.new.failures result }
+        // On Ok the first n bytes were appended, at least one of a nonempty piece; on an error
+        // none.
         ensures bytes { Takes (moved (Some self.old.out.items) (Some self.new.out.items))
             result piece.now }
+        // On Ok the whole piece was written.
         ensures whole { IfOk result (λ n. n ≡ length piece.now) }
+        // An error comes only of a piece that is longer than the room.
         ensures full { OnErr result (spare_of self.old < length piece.now) }
+        // The room shrinks by at most what was written.
         ensures spare { IfOk result (λ n. spare_of self.old ≤ spare_of self.new + n) }
     {
         match self.out.extend_from_slice(piece) {
@@ -181,7 +198,9 @@ pub struct ReadSource<R> {
 impl<R: Read> ReadSource<R> {
     /// Makes a source of this reader's bytes, with no failure counted.
     pub fn new(reader: R) -> ReadSource<R>
+        // Its known contents are the reader's.
         ensures bytes { ⟦<ReadSource<R> as Source>⟧.to_come result ≡ R.remaining reader }
+        // No failure is counted.
         ensures count { ⟦<ReadSource<R> as Source>⟧.failed result ≡ 0 }
     {
         ReadSource {
@@ -230,7 +249,9 @@ pub struct WriteSink<W> {
 impl<W: Write> WriteSink<W> {
     /// Makes a sink to this writer, with no failure counted.
     pub fn new(writer: W) -> WriteSink<W>
+        // Its known contents are the writer's.
         ensures bytes { ⟦<WriteSink<W> as Sink>⟧.taken result ≡ W.contents writer }
+        // No failure is counted.
         ensures count { ⟦<WriteSink<W> as Sink>⟧.failed result ≡ 0 }
     {
         WriteSink {

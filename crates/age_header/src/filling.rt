@@ -20,9 +20,12 @@ pub fn fill_from<S: Source>(
 ) -> Result<usize, DeviceFault>
     requires { start ≤ length buf.old }
     ensures len { length buf.new ≡ length buf.old }
+    // The source gave the bytes that follow the first `start` in the buffer, n bytes with these.
     ensures bytes { IfOk result
         (λ n. Filled start n buf.old buf.new (flow_by S.to_come S.gave input.old input.new)) }
+    // It stops below the buffer's length only at the end of known contents.
     ensures end { IfOk result (λ n. n < length buf.old → IsAtEnd (S.to_come input.new)) }
+    // On an error the source gave some bytes.
     ensures lost { OnErr result (GaveSome (flow_by S.to_come S.gave input.old input.new)) }
     ensures count { Counts (S.failed input.old) (S.failed input.new) result }
 {

@@ -33,8 +33,10 @@ impl Header {
 
     /// Makes a header of these stanzas and this MAC; `None` if there is no stanza.
     pub fn new(stanzas: Vec<Stanza>, mac: [u8; 32]) -> Option<Header>
+        // A header holds its stanzas and its MAC.
         ensures some { IfSome result
             (λ h. (stanzas.items ≢ []) × (h.stanzas ≡ stanzas.items) × (h.mac ≡ mac)) }
+        // There is none without a stanza.
         ensures none { IfNone result (stanzas.items ≡ []) }
     {
         if stanzas.is_empty() {
@@ -51,6 +53,7 @@ impl Header {
     /// The stanzas, in order.
     pub fn stanzas(&self) -> &[Stanza]
         ensures value { result.now ≡ self.now.stanzas }
+        // With the MAC these stanzas have a text.
         ensures whole { IsHeaderValue self.now.stanzas self.now.mac }
     {
         self.stanzas.as_slice()

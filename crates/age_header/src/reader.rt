@@ -62,11 +62,17 @@ impl HeaderReader {
         alloc: Global,
         input: &mut S,
     ) -> Result<Header, HeaderFault>
+        // A fault that is kept is returned, and the source is not read.
         ensures kept_fault { IfSome self.old.fault
             (λ e. (result ≡ Err e) × (input.new ≡ input.old)) }
+        // A fault is kept, and returned from then on.
         ensures keeps { self.new ≡ record { max = self.old.max; fault = fault_of result } }
+        // `Read` is returned only if the source's count of failures rose by one, or is the largest
+        // u64; with any other result it stays.
         ensures count { IfNone self.old.fault
             (CountsIf is_read (S.failed input.old) (S.failed input.new) result) }
+        // Without a kept fault, a failed read or out of memory the result is the header verdict on
+        // the bytes that the source gave, on a header exactly the header's bytes.
         ensures verdict { IfNone self.old.fault
             (ReadsHeader (flow_by S.to_come S.gave input.old input.new) self.old.max result) }
     {

@@ -48,7 +48,9 @@ impl Stanza {
     /// # Errors
     /// `NoArgs`; else for the first bad argument `EmptyArg` or `BadByte`; else `Memory`.
     pub fn new(alloc: Global, args: &[&str], body: &[u8]) -> Result<Stanza, StanzaError>
+        // A stanza holds its arguments and its body.
         ensures ok { IfOk result (λ s. (s.args ≡ map (λ a. a.now) args.now) × (s.body ≡ body.now)) }
+        // The first fault of the arguments, or out of memory.
         ensures err { IfErr result (IsStanzaError (map (λ a. a.now) args.now)) }
     {
         check_arguments(args)?;
@@ -83,6 +85,7 @@ impl Stanza {
     /// The arguments, in order: one or more, none empty, each of bytes 33 to 126.
     pub fn args(&self) -> &[String]
         ensures value { map string_bytes result.now ≡ self.now.args }
+        // There are one or more, each of one or more visible characters.
         ensures arguments { AreArguments self.now.args }
     {
         self.args.texts()
@@ -91,6 +94,7 @@ impl Stanza {
     /// The body's bytes.
     pub fn body(&self) -> &[u8]
         ensures value { result.now ≡ self.now.body }
+        // Each is below 256.
         ensures bytes { IsBytes self.now.body }
     {
         self.body.as_slice()

@@ -17,8 +17,10 @@ use base64::engine::general_purpose::GeneralPurpose;
 
 /// Writes the header's text (C2SP `age.md`, "Header"). On an error a prefix of it was written.
 pub fn write_header<W: Sink>(header: &Header, out: &mut W) -> Result<(), DeviceFault>
+    // On Ok the header's text was written; after a failed write a prefix of it.
     ensures text { (h : Bytes) × Head header.now.stanzas header.now.mac h
         × Writes (moved_by W.taken out.old out.new) result h }
+    // After a failed write the sink's count of failures rose by one; otherwise it stays.
     ensures count { Counts (W.failed out.old) (W.failed out.new) result }
 {
     let engine = base64_no_pad::engine();

@@ -256,6 +256,7 @@ pub(crate) fn read_prefix<'a, R: Read + Drop>(
     file: R,
     most: usize,
 ) -> Result<Vec<u8>, Failure<'a>>
+    // Of a reader whose bytes are known it is its first bytes, at most as many as asked for.
     ensures { IfOk result
         (λ bytes. IfSome (R.remaining file) (λ xs. bytes.items ≡ take most xs)) }
 {

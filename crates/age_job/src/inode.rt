@@ -42,6 +42,9 @@ impl Inode {
 
     /// Whether both are one file.
     pub(crate) fn is(&self, other: &Inode) -> bool
+        // Two open files are one file if they have the same device, and the same inode on it. That
+        // these are the two of an open file is the standard library's, and the system's for a
+        // standard stream.
         ensures { result ≡ (nat_eq self.now.dev other.now.dev
             && nat_eq self.now.ino other.now.ino) }
     {

@@ -80,6 +80,8 @@ pub(crate) fn refuse_terminal<'a, W: IsTerminal>(job: &Job, out: &W) -> Result<(
 
 /// The mode of a file that this command creates, from which the system subtracts the umask.
 fn new_mode(command: Command) -> u32
+    // The mode of a plaintext for `decrypt` and `range`, that of any other file for the others. The
+    // modes are the code's: that they are 600 and 666 is only tested.
     ensures { result ≡ new_mode command }
 {
     match command {
@@ -101,6 +103,8 @@ impl<F: OpenFile> Output<F> {
 
     /// Truncates a file that may still have its old contents.
     fn empty(&mut self) -> io::Result<()>
+        // Until it returned Ok a regular OUT counts as holding what it held. That it calls
+        // `set_len(0)`, and that this cuts the file, is only tested.
         ensures emptied { IsOk result → self.new.is_stale ≡ false }
         ensures same_file { self.new.file ≡ self.old.file }
     {
@@ -113,6 +117,8 @@ impl<F: OpenFile> Output<F> {
 
     /// Truncates the file before the first of these bytes is written to it.
     fn make_room(&mut self, bytes: &[u8]) -> io::Result<()>
+        // A write of 0 bytes changes nothing of whether a regular OUT counts as holding what it
+        // held.
         ensures waits { length bytes.now ≡ 0 → self.new.is_stale ≡ self.old.is_stale }
         ensures emptied { IsOk result → 0 < length bytes.now → self.new.is_stale ≡ false }
         ensures same_file { self.new.file ≡ self.old.file }
@@ -149,6 +155,8 @@ fn failed_write<'a>(doing: Doing, name: &'a str, reason: io::Error) -> Failure<'
     Failure::of_system(Fault::Write, doing, name, reason)
 }
 
+// What OUT has taken is what its file has taken, and a write returns the number of bytes that the
+// file took.
 impl<F: Write + OpenFile> Write for Output<F> {
     ghost contents = { λ output. F.contents output.file };
 

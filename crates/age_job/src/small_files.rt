@@ -23,6 +23,8 @@ pub fn read_secret<'a, F: Files + AllocGlobal>(
     job: &'a Job,
     read: &mut ReadFiles<'a>,
 ) -> Result<Secret, Failure<'a>>
+    // A passphrase if a passphrase file alone is named, else one key or more, and no more than key
+    // files are named.
     ensures { IfOk result (IsSecretOf job.now.pass job.now.key job.now.more_keys.items) }
 {
     let files = secret_files(job)?;
@@ -38,8 +40,11 @@ pub fn read_encrypt_secrets<'a, F: Files + AllocGlobal, W: IsTerminal>(
     read: &mut ReadFiles<'a>,
     out: &W,
 ) -> Result<(Secret, [u8; SEED_LEN]), Failure<'a>>
+    // A passphrase if a passphrase file alone is named, else one key or more, and no more than key
+    // files are named.
     ensures secret { IfOk result
         (λ read. IsSecretOf job.now.pass job.now.key job.now.more_keys.items read.0) }
+    // No new passphrase is empty.
     ensures new { IfOk result (λ read. IsNewSecret read.0) }
 {
     let files = secret_files(job)?;
@@ -58,10 +63,13 @@ pub fn read_rewrap_secrets<'a, F: Files + AllocGlobal, W: IsTerminal>(
     read: &mut ReadFiles<'a>,
     out: &W,
 ) -> Result<(Secret, Secret, [u8; SEED_LEN]), Failure<'a>>
+    // The old secret and the new one are each in their role.
     ensures old { IfOk result
         (λ read. IsSecretOf job.now.pass job.now.key job.now.more_keys.items read.0) }
+    // The old secret and the new one are each in their role.
     ensures other { IfOk result (λ read. IsSecretOf job.now.new_pass job.now.new_key
         job.now.more_new_keys.items read.1) }
+    // No new passphrase is empty.
     ensures new { IfOk result (λ read. IsNewSecret read.1) }
 {
     let old = secret_files(job)?;
@@ -79,6 +87,7 @@ pub fn read_file_key<'a, F: Files + AllocGlobal>(
     job: &'a Job,
     read: &mut ReadFiles<'a>,
 ) -> Result<Option<[u8; 16]>, Failure<'a>>
+    // There is a file key exactly if `-f` names one, without `-r`.
     ensures { IfOk result (IsFileKeyOf job.now.raw job.now.file_key) }
 {
     match &job.file_key {

@@ -23,6 +23,7 @@ pub struct Watched<R> {
 impl<R> Watched<R> {
     /// Watches this reader, which is at its first byte, and keeps at most so many bytes.
     pub fn new(alloc: Global, reader: R, most: usize) -> Watched<R>
+        // What it reads is what the reader gives.
         ensures { result.reader ≡ reader }
     {
         Watched {
@@ -74,6 +75,7 @@ impl<R> Watched<R> {
     }
 }
 
+// What a command reads is what IN gives, and a failed read is no end.
 impl<R: Read> Read for Watched<R> {
     ghost remaining = { λ watched. R.remaining watched.reader };
 

@@ -37,7 +37,9 @@ impl ScryptParams {
     /// Makes parameters; `None` if one is out of range: `log_n` is 1 to 30 and below 16 * r, and
     /// `r` and `p` are 1 to 32. These ranges are inside the RFC's, and no product wraps in them.
     pub fn new(log_n: u32, r: u32, p: u32) -> Option<ScryptParams>
+        // Parameters are accepted exactly in the stated ranges.
         ensures in_range { IsSome result ↔ InRange log_n r p }
+        // They are those that were passed.
         ensures parts { IfSome result (λ s. s ≡ record { log_n = log_n; r = r; p = p }) }
     {
         let each_in_range = (1..=30).contains(&log_n)
@@ -53,6 +55,7 @@ impl ScryptParams {
     /// The logarithm of N to the base 2.
     pub fn log_n(&self) -> u32
         ensures value { result ≡ self.now.log_n }
+        // 1 to 30.
         ensures range { (1 ≤ result) × (result ≤ 30) }
     {
         self.log_n
@@ -61,6 +64,7 @@ impl ScryptParams {
     /// The block size, in units of 128 bytes.
     pub fn r(&self) -> u32
         ensures value { result ≡ self.now.r }
+        // 1 to 32.
         ensures range { (1 ≤ result) × (result ≤ 32) }
     {
         self.r
@@ -69,6 +73,7 @@ impl ScryptParams {
     /// The parallelization.
     pub fn p(&self) -> u32
         ensures value { result ≡ self.now.p }
+        // 1 to 32.
         ensures range { (1 ≤ result) × (result ≤ 32) }
     {
         self.p

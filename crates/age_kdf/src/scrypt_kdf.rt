@@ -113,8 +113,10 @@ pub fn scrypt(
     out: &mut [u8],
 ) -> Result<(), AllocError>
     requires room { length out.old ≤ longest_output }
+    // scrypt (RFC 7914).
     ensures ok { OnOk result (out.new ≡ scrypt pass.now salt.now
         (2 ^ params.now.log_n) params.now.r params.now.p (length out.old)) }
+    // If the allocation is refused the output is unchanged.
     ensures err { OnErr result (out.new ≡ out.old) }
 {
     let mut work = vec![in alloc; 0u32; params.work_len()]?;

@@ -23,7 +23,7 @@ keyed_type = codes "example.org/key"
 unfoldable pub keyed_wrap_key : (key : Key) (salt : Bytes) → Key
 keyed_wrap_key key salt = hkdf key salt keyed_type 32
 
--- the stanza that wraps a file key
+-- The one stanza that a key's recipient returns, which is this project's.
 unfoldable pub keyed_stanza : (key : Key) (salt : Bytes) (file_key : FileKey) → StanzaParts
 keyed_stanza key salt file_key = record {
   args = keyed_type ∷ base64_of salt ∷ [];
@@ -42,7 +42,8 @@ abbrev pub arguments_answer : (key : Key) (args : List Bytes) (body : Bytes) →
 arguments_answer key (salt ∷ []) body = salted_answer key body (salt_of (decoded salt))
 arguments_answer key _ body = Malformed ArgCount
 
--- what one stanza gives
+-- Of the `example.org/key` stanzas the first that breaks a check, with the first check that it
+-- breaks, or that opens decides; if none does, `Failed` if there was one, else `NotMine`.
 unfoldable pub keyed_answer : (key : Key) (stanza : StanzaParts) → Unwrapped
 keyed_answer key stanza =
     typed_answer (λ args. arguments_answer key args stanza.body)

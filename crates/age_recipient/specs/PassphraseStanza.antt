@@ -26,7 +26,7 @@ unfoldable pub pass_wrap_key : (pass salt : Bytes) (work : ℕ) → Key
 pass_wrap_key pass salt work =
     scrypt pass (codes "age-encryption.org/v1/scrypt" ++ salt) (2 ^ work) 8 1 32
 
--- the stanza that wraps a file key
+-- The one stanza that a passphrase recipient returns, which is the format's.
 unfoldable pub pass_stanza : (pass : Bytes) (work : ℕ) (salt : Bytes) (file_key : FileKey)
     → StanzaParts
 pass_stanza pass work salt file_key = record {
@@ -66,7 +66,8 @@ arguments_answer pass max (salt ∷ work ∷ []) body =
     salted_answer pass max work body (salt_of (decoded salt))
 arguments_answer pass max _ body = Malformed ArgCount
 
--- what one stanza gives
+-- Of the `scrypt` stanzas the first that breaks a check, with the first check that it breaks, or
+-- that opens decides; if none does, `Failed` if there was one, else `NotMine`.
 unfoldable pub pass_answer : (pass : Bytes) (max : ℕ) (stanza : StanzaParts) → Unwrapped
 pass_answer pass max stanza =
     typed_answer (λ args. arguments_answer pass max args stanza.body)

@@ -18,5 +18,6 @@ pub trait Identity: Drop {
     /// # Errors
     /// If an allocation was refused.
     fn unwrap(&self, alloc: Global, stanzas: &[Stanza]) -> Result<Unwrapped, AllocError>
+        // An identity returns its own meaning. Each impl is proved against it.
         ensures { IfOk result (λ answer. answer ≡ meaning self.now stanzas.now) };
 }

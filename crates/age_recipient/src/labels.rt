@@ -40,6 +40,7 @@ impl LabelSet {
     }
 }
 
+// A copy equals what was copied.
 impl Clone for LabelSet {
     ghost is_clone = { λ set copy. copy ≡ set };
 
@@ -89,6 +90,7 @@ pub fn first_incompatible(labels: &[Labels]) -> Option<usize>
     None
 }
 
+// A copy equals what was copied.
 impl Clone for Labels {
     ghost is_clone = { λ labels copy. copy ≡ labels };
 

@@ -35,6 +35,8 @@ pub trait Recipient: Drop {
     /// # Errors
     /// `Refused` with the code that the recipient means, `Memory` if an allocation was refused.
     fn wrap(&self, alloc: Global, key: &FileKey) -> Result<Vec<Stanza>, WrapFault>
+        // A recipient returns its own meaning, or a refused allocation. Each impl is proved against
+        // it.
         ensures { WrapsAs (wraps self.now key.now) result };
 
     /// The labels of this recipient: with which others it may share a file. A recipient that keeps
@@ -43,6 +45,9 @@ pub trait Recipient: Drop {
     /// # Errors
     /// If an allocation was refused.
     fn labels(&self, alloc: Global) -> Result<Labels, AllocError>
+        // The labels that the recipient means, or no names: the method's own body returns these,
+        // and is proved once for all recipients, whatever they mean. A key's recipient means no
+        // names: then both cases are one, in a box too.
         ensures { IfOk result (MayLabel (the_labels self.now)) }
     {
         Ok(Labels::Names(LabelSet::new(alloc, &[])?))

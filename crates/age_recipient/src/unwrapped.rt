@@ -47,8 +47,10 @@ impl Unwrapped {
     /// # Errors
     /// The next answer, if it decides: then no later answer counts.
     pub fn followed_by(self, next: Unwrapped) -> Result<Unwrapped, Unwrapped>
+        // If the next one decides nothing, both are one answer for those that follow.
         ensures continues { IfOk result (λ both.
             (more : List Unwrapped) → decided_from self (next ∷ more) ≡ decided_from both more) }
+        // A next one that is a key or a malformed stanza decides, whatever follows.
         ensures decides { IfErr result (λ decision.
             (more : List Unwrapped) → decided_from self (next ∷ more) ≡ decision) }
     {

@@ -149,6 +149,7 @@ pub record RangeParts (D : Type 0) : Type 0 where
 pub record ReadsRange {D : Type 0} (told : D → Known) (count_given failed : D → ℕ)
     (gave : D → (at byte : ℕ) → Type 0) (at : ℕ) (old new : RangeParts D)
     (r : Result ℕ StreamFault) : Type 0 where
+  -- as before the call: so the clauses hold of every list of calls
   pub stay : told new.source ≡ told old.source
   pub stays_given : StaysGiven (gave old.source) (gave new.source)
   pub same : new.chunks.layout ≡ old.chunks.layout
@@ -162,9 +163,13 @@ pub record ReadsRange {D : Type 0} (told : D → Known) (count_given failed : D 
   pub stop : IfErr r (Stops (told old.source) old.chunks at
       (range_len old.chunks at (length old.buf)) old.buf new.buf new.chunks.opened)
   pub count : CountsIf is_read (failed old.source) (failed new.source) r
+  -- after a range that is not empty its last chunk is kept, after a fault none
   pub kept_chunk : IfOk r
       (λ n. 0 < n → new.chunks.index ≡ Some ((at + n - 1) / chunk_size))
   pub none : OnErr r (new.chunks.index ≡ None)
+  -- the count of opened chunks never falls, and rises for each chunk that is tried; no chunk is
+  -- opened that the range does not touch, and no more is read than their sealed bytes; the first is
+  -- not counted if it is kept
   pub rises : old.chunks.opened ≤ new.chunks.opened
   pub counts : IfOk r (λ n. 0 < n → OpenedAtLeast old.chunks new.chunks.opened
       ((at + n - 1) / chunk_size + 1 - first_to_open old.chunks.index at))
@@ -174,6 +179,7 @@ pub record ReadsRange {D : Type 0} (told : D → Known) (count_given failed : D 
       → count_given new.source
       ≤ count_given old.source
       + sealed_span old.chunks.layout (first_to_open old.chunks.index at) end
+  -- an empty range changes neither the reader nor the source
   pub empty : range_len old.chunks at (length old.buf) ≡ 0
       → (new.chunks ≡ old.chunks) × (new.source ≡ old.source)
 

@@ -67,8 +67,10 @@ impl ChunkOpener {
         buf: ChunkBuf,
     ) -> Result<ChunkOpener, StreamFault>
         requires { max_chunks ≤ most_chunks }
+        // The nonce was read, under which piece 0 is the next; or there is no whole nonce.
         ensures starts { Starts key.now max_chunks (flow_by S.to_come S.gave source.old source.new)
             result }
+        // At most 16 bytes were read.
         ensures gave { IsErrOf result StreamFault.Read
             ⊎ GaveAtMost nonce_size (flow_by S.to_come S.gave source.old source.new) }
         ensures count { CountsIf is_read (S.failed source.old) (S.failed source.new) result }
@@ -92,7 +94,9 @@ impl ChunkOpener {
     /// The text of the piece that was opened last. It is empty before the first piece, after false,
     /// and after a fault.
     pub fn text(&self) -> &[u8]
+        // The text of the piece that was opened last.
         ensures text { result.now ≡ self.now.text }
+        // At most 65,536 bytes.
         ensures len { length result.now ≤ chunk_size }
     {
         &self.buf.as_slice()[..self.len]
@@ -107,16 +111,24 @@ impl ChunkOpener {
 
     /// Reads and opens the next piece; false after the last.
     pub fn advance<S: Source>(&mut self, source: &mut S) -> Result<bool, StreamFault>
+        // A fault that is kept is returned, the source is not read, and nothing changes.
         ensures kept_fault { IfSome self.old.fault
             (λ f. (result ≡ Err f) × (source.new ≡ source.old) × (self.new ≡ self.old)) }
+        // A fault is kept, and returned from then on.
         ensures keeps { IfNone self.old.fault (IfErr result (λ f. self.new.fault ≡ Some f)) }
         ensures count { IfNone self.old.fault
             (CountsIf is_read (S.failed source.old) (S.failed source.new) result) }
+        // The next piece of what is left is opened at its number, or its fault returned; after the
+        // last there is none. Of any source, known or not, text and fault are those of the bytes
+        // which it gave, joined in order; nothing is read after the end and left out.
         ensures opens { IfNone self.old.fault (IsErrOf result StreamFault.Read
             ⊎ Advances self.old self.new (flow_by S.to_come S.gave source.old source.new) result) }
+        // At a failed read a piece was left, and the source gave some bytes.
         ensures lost { IfNone self.old.fault
             (OnErr result (Loses self.old.held
             (flow_by S.to_come S.gave source.old source.new))) }
+        // After the call that returns false, and after a fault, it has no text and holds no byte of
+        // another piece.
         ensures blank { IfNone self.old.fault (IsSpentAfter self.new result) }
     {
         if let Some(fault) = self.fault {
@@ -284,11 +296,17 @@ pub fn open_chunk(
     requires index { i ≤ max }
     requires small { i < max → i < most_chunks }
     ensures len { length bytes.new ≡ length bytes.old }
+    // The bytes after the text are unchanged.
     ensures rest { drop (end - tag_size) bytes.new ≡ drop (end - tag_size) bytes.old }
+    // The text is as long as the piece without its tag.
     ensures size { IfOk result (λ n. n ≡ end - tag_size) }
+    // The piece's outcome at its number is returned, and its text is at the start of the buffer.
     ensures text { GivesText (outcome key.now max i last (take end bytes.old)) bytes.new result }
+    // On a fault the whole buffer is unchanged.
     ensures unchanged { OnErr result (bytes.new ≡ bytes.old) }
+    // A chunk opens only below the limit.
     ensures within { OnOk result (i < max) }
+    // Its faults are those of piece i.
     ensures at { IfErr result (IsAtPiece max i) }
 {
     if i >= max {

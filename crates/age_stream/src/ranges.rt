@@ -41,10 +41,16 @@ impl<'a, D: ReadAt> RangeReader<'a, D> {
     ) -> Result<RangeReader<'a, D>, Refused<'a, D, StreamFault>>
         ensures same_reference { IfOk result
             (λ reader. reader.dev.ghost_name ≡ dev.entry.ghost_name) }
+        // The last chunk is kept and one chunk was opened; the length is that of all chunks; at
+        // most the nonce and the last piece were read. For a file too, the key is that of the file
+        // key and of a nonce read at the payload's offset, and the pieces end where the size that
+        // was found ends.
         ensures opens { IfOk result (λ reader. StartsRanges D.bytes D.given D.failed D.gave
             D.found key.now max_chunks payload_at dev.old reader.dev.now (Ok reader.chunks)) }
         ensures handed_back { IfErr result
             (λ refused. refused.device.ghost_name ≡ dev.entry.ghost_name) }
+        // The first that applies: out of memory, a truncated nonce, too many pieces, the last
+        // piece's fault; or a failed read, which is counted. For a file too, never a failed write.
         ensures refuses { IfErr result (λ refused. StartsRanges D.bytes D.given D.failed D.gave
             D.found key.now max_chunks payload_at dev.old refused.device.now (Err refused.fault)) }
     {
@@ -74,8 +80,13 @@ impl<'a, D: ReadAt> RangeReader<'a, D> {
     ) -> Result<RangeReader<'a, D>, StreamFault>
         ensures same_reference { IfOk result
             (λ reader. reader.dev.ghost_name ≡ dev.entry.ghost_name) }
+        // The last chunk is kept and one chunk was opened; the length is that of all chunks; at
+        // most the nonce and the last piece were read. For a file too, the key is that of the file
+        // key and of a nonce read at the payload's offset, and the pieces end where the size that
+        // was found ends.
         ensures opens { IfOk result (λ reader. StartsRanges D.bytes D.given D.failed D.gave
             D.found key.now max_chunks payload_at dev.old reader.dev.now (Ok reader.chunks)) }
+        // As `started`, of some state of the source, which is not handed back.
         ensures refuses { IfErr result (λ fault. (last : D)
             × StartsRanges D.bytes D.given D.failed D.gave D.found key.now max_chunks payload_at
             dev.old last (Err fault)) }
@@ -89,6 +100,7 @@ impl<'a, D: ReadAt> RangeReader<'a, D> {
     /// The source. What the reader knows of it is lost.
     pub fn into_inner(self) -> &'a mut D
         ensures same_reference { result.ghost_name ≡ self.entry.dev.ghost_name }
+        // The source is as the reader left it.
         ensures unchanged { result.now ≡ self.entry.dev.now }
     {
         self.dev
@@ -120,6 +132,10 @@ impl<'a, D: ReadAt> RangeReader<'a, D> {
     /// and no chunk is kept. A later call reads the source again.
     pub fn read_range(&mut self, at: u64, buf: &mut [u8]) -> Result<usize, StreamFault>
         ensures same_reference { self.new.dev.ghost_name ≡ self.old.dev.ghost_name }
+        // The smaller of the buffer's length and the length of the plaintext from the offset on is
+        // returned, and these bytes, if every touched chunk opens. Otherwise the first touched
+        // chunk that does not open, or a failed read, with the bytes before it. The rest of the
+        // buffer is unchanged.
         ensures reads { ReadsRange D.bytes D.given D.failed D.gave at
             (record { source = self.old.dev.now; chunks = self.old.chunks; buf = buf.old })
             (record { source = self.new.dev.now; chunks = self.new.chunks; buf = buf.new })

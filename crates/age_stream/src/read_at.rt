@@ -33,10 +33,15 @@ pub trait ReadAt {
     /// # Errors
     /// If the size was not found. The failure is counted.
     fn size(&mut self) -> Result<u64, DeviceFault>
+        // Known contents stay.
         ensures stay { bytes self.new ≡ bytes self.old }
+        // What was read stays so.
         ensures stays_given { StaysGiven (gave self.old) (gave self.new) }
+        // The size is that of the known contents; the first size that was found stays.
         ensures size { FindsSize (bytes self.old) (found self.old) (found self.new) result }
+        // Nothing was read.
         ensures given { given self.new ≡ given self.old }
+        // An error raises the count of failures, an Ok leaves it.
         ensures count { Counts (failed self.old) (failed self.new) result };
 
     /// Reads bytes from offset `at` on to the start of `buf`, and returns their number. It returns
@@ -45,14 +50,23 @@ pub trait ReadAt {
     /// # Errors
     /// If the read failed; no byte was read. The failure is counted.
     fn read_at(&mut self, at: u64, buf: &mut [u8]) -> Result<usize, DeviceFault>
+        // Known contents stay.
         ensures stay { bytes self.new ≡ bytes self.old }
+        // The size that was found stays.
         ensures found { found self.new ≡ found self.old }
         ensures bound { ReadsAtMost result buf.new }
+        // The offsets of known contents fit a u64.
         ensures offsets { HasOffsets (bytes self.old) }
+        // On Ok the bytes from the offset on; none with room only past the end of the known
+        // contents, and of the size that was found. An earlier end is a failed read.
         ensures bytes { GivesAt (bytes self.old) (found self.old) at result buf.new }
+        // What was read stays so.
         ensures stays_given { StaysGiven (gave self.old) (gave self.new) }
+        // Each byte was read at its offset.
         ensures read { IfOk result (λ n. GaveAt (gave self.new) at (take n buf.new)) }
+        // The count of bytes rises by what was read, up to the largest u64.
         ensures given { CountsGiven (given self.old) (given self.new) result }
+        // An error raises the count of failures, an Ok leaves it.
         ensures count { Counts (failed self.old) (failed self.new) result };
 
     /// The number of bytes read so far, saturating at the largest `u64`.
@@ -74,7 +88,9 @@ pub struct MemAt<'a> {
 impl<'a> MemAt<'a> {
     /// Makes a source of these bytes, of which none was read yet.
     pub fn new(bytes: &'a [u8]) -> MemAt<'a>
+        // A source over a slice returns the slice's bytes.
         ensures bytes { ⟦<MemAt<'a> as ReadAt>⟧.bytes result ≡ Some bytes.now }
+        // No byte was read.
         ensures given { ⟦<MemAt<'a> as ReadAt>⟧.given result ≡ 0 }
     {
         MemAt { bytes, given: 0 }
@@ -129,9 +145,13 @@ pub struct FileAt<F> {
 impl<F: Read + Seek> FileAt<F> {
     /// Makes a source over this file, with no byte read and no failure counted.
     pub fn new(file: F) -> FileAt<F>
+        // The contents of a file are not known.
         ensures bytes { ⟦<FileAt<F> as ReadAt>⟧.bytes result ≡ None }
+        // No size was found yet.
         ensures found { ⟦<FileAt<F> as ReadAt>⟧.found result ≡ None }
+        // No byte was read.
         ensures given { ⟦<FileAt<F> as ReadAt>⟧.given result ≡ 0 }
+        // No failure is counted.
         ensures count { ⟦<FileAt<F> as ReadAt>⟧.failed result ≡ 0 }
     {
         FileAt {

@@ -34,6 +34,7 @@ impl<'a, S: Source> StreamReader<'a, S> {
     pub fn over(input: &'a mut S, opener: ChunkOpener) -> StreamReader<'a, S>
         ensures same_reference { result.input.ghost_name ≡ input.entry.ghost_name }
         ensures unchanged { result.input.now ≡ input.old }
+        // It goes on where this one was.
         ensures opener { result.opener ≡ opener }
     {
         StreamReader { input, opener }
@@ -53,10 +54,12 @@ impl<'a, S: Source> StreamReader<'a, S> {
         requires { max_chunks ≤ most_chunks }
         ensures same_reference { IfOk result
             (λ reader. reader.input.ghost_name ≡ input.entry.ghost_name) }
+        // The nonce was read, and piece 0 is the next.
         ensures starts { IfOk result (λ reader. StartsReader S.to_come S.gave S.failed key.now
             max_chunks input.old reader.input.now (Ok reader.opener)) }
         ensures handed_back { IfErr result
             (λ refused. refused.device.ghost_name ≡ input.entry.ghost_name) }
+        // Out of memory, and nothing was read; or the nonce was not read.
         ensures misses { IfErr result (λ refused. StartsReader S.to_come S.gave S.failed key.now
             max_chunks input.old refused.device.now (Err refused.fault)) }
     {
@@ -84,8 +87,10 @@ impl<'a, S: Source> StreamReader<'a, S> {
         requires { max_chunks ≤ most_chunks }
         ensures same_reference { IfOk result
             (λ reader. reader.input.ghost_name ≡ input.entry.ghost_name) }
+        // The nonce was read, and piece 0 is the next.
         ensures starts { IfOk result (λ reader. StartsReader S.to_come S.gave S.failed key.now
             max_chunks input.old reader.input.now (Ok reader.opener)) }
+        // As `started`, of some state of the source, which is not handed back.
         ensures misses { IfErr result (λ fault. (last : S) × StartsReader S.to_come S.gave S.failed
             key.now max_chunks input.old last (Err fault)) }
     {
@@ -142,6 +147,7 @@ impl<'a, S: Source> StreamReader<'a, S> {
             (flow_by S.to_come S.gave self.old.input.now last.input.now)
             (S.failed self.old.input.now) (S.failed last.input.now) (is_lent result))
             × IfOk result (λ o. IfSome o (λ piece. piece.now ≡ last.opener.text)))) }
+        // A fault that is kept is returned.
         ensures kept_fault { IfSome self.old.opener.fault (λ f. result ≡ Err f) }
     {
         if self.advance()? {
@@ -158,11 +164,16 @@ impl<'a, S: Source> StreamReader<'a, S> {
     /// Those of `next_chunk`: the chunks before were written. `Write` if the sink failed: a prefix
     /// of the chunks was written.
     pub fn copy_to<W: Sink>(self, out: &mut W) -> Result<Done, StreamFault>
+        // A fault that is kept is returned, and neither device is called.
         ensures kept_fault { IfSome self.entry.opener.fault (λ f.
             (result ≡ Err f) × (self.exit.0.now ≡ self.entry.input.now) × (out.new ≡ out.old)) }
+        // The openings of the pieces left were written up to the first fault, which is returned; on
+        // Ok the counts are the length of the written text and the number of its pieces.
         ensures writes_all { IfNone self.entry.opener.fault (WritesAll self.entry.opener
             (flow_by S.to_come S.gave self.entry.input.now self.exit.0.now)
             (moved_by W.taken out.old out.new) result) }
+        // At which piece a fault was met, what had been written, and how much of the source had
+        // been read.
         ensures ends { IfNone self.entry.opener.fault (IfErr result (λ f. (f ≡ StreamFault.Read)
             ⊎ EndsAt self.entry.opener.max_chunks 0
             (flow_by S.to_come S.gave self.entry.input.now self.exit.0.now)

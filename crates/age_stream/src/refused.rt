@@ -12,6 +12,7 @@ impl<'a, D, E> Refused<'a, D, E> {
     pub fn of(device: &'a mut D, fault: E) -> Refused<'a, D, E>
         ensures same_reference { result.device.ghost_name ≡ device.entry.ghost_name }
         ensures unchanged { result.device.now ≡ device.old }
+        // The fault that was returned.
         ensures fault { result.fault ≡ fault }
     {
         Refused { device, fault }
@@ -19,6 +20,7 @@ impl<'a, D, E> Refused<'a, D, E> {
 
     /// The fault. The borrow of the device ends.
     pub fn fault(self) -> E
+        // The fault that was returned.
         ensures fault { result ≡ self.entry.fault }
         ensures unchanged { self.exit.0.now ≡ self.entry.device.now }
     {
@@ -30,6 +32,7 @@ impl<'a, D, E> Refused<'a, D, E> {
     pub fn into_parts(self) -> (&'a mut D, E)
         ensures same_reference { result.0.ghost_name ≡ self.entry.device.ghost_name }
         ensures unchanged { result.0.now ≡ self.entry.device.now }
+        // The fault that was returned.
         ensures fault { result.1 ≡ self.entry.fault }
     {
         let Refused { device, fault } = self;

@@ -76,8 +76,11 @@ impl ChunkSealer {
     /// # Errors
     /// `Read` if the source failed.
     pub fn fill<S: Source>(&mut self, plain: &mut S) -> Result<bool, StreamFault>
+        // A fault that is kept is returned, and the source is not read.
         ensures kept_fault { IfSome self.old.fault (λ f. (result ≡ Err f) × (self.new ≡ self.old)
             × (plain.new ≡ plain.old)) }
+        // It took what the source gives, up to a full chunk, wrote nothing, and returns whether the
+        // source may give more.
         ensures fills { IfNone self.old.fault
             (Fills self.old self.new (flow_by S.to_come S.gave plain.old plain.new) result) }
         ensures reads { IfNone self.old.fault
@@ -104,8 +107,12 @@ impl ChunkSealer {
         plain: &mut S,
         out: &mut W,
     ) -> Result<(), StreamFault>
+        // A fault that is kept is returned, and neither device is called.
         ensures kept_fault { IfSome self.old.fault (λ f. (result ≡ Err f) × (self.new ≡ self.old)
             × (plain.new ≡ plain.old) × (out.new ≡ out.old)) }
+        // However the plaintext is cut into calls, the chunks that were written and those that
+        // follow are the payload's. Too many chunks are refused at the first byte of the first
+        // chunk over the limit. At most 65,536 bytes are held.
         ensures takes { IfNone self.old.fault (TakesAll self.old self.new
             (flow_by S.to_come S.gave plain.old plain.new) (moved_by W.taken out.old out.new)
             result) }
@@ -140,7 +147,10 @@ impl ChunkSealer {
     /// Seals what is held as the last chunk, and writes it. Returns the total numbers of bytes and
     /// chunks sealed.
     pub fn finish<W: Sink>(self, out: &mut W) -> Result<Done, StreamFault>
+        // A fault that is kept is returned, and the sink is not written to.
         ensures kept_fault { IfSome self.fault (λ f. (result ≡ Err f) × (out.new ≡ out.old)) }
+        // The last chunk is what was held; the counts are the text's length and the number of its
+        // chunks.
         ensures text { IfNone self.fault
             (FinishesBy self (moved_by W.taken out.old out.new) result) }
         ensures writes { IfNone self.fault
@@ -293,6 +303,7 @@ pub fn seal_chunk(key: &[u8; 32], i: u128, last: bool, chunk: &mut [u8])
     requires high { length chunk.old ≤ sealed_chunk_size }
     requires small { i < most_chunks }
     ensures len { length chunk.new ≡ length chunk.old }
+    // The buffer has the chunk, sealed at its number.
     ensures sealed { chunk.new
         ≡ sealed key.now (chunk_nonce i last) [] (take (length chunk.old - tag_size) chunk.old) }
 {

@@ -27,6 +27,7 @@ impl<'a, W: Sink> StreamWriter<'a, W> {
     pub fn over(out: &'a mut W, sealer: ChunkSealer) -> StreamWriter<'a, W>
         ensures same_reference { result.out.ghost_name ≡ out.entry.ghost_name }
         ensures unchanged { result.out.now ≡ out.old }
+        // It goes on where this one was.
         ensures sealer { result.sealer ≡ sealer }
     {
         StreamWriter { out, sealer }
@@ -47,10 +48,12 @@ impl<'a, W: Sink> StreamWriter<'a, W> {
         requires high { max_chunks ≤ most_chunks }
         ensures same_reference { IfOk result
             (λ writer. writer.out.ghost_name ≡ out.entry.ghost_name) }
+        // The nonce was written, and chunk 0 is the next.
         ensures starts { IfOk result (λ writer. StartsWriter W.taken W.failed key.now nonce.now
             max_chunks out.old writer.out.now (Ok writer.sealer)) }
         ensures handed_back { IfErr result
             (λ refused. refused.device.ghost_name ≡ out.entry.ghost_name) }
+        // A prefix of the nonce was written, and the failure is counted.
         ensures loses { IfErr result (λ refused. StartsWriter W.taken W.failed key.now nonce.now
             max_chunks out.old refused.device.now (Err refused.fault)) }
     {
@@ -76,10 +79,12 @@ impl<'a, W: Sink> StreamWriter<'a, W> {
         requires high { max_chunks ≤ most_chunks }
         ensures same_reference { IfOk result
             (λ writer. writer.out.ghost_name ≡ out.entry.ghost_name) }
+        // The nonce was written, and chunk 0 is the next.
         ensures starts { IfOk result (λ writer. StartsWriter W.taken W.failed key.now nonce.now
             max_chunks out.old writer.out.now (Ok writer.sealer)) }
         ensures handed_back { IfErr result
             (λ refused. refused.device.ghost_name ≡ out.entry.ghost_name) }
+        // Out of memory, and nothing was written; or as `started_with`.
         ensures loses { IfErr result (λ refused. IsRefusedMemory out.old refused.device.now
             refused.fault ⊎ StartsWriter W.taken W.failed key.now nonce.now max_chunks out.old
             refused.device.now (Err refused.fault)) }
@@ -106,8 +111,10 @@ impl<'a, W: Sink> StreamWriter<'a, W> {
         requires high { max_chunks ≤ most_chunks }
         ensures same_reference { IfOk result
             (λ writer. writer.out.ghost_name ≡ out.entry.ghost_name) }
+        // The nonce was written, and chunk 0 is the next.
         ensures starts { IfOk result (λ writer. StartsWriter W.taken W.failed key.now nonce.now
             max_chunks out.old writer.out.now (Ok writer.sealer)) }
+        // As `started_with`, of some state of the sink, which is not handed back.
         ensures loses { IfErr result (λ fault. (last : W) × StartsWriter W.taken W.failed key.now
             nonce.now max_chunks out.old last (Err fault)) }
     {
@@ -134,8 +141,10 @@ impl<'a, W: Sink> StreamWriter<'a, W> {
         requires high { max_chunks ≤ most_chunks }
         ensures same_reference { IfOk result
             (λ writer. writer.out.ghost_name ≡ out.entry.ghost_name) }
+        // The nonce was written, and chunk 0 is the next.
         ensures starts { IfOk result (λ writer. StartsWriter W.taken W.failed key.now nonce.now
             max_chunks out.old writer.out.now (Ok writer.sealer)) }
+        // As `started`, of some state of the sink, which is not handed back.
         ensures loses { IfErr result (λ fault. (last : W) × (IsRefusedMemory out.old last fault
             ⊎ StartsWriter W.taken W.failed key.now nonce.now max_chunks out.old last
             (Err fault))) }
@@ -154,8 +163,11 @@ impl<'a, W: Sink> StreamWriter<'a, W> {
     /// the text needs more than `max_chunks`: the chunks before the last one allowed were written.
     pub fn write_piece(&mut self, piece: &[u8]) -> Result<(), StreamFault>
         ensures same_reference { self.new.out.ghost_name ≡ self.old.out.ghost_name }
+        // A fault that is kept is returned, and the sink is not written to.
         ensures kept_fault { IfSome self.old.sealer.fault (λ f. (result ≡ Err f)
             × (self.new.sealer ≡ self.old.sealer) × (self.new.out.now ≡ self.old.out.now)) }
+        // Whatever still comes, all that will be written is as before; or a fault was met, of the
+        // sink or too many chunks.
         ensures takes { IfNone self.old.sealer.fault (TakesPiece self.old.sealer self.new.sealer
             piece.now (moved_by W.taken self.old.out.now self.new.out.now) result) }
         ensures count { IfNone self.old.sealer.fault
@@ -172,8 +184,11 @@ impl<'a, W: Sink> StreamWriter<'a, W> {
     /// Those of `write_piece`, and `Read` if the source failed: a prefix of the sealed chunks was
     /// written.
     pub fn seal_from<S: Source>(self, plain: &mut S) -> Result<Done, StreamFault>
+        // A fault that is kept is returned, and neither device is called.
         ensures kept_fault { IfSome self.entry.sealer.fault (λ f.
             (result ≡ Err f) × (plain.new ≡ plain.old) × (self.exit.0.now ≡ self.entry.out.now)) }
+        // All that the source gave was sealed and written; or a fault was met, with how much of the
+        // source was read.
         ensures seals { IfNone self.entry.sealer.fault (SealsAll self.entry.sealer
             (flow_by S.to_come S.gave plain.old plain.new)
             (moved_by W.taken self.entry.out.now self.exit.0.now) result) }
@@ -196,8 +211,11 @@ impl<'a, W: Sink> StreamWriter<'a, W> {
     /// # Errors
     /// `Write` if the sink failed: a prefix of the sealed chunk was written.
     pub fn finish(self) -> Result<Done, StreamFault>
+        // A fault that is kept is returned, and the sink is not written to.
         ensures kept_fault { IfSome self.entry.sealer.fault
             (λ f. (result ≡ Err f) × (self.exit.0.now ≡ self.entry.out.now)) }
+        // The last chunk is what was held; the counts are the text's length and the number of its
+        // chunks.
         ensures text { IfNone self.entry.sealer.fault (FinishesBy self.entry.sealer
             (moved_by W.taken self.entry.out.now self.exit.0.now) result) }
         ensures count { IfNone self.entry.sealer.fault
@@ -209,6 +227,7 @@ impl<'a, W: Sink> StreamWriter<'a, W> {
 
     /// Drops the writer. What is held is not written.
     pub fn abandon(self)
+        // The sink is as the last call left it.
         ensures { self.exit.0.now ≡ self.entry.out.now }
     {
         let StreamWriter { out: _, sealer: _ } = self;

@@ -29,8 +29,12 @@ pub extern "C" fn agefile_stanzas(
     text: &mut [u8],
     report: &mut Report,
 ) -> u32
+    // The sizes of all stanzas of the header verdict, and in one text of each its arguments, joined
+    // by single spaces, and its body. If the array or the buffer is too small it returns 21 with
+    // both unchanged; on 0 and 21 the report has the length of the text and the number of stanzas.
     ensures front { InspectsStanzas front.now stanzas.old stanzas.new text.old text.new
         report.new result }
+    // The front of 65,552 bytes is enough: the same holds of the file.
     ensures file { (b : Bytes) → front.now ≡ take front_size b
         → InspectsStanzas b stanzas.old stanzas.new text.old text.new report.new result }
 {

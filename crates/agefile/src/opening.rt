@@ -69,6 +69,9 @@ pub extern "C" fn agefile_open(
     payload: &mut Payload,
     report: &mut Report,
 ) -> u32
+    // The first fault up to the nonce that the verdict has for an identity that gives this key for
+    // any stanzas, the MAC verified under it; else the payload is before chunk 0 for reading, and
+    // the report has its offset; or 17. On a fault the payload is closed.
     ensures { Opens (by_file_key file_key.now) front.now payload.new report.new result }
 {
     start_at(start_under(alloc, front, file_key), payload, report)
@@ -135,6 +138,10 @@ pub extern "C" fn agefile_decrypt(
     out: &mut [u8],
     report: &mut Report,
 ) -> u32
+    // The first fault before the chunks that the verdict has for an identity that gives this key;
+    // else 21 if `out` has no room for the plaintext of sealed chunks of this length, which is
+    // reported; or 17; in each with `out` unchanged. Else the verdict's plaintext is in `out`, the
+    // bytes after it are unchanged, and the verdict's fault is returned.
     ensures { Decrypts (by_file_key file_key.now) file.now out.old out.new report.new result }
 {
     let start = match start_under(alloc, file, file_key) {

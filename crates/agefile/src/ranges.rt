@@ -113,9 +113,12 @@ pub extern "C" fn agefile_ranges_last(
     chunk: &mut [u8],
     report: &mut Report,
 ) -> u32
+    // A call that does not fit the state returns 23 and changes nothing but the report.
     ensures out_of_order { OnFalse (may_verify ranges.old chunk.old)
         ((result ≡ out_of_order) × (ranges.new ≡ ranges.old) × (chunk.new ≡ chunk.old)
         × (report.new ≡ report_of 0 None)) }
+    // The last piece is opened at its number, and only then an offset is located or another piece
+    // opened; on a fault the chunk is unchanged, and the payload counts as not verified.
     ensures verified { OnTrue (may_verify ranges.old chunk.old)
         (Verified ranges.old ranges.new chunk.old chunk.new report.new result
         (outcome ranges.old.key limits.max_chunks (last_index ranges.old.sealed_len) true
@@ -151,8 +154,11 @@ pub extern "C" fn agefile_ranges_last(
 /// file do not fit 64 bits.
 #[unsafe(no_mangle)]
 pub extern "C" fn agefile_ranges_locate(ranges: &Ranges, at: u64, report: &mut Report) -> u32
+    // A call that does not fit the state returns 23 and changes nothing but the report.
     ensures out_of_order { OnFalse (has_byte ranges.now at)
         ((result ≡ out_of_order) × (report.new ≡ report_of 0 None)) }
+    // The byte lies in the piece at the offset that is returned; 23 past the plaintext's end, and
+    // if the file's offsets do not fit 64 bits.
     ensures located { OnTrue (has_byte ranges.now at)
         ((result ≡ ok) × (report.new ≡ piece_report ranges.now (at / chunk_size))) }
 {
@@ -179,8 +185,11 @@ pub extern "C" fn agefile_ranges_chunk(
     chunk: &mut [u8],
     report: &mut Report,
 ) -> u32
+    // A call that does not fit the state returns 23 and changes nothing but the report.
     ensures out_of_order { OnFalse (may_open ranges.now at chunk.old)
         ((result ≡ out_of_order) × (chunk.new ≡ chunk.old) × (report.new ≡ report_of 0 None)) }
+    // That piece is opened at its number, and the plaintext continues from the byte on in its text;
+    // or its fault is returned and the chunk is unchanged.
     ensures gives { OnTrue (may_open ranges.now at chunk.old)
         (GivesFrom at chunk.old chunk.new report.new result
         (gives ranges.now (at / chunk_size) chunk.old)) }

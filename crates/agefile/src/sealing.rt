@@ -31,6 +31,8 @@ pub extern "C" fn agefile_encrypt(
     out: &mut [u8],
     report: &mut Report,
 ) -> u32
+    // That header and the payload of the plaintext are in `out`; or 21 with the file's length, the
+    // fault of the header, or 17, with `out` unchanged.
     ensures { Encrypts stanzas.now file_key.now nonce.now plain.now out.old out.new report.new
         result }
 {

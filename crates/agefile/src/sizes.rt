@@ -32,11 +32,14 @@ const LEAST_FRONT: u64 = 86;
 /// largest `u64`.
 #[unsafe(no_mangle)]
 pub extern "C" fn agefile_sealed_len(plain_len: u64) -> u64
+    // Capped at the largest u64.
     ensures value { result ≡ min (sealed_len plain_len) (2 ^ 64 - 1) }
+    // The file of one stanza of a key is exactly so long.
     ensures key { (key salt stanza file_key nonce plain file : Bytes) → length salt ≡ salt_size
         → length file_key ≡ file_key_size → length nonce ≡ nonce_size → length plain ≡ plain_len
         → IsStanza (keyed_stanza key salt (record { 0 = file_key })) stanza
         → IsNewFile stanza file_key nonce plain file → length file ≡ sealed_len plain_len }
+    // The file of one stanza of a passphrase is shorter.
     ensures pass { (pass salt stanza file_key nonce plain file : Bytes) (work : ℕ)
         → length salt ≡ salt_size → length file_key ≡ file_key_size → length nonce ≡ nonce_size
         → WorkFits work → length plain ≡ plain_len
@@ -53,7 +56,9 @@ pub extern "C" fn agefile_sealed_len(plain_len: u64) -> u64
 /// plaintext before a fault.
 #[unsafe(no_mangle)]
 pub extern "C" fn agefile_plain_len_at_most(file_len: u64) -> u64
+    // Capped at the largest u64.
     ensures value { result ≡ plain_len_at_most file_len }
+    // No verdict's plaintext is longer.
     ensures suffices { (answers : Answering) (b : Bytes) (verdict : Reading Fault)
         → length b ≡ file_len → IsVerdict limits answers b verdict → length verdict.front ≤ result }
 {
@@ -72,7 +77,9 @@ pub(crate) fn opened_len(sealed: u64) -> u64
 /// saturating at the largest `u64`.
 #[unsafe(no_mangle)]
 pub extern "C" fn agefile_file_len(header_len: u64, plain_len: u64) -> u64
+    // Capped at the largest u64.
     ensures value { result ≡ min (file_len header_len plain_len) (2 ^ 64 - 1) }
+    // The length of a file is that of its header, a nonce, the plaintext, and a tag for each chunk.
     ensures file { (k : FileKey) (header nonce plain : Bytes) → length header ≡ header_len
         → length nonce ≡ nonce_size → length plain ≡ plain_len
         → length (header ++ payload k nonce plain) ≡ file_len header_len plain_len }

@@ -44,12 +44,16 @@ pub extern "C" fn agefile_unlock_passphrase(
     file_key: &mut [u8; 16],
     report: &mut Report,
 ) -> u32
+    // The file key that the secret chooses, once the header's MAC under it was verified, and the
+    // header's length; otherwise the first fault up to the MAC, or 17, with `file_key` unchanged.
     ensures fit { WorkFits max_work
         → Unlocks (alone (pass_unwraps (record { pass = pass.now; max = max_work }))) front.now
         file_key.old file_key.new report.new result }
+    // The front of 65,552 bytes is enough: the same holds of the file.
     ensures file { (b : Bytes) → front.now ≡ take front_size b → WorkFits max_work
         → Unlocks (alone (pass_unwraps (record { pass = pass.now; max = max_work }))) b
         file_key.old file_key.new report.new result }
+    // A maximum that is not 1 to 30 returns 22, and no other one does.
     ensures unfit { (WorkFits max_work → ⊥)
         → GivesUp bad_work_factor file_key.old file_key.new report.new result }
 {
@@ -74,8 +78,11 @@ pub extern "C" fn agefile_unlock_key(
     file_key: &mut [u8; 16],
     report: &mut Report,
 ) -> u32
+    // The file key that the secret chooses, once the header's MAC under it was verified, and the
+    // header's length; otherwise the first fault up to the MAC, or 17, with `file_key` unchanged.
     ensures front { Unlocks (alone (key_unwraps key.now)) front.now file_key.old file_key.new
         report.new result }
+    // The front of 65,552 bytes is enough: the same holds of the file.
     ensures file { (b : Bytes) → front.now ≡ take front_size b
         → Unlocks (alone (key_unwraps key.now)) b file_key.old file_key.new report.new result }
 {

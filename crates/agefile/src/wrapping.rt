@@ -34,11 +34,15 @@ pub extern "C" fn agefile_wrap_passphrase(
     out: &mut [u8],
     report: &mut Report,
 ) -> u32
+    // An empty passphrase returns 26 before any other code, and no other one does; `out` is
+    // unchanged.
     ensures empty { pass.now ≡ []
         → GivesUp empty_passphrase out.old out.new report.new result }
+    // The text of the stanza of this passphrase, under the salt; 21 or 17 with `out` unchanged.
     ensures fit { (pass.now ≡ [] → ⊥) → WorkFits work
         → GivesText (pass_stanza pass.now work salt.now (record { 0 = file_key.now })) out.old
         out.new report.new result }
+    // Otherwise a work factor that is not 1 to 30 returns 22, and no other one does.
     ensures unfit { (pass.now ≡ [] → ⊥) → (WorkFits work → ⊥)
         → GivesUp bad_work_factor out.old out.new report.new result }
 {

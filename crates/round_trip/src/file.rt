@@ -24,9 +24,12 @@ pub fn encrypted(
     fresh: &Fresh,
     limits: &Limits,
 ) -> Result<Vec<u8>, Fault>
+    // An age file of the plaintext for the pair's recipient.
     ensures file { IfOk result (λ file. (stanzas : List StanzaParts)
         × (wraps recipient fresh.now.file_key ≡ Ok stanzas)
         × AgeFile limits.now fresh.now.file_key stanzas plain.now file.items) }
+    // No file is written only if an allocation was refused, which may be the sink's, if the
+    // plaintext has more chunks than the limit, or if the recipient's stanzas make no header.
     ensures lost { let refuses = IsRefusal limits.now fresh.now.file_key
         (Gathered (wraps recipient fresh.now.file_key ∷ []) (the_labels recipient ∷ [])) in
         IfErr result (IsUnwritten refuses limits.now plain.now) }
@@ -61,9 +64,11 @@ pub fn decrypted(
     file: &[u8],
     limits: &Limits,
 ) -> Result<Vec<u8>, Fault>
+    // If the file's verdict for this identity is a plaintext without a fault, this plaintext.
     ensures text { IfOk result (λ text. (plain : Bytes)
         → IsVerdict limits.now (λ s. meaning identity s ∷ []) file.now (whole plain)
         → text.items ≡ plain) }
+    // Then only a refused allocation is returned, which may be the sink's.
     ensures lost { IfErr result (λ fault. (plain : Bytes)
         → IsVerdict limits.now (λ s. meaning identity s ∷ []) file.now (whole plain)
         → IsMemoryFault fault) }

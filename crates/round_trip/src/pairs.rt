@@ -48,11 +48,16 @@ pub fn there_and_back<M: Matched>(
         ≡ M.R.wraps (M.the_recipient pair.now) }
     requires identity { (⟦<dyn Identity as Identity>⟧ identity.vtable).meaning identity.value
         ≡ M.I.meaning (M.the_identity pair.now) }
+    // What was encrypted for a pair's recipient is decrypted to the same plaintext by its identity.
     ensures back { IfOk result (λ text. text.items ≡ plain.now) }
+    // No file was written, or an allocation was refused. No file is written only if an allocation
+    // was refused, which may be the sink's, if the plaintext has more chunks than the limit, or if
+    // the recipient's stanzas make no header.
     ensures lost { let refuses = IsRefusal limits.now fresh.now.file_key
         (Gathered (M.R.wraps (M.the_recipient pair.now) fresh.now.file_key ∷ [])
         ((⟦<dyn Recipient as Recipient>⟧ recipient.vtable).the_labels recipient.value ∷ [])) in
         IfErr result (IsLoss refuses limits.now plain.now) }
+    // `Unpaired` is never returned.
     ensures paired { IfErr result IsPaired }
 {
     laws::pair_opens(pair);
@@ -97,8 +102,12 @@ pub fn pass_there_and_back(
     fresh: &Fresh,
     limits: &Limits,
 ) -> Result<Vec<u8>, Lost>
+    // What was encrypted for a pair's recipient is decrypted to the same plaintext by its identity.
     ensures back { IfOk result (λ text. text.items ≡ plain.now) }
+    // No file was written, or an allocation was refused. No file is written only if an allocation
+    // was refused, which may be the sink's, or if the plaintext has more chunks than the limit.
     ensures lost { IfErr result (IsLoss none limits.now plain.now) }
+    // `Unpaired(WorkFactor)` is returned exactly if the work factor or its maximum does not fit.
     ensures paired { MatchResult result (λ _. PairFits work max)
         (IsPairedIf (PairFits work max)) }
 {
@@ -136,8 +145,12 @@ pub fn key_there_and_back(
     fresh: &Fresh,
     limits: &Limits,
 ) -> Result<Vec<u8>, Lost>
+    // What was encrypted for a pair's recipient is decrypted to the same plaintext by its identity.
     ensures back { IfOk result (λ text. text.items ≡ plain.now) }
+    // No file was written, or an allocation was refused. No file is written only if an allocation
+    // was refused, which may be the sink's, or if the plaintext has more chunks than the limit.
     ensures lost { IfErr result (IsLoss none limits.now plain.now) }
+    // `Unpaired` is never returned.
     ensures paired { IfErr result IsPaired }
 {
     let pair = KeyPair::new(key, salt);

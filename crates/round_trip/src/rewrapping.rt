@@ -27,9 +27,13 @@ pub fn rewrapped(
     file: &[u8],
     limits: &Limits,
 ) -> Result<Vec<u8>, Fault>
+    // The rewrapped file: the recipient's stanzas under the file key that the identity chose.
     ensures file { IfOk result (λ new.
         (is : Rewrapped limits.now (λ s. meaning identity s ∷ []) file.now new.items)
         × (wraps recipient is.key ≡ Ok is.stanzas)) }
+    // Of an age file under a key that the identity chooses: why no file was written, which is a
+    // refused allocation, a plaintext of more chunks than the limit, or stanzas that make no
+    // header.
     ensures lost { IfErr result (λ fault. (stanzas : List StanzaParts) (k : FileKey)
         (plain : Bytes) → AgeFile limits.now k stanzas plain file.now
         → meaning identity stanzas ≡ Key k → IsUnwritten (IsRefusal limits.now k
@@ -111,15 +115,19 @@ pub fn rewrapped_and_back<M: Matched, N: Matched>(
         ≡ N.R.wraps (N.the_recipient to.now) }
     requires identity { (⟦<dyn Identity as Identity>⟧ identity.vtable).meaning identity.value
         ≡ N.I.meaning (N.the_identity to.now) }
+    // An age file of the first pair, rewrapped to the second and decrypted under that one, gives
+    // the plaintext.
     ensures back { IfOk result (λ text. (stanzas : List StanzaParts) (k : FileKey) (plain : Bytes)
         → IsFileKey k → AgeFile limits.now k stanzas plain file.now
         → M.I.meaning (M.the_identity from.now) stanzas ≡ Key k → text.items ≡ plain) }
+    // No file was written, or an allocation was refused.
     ensures lost { IfErr result (λ lost. (stanzas : List StanzaParts) (k : FileKey) (plain : Bytes)
         → IsFileKey k → AgeFile limits.now k stanzas plain file.now
         → M.I.meaning (M.the_identity from.now) stanzas ≡ Key k
         → IsLoss (IsRefusal limits.now k (Gathered (N.R.wraps (N.the_recipient to.now) k ∷ [])
         ((⟦<dyn Recipient as Recipient>⟧ recipient.vtable).the_labels recipient.value ∷ [])))
         limits.now plain lost) }
+    // `Unpaired` is never returned.
     ensures paired { IfErr result IsPaired }
 {
     laws::rewrap_keeps();
@@ -149,8 +157,13 @@ pub fn key_rewrapped_and_back(
     fresh: &Fresh,
     limits: &Limits,
 ) -> Result<Vec<u8>, Lost>
+    // A file that was encrypted under a key, rewrapped to another and decrypted under that one
+    // gives the plaintext.
     ensures back { IfOk result (λ text. text.items ≡ plain.now) }
+    // No file was written, or an allocation was refused. No file is written only if an allocation
+    // was refused, which may be the sink's, or if the plaintext has more chunks than the limit.
     ensures lost { IfErr result (IsLoss none limits.now plain.now) }
+    // `Unpaired` is never returned.
     ensures paired { IfErr result IsPaired }
 {
     let from = KeyPair::new(key, salt);

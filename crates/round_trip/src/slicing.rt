@@ -115,9 +115,12 @@ pub fn sliced(
     ranges: &[Range],
     limits: &Limits,
 ) -> Result<Vec<u8>, Fault>
+    // If the file's verdict for this identity is a plaintext without a fault: its ranges, each cut
+    // at its end, for every list of ranges.
     ensures parts { IfOk result (λ text. (plain : Bytes)
         → IsVerdict limits.now (λ s. meaning identity s ∷ []) file.now (whole plain)
         → text.items ≡ parts plain ranges.now) }
+    // Then only out of memory is returned.
     ensures lost { IfErr result (λ fault. (plain : Bytes)
         → IsVerdict limits.now (λ s. meaning identity s ∷ []) file.now (whole plain)
         → fault ≡ Fault.OutOfMemory) }
@@ -153,11 +156,17 @@ pub fn there_and_slices<M: Matched>(
         ≡ M.R.wraps (M.the_recipient pair.now) }
     requires identity { (⟦<dyn Identity as Identity>⟧ identity.vtable).meaning identity.value
         ≡ M.I.meaning (M.the_identity pair.now) }
+    // Ranges of a file that was encrypted for a pair are the plaintext's, each cut at its end, for
+    // every list of ranges.
     ensures back { IfOk result (λ text. text.items ≡ parts plain.now ranges.now) }
+    // No file was written, or an allocation was refused. No file is written only if an allocation
+    // was refused, which may be the sink's, if the plaintext has more chunks than the limit, or if
+    // the recipient's stanzas make no header.
     ensures lost { let refuses = IsRefusal limits.now fresh.now.file_key
         (Gathered (M.R.wraps (M.the_recipient pair.now) fresh.now.file_key ∷ [])
         ((⟦<dyn Recipient as Recipient>⟧ recipient.vtable).the_labels recipient.value ∷ [])) in
         IfErr result (IsLoss refuses limits.now plain.now) }
+    // `Unpaired` is never returned.
     ensures paired { IfErr result IsPaired }
 {
     laws::pair_opens(pair);
@@ -187,8 +196,13 @@ pub fn key_there_and_slices(
     fresh: &Fresh,
     limits: &Limits,
 ) -> Result<Vec<u8>, Lost>
+    // Ranges of a file that was encrypted for a pair are the plaintext's, each cut at its end, for
+    // every list of ranges.
     ensures back { IfOk result (λ text. text.items ≡ parts plain.now ranges.now) }
+    // No file was written, or an allocation was refused. No file is written only if an allocation
+    // was refused, which may be the sink's, or if the plaintext has more chunks than the limit.
     ensures lost { IfErr result (IsLoss none limits.now plain.now) }
+    // `Unpaired` is never returned.
     ensures paired { IfErr result IsPaired }
 {
     let pair = KeyPair::new(key, salt);

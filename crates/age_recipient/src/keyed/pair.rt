@@ -18,8 +18,10 @@ pub struct KeyPair {
 impl KeyPair {
     /// Makes the pair of this key: a recipient with a salt of 16 bytes, and an identity.
     pub fn new(key: [u8; 32], salt: [u8; 16]) -> KeyPair
+        // The recipient that these arguments make.
         ensures recipient { ⟦<KeyPair as Matched>⟧.the_recipient result
             ≡ record { key = key; salt = salt } }
+        // The identity that these arguments make.
         ensures identity { ⟦<KeyPair as Matched>⟧.the_identity result ≡ key }
     {
         KeyPair {

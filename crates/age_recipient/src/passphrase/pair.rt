@@ -34,11 +34,16 @@ impl PassPair {
         work: u8,
         max: u8,
     ) -> Result<PassPair, PassError>
+        // A pair's work factor is at most its maximum.
         ensures fits { IfOk result (λ _. PairFits work max) }
+        // The recipient that these arguments make.
         ensures recipient { IfOk result (λ pair. ⟦<PassPair as Matched>⟧.the_recipient pair
             ≡ record { pass = pass.now; salt = salt; work = work }) }
+        // The identity that these arguments make.
         ensures identity { IfOk result (λ pair. ⟦<PassPair as Matched>⟧.the_identity pair
             ≡ record { pass = pass.now; max = max }) }
+        // `WorkFactor` is returned exactly if a work factor is not 1 to 30, or the pair's is above
+        // its maximum.
         ensures err { IfErr result (IsPassError (PairFits work max)) }
     {
         if work < 1 || max > MOST_WORK || work > max {

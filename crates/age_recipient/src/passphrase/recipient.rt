@@ -57,8 +57,10 @@ impl PassRecipient {
         salt: [u8; 16],
         work: u8,
     ) -> Result<PassRecipient, PassError>
+        // It holds its arguments; the work factor is 1 to 30.
         ensures ok { IfOk result
             (λ r. WorkFits work × (r ≡ record { pass = pass.now; salt = salt; work = work })) }
+        // `WorkFactor` is returned exactly if a work factor is not 1 to 30.
         ensures err { IfErr result (IsPassError (WorkFits work)) }
     {
         if work < 1 || work > MOST_WORK {
@@ -90,6 +92,7 @@ impl Recipient for PassRecipient {
     }
 
     fn labels(&self, _alloc: Global) -> Result<Labels, AllocError>
+        // `Alone`, always.
         ensures { result ≡ Ok Labels.Alone }
     {
         Ok(Labels::Alone)
@@ -121,7 +124,9 @@ impl PassIdentity {
     /// # Errors
     /// `WorkFactor` if `max` is not 1 to 30, else `Memory`.
     pub fn new(alloc: Global, pass: &[u8], max: u8) -> Result<PassIdentity, PassError>
+        // It holds its arguments; the work factor is 1 to 30.
         ensures ok { IfOk result (λ i. WorkFits max × (i ≡ record { pass = pass.now; max = max })) }
+        // `WorkFactor` is returned exactly if a work factor is not 1 to 30.
         ensures err { IfErr result (IsPassError (WorkFits max)) }
     {
         if max < 1 || max > MOST_WORK {

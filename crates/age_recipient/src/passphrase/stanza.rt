@@ -126,6 +126,7 @@ fn salted_answer(
     requires { max ≤ most_work }
     ensures answer { IfOk result
         (λ answer. answer ≡ salted_answer pass.now max work.now body.now (Some salt.now)) }
+    // If a passphrase stanza is not well formed, out of memory is not returned for scrypt.
     ensures memory { IfErr result (λ _. (is_work_factor work.now ≡ true)
         × (number_from 0 work.now ≤ max) × (length body.now ≡ sealed_key_size)) }
 {
