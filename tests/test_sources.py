@@ -1,9 +1,11 @@
 """What the repository's texts hold themselves to: lines of at most 100 columns, the README's blocks of
-code, the toolchain, the planted bugs that docs/PROMISES.md names, programs that the compiler has to
-refuse."""
+code, the toolchain, the words of each clause, the clause and the text of each planted bug, programs
+that the compiler has to refuse."""
 
 import concurrent.futures
 import glob
+import importlib.machinery
+import importlib.util
 import os
 import re
 import shutil
@@ -88,22 +90,120 @@ class Documents(unittest.TestCase):
         self.assertTrue(terms)
         self.assertEqual([term for term in terms if term.lower() not in text], [])
 
-    def test_planted_bugs(self):
-        """docs/PROMISES.md names just the planted bugs that are there."""
-        folders = [ROOT + "/crates/*/must-fail", ROOT + "/tests/planted/edits/*"]
-        edits = {os.path.basename(name)[:-5] for folder in folders for name in glob.glob(folder + "/*.edit")}
-        promises, named = text_of(ROOT + "/docs/PROMISES.md"), []
-        for line in promises.split("\n"):
-            cells = line.split(" | ")
-            if line.startswith("| ") and len(cells) > 2:
-                named.append(cells[2])
-        named += re.findall(r"^More planted bugs.*?^$", promises, re.MULTILINE | re.DOTALL)
-        found = {word for text in named for word in text.split("`") if re.fullmatch("[a-z0-9_]+", word)}
-        self.assertTrue(edits and found)
-        with self.subTest("each that is named is there"):
-            self.assertEqual(found - edits, set())
-        with self.subTest("each that is there is named"):
-            self.assertEqual(edits - found, set())
+
+def load_promises():
+    """The script share/promises as a module."""
+    loader = importlib.machinery.SourceFileLoader("promises", ROOT + "/share/promises")
+    module = importlib.util.module_from_spec(importlib.util.spec_from_loader("promises", loader))
+    loader.exec_module(module)
+    return module
+
+
+PROMISES = load_promises()
+# Labels that say all that their clause says.
+PLAIN = {"bound", "err", "handed_back", "len", "none", "ok", "same_reference", "some", "unchanged", "value"}
+
+
+class Promises(unittest.TestCase):
+    def test_words(self):
+        """Each public clause has its words: above it or above the relation that it cites, or its label."""
+        every = PROMISES.modules()
+        for folder in sorted(glob.glob(ROOT + "/crates/*/src/lib.rt")):
+            crate = folder.split("/")[-3]
+            found = [clause for clause in PROMISES.clauses(crate) if clause.is_public and clause.label not in PLAIN]
+            silent = [f"{one.function} [{one.label}]" for one in found if not PROMISES.sentence(one, every)]
+            with self.subTest(crate):
+                self.assertEqual(silent, [])
+
+    def test_each_is_seen(self):
+        """The script sees each clause of the sources."""
+        for folder in sorted(glob.glob(ROOT + "/crates/*/src/lib.rt")):
+            crate = folder.split("/")[-3]
+            sources = "".join(text_of(name) for name in glob.glob(f"{ROOT}/crates/{crate}/src/**/*.rt", recursive=True))
+            with self.subTest(crate):
+                self.assertEqual(len(list(PROMISES.clauses(crate))), len(re.findall("^ *ensures", sources, re.MULTILINE)))
+
+
+def planted_bugs():
+    """The planted bugs: the crate of each, or none if it is one of the program, its name, its lines."""
+    for name in sorted(glob.glob(ROOT + "/crates/*/must-fail/*.edit")):
+        yield name.split("/")[-3], os.path.basename(name)[:-5], text_of(name).rstrip("\n").split("\n")
+    for name in sorted(glob.glob(TESTS + "/planted/*.edits")) + [TESTS + "/planted/plants"]:
+        crate = os.path.basename(name).removesuffix(".edits") if name.endswith(".edits") else None
+        for block in text_of(name).rstrip("\n").split("\n\n"):
+            head, *lines = block.split("\n")
+            yield crate, head.removeprefix("# "), lines
+
+
+def changes(lines):
+    """The changes of a planted bug, in order: file, old text and new text. A text may have several lines."""
+    found, file, part = [], None, None
+    for line in lines:
+        word, _, rest = line.partition(": ")
+        if word == "file":
+            file, part = rest, None
+        elif word == "old":
+            found.append([file, rest, ""])
+            part = 1
+        elif word == "new":
+            found[-1][2] = rest
+            part = 2
+        elif word in ("# clause", "script", "fast"):
+            part = None
+        elif part:
+            found[-1][part] += "\n" + line
+    return found
+
+
+class PlantedBugs(unittest.TestCase):
+    """Those that the prover has to refuse, and those of the program, which a script has to."""
+
+    @classmethod
+    def setUpClass(cls):
+        cls.bugs = list(planted_bugs())
+        lines = re.findall(r"^(\w+)[^:\n]*:(.*)$", text_of(ROOT + "/crates.txt"), re.MULTILINE)
+        cls.below = {name: rest.split() for name, rest in lines}
+        cls.clauses = {}
+        for crate in cls.below:
+            if os.path.exists(f"{ROOT}/crates/{crate}/src/lib.rt"):
+                cls.clauses[crate] = {(clause.function, clause.label) for clause in PROMISES.clauses(crate)}
+
+    def has_clause(self, crate, function, label):
+        """Whether the crate or one below it has the clause, or implements a trait's function by that name."""
+        if (function, label) in self.clauses.get(crate, ()):
+            return True
+        kind, _, name = function.rpartition("::")
+        for file in glob.glob(f"{ROOT}/crates/{crate}/src/**/*.rt", recursive=True) if kind and not label else []:
+            bodies = re.findall(rf"^impl.* for {kind}\b.*?^}}", text_of(file), re.MULTILINE | re.DOTALL)
+            if any(re.search(rf"\bfn {name}\b", body) for body in bodies):
+                return True
+        return any(self.has_clause(lower, function, label) for lower in self.below.get(crate, []))
+
+    def test_names(self):
+        """No two of the prover's have one name, and no two of the program's."""
+        names = [(crate is None, name) for crate, name, _ in self.bugs]
+        self.assertTrue(names)
+        self.assertEqual({name for name in names if names.count(name) > 1}, set())
+
+    def test_clauses(self):
+        """The first line of each that the prover has to refuse names a clause of its crate, or of one below."""
+        for crate, name, lines in self.bugs:
+            if crate:
+                with self.subTest(f"{crate}: {name}"):
+                    found = re.fullmatch(r"# clause: ([\w:]+)(?: \[(\w+)\])?", lines[0])
+                    self.assertTrue(found, lines[0])
+                    self.assertTrue(self.has_clause(crate, found[1], found[2] or ""), lines[0])
+
+    def test_texts(self):
+        """The text that each replaces stands once in its file, after the changes before it."""
+        for crate, name, lines in self.bugs:
+            folder, texts = f"{ROOT}/crates/{crate}/" if crate else ROOT + "/", {}
+            with self.subTest(f"{crate or 'agep'}: {name}"):
+                self.assertTrue(changes(lines))
+                for file, old, new in changes(lines):
+                    text = texts.get(file) or text_of(folder + file)
+                    self.assertEqual(text.count(old), 1, old)
+                    texts[file] = text.replace(old, new)
 
 
 class Toolchain(unittest.TestCase):
