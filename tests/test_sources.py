@@ -124,6 +124,17 @@ class Promises(unittest.TestCase):
                 self.assertEqual(len(list(PROMISES.clauses(crate))), len(re.findall("^ *ensures", sources, re.MULTILINE)))
 
 
+    def test_reading(self):
+        """What README.md and docs/PROOFS.md say of how much a contract rests on is what the script prints."""
+        for page in ("README.md", "docs/PROOFS.md"):
+            said = re.findall(r"^- `(\w+::\w+)` rests on (\d+ definitions) in (\d+ lines)", text_of(f"{ROOT}/{page}"), re.MULTILINE)
+            self.assertEqual(len(said), 3, page)
+            for name, definitions, lines in said:
+                with self.subTest(f"{page}: {name}"):
+                    done = subprocess.run([ROOT + "/share/promises", name], capture_output=True, text=True)
+                    self.assertEqual(done.stdout.split("\n")[-2], f"{definitions}, {lines}")
+
+
 def planted_bugs():
     """The planted bugs: the crate of each, or none if it is one of the program, its name, its lines."""
     for name in sorted(glob.glob(ROOT + "/crates/*/must-fail/*.edit")):
