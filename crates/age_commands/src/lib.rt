@@ -12,6 +12,11 @@
 //! any writer, and `hint` has what the input tells of a fault.
 //!
 //! No file is opened here, and nothing is printed: the crate `age_cli` does both.
+//!
+//! *What a contract sees.* A task is a command with its secrets, and these are what
+//! `specs/Secret.antt` says of a recipient or an identity. The input is a source, known or by what
+//! it gave. A `BufferedSink` is the record `Buffered`: what its writer has, what it still holds,
+//! and its count of failures.
 #![tactic(auto)]
 
 mod buffered_sink;

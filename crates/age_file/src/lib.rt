@@ -25,6 +25,11 @@
 //! factors in `age_words` (`src/options.rt`). CONTRIBUTING.md, "Where a change goes", says what
 //! follows from a change of each.
 //!
+//! *What a contract sees.* `Limits` is the record `Bounds`, a header `HeaderParts`, and `Fresh` its
+//! two lists of bytes. An `Encryptor` is the record `EncryptorState` of its header, fresh values
+//! and limits; of a `Decryptor`, a reader or a writer `input_of`, `header_of`, `source_of` and
+//! `sink_of` give the parts. Recipients and identities are their meanings, in order.
+//!
 //! Limits: those of `Limits`. A source is read to its end. What was written before an error is
 //! genuine, but incomplete.
 #![tactic(auto)]

@@ -9,6 +9,12 @@
 //! write_header(&header, &mut sink)?; // the same bytes again: a header has one text
 //! ```
 //!
+//! *What a contract sees.* A stanza is the record `StanzaParts`: its arguments, each as bytes, and
+//! its body. A header is `HeaderParts`: its stanzas and its MAC. A reader is `ReaderState`: its
+//! limit and the fault that it keeps. Of a device a contract sees its ghost members: the bytes to
+//! come or taken, if they are known (`Known`), what it gave, and its count of failures; a call is a
+//! `Moved` or a `Flow`, before and after it.
+//!
 //! Limits: a reader reads exactly the header's bytes, up to a limit that the caller chooses. It
 //! does not verify the MAC, since that needs the file key: `mac_of` computes it. A stanza lends its
 //! arguments as strings, so the smallest, 6 bytes of a header, takes over 100 bytes of memory: a

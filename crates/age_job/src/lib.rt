@@ -13,6 +13,11 @@
 //! `secret`. `output` is the file to write, and `watched` keeps what a failed read told. `fault`
 //! and `file_names` have the texts of errors, `failure` those of `--verbose`.
 //!
+//! *What a contract sees.* A `Job` is the record of its fields, and a secret a passphrase's bytes
+//! or a list of keys. A file is what its reader gives and its writer has taken (`remaining`,
+//! `contents`), which for the system's files is not known. An `Output` is its file, and whether the
+//! file may still have its old contents (`is_stale`).
+//!
 //! Limits: no contract says what files hold, nor which of them are the same. The scripts under
 //! `tests/` show both.
 #![tactic(auto)]

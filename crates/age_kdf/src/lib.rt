@@ -13,6 +13,10 @@
 //! }
 //! ```
 //!
+//! *What a contract sees.* Secrets, salts and outputs are lists of bytes; `scrypt_with`'s work
+//! space is seen by its length alone. `ScryptParams` is the record `Costs`: log_n, r and p, in
+//! their ranges. A MAC in progress is private.
+//!
 //! Limits: only `scrypt` allocates, and only it can fail, if the allocation is refused;
 //! `scrypt_with` works in the caller's memory. Parameters go up to log_n 30, r 32 and p 32, and
 //! log_n is below 16 r, as RFC 7914 demands. Constant time and wiping of memory are not claimed.

@@ -16,6 +16,12 @@
 //!
 //! `sizes` has the sizes of a payload's parts, `specs/Sizes.antt` the same for clauses.
 //!
+//! *What a contract sees.* A sealer is the record `SealerState` and an opener `OpenerState`: the
+//! key of the chunks, the number of the next one, the limit, the bytes that are held, and the fault
+//! that is kept. A reader of ranges is `RangeState`: where the chunks lie (`Layout`), which one is
+//! kept with its text, and how many were opened. Over a device each is a pair with the reference to
+//! it: `x.out`, `x.input`, `x.dev`.
+//!
 //! Limits: at most 2^88 chunks of 65,536 bytes. A payload is complete only if its last chunk was
 //! read.
 #![tactic(auto)]

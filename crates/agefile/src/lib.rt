@@ -19,6 +19,10 @@
 //! and `part` (chunks in order, and on many threads), `ranges`, `sizes` and `version`. The other
 //! modules have none.
 //!
+//! *What a contract sees.* A buffer of C is a slice, so a list of bytes, before the call and after
+//! it; a pointer to a struct is the record of its fields. The bytes of a struct may be any: no
+//! invariant is assumed. A code is a number, and a report its three numbers.
+//!
 //! Limits: a header of 65,536 bytes, 2^64 - 1 chunks. The duties of a caller, and what is proved,
 //! are in docs/C.md.
 #![tactic(auto)]

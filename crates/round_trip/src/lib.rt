@@ -5,6 +5,10 @@
 //! let text = key_there_and_back(alloc, key, salt, plain, &fresh, &limits)?; // equals `plain`
 //! ```
 //!
+//! *What a contract sees.* All is in memory: a plaintext and a file are lists of bytes, a pair the
+//! recipient's and the identity's meaning, and a range an offset and a length. A loss is the reason
+//! for which no plaintext came back.
+//!
 //! Limits: one recipient, and all in memory. The only errors of a passphrase's or a key's round
 //! trip are work factors that don't fit, too many chunks, and a refused allocation.
 #![tactic(auto)]
