@@ -102,8 +102,8 @@ enum agefile_code {
  * `place` has the line or the chunk. */
 static inline const char *agefile_message(uint32_t code)
 {
-    /* generated: messages */
     switch (code) {
+    /* generated: messages */
     case AGEFILE_OK: return "no fault";
     case AGEFILE_NOT_AGE: return "not an age file";
     case AGEFILE_BAD_LINE: return "bad header line";
@@ -131,25 +131,25 @@ static inline const char *agefile_message(uint32_t code)
     case AGEFILE_NULL_POINTER: return "null pointer with a length";
     case AGEFILE_BAD_ARGUMENTS: return "stanza arguments are not words";
     case AGEFILE_EMPTY_PASSPHRASE: return "passphrase is empty";
+    /* end of messages */
     default: return "unknown code";
     }
-    /* end of messages */
 }
 
 /* The part of a stanza that is malformed, by the detail of a report on AGEFILE_MALFORMED: the text
  * that `agep` prints for it. */
 static inline const char *agefile_detail(uint64_t detail)
 {
-    /* generated: details */
     switch (detail) {
+    /* generated: details */
     case 1: return "argument count";
     case 2: return "salt";
     case 3: return "work factor";
     case 4: return "work factor is too high";
     case 5: return "body length";
+    /* end of details */
     default: return "other";
     }
-    /* end of details */
 }
 
 /* What a call returns in addition to its code. */
@@ -378,7 +378,6 @@ static inline uint32_t agefile_encrypt_key(
  * names of their own here, and the calls above, which are functions of this header, check the
  * pointers and call them. A null pointer with the length 0 is replaced by the address of a byte or
  * struct that is neither read nor written. */
-/* generated: exports */
 uint32_t agefile_export_inspect(
     const uint8_t *front, size_t front_len, agefile_summary *summary, agefile_report *report)
     __asm__("agefile_inspect");
@@ -442,7 +441,6 @@ uint32_t agefile_export_encrypt(
     const uint8_t *plain, size_t plain_len, const uint8_t *stanzas, size_t stanzas_len,
     const uint8_t file_key[AGEFILE_LEAST 16], const uint8_t nonce[AGEFILE_LEAST 16], uint8_t *out,
     size_t out_len, agefile_report *report) __asm__("agefile_encrypt");
-/* end of exports */
 
 static inline bool agefile_is_missing(const void *first, size_t len)
 {
@@ -468,7 +466,6 @@ static inline uint8_t *agefile_output(uint8_t *bytes)
     return bytes != NULL ? bytes : &none;
 }
 
-/* generated: calls of exports */
 static inline uint32_t agefile_inspect(
     const uint8_t *front, size_t front_len, agefile_summary *summary, agefile_report *report)
 {
@@ -661,7 +658,6 @@ static inline uint32_t agefile_encrypt(
         agefile_input(plain), plain_len, agefile_input(stanzas), stanzas_len, file_key, nonce,
         agefile_output(out), out_len, report);
 }
-/* end of calls of exports */
 
 static inline uint32_t agefile_decrypt_passphrase(
     const uint8_t *file, size_t file_len, const uint8_t *pass, size_t pass_len, uint8_t max_work,

@@ -1,6 +1,8 @@
-# Completions of agep for bash: commands, options and files. ./generate writes this file.
+# Completions of agep for bash: commands, options and files. ./generate writes
+# what has marks.
 _agep() {
     local word=${COMP_WORDS[COMP_CWORD]} options= i
+    # generated: commands of bash, one line
     local commands="encrypt decrypt inspect range rewrap help"
     COMPREPLY=()
     if [[ $COMP_CWORD -eq 1 ]]; then
@@ -12,22 +14,26 @@ _agep() {
         [[ ${COMP_WORDS[i]} != -- ]] || return
     done
     case ${COMP_WORDS[COMP_CWORD - 1]} in
+        # generated: numbers of bash, one line
         -w | --work | -H | --max-header | -m | --max-work)
             # a number
             compopt +o default 2>/dev/null
             return
             ;;
+        # generated: files of bash, one line
         -p | --passphrase | -k | --key | -s | --seed | -o | --output | -f | --file-key | -P | --new-pass | -K | --new-key)
             # a file, by default
             return
             ;;
     esac
     case ${COMP_WORDS[1]} in
+        # generated: options of bash
         encrypt) options="-p --passphrase -k --key -w --work -s --seed -H --max-header -o --output -v --verbose -h --help -V --version" ;;
         decrypt) options="-p --passphrase -k --key -m --max-work -H --max-header -o --output -v --verbose -h --help -V --version" ;;
         inspect) options="-r --raw -f --file-key -H --max-header -v --verbose -h --help -V --version" ;;
         range) options="-p --passphrase -k --key -m --max-work -H --max-header -o --output -v --verbose -h --help -V --version" ;;
         rewrap) options="-p --passphrase -k --key -m --max-work -H --max-header -o --output -v --verbose -P --new-pass -K --new-key -w --work -s --seed -h --help -V --version" ;;
+        # end of options of bash
         help) mapfile -t COMPREPLY < <(compgen -W "$commands" -- "$word") ;;
     esac
     if [[ $word == -* ]]; then

@@ -1,15 +1,20 @@
-# Completions of agep for fish: commands, options and files. ./generate writes this file.
+# Completions of agep for fish: commands, options and files. ./generate writes
+# what has marks.
 complete -c agep -n __fish_use_subcommand -f
+# generated: commands of fish
 complete -c agep -n __fish_use_subcommand -f -a encrypt -d 'Encrypt a file with a passphrase or a key'
 complete -c agep -n __fish_use_subcommand -f -a decrypt -d 'Decrypt a file with a passphrase or a key'
 complete -c agep -n __fish_use_subcommand -f -a inspect -d 'Show what the header of an age file holds'
 complete -c agep -n __fish_use_subcommand -f -a range -d 'Decrypt a part of a file with a passphrase or a key'
 complete -c agep -n __fish_use_subcommand -f -a rewrap -d 'Give a file a new passphrase or key without encrypting it again'
+# end of commands of fish
 complete -c agep -n __fish_use_subcommand -f -a help -d 'Print help'
 complete -c agep -s h -l help -d 'Print help'
 complete -c agep -s V -l version -d 'Print version'
+# generated: words of help of fish, one line
 complete -c agep -n '__fish_seen_subcommand_from help' -f -a 'encrypt decrypt inspect range rewrap'
 
+# generated: options of fish
 complete -c agep -n '__fish_seen_subcommand_from encrypt decrypt range rewrap' -s p -l passphrase -r -F -d 'The file that holds the passphrase'
 complete -c agep -n '__fish_seen_subcommand_from encrypt decrypt range rewrap' -s k -l key -r -F -d 'The file that holds the key, 32 bytes'
 complete -c agep -n '__fish_seen_subcommand_from encrypt rewrap' -s w -l work -x -d 'The work factor of the passphrase, 1 to 30'
@@ -23,3 +28,4 @@ complete -c agep -n '__fish_seen_subcommand_from inspect' -s f -l file-key -r -F
 complete -c agep -n '__fish_seen_subcommand_from rewrap' -s P -l new-pass -r -F -d 'The file that holds the new passphrase'
 complete -c agep -n '__fish_seen_subcommand_from rewrap' -s K -l new-key -r -F -d 'The file that holds the new key, 32 bytes'
 complete -c agep -n '__fish_seen_subcommand_from rewrap' -s s -l seed -r -F -d 'The file of 48 bytes or more whose bytes 32 to 47 are the salt'
+# end of options of fish

@@ -1,65 +1,24 @@
-"""The completions for bash, zsh and fish."""
+"""What the completions for bash, zsh and fish have of the commands and options."""
 
-HEAD = "Completions of agep for {}: commands, options and files. ./generate writes this file."
-HELP = "print help"
-
-
-def files(commands):
-    return {
-        "share/completions/agep.bash": _bash(commands),
-        "share/completions/_agep": _zsh(commands),
-        "share/completions/agep.fish": _fish(commands),
-    }
+from program import OWN
 
 
-def _names(options):
-    return " ".join(f"{option.short} {option.long}" for option in options)
+def _names(options, between=" "):
+    return between.join(f"{option.short}{between}--{option.long}" for option in options)
 
 
-def _with_value(commands, is_file):
-    """The options with a value of one kind, each once."""
-    found = {o.short: o for c in commands for o in c.options if o.value and o.is_file == is_file}
-    return " | ".join(f"{option.short} | {option.long}" for option in found.values())
-
-
-def _bash(commands):
-    names = " ".join(command.name for command in commands)
+def texts(commands):
+    """Each generated text by its name."""
     arms = "".join(f'        {c.name}) options="{_names(c.options)}" ;;\n' for c in commands)
-    return f"""\
-# {HEAD.format("bash")}
-_agep() {{
-    local word=${{COMP_WORDS[COMP_CWORD]}} options= i
-    local commands="{names} help"
-    COMPREPLY=()
-    if [[ $COMP_CWORD -eq 1 ]]; then
-        mapfile -t COMPREPLY < <(compgen -W "$commands -h --help -V --version" -- "$word")
-        return
-    fi
-    for ((i = 2; i < COMP_CWORD; i++)); do
-        # no option follows: a file, by default
-        [[ ${{COMP_WORDS[i]}} != -- ]] || return
-    done
-    case ${{COMP_WORDS[COMP_CWORD - 1]}} in
-        {_with_value(commands, False)})
-            # a number
-            compopt +o default 2>/dev/null
-            return
-            ;;
-        {_with_value(commands, True)})
-            # a file, by default
-            return
-            ;;
-    esac
-    case ${{COMP_WORDS[1]}} in
-{arms}\
-        help) mapfile -t COMPREPLY < <(compgen -W "$commands" -- "$word") ;;
-    esac
-    if [[ $word == -* ]]; then
-        mapfile -t COMPREPLY < <(compgen -W "$options" -- "$word")
-    fi
-}}
-complete -o default -F _agep agep
-"""
+    options = {option.short: option for command in commands for option in command.options if option.value}
+    numbers = [option for option in options.values() if option.is_number]
+    files = [option for option in options.values() if not option.is_number]
+    return {
+        "commands of bash": f'    local commands="{" ".join(c.name for c in commands)} help"\n',
+        "options of bash": arms,
+        "numbers of bash": f"        {_names(numbers, ' | ')})\n",
+        "files of bash": f"        {_names(files, ' | ')})\n",
+    } | _zsh(commands) | _fish(commands)
 
 
 def _quoted(text):
@@ -68,20 +27,12 @@ def _quoted(text):
 
 def _zsh_option(command, option):
     """One option: what it does not go with, its names, its text and its value."""
-    if option.long in ("--help", "--version"):
-        return f"'(- *)'{{{option.short},{option.long}}}'[{option.brief}]'"
-    rivals = command.rivals(option)
-    others = rivals if option.is_repeated else [option, *rivals]
-    star = "*" if option.is_repeated else ""
-    value = {None: "", True: ":file:_files", False: ":number:"}[option.is_file if option.value else None]
-    plus, equal = ("+", "=") if option.value else ("", "")
-    text = _quoted(f"[{option.brief}]{value}")
-    return f"'({_names(others)}){star}'{{{option.short}{plus},{option.long}{equal}}}{text}"
-
-
-def _zsh_argument(place, argument):
-    action = "file:_files" if argument.word == "IN" else f"{argument.text.split(',')[0].split('.')[0].lower()}:"
-    return f"'{place}:{action}'"
+    if option in OWN:
+        return f"'(- *)'{{{option.short},--{option.long}}}'[{option.brief}]'"
+    others = [option] * (not option.is_repeated) + command.rivals(option)
+    plus, equal, value = ("+", "=", ":number:" if option.is_number else ":file:_files") if option.value else ("", "", "")
+    names = f"{{{option.short}{plus},--{option.long}{equal}}}"
+    return f"'({_names(others)}){'*' * option.is_repeated}'{names}{_quoted(f'[{option.brief}]{value}')}"
 
 
 def _zsh(commands):
@@ -89,41 +40,11 @@ def _zsh(commands):
     arms = ""
     for command in commands:
         words = [_zsh_option(command, option) for option in command.options]
-        words += [_zsh_argument(place, argument) for place, argument in enumerate(command.arguments, 1)]
-        joined = " \\\n".join(f"                {word}" for word in words)
-        arms += f"        {command.name})\n            _arguments -s -S \\\n{joined}\n            ;;\n"
-    return f"""\
-#compdef agep
-# {HEAD.format("zsh")}
-
-_agep() {{
-    local curcontext=$curcontext state line
-    local -a commands
-    typeset -A opt_args
-    commands=(
-{listed}\
-        'help:{HELP}'
-    )
-    _arguments -C \\
-        '(- *)'{{-h,--help}}'[{HELP}]' \\
-        '(- *)'{{-V,--version}}'[print version]' \\
-        '1:command:->command' \\
-        '*::argument:->arguments'
-    case $state in
-        command) _describe command commands ;;
-        arguments) _agep_arguments ;;
-    esac
-}}
-
-_agep_arguments() {{
-    case $line[1] in
-{arms}\
-        help) _describe command commands ;;
-    esac
-}}
-
-_agep "$@"
-"""
+        for place, word in enumerate(command.arguments, 1):
+            words.append(f"'{place}:{word.brief.split(',')[0] + ':' if word.is_number else 'file:_files'}'")
+        joined = "".join(f" \\\n                {word}" for word in words)
+        arms += f"        {command.name})\n            _arguments -s -S{joined}\n            ;;\n"
+    return {"commands of zsh": f"    commands=(\n{listed}        'help:print help'\n    )\n", "options of zsh": arms}
 
 
 def _fish_text(text):
@@ -131,23 +52,15 @@ def _fish_text(text):
 
 
 def _fish(commands):
-    complete = "complete -c agep"
-    lines = [f"# {HEAD.format('fish')}", f"{complete} -n __fish_use_subcommand -f"]
-    for name, about in [*((c.name, c.about) for c in commands), ("help", "Print help")]:
-        lines.append(f"{complete} -n __fish_use_subcommand -f -a {name} -d {_fish_text(about)}")
-    lines += [f"{complete} -s h -l help -d 'Print help'", f"{complete} -s V -l version -d 'Print version'"]
-    names = " ".join(command.name for command in commands)
-    lines += [f"{complete} -n '__fish_seen_subcommand_from help' -f -a '{names}'", ""]
-    users = {}
+    start, seen = "complete -c agep -n __fish_use_subcommand", "complete -c agep -n '__fish_seen_subcommand_from"
+    names = [command.name for command in commands]
+    listed = "".join(f"{start} -f -a {command.name} -d {_fish_text(command.about)}\n" for command in commands)
+    users, lines = {}, ""
     for command in commands:
-        for option in command.options:
-            if option.long not in ("--help", "--version"):
-                key = (option.short[1:], option.long[2:], option.value, option.brief)
-                users.setdefault(key, []).append(command.name)
-    for (short, long, value, brief), found in users.items():
-        kind = {None: "", "N": " -x"}.get(value, " -r -F")
-        text = _fish_text(brief[0].upper() + brief[1:])
-        lines.append(
-            f"{complete} -n '__fish_seen_subcommand_from {' '.join(found)}' -s {short} -l {long}{kind} -d {text}"
-        )
-    return "\n".join(lines) + "\n"
+        for option in (option for option in command.options if option not in OWN):
+            users.setdefault((option.short, option.long, option.brief), (option, []))[1].append(command.name)
+    for option, found in users.values():
+        kind = (" -x" if option.is_number else " -r -F") if option.value else ""
+        text = _fish_text(option.brief[0].upper() + option.brief[1:])
+        lines += f"{seen} {' '.join(found)}' -s {option.short[1:]} -l {option.long}{kind} -d {text}\n"
+    return {"commands of fish": listed, "words of help of fish": f"{seen} help' -f -a '{' '.join(names)}'\n", "options of fish": lines}

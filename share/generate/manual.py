@@ -1,8 +1,6 @@
 """SYNOPSIS and OPTIONS of the manual page."""
 
-
-def texts(commands):
-    return {"synopsis": _synopsis(commands), "options": _options(commands)}
+from program import OWN
 
 
 def _escaped(text):
@@ -10,48 +8,35 @@ def _escaped(text):
 
 
 def _usage(command):
-    """The lines of a command: the pairs of which one must be given, the options, the arguments."""
-    done = set()
-    for option in command.options:
+    """The lines of a command: the pairs of which one must be given, the options, the words."""
+    done = []
+    for option in (option for option in command.options if option not in OWN):
         rivals = command.rivals(option)
-        if option.long in ("--help", "--version") or option.short in done:
-            continue
-        if rivals:
-            (other,) = rivals
-            done |= {option.short, other.short}
-            yield f".RB {{ \\{option.short}"
-            yield f'.IR {option.value} " | "'
-            yield f".B \\{other.short}"
-            yield f".IR {other.value} ...}}"
-        elif option.value:
-            yield f".RB [ \\{option.short}"
-            yield f".IR {option.value} ]"
-        else:
-            yield f".RB [ \\{option.short} ]"
-    needed = [argument.word for argument in command.arguments if not argument.is_optional]
+        if rivals and option not in done:
+            done += rivals
+            yield f'.RB {{ \\{option.short}\n.IR {option.value} " | "'
+            yield from (f".B \\{other.short}\n.IR {other.value} ...}}" for other in rivals)
+        elif not rivals:
+            yield f".RB [ \\{option.short}" + (f"\n.IR {option.value} ]" if option.value else " ]")
+    needed = [word.value for word in command.arguments if word.is_required]
     if needed:
         yield f".I {' '.join(needed)}"
-    for argument in command.arguments:
-        if argument.is_optional:
-            yield f".RI [ {argument.word} ]"
+    yield from (f".RI [ {word.value} ]" for word in command.arguments if not word.is_required)
 
 
-def _synopsis(commands):
+def texts(commands):
+    """Each generated text by its name."""
     lines = []
     for command in commands:
         lines += [f".B agep {command.name}", *_usage(command), ".br"]
     lines += [".B agep help", ".RI [ COMMAND ]", ".br", ".B agep", r'.RB { \-h " | " \-V }']
-    return "\n".join(lines) + "\n"
+    return {"synopsis": "\n".join(lines) + "\n", "options": _options(commands)}
 
 
-def _joined(names):
-    return names[0] if len(names) == 1 else ", ".join(names[:-1]) + " and " + names[-1]
-
-
-def _sentences(text):
+def _sentences(option):
     """Each sentence on a line of its own, as troff wants it."""
-    text = text.replace(" [default: ", ". The default is ").replace("]", "")
-    return [_escaped(part.rstrip(".") + ".") for part in text.split(". ")]
+    parts = option.text.split(". ") + [f"The default is {option.default}"] * bool(option.default)
+    return [_escaped(part.rstrip(".") + ".") for part in parts]
 
 
 def _options(commands):
@@ -59,16 +44,15 @@ def _options(commands):
     found = {}
     for command in commands:
         for option in command.options:
-            texts = found.setdefault((option.short, option.long, option.value), {})
-            texts.setdefault(option.text, []).append(command.name)
+            found.setdefault((option.short, option.long, option.value), {}).setdefault(option, []).append(command.name)
     lines = []
     for (short, long, value), by_text in found.items():
         word = f' " \\fI{value}\\fR"' if value else ""
-        lines += [".TP", f'.BR {_escaped(short)} ", " {_escaped(long)}{word}']
-        for number, (text, users) in enumerate(by_text.items()):
-            if number:
-                lines.append(".IP")
+        lines += [".TP", f'.BR {_escaped(short)} ", " {_escaped("--" + long)}{word}']
+        for number, (option, users) in enumerate(by_text.items()):
+            lines += [".IP"] if number else []
             if len(users) < len(commands):
-                lines.append(f"(\\fB{_joined(users)}\\fR)")
-            lines += _sentences(text)
+                *others, last = users
+                lines.append(f"(\\fB{', '.join(others)}{' and ' if others else ''}{last}\\fR)")
+            lines += _sentences(option)
     return "\n".join(lines) + "\n"

@@ -1,95 +1,109 @@
-"""What `agep COMMAND --help` says: commands, their options and arguments."""
+"""The commands of agep with their options and words, as crates/age_words/src/options.rt builds them."""
 
 import re
-import subprocess
 from typing import NamedTuple
+
+# The pairs of options of which one is given, which age_job refuses otherwise.
+RIVALS = [{"passphrase", "key"}, {"new-pass", "new-key"}]
 
 
 class Option(NamedTuple):
-    """An option: `-x`, `--long`, the word for its value or None, and its text in one line."""
+    """An option; or a word of a command, which has no letter. What is missing is an empty text."""
 
     short: str
     long: str
-    value: str | None
+    value: str
     text: str
+    default: str = ""
+    is_number: bool = False
+    is_repeated: bool = False
+    is_required: bool = False
 
     @property
     def brief(self):
         """The text up to its first stop, beginning with a small letter."""
-        brief = re.split(r"[.;:] |\.$| \[", self.text)[0]
-        return brief[0].lower() + brief[1:]
-
-    @property
-    def is_file(self):
-        return self.value not in (None, "N")
-
-    @property
-    def is_repeated(self):
-        return "several times" in self.text
-
-
-class Argument(NamedTuple):
-    """An argument that is no option: its word, and whether it may be left out."""
-
-    word: str
-    is_optional: bool
-    text: str
+        return self.text[0].lower() + re.split(r"[.;:] |\.$", self.text)[0][1:]
 
 
 class Command(NamedTuple):
     name: str
     about: str
     options: list[Option]
-    arguments: list[Argument]
+    arguments: list[Option]
 
     def rivals(self, option):
-        """The options that do not go with this one: of `-p` it is `-k`."""
-        pairs = re.findall(r"Give one of (-\w) and (-\w)", " ".join(each.text for each in self.options))
-        names = {a: b for a, b in pairs} | {b: a for a, b in pairs}
-        return [each for each in self.options if each.short == names.get(option.short)]
+        """The options that do not go with this one."""
+        return [each for each in self.options if {each.long, option.long} in RIVALS]
 
 
-def _entries(lines):
-    """The entries of a section: a head that begins in column 2, and its text, which goes on in
-    deeper lines."""
-    found = []
-    for line in lines:
-        if line.startswith("  ") and line[2] != " ":
-            head, _, text = line[2:].partition("  ")
-            found.append([head, text.strip()])
-        else:
-            found[-1][1] += " " + line.strip()
-    return [(head, text.strip()) for head, text in found]
+OWN = [Option("-h", "help", "", "Print help"), Option("-V", "version", "", "Print version")]
 
 
-def _sections(help_text):
-    """The lines of each section by its title."""
-    sections, title = {}, ""
-    for line in help_text.splitlines():
-        if line.endswith(":") and not line.startswith(" "):
-            title = line[:-1]
-        elif line:
-            sections.setdefault(title, []).append(line)
-        else:
-            title = ""
-    return sections
+def call(text):
+    """A call that a text begins with: the function, its arguments, and the text after it."""
+    name, parts, depth = re.match(r"[\w:.]+(?=\()", text)[0], [""], 0
+    for found in re.compile(r'"(?:[^"\\]|\\.)*"|.', re.S).finditer(text, len(name)):
+        sign = found[0]
+        depth += (sign in "([{") - (sign in ")]}")
+        if depth == 0:
+            return name, [part.strip() for part in parts if part.strip()], text[found.end() :].strip()
+        if sign == "," and depth == 1:
+            parts.append("")
+        elif found.start() > len(name):
+            parts[-1] += sign
 
 
-def _option(head, text):
-    found = re.fullmatch(r"(-\w), (--[\w-]+)(?: <(\w+)>)?", head)
-    return Option(found[1], found[2], found[3], text)
+class Source:
+    def __init__(self, root):
+        names = ("age_words/src/options.rt", "age_words/src/texts.rt", "age_job/src/ranges.rt")
+        whole = "\n".join((root / "crates" / name).read_text() for name in names)
+        literal = re.findall(r'const (\w+): &str =\s+"((?:[^"\\]|\\.)*)";', re.sub(r"\\\n\s*", "", whole), re.S)
+        self.constants = {name: text.replace("\\n", " ") for name, text in literal}
+        pattern = r"^(?:pub\(crate\) )?fn (\w+)<'a>\(([^)]*)\) -> .*?^\{\n(.*?)^\}"
+        self.functions = {n: (re.findall(r"(\w+): ", p), body) for n, p, body in re.findall(pattern, whole, re.M | re.S)}
+
+    def filled(self, name, arguments):
+        """The body of a function with these arguments in the place of its parameters."""
+        parameters, body = self.functions[name]
+        values = dict(zip(parameters, arguments))
+        return re.sub(rf"(?<![.\w])(?:{'|'.join(values)})\b(?!\()", lambda found: values[found[0]], body)
+
+    def text(self, word):
+        return self.constants[word] if word in self.constants else word.strip("'\"")
+
+    def option(self, built):
+        """The option that an expression builds: a chain of calls on `Arg::new`, in functions or not."""
+        name, arguments, chain = call(built.strip())
+        if name != "Arg::new":
+            return self.option(self.filled(name, arguments).strip() + chain)
+        said = {}
+        while chain:
+            name, arguments, chain = call(chain)
+            said[name] = arguments[0]
+        names = {key: self.text(said.get("." + key, "")) for key in ("short", "long", "value_name", "help", "default_value")}
+        action = said[".action"].removeprefix("ArgAction::")
+        short = f"-{names['short']}" if names["short"] else ""
+        kinds = ".value_parser" in said, action == "Append", ".required" in said
+        return Option(short, names["long"], names["value_name"], names["help"], names["default_value"], *kinds)
+
+    def options(self, body):
+        """The options and words that the body of a function adds to a command, in order."""
+        local = dict(re.findall(r"let (\w+) = (\w+_\w+\(.*?|flag\(.*?);\n", body, re.S))
+        for found in re.finditer(r"\bwith_\w+\(", body):
+            name, arguments, _ = call(body[found.start() :])
+            if name == "with_arg":
+                yield self.option(local.get(arguments[1], arguments[1]))
+            else:
+                yield from self.options(self.filled(name, arguments))
+
+    def command(self, name):
+        body = self.functions[name][1]
+        _, words, _ = call(body[body.index("bare_subcommand(") :])
+        found = list(self.options(body))
+        return Command(*map(self.text, words[1:3]), [o for o in found if o.short] + OWN, [o for o in found if not o.short])
 
 
-def _command(agep, name, about):
-    sections = _sections(subprocess.check_output([agep, name, "--help"], text=True))
-    arguments = [
-        Argument(head.strip("[]<>"), head.startswith("["), text)
-        for head, text in _entries(sections.get("Arguments", []))
-    ]
-    return Command(name, about, [_option(*entry) for entry in _entries(sections["Options"])], arguments)
-
-
-def commands(agep):
+def commands(root):
     """The commands, but for `help`, in the order of the help."""
-    listed = _sections(subprocess.check_output([agep, "--help"], text=True))["Commands"]
-    return [_command(agep, name, about) for name, about in _entries(listed) if name != "help"]
+    source = Source(root)
+    return [source.command(name) for name in re.findall(r"\.subcommand\((\w+)\(", source.functions["whole_command"][1])]

@@ -40,8 +40,8 @@ class Code(enum.IntEnum):
     # end of code members
 
 
-# generated: code messages
 _MESSAGES = {
+    # generated: code messages
     Code.OK: "no fault",
     Code.NOT_AGE: "not an age file",
     Code.BAD_LINE: "bad header line {place}",
@@ -69,18 +69,18 @@ _MESSAGES = {
     Code.NULL_POINTER: "null pointer with a length",
     Code.BAD_ARGUMENTS: "stanza arguments are not words",
     Code.EMPTY_PASSPHRASE: "passphrase is empty",
+    # end of code messages
 }
-# end of code messages
 
-# generated: code details
 _DETAILS = {
+    # generated: code details
     1: "argument count",
     2: "salt",
     3: "work factor",
     4: "work factor is too high",
     5: "body length",
+    # end of code details
 }
-# end of code details
 
 
 def _text(code: int, place: int, detail: int) -> str:

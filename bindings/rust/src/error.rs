@@ -156,7 +156,7 @@ impl fmt::Display for Error {
         match self {
             // generated: texts of errors
             Error::NotAge => write!(f, "not an age file"),
-            Error::BadLine(line) => write!(f, "bad header line {line}"),
+            Error::BadLine(place) => write!(f, "bad header line {place}"),
             Error::HeaderTruncated => write!(f, "header is cut short"),
             Error::HeaderTooLarge => write!(f, "header is too large"),
             Error::MixedPassphrase => write!(f, "a passphrase stanza must stand alone"),
@@ -165,9 +165,9 @@ impl fmt::Display for Error {
             Error::Malformed(part) => write!(f, "malformed stanza: {part}"),
             Error::BadMac => write!(f, "header check failed"),
             Error::NonceTruncated => write!(f, "payload nonce is cut short"),
-            Error::ChunkShort(chunk) => write!(f, "chunk {chunk} is cut short"),
-            Error::EmptyFinal(chunk) => write!(f, "chunk {chunk} is empty"),
-            Error::BadChunk(chunk) => write!(f, "chunk {chunk} is damaged"),
+            Error::ChunkShort(place) => write!(f, "chunk {place} is cut short"),
+            Error::EmptyFinal(place) => write!(f, "chunk {place} is empty"),
+            Error::BadChunk(place) => write!(f, "chunk {place} is damaged"),
             Error::TooManyChunks => write!(f, "too many chunks"),
             Error::OutOfMemory => write!(f, "out of memory"),
             Error::NoRecipients => write!(f, "no recipients"),

@@ -148,7 +148,6 @@ fn ranges_are_slices() {
 #[test]
 fn each_fault_of_a_file_has_its_text() {
     for (error, text) in [
-        // generated: expected texts of errors
         (Error::NotAge, "not an age file"),
         (Error::BadLine(1), "bad header line 1"),
         (Error::HeaderTruncated, "header is cut short"),
@@ -169,7 +168,6 @@ fn each_fault_of_a_file_has_its_text() {
         (Error::TooManyChunks, "too many chunks"),
         (Error::OutOfMemory, "out of memory"),
         (Error::NoRecipients, "no recipients"),
-        // end of expected texts of errors
     ] {
         assert_eq!(error.to_string(), text);
     }

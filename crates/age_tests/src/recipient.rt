@@ -248,14 +248,12 @@ fn passphrase_pair_unwraps_what_it_wraps(rt: HostRuntime) {
 #[test]
 fn each_stanza_fault_has_its_text(rt: HostRuntime) {
     for (fault, text) in [
-        // generated: expected texts of parts
         (StanzaFault::ArgCount, "argument count"),
         (StanzaFault::Salt, "salt"),
         (StanzaFault::WorkFactorText, "work factor"),
         (StanzaFault::WorkFactorTooHigh, "work factor is too high"),
         (StanzaFault::BodyLength, "body length"),
         (StanzaFault::Other(7), "code 7"),
-        // end of expected texts of parts
     ] {
         assert_eq!(rt;
             format!(in rt.alloc(); "{fault}")

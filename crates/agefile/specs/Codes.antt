@@ -3,7 +3,6 @@ use Rattle.std.specs.Prelude.{ℕ, ◌-◌, ◌^◌, min, Option, Some, None}
 use Rattle.age_recipient.specs.declared.unwrapped.StanzaFault.{StanzaFault}
 use Rattle.age_recipient.specs.declared.unwrapped.StanzaFault.TheVariants.{ArgCount, Salt, WorkFactorText, WorkFactorTooHigh, BodyLength, Other}
 use Rattle.age_file.specs.declared.fault.Fault.{Fault}
--- generated: variants of faults, one line
 use Rattle.age_file.specs.declared.fault.Fault.TheVariants.{NotAge, BadLine, HeaderTruncated, HeaderTooLarge, MixedPassphrase, NoMatch, WrongKey, Malformed, BadMac, NonceTruncated, ChunkShort, EmptyFinal, BadChunk, TooManyChunks, Read, Write, OutOfMemory, NoRecipients, Refused, IncompatibleRecipients}
 
 -- no fault
@@ -36,7 +35,6 @@ empty_passphrase = 26
 
 -- a fault's code
 abbrev pub fault_code : Fault → ℕ
--- generated: codes of faults
 fault_code NotAge = 1
 fault_code (BadLine _) = 2
 fault_code HeaderTruncated = 3
@@ -57,8 +55,6 @@ fault_code OutOfMemory = 17
 fault_code NoRecipients = 18
 fault_code (Refused _ _) = 19
 fault_code (IncompatibleRecipients _) = 20
-
--- end of codes of faults
 
 -- the plaintext has more chunks than the limit
 abbrev pub too_many_chunks : ℕ

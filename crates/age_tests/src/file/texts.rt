@@ -6,7 +6,6 @@ use age_recipient::StanzaFault;
 #[test]
 fn each_fault_has_its_text(rt: HostRuntime) {
     for (fault, text) in [
-        // generated: expected texts
         (Fault::NotAge, "not an age file"),
         (Fault::BadLine(1), "bad header line 1"),
         (Fault::HeaderTruncated, "header is cut short"),
@@ -63,7 +62,6 @@ fn each_fault_has_its_text(rt: HostRuntime) {
             Fault::IncompatibleRecipients(1),
             "recipient 1 does not go with recipient 0",
         ),
-        // end of expected texts
     ] {
         let said = format!(in rt.alloc(); "{fault}").expect(&rt, "memory");
         assert_eq!(rt; said.as_str(), text, "{text}");
