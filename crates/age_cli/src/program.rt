@@ -91,9 +91,9 @@ pub fn run_job<F: Files + AllocGlobal, R: Read, W: Write + IsTerminal, E: Write>
     ensures input { job.now.input ≢ None → input.new ≡ input.old }
     // Nothing is written to standard output if the job names OUT.
     ensures output { job.now.output ≢ None → out.new ≡ out.old }
-    // Status 1: the output is as it was, or such a task ended with a fault: what the library says
-    // was written with this fault; after a failed write the output has what it had, and a prefix of
-    // what the library wrote.
+    // Status 1 without IN and OUT: the output is as it was, or such a task ended with a fault: what
+    // the library says was written with this fault; after a failed write the output has what it
+    // had, and a prefix of what the library wrote.
     ensures begins { result ≡ 1 → job.now.input ≡ None → job.now.output ≡ None
         → Begins job.now (R.remaining input.old) (moved_by W.contents out.old out.new) }
     // Status 0 of a range: it was done, under a secret that the options name, over a file of which
@@ -101,7 +101,7 @@ pub fn run_job<F: Files + AllocGlobal, R: Read, W: Write + IsTerminal, E: Write>
     ensures finishes_range { result ≡ 0 → job.now.command ≡ Command.Range
         → FinishesRange F.File ⟦<F::File as Write>⟧.contents job.now
         (moved_by W.contents out.old out.new) }
-    // Status 1 of a range: nothing was written, or a range ended with a fault.
+    // Status 1 of a range without OUT: nothing was written, or a range ended with a fault.
     ensures begins_range { result ≡ 1 → job.now.command ≡ Command.Range → job.now.output ≡ None
         → BeginsRange job.now (moved_by W.contents out.old out.new) }
 {

@@ -42,9 +42,9 @@ pub fn encrypt<S: Source, W: Sink>(
     limits: &Limits,
 ) -> Result<Done, Fault>
     // On Ok the file of the recipients' stanzas, the plaintext, the file key and the nonce was
-    // written, and the counts are the plaintext's length and the number of its chunks. On any other
-    // result none of the reasons that [refused] names holds; if a device failed, a prefix of that
-    // file was written.
+    // written, and the counts are the plaintext's length and the number of its chunks. No such
+    // result comes where a reason of [refused] applies. If a device failed, a prefix of that file
+    // was written.
     ensures encrypts { EncryptsGiven limits.now fresh.now
         (gathering_by recipients.now (λ r k. wraps r k) (λ r. the_labels r) fresh.now.file_key)
         (flow_by S.to_come S.gave plain.old plain.new) (moved_by W.taken out.old out.new) result }

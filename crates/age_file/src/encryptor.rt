@@ -82,7 +82,7 @@ impl Encryptor {
     ) -> Result<StreamWriter<'a, W>, Refused<'a, W, Fault>>
         ensures same_reference { IfOk result
             (λ writer. (sink_of writer).ghost_name ≡ out.entry.ghost_name) }
-        // That header and the nonce were written, and chunk 0 is the next.
+        // The header and the nonce were written, and chunk 0 is the next.
         ensures starts { IfOk result (λ writer. StartsFile W.taken W.failed self out.old
             (sink_of writer).now (Ok (sealer_of writer))) }
         ensures handed_back { IfErr result
@@ -116,7 +116,7 @@ impl Encryptor {
     ) -> Result<StreamWriter<'a, W>, Fault>
         ensures same_reference { IfOk result
             (λ writer. (sink_of writer).ghost_name ≡ out.entry.ghost_name) }
-        // That header and the nonce were written, and chunk 0 is the next.
+        // The header and the nonce were written, and chunk 0 is the next.
         ensures starts { IfOk result (λ writer. StartsFile W.taken W.failed self out.old
             (sink_of writer).now (Ok (sealer_of writer))) }
         // As `started`, of some state of the sink, which is not handed back.

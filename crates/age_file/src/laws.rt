@@ -63,13 +63,14 @@ pub fn own_recipients()
     // A single recipient, whoever wrote it, is not incompatible.
     ensures one { (meant : Labels) (index : Option ℕ)
         → IsIncompatible (meant ∷ []) index → index ≡ None }
-    // Nor is any of several that mean no names, such as keyed ones, whatever their boxes return.
+    // Of several that mean no names, as keyed ones, none is incompatible, whatever their boxes
+    // return.
     ensures keyed { (n : ℕ) (index : Option ℕ)
         → IsIncompatible (replicate n (Labels.Names [])) index → index ≡ None }
-    // A passphrase recipient's and others: recipient 1 is incompatible.
+    // After a passphrase recipient recipient 1 is incompatible, whichever it is.
     ensures passphrase_first { (other : Labels) (others : List Labels)
         → incompatible (Labels.Alone ∷ other ∷ others) ≡ Some 1 }
-    // It comes after one or more without names: it is incompatible itself.
+    // A passphrase recipient after one or more without names is incompatible itself.
     ensures passphrase_after { (n : ℕ) (others : List Labels)
         → incompatible (replicate (n + 1) (Labels.Names []) ++ Labels.Alone ∷ others)
         ≡ Some (n + 1) }

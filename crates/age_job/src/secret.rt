@@ -30,7 +30,7 @@ pub(crate) fn without_line_end(bytes: Vec<u8>) -> Vec<u8>
 pub fn exactly<const N: usize>(bytes: &[u8]) -> Option<[u8; N]>
     // The array has these bytes: a key file's bytes are a key exactly if they are 32.
     ensures some { IfSome result (λ array. array ≡ bytes.now) }
-    // They are fewer or more.
+    // They are fewer or more than the array has.
     ensures none { IfNone result (length bytes.now ≢ N) }
 {
     if bytes.len() != N {

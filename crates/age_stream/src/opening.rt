@@ -70,7 +70,7 @@ impl ChunkOpener {
         // The nonce was read, under which piece 0 is the next; or there is no whole nonce.
         ensures starts { Starts key.now max_chunks (flow_by S.to_come S.gave source.old source.new)
             result }
-        // At most 16 bytes were read.
+        // At most 16 bytes were read, but for a failed read.
         ensures gave { IsErrOf result StreamFault.Read
             ⊎ GaveAtMost nonce_size (flow_by S.to_come S.gave source.old source.new) }
         ensures count { CountsIf is_read (S.failed source.old) (S.failed source.new) result }
@@ -123,7 +123,7 @@ impl ChunkOpener {
         // which it gave, joined in order; nothing is read after the end and left out.
         ensures opens { IfNone self.old.fault (IsErrOf result StreamFault.Read
             ⊎ Advances self.old self.new (flow_by S.to_come S.gave source.old source.new) result) }
-        // At a failed read a piece was left, and the source gave some bytes.
+        // On a fault a piece was left, and the source gave some bytes.
         ensures lost { IfNone self.old.fault
             (OnErr result (Loses self.old.held
             (flow_by S.to_come S.gave source.old source.new))) }

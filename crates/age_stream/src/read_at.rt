@@ -58,7 +58,7 @@ pub trait ReadAt {
         // The offsets of known contents fit a u64.
         ensures offsets { HasOffsets (bytes self.old) }
         // On Ok the bytes from the offset on; none with room only past the end of the known
-        // contents, and of the size that was found. An earlier end is a failed read.
+        // contents, and of the size that was found: so an earlier end is an error.
         ensures bytes { GivesAt (bytes self.old) (found self.old) at result buf.new }
         // What was read stays so.
         ensures stays_given { StaysGiven (gave self.old) (gave self.new) }

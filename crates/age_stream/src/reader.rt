@@ -133,10 +133,12 @@ impl<'a, S: Source> StreamReader<'a, S> {
     /// only a tag, `BadChunk` if no plaintext seals to it at its number. `Read` if the source
     /// failed.
     pub fn next_chunk(&mut self) -> Result<Option<&[u8]>, StreamFault>
-        // The chunk is borrowed from the reader, so the clause speaks of the reader once the chunk
-        // is given back: it is then `last`, and the last λ holds of it. The words before that λ are
-        // the checker's. `follows_so` names the lender by its `ghost_name`, and `the_row`, with the
-        // lifetime `named 1`, is the layout of its type `StreamReader<S>`.
+        // The next piece's text is lent, or its fault returned; after the last one, and after a
+        // fault, no text and no byte of another piece is held. The chunk is borrowed from the
+        // reader, so the clause speaks of the reader once the chunk is given back: it is then
+        // `last`, and the last λ holds of it. The words before that λ are the checker's.
+        // `follows_so` names the lender by its `ghost_name`, and `the_row`, with the lifetime
+        // `named 1`, is the layout of its type `StreamReader<S>`.
         ensures* after { sem 𝓛 (follows_so
             (the_row (record { mir = named 1; lft = [] }) S.row opener_row)
             (the_row (record { mir = named 1; lft = [] }) S.row opener_row) self.entry.ghost_name
