@@ -227,6 +227,48 @@ class Toolchain(unittest.TestCase):
             self.skipTest(f"README.md does not name the toolchain {at_hand or 'that is missing here'}")
 
 
+def code_of(text):
+    """A source without comments, clauses, imports and types of results."""
+    text = re.sub(r"//.*", "", text)
+    text = re.sub(r"^fn out_of_memory.*?^}$", "", text, flags=re.MULTILINE | re.DOTALL)
+    text = re.sub(r"^ *(ghost |pub )*use .*?;", "", text, flags=re.MULTILINE | re.DOTALL)
+    text = re.sub(r"^ *ghost .*?};$", "", text, flags=re.MULTILINE | re.DOTALL)
+    text = re.sub(r"\n *(ensures|requires)\*? .*?(?=\n\s*(ensures|requires|\{\n)|;\n)", "", text, flags=re.DOTALL)
+    return re.sub(r"-> [^{;=]*(?=[{;])", "-> ", text)
+
+
+def around(code, at):
+    """The pattern of the arm that a place stands in, what opens its block, and where it opens."""
+    depth, pattern, stop = 0, None, at
+    for place in range(at - 1, -1, -1):
+        sign = code[place]
+        depth += {")": 1, "]": 1, "}": 1, "(": -1, "[": -1, "{": -1}.get(sign, 0)
+        if depth > 0:
+            continue
+        if depth == 0 and code.startswith("=>", place) and pattern is None:
+            start = max(code.rfind(sep, 0, place) for sep in (",\n", "{\n", "}\n")) + 1
+            pattern = code[start:place].strip()
+        if depth < 0:
+            if sign == "{":
+                stop = place
+                break
+            depth = 0
+    head, depth = stop, 0
+    while head > 0:
+        depth += {")": 1, "]": 1, "(": -1, "[": -1}.get(code[head - 1], 0)
+        if depth == 0 and code[head - 1] in ";{}":
+            break
+        head -= 1
+    return pattern, " ".join(code[head:stop].split()), stop
+
+
+def sources():
+    """The name and the code of each source, but for tests."""
+    for name in sorted(glob.glob(ROOT + "/crates/*/src/**/*.rt", recursive=True)):
+        if "/age_tests/" not in name and not re.search("/test", name):
+            yield os.path.relpath(name, ROOT), code_of(text_of(name))
+
+
 class OutOfMemory(unittest.TestCase):
     """Out of memory is returned only by the arm of a call that allocates, and by no condition of its
     own. No clause can say it, since no clause knows when an allocation is refused."""
@@ -251,43 +293,8 @@ class OutOfMemory(unittest.TestCase):
         "if error.kind() == ErrorKind::OutOfMemory", "if kind == io::ErrorKind::OutOfMemory",
     }
 
-    @staticmethod
-    def code(text):
-        """A source without comments, clauses, imports and types of results."""
-        text = re.sub(r"//.*", "", text)
-        text = re.sub(r"^fn out_of_memory.*?^}$", "", text, flags=re.MULTILINE | re.DOTALL)
-        text = re.sub(r"^ *(ghost |pub )*use .*?;", "", text, flags=re.MULTILINE | re.DOTALL)
-        text = re.sub(r"^ *ghost .*?};$", "", text, flags=re.MULTILINE | re.DOTALL)
-        text = re.sub(r"\n *(ensures|requires)\*? .*?(?=\n\s*(ensures|requires|\{\n)|;\n)", "", text, flags=re.DOTALL)
-        return re.sub(r"-> [^{;=]*(?=[{;])", "-> ", text)
-
-    @staticmethod
-    def around(code, at):
-        """The pattern of the arm that a place stands in, and what opens its block."""
-        depth, pattern, stop = 0, None, at
-        for place in range(at - 1, -1, -1):
-            sign = code[place]
-            depth += {")": 1, "]": 1, "}": 1, "(": -1, "[": -1, "{": -1}.get(sign, 0)
-            if depth > 0:
-                continue
-            if depth == 0 and code.startswith("=>", place) and pattern is None:
-                start = max(code.rfind(sep, 0, place) for sep in (",\n", "{\n", "}\n")) + 1
-                pattern = code[start:place].strip()
-            if depth < 0:
-                if sign == "{":
-                    stop = place
-                    break
-                depth = 0
-        head, depth = stop, 0
-        while head > 0:
-            depth += {")": 1, "]": 1, "(": -1, "[": -1}.get(code[head - 1], 0)
-            if depth == 0 and code[head - 1] in ";{}":
-                break
-            head -= 1
-        return pattern, " ".join(code[head:stop].split())
-
     def is_of_a_call(self, code, at):
-        pattern, head = self.around(code, at)
+        pattern, head, _ = around(code, at)
         if head in self.OTHERS or re.search(self.DECLARED, head) or not head:
             return True
         if pattern is not None:
@@ -301,16 +308,47 @@ class OutOfMemory(unittest.TestCase):
 
     def test_arms(self):
         """Each place of each source."""
-        for name in sorted(glob.glob(ROOT + "/crates/*/src/**/*.rt", recursive=True)):
-            if "/age_tests/" in name or re.search("/test", name):
-                continue
-            code = self.code(text_of(name))
+        for name, code in sources():
             for found in re.finditer(self.NAMES, code):
                 before, after = code[: found.start()], code[found.end() :]
                 is_pattern = re.match(r"\)?( if [^{]*)? =>", after) or before.endswith("ErrorKind::")
-                with self.subTest(f"{os.path.relpath(name, ROOT)}: {found.group()}"):
+                with self.subTest(f"{name}: {found.group()}"):
                     is_good = is_pattern or self.is_of_a_call(code, found.start())
-                    self.assertTrue(is_good, self.around(code, found.start()))
+                    self.assertTrue(is_good, around(code, found.start())[:2])
+
+
+class FailedCalls(unittest.TestCase):
+    """A device fails only where its reader, writer or vector failed: in an arm of a `match` on one
+    call of it. No clause can say it, since the standard library counts no failures."""
+
+    NAMES = r"\b(?:count_failure\(&mut \w|DeviceFault(?=\)$)|Err\(None\))"
+    CALLS = re.compile(
+        r"match (self\.(reader|file)\.(read|seek)\(.*\)|self\.writer\.write\(piece\)|out\.write\(piece\)"
+        r"|read_from\(.*\)|put\(.*\)|(held|self\.out)\.extend_from_slice\(piece\))$"
+    )
+    # An Ok that is a failure too: of no byte, though some were wanted, and not at the end.
+    REFUSED = {
+        "Ok(n) if n > 0 || piece.is_empty()",
+        "Ok(n) if n > 0 || buf.is_empty() || self.size.is_none_or(|size| size <= at)",
+    }
+
+    def test_arms(self):
+        count = 0
+        for name, code in sources():
+            for found in re.finditer(self.NAMES, code, re.MULTILINE):
+                pattern, head, stop = around(code, found.start())
+                if head.endswith("=>"):
+                    pattern, (_, head, _) = head.split(",")[-1].removesuffix("=>").strip(), around(code, stop)
+                with self.subTest(f"{name}: {head}"):
+                    self.assertRegex(head, self.CALLS)
+                    self.assertIn(pattern, {"Err(_)", "Err(reason)", "Ok(_)", "_"})
+                    if not pattern.startswith("Err"):
+                        block = code[code.rindex("match ", 0, found.start()) : found.start()]
+                        first = " ".join(block[block.index("{\n") + 1 : block.index("=>")].split())
+                        self.assertIn(first, self.REFUSED)
+                count += 1
+        self.assertEqual(count, 8)
+
 
 class Layout(unittest.TestCase):
     def test_codes(self):
