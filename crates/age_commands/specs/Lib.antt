@@ -1,3 +1,4 @@
+pub mod Hint
 pub mod Inspect
 pub mod Output
 pub mod Range

@@ -1,7 +1,11 @@
 //! What helps with a file that could not be read as an age file: what its first bytes, its header
 //! and its size tell.
 
+ghost use Rattle.std.specs.Prelude.{◌≡◌, ◌<◌, ◌≤◌, ◌+◌, ◌*◌, ◌^◌, Some, IfSome, IfNone};
+ghost use Rattle.age_stream.specs.Sizes.{chunk_size, most_chunks, nonce_size, sealed_chunk_size};
 ghost use Rattle.age_job.specs.Job.{IsInRange};
+ghost use Rattle.age_job.specs.declared.ranges.TheConstants.{MOST_WORK};
+ghost use Rattle.age_commands.specs.Hint.{unit_size};
 
 use crate::buffering::limits_of;
 use age_file::{
@@ -96,7 +100,12 @@ fn chunk<R>(alloc: Global, job: &Job, index: u128, input: &Watched<R>) -> Hint
 }
 
 /// How many bytes the file has from the start of this sealed chunk on, if its size is known.
-fn bytes_from(index: u128, header: u64, size: Option<u64>) -> Option<u128> {
+fn bytes_from(index: u128, header: u64, size: Option<u64>) -> Option<u128>
+    ensures some { IfSome result (λ left.
+        size ≡ Some (header + (nonce_size + (sealed_chunk_size * index + left)))) }
+    ensures none { IfNone result
+        (IfSome size (λ n. n < header + (nonce_size + sealed_chunk_size * index))) }
+{
     let payload = (size? as u128).checked_sub(header as u128)?;
     let chunks = payload.checked_sub(NONCE_SIZE as u128)?;
     chunks.checked_sub(index.checked_mul(SEALED_CHUNK_SIZE as u128)?)
@@ -135,8 +144,20 @@ impl fmt::Display for Hint {
 }
 
 /// The offset of this chunk in the plaintext. The index of a chunk is below 2^88.
-fn first_byte(index: u128) -> u128 {
+fn first_byte(index: u128) -> u128
+    ensures { index < most_chunks → result ≡ chunk_size * index }
+{
     index.saturating_mul(CHUNK_SIZE as u128)
+}
+
+/// The offset of the last byte of this chunk, if it holds so many, at least one.
+fn last_byte(index: u128, len: u128) -> Option<u128>
+    ensures some { index < most_chunks → len ≤ chunk_size
+        → IfSome result (λ last. last + 1 ≡ chunk_size * index + len) }
+    ensures none { IfNone result (len ≡ 0) }
+{
+    let more = len.checked_sub(1)?;
+    Some(first_byte(index).saturating_add(more))
 }
 
 /// Writes where this chunk is in the plaintext.
@@ -147,11 +168,8 @@ fn write_chunk<W: fmt::Write>(
 ) -> fmt::Result {
     write!(f, "chunk {index} holds ")?;
     let first = first_byte(index);
-    match len.unwrap_or(CHUNK_SIZE as u128).checked_sub(1) {
-        Some(more) => {
-            let last = first.saturating_add(more);
-            write!(f, "the plaintext from byte {first} to {last}")?;
-        }
+    match last_byte(index, len.unwrap_or(CHUNK_SIZE as u128)) {
+        Some(last) => write!(f, "the plaintext from byte {first} to {last}")?,
         None => f.write_str("no byte of the plaintext")?,
     }
     match len {
@@ -215,7 +233,8 @@ fn write_work<W: fmt::Write>(stanzas: &[Stanza], f: &mut fmt::Formatter<W>) -> f
                 f,
                 "its work factor is {work}; -m {work} accepts it and takes "
             )?;
-            write_memory(work, f)
+            let (size, unit) = memory_of(work);
+            write!(f, "{size} {unit} of memory")
         }
         Ok(work) => {
             write!(
@@ -233,13 +252,31 @@ fn write_work<W: fmt::Write>(stanzas: &[Stanza], f: &mut fmt::Formatter<W>) -> f
     }
 }
 
-/// Writes how much memory scrypt takes with this work factor, 2^work KiB.
-fn write_memory<W: fmt::Write>(work: u64, f: &mut fmt::Formatter<W>) -> fmt::Result {
-    let (unit, exponent) = match work {
-        0..10 => ("KiB", work),
-        10..20 => ("MiB", work - 10),
-        _ => ("GiB", work - 20),
-    };
-    let size = 1u64 << (exponent % 64);
-    write!(f, "{size} {unit} of memory")
+/// A unit of memory.
+#[derive(Clone, Copy, PartialEq, Eq)]
+enum Unit {
+    KiB,
+    MiB,
+    GiB,
+}
+
+impl fmt::Display for Unit {
+    fn fmt<W: fmt::Write>(&self, f: &mut fmt::Formatter<W>) -> fmt::Result {
+        f.write_str(match self {
+            Unit::KiB => "KiB",
+            Unit::MiB => "MiB",
+            Unit::GiB => "GiB",
+        })
+    }
+}
+
+/// The memory that scrypt takes with this work factor, 2^work KiB.
+fn memory_of(work: u64) -> (u64, Unit)
+    ensures { work ≤ MOST_WORK → result.0 * unit_size result.1 ≡ 2 ^ (work + 10) }
+{
+    match work {
+        0..10 => (1 << work, Unit::KiB),
+        10..20 => (1 << (work - 10), Unit::MiB),
+        _ => (1 << ((work - 20) % 64), Unit::GiB),
+    }
 }
