@@ -1,5 +1,5 @@
 -- What a job that is done has written, where input and output are known.
-use Rattle.std.proofs.Common.{◌≡◌, ◌∙◌, ◌++◌, ◌^◌, ℕ, ap, inl, inr, refl, subst, sym, List, None, Some, Result, Ok, Err}
+use Rattle.std.proofs.Common.{◌≡◌, ◌≤◌, ◌∙◌, ◌++◌, ◌^◌, ℕ, ap, arith, inl, inr, length, refl, subst, List, None, Some, Result, Ok, Err}
 use Rattle.std.specs.Prelude.{⊤, ◌↔◌, Bool, Option}
 use Rattle.std.specs.Io.KnownBytes.{Appends, Keeps}
 use Rattle.age_header.specs.Device.{Bytes, Known, moved}
@@ -14,12 +14,14 @@ use Rattle.age_file.specs.declared.fault.Fault.{Fault}
 use Rattle.age_file.specs.declared.limits.Fresh.{Fresh}
 use Rattle.age_file.specs.AgeFile.{AgeFile, Bounds}
 use Rattle.age_file.specs.Decrypt.{Decrypts, DecryptsText}
-use Rattle.age_file.specs.NewFile.{EncryptsText, Gathering}
+use Rattle.age_file.specs.NewFile.{EncryptsGiven, EncryptsText, Gathering}
 use Rattle.age_file.specs.Rewrap.{Rewraps, RewrapsText, Rewrapped}
 use Rattle.age_file.specs.Verdict.{Answering, IsVerdict, found_in}
 use Rattle.age_job.specs.declared.job.Command.{Command}
 use Rattle.age_job.specs.declared.job.Command.TheVariants as command
 use Rattle.age_job.specs.declared.job.Job.{Job}
+use Rattle.age_job.specs.declared.secret.Secret.{Secret}
+use Rattle.age_stream.specs.Ranges.{range_len}
 use Rattle.age_commands.specs.declared.task.Task.{Task}
 use Rattle.age_commands.specs.declared.task.Task.TheVariants as task
 use Rattle.age_commands.specs.Inspect.{Inspecting, InspectsText, IsShown, check_of}
@@ -29,7 +31,7 @@ use Rattle.age_words.proofs.PipedLemmas.{piped}
 use Rattle.age_cli.proofs.ProgramLemmas.{alone}
 use Rattle.age_cli.specs.Program.{Finishes, FinishesWords, IsTaskFor, Works, word_limits}
 use Rattle.age_commands.specs.Secret.{answers_of, gathering_of, limits_of}
-use Rattle.age_commands.specs.Task.{Encrypting, unseen, without_counts}
+use Rattle.age_commands.specs.Task.{RangesUnseen, unseen, without_counts}
 
 -- the output ends with what was appended
 grown : (xs more : Bytes) (taken new : Known) → Appends (Some xs) taken more → Keeps taken new → new ≡ Some (xs ++ more)
@@ -72,6 +74,7 @@ decrypt_done law job b xs new (task.Decrypt secret) is (taken, work, (done, same
 decrypt_done law job b xs new (task.Encrypt secret seed) is w = absurd is
 decrypt_done law job b xs new (task.Rewrap old other salt) is w = absurd is
 decrypt_done law job b xs new (task.Inspect key) is w = absurd is
+decrypt_done law job b xs new (task.Range secret) is w = absurd is
 
 pub done_decrypt : OkIsAgeFile → (job : Job) (b xs : Bytes) (new : Known) → job.command ≡ command.Decrypt
     → Finishes job (Some b) (moved (Some xs) new) → Gained (limits_of job) b xs new
@@ -92,7 +95,8 @@ encrypted_whole limits fresh gathered plain xs taken new counts (gained, file, a
 
 encrypted : (limits : Bounds) (fresh : Fresh) (gathered : Gathering) (plain xs : Bytes) (taken new : Known)
     (done : Result Done Fault) (work : Result ⊤ Fault)
-    → work ≡ without_counts done → Encrypting limits fresh gathered (unseen (Some plain)) (moved (Some xs) taken) done
+    → work ≡ without_counts done
+    → EncryptsGiven limits fresh gathered (unseen (Some plain)) (moved (Some xs) taken) done
     → Ends (moved (Some xs) new) taken work (Ok tt) → Made limits plain xs new
 encrypted limits fresh gathered plain xs taken new (Err fault) work is e (inl (ended, keeps)) = absurd (cc)
 encrypted limits fresh gathered plain xs taken new (Err fault) work is e (inr (failed, rest)) = absurd (cc)
@@ -100,16 +104,17 @@ encrypted limits fresh gathered plain xs taken new (Ok counts) work is e (inl (e
     encrypted_whole limits fresh gathered plain xs taken new counts
     (of-known (λ x. EncryptsText limits fresh gathered x (moved (Some xs) taken) (Ok counts)) (unseen (Some plain))
     plain
-    refl e.0) keeps
+    refl e) keeps
 encrypted limits fresh gathered plain xs taken new (Ok counts) work is e (inr (failed, rest)) = absurd (cc)
 
 encrypt_done : (job : Job) (plain xs : Bytes) (new : Known) (task : Task) → IsTaskFor command.Encrypt job task
     → Works job task (Some plain) (moved (Some xs) new) (Ok tt) → Made (limits_of job) plain xs new
-encrypt_done job plain xs new (task.Encrypt secret seed) is (taken, work, (done, same, e), quiet, ends) =
+encrypt_done job plain xs new (task.Encrypt secret seed) is (taken, work, (done, same, e, refused), quiet, ends) =
     encrypted (limits_of job) seed.fresh _ plain xs taken new done work same e ends
 encrypt_done job plain xs new (task.Decrypt secret) is w = absurd is
 encrypt_done job plain xs new (task.Rewrap old other salt) is w = absurd is
 encrypt_done job plain xs new (task.Inspect key) is w = absurd is
+encrypt_done job plain xs new (task.Range secret) is w = absurd is
 
 pub done_encrypt : (job : Job) (plain xs : Bytes) (new : Known) → job.command ≡ command.Encrypt
     → Finishes job (Some plain) (moved (Some xs) new) → Made (limits_of job) plain xs new
@@ -137,6 +142,7 @@ rewrap_done job b xs new (task.Rewrap old other salt) is (taken, work, r, quiet,
 rewrap_done job b xs new (task.Encrypt secret seed) is w = absurd is
 rewrap_done job b xs new (task.Decrypt secret) is w = absurd is
 rewrap_done job b xs new (task.Inspect key) is w = absurd is
+rewrap_done job b xs new (task.Range secret) is w = absurd is
 
 pub done_rewrap : (job : Job) (b xs : Bytes) (new : Known) → job.command ≡ command.Rewrap
     → Finishes job (Some b) (moved (Some xs) new) → Rewrote (limits_of job) b xs new
@@ -167,60 +173,79 @@ inspect_done job b xs new (task.Inspect key) is (taken, work, i, quiet, ends) =
 inspect_done job b xs new (task.Encrypt secret seed) is w = absurd is
 inspect_done job b xs new (task.Decrypt secret) is w = absurd is
 inspect_done job b xs new (task.Rewrap old other salt) is w = absurd is
+inspect_done job b xs new (task.Range secret) is w = absurd is
 
 pub done_inspect : (job : Job) (b xs : Bytes) (new : Known) → job.command ≡ command.Inspect
     → Finishes job (Some b) (moved (Some xs) new) → Showed (limits_of job) job.raw b xs new
 done_inspect job b xs new one (task, is, w) =
     inspect_done job b xs new task (subst (λ (x : Command). IsTaskFor x job task) one is) w
 
-decrypts : command.Decrypt ≡ command.Range → ⊥
-decrypts e = cc
+-- the output gained at most so many bytes
+abbrev pub GainedAtMost : (len : ℕ) (xs : Bytes) (new : Known) → Type 0
+GainedAtMost len xs new = (part : Bytes) × (length part ≤ len) × (new ≡ Some (xs ++ part))
 
-encrypts : command.Encrypt ≡ command.Range → ⊥
-encrypts e = cc
+ranged : (job : Job) (secret : Secret) (xs : Bytes) (taken new : Known) (work : Result ⊤ Fault)
+    → RangesUnseen job secret (moved (Some xs) taken) work → Ends (moved (Some xs) new) taken work (Ok tt)
+    → GainedAtMost job.len xs new
+ranged job secret xs taken new (Err fault) r (inl (ended, keeps)) = absurd (cc)
+ranged job secret xs taken new (Err fault) r (inr (failed, rest)) = absurd (cc)
+ranged job secret xs taken new (Ok u) (size, inl none) ends = absurd none
+ranged job secret xs taken new (Ok u) (size, inr o) (inl (ended, keeps)) =
+    let one = o.writes in
+    let n : length one.part ≡ range_len o.state job.at job.len = one.size in
+    (one.part, omega arith, grown xs one.part taken new one.appends keeps)
+ranged job secret xs taken new (Ok u) r (inr (failed, rest)) = absurd (cc)
+
+range_done : (job : Job) (from : Known) (xs : Bytes) (new : Known) (task : Task) → IsTaskFor command.Range job task
+    → Works job task from (moved (Some xs) new) (Ok tt) → GainedAtMost job.len xs new
+range_done job from xs new (task.Range secret) is (taken, work, r, quiet, ends) =
+    ranged job secret xs taken new work r ends
+range_done job from xs new (task.Encrypt secret seed) is w = absurd is
+range_done job from xs new (task.Decrypt secret) is w = absurd is
+range_done job from xs new (task.Rewrap old other salt) is w = absurd is
+range_done job from xs new (task.Inspect key) is w = absurd is
+
+pub done_range : (job : Job) (from : Known) (xs : Bytes) (new : Known) → job.command ≡ command.Range
+    → Finishes job from (moved (Some xs) new) → GainedAtMost job.len xs new
+done_range job from xs new one (task, is, w) =
+    range_done job from xs new task (subst (λ (x : Command). IsTaskFor x job task) one is) w
 
 -- the same from the words
 pub words_decrypt : OkIsAgeFile → (F : Type 0) (remaining contents : F → Known) (words : List Bytes) (b xs : Bytes)
     (new : Known) → IsPiped command.Decrypt words
     → FinishesWords F remaining contents words (Some b) (moved (Some xs) new) → Gained (word_limits words) b xs new
-words_decrypt law F remaining contents words b xs new pipe (job, makes, done, ranges) =
+words_decrypt law F remaining contents words b xs new pipe (job, makes, done) =
     let p = piped command.Decrypt words job pipe makes in
     subst (λ (n : ℕ). Gained (record { max_header = n; max_chunks = 2 ^ 88 }) b xs new) p.max_header
     (done_decrypt law job b xs new p.is
-    (alone F remaining contents job _ _ p.input p.output (done (λ range. absurd (decrypts (sym p.is ∙ range))))))
+    (alone F remaining contents job _ _ p.input p.output done))
 
 pub words_encrypt : (F : Type 0) (remaining contents : F → Known) (words : List Bytes) (plain xs : Bytes) (new : Known)
     → IsPiped command.Encrypt words → FinishesWords F remaining contents words (Some plain) (moved (Some xs) new)
     → Made (word_limits words) plain xs new
-words_encrypt F remaining contents words plain xs new pipe (job, makes, done, ranges) =
+words_encrypt F remaining contents words plain xs new pipe (job, makes, done) =
     let p = piped command.Encrypt words job pipe makes in
     subst (λ (n : ℕ). Made (record { max_header = n; max_chunks = 2 ^ 88 }) plain xs new) p.max_header
     (done_encrypt job plain xs new p.is
-    (alone F remaining contents job _ _ p.input p.output (done (λ range. absurd (encrypts (sym p.is ∙ range))))))
-
-rewraps : command.Rewrap ≡ command.Range → ⊥
-rewraps e = cc
-
-inspects : command.Inspect ≡ command.Range → ⊥
-inspects e = cc
+    (alone F remaining contents job _ _ p.input p.output done))
 
 pub words_rewrap : (F : Type 0) (remaining contents : F → Known) (words : List Bytes) (b xs : Bytes) (new : Known)
     → IsPiped command.Rewrap words → FinishesWords F remaining contents words (Some b) (moved (Some xs) new)
     → Rewrote (word_limits words) b xs new
-words_rewrap F remaining contents words b xs new pipe (job, makes, done, ranges) =
+words_rewrap F remaining contents words b xs new pipe (job, makes, done) =
     let p = piped command.Rewrap words job pipe makes in
     subst (λ (n : ℕ). Rewrote (record { max_header = n; max_chunks = 2 ^ 88 }) b xs new) p.max_header
     (done_rewrap job b xs new p.is
-    (alone F remaining contents job _ _ p.input p.output (done (λ range. absurd (rewraps (sym p.is ∙ range))))))
+    (alone F remaining contents job _ _ p.input p.output done))
 
 pub words_inspect : (F : Type 0) (remaining contents : F → Known) (words : List Bytes) (b xs : Bytes) (new : Known)
     → IsPiped command.Inspect words → FinishesWords F remaining contents words (Some b) (moved (Some xs) new)
     → (job : Job) × Makes words job × Showed (word_limits words) job.raw b xs new
-words_inspect F remaining contents words b xs new pipe (job, makes, done, ranges) =
+words_inspect F remaining contents words b xs new pipe (job, makes, done) =
     let p = piped command.Inspect words job pipe makes in (
       job,
       makes,
       subst (λ (n : ℕ). Showed (record { max_header = n; max_chunks = 2 ^ 88 }) job.raw b xs new) p.max_header
           (done_inspect job b xs new p.is
-          (alone F remaining contents job _ _ p.input p.output (done (λ range. absurd (inspects (sym p.is ∙ range)))))),
+          (alone F remaining contents job _ _ p.input p.output done)),
     )

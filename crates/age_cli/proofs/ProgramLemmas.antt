@@ -4,14 +4,13 @@ use Rattle.std.specs.Prelude.{⊤}
 use Rattle.age_header.specs.Device.{Bytes, Known, Moved, Stays, moved}
 use Rattle.age_file.specs.declared.fault.Fault.{Fault as FileFault}
 use Rattle.age_job.specs.declared.job.Job.{Job}
-use Rattle.age_job.specs.declared.secret.Secret.{Secret}
 use Rattle.age_words.specs.declared.fault.WordsFault.{WordsFault}
 use Rattle.age_words.specs.declared.fault.WordsFault.TheVariants.{Memory, Refused}
 use Rattle.age_words.specs.JobOf.{AreWrong, AskForText, Reads}
 use Rattle.age_words.proofs.RefusalLemmas.{shown, wrong}
 use Rattle.age_cli.specs.declared.failure.Failure.{Failure}
 use Rattle.age_commands.specs.declared.task.Task.{Task}
-use Rattle.age_cli.specs.Program.{AnswersRefusal, Begins, Completes, Finishes, FinishesOn, IsInput, IsOutput, IsTaskOf, PerformsOn, Works, CompletesRange, IsSecretFor, WorksOnRange}
+use Rattle.age_cli.specs.Program.{AnswersRefusal, Begins, Completes, Finishes, FinishesOn, IsInput, IsOutput, IsTaskOf, PerformsOn, Works}
 
 -- standard input, where no file is named
 input_is : {A : Type 0} (F : Type 0) (remaining : F → Known) (o : Option A) (standard from : Known) → o ≡ None
@@ -25,28 +24,19 @@ output_is : {A : Type 0} (F : Type 0) (contents : F → Known) (o : Option A) (s
 output_is F contents None standard sink e h = h
 output_is F contents (Some name) standard sink e h = absurd (cc)
 
-begins : (job : Job) (task : Task) (from : Known) (sink : Moved) → IsTaskOf job task
-    → Stays sink ⊎ ((fault : FileFault) × Works job task from sink (Err fault)) → Begins job from sink
-begins job task from sink is (inl keeps) = inl keeps
-begins job task from sink is (inr (fault, h)) = inr (task, is, fault, h)
+begins : (F : Type 0) (remaining : F → Known) (job : Job) (task : Task) (from source : Known) (sink : Moved)
+    → IsTaskOf job task → IsInput F remaining job.input from source
+    → Stays sink ⊎ ((fault : FileFault) × Works job task source sink (Err fault)) → Begins F remaining job from sink
+begins F remaining job task from source sink is i (inl keeps) = inl keeps
+begins F remaining job task from source sink is i (inr h) = inr (source, i, (task, is, h))
 
 pub completes : (F : Type 0) (remaining contents : F → Known) (job : Job) (task : Task) (from source : Known)
     (sink : Moved) (r : Result ⊤ Failure) → IsTaskOf job task → IsInput F remaining job.input from source
-    → PerformsOn F contents job.output (Works job task source) sink r → Completes F remaining contents job from sink r
-completes F remaining contents job task from source sink (Ok u) is i (target, o, w) = λ other.
+    → PerformsOn F contents job task source sink r → Completes F remaining contents job from sink r
+completes F remaining contents job task from source sink (Ok u) is i (target, o, w) =
     (source, i, (target, o, (task, is, w)))
-completes F remaining contents job task from source sink (Err failure) is i h = λ none silent.
-    subst (λ (k : Known). Begins job k sink) (input_is F remaining job.input from source none i)
-    (begins job task source sink is (h silent))
-
-pub completes_range : (F : Type 0) (contents : F → Known) (job : Job) (secret : Secret) (sink : Moved)
-    (r : Result ⊤ Failure) → IsSecretFor job secret
-    → PerformsOn F contents job.output (WorksOnRange job secret) sink r → CompletesRange F contents job sink r
-completes_range F contents job secret sink (Ok u) is h = (secret, is, h)
-completes_range F contents job secret sink (Err failure) is h = λ silent. elim (h silent) [
-  | inl keeps ↦ inl keeps
-  | inr x ↦ inr (secret, is, x.0, x.1)
-]
+completes F remaining contents job task from source sink (Err failure) is i h = λ silent.
+    begins F remaining job task from source sink is i (h silent)
 
 -- what is done from standard input to standard output
 pub alone : (F : Type 0) (remaining contents : F → Known) (job : Job) (from : Known) (sink : Moved) → job.input ≡ None

@@ -1,9 +1,8 @@
 -- What a job comes to, from its input to its output.
-use Rattle.std.specs.Prelude.{◌≡◌, ◌≢◌, ◌≤◌, ◌⊎◌, ◌^◌, ℕ, ⊤, List, Option, None, Some, Result, Ok, Err}
+use Rattle.std.specs.Prelude.{◌≡◌, ◌≤◌, ◌⊎◌, ◌^◌, ℕ, ⊤, List, Option, None, Some, Result, Ok, Err}
 use Rattle.age_header.specs.Device.{Bytes, Known, Moved, moved, Stays}
 use Rattle.age_file.specs.AgeFile.{Bounds}
 use Rattle.age_file.specs.declared.fault.Fault.{Fault as FileFault}
-use Rattle.age_file.specs.declared.fault.Fault.TheVariants.{OutOfMemory}
 use Rattle.age_job.specs.declared.job.Command.{Command}
 use Rattle.age_job.specs.declared.job.Command.TheVariants as command
 use Rattle.age_job.specs.declared.job.Job.{Job}
@@ -17,20 +16,22 @@ use Rattle.age_cli.specs.declared.failure.Fault.TheVariants.{AgeFile}
 use Rattle.age_commands.specs.declared.task.Task.{Task}
 use Rattle.age_commands.specs.declared.task.Task.TheVariants as task
 use Rattle.age_commands.specs.Output.{Ends}
-use Rattle.age_commands.specs.Range.{RangingAny}
-use Rattle.age_commands.specs.Secret.{answers_of, limits_of}
 use Rattle.age_commands.specs.Task.{Performs, PerformsQuietly}
+
+-- the secret that the job's options name
+abbrev pub IsSecretFor : (job : Job) (secret : Secret) → Type 0
+IsSecretFor job secret = IsSecretOf job.pass job.key job.more_keys.items secret
 
 -- a task of this command, with the secrets that the job's options name
 abbrev pub IsTaskFor : (command : Command) (job : Job) (task : Task) → Type 0
 IsTaskFor command.Encrypt job (task.Encrypt secret seed) =
-    IsSecretOf job.pass job.key job.more_keys.items secret × IsNewSecret secret
-IsTaskFor command.Decrypt job (task.Decrypt secret) =
-    IsSecretOf job.pass job.key job.more_keys.items secret
+    IsSecretFor job secret × IsNewSecret secret
+IsTaskFor command.Decrypt job (task.Decrypt secret) = IsSecretFor job secret
 IsTaskFor command.Rewrap job (task.Rewrap old new salt) =
-    IsSecretOf job.pass job.key job.more_keys.items old
+    IsSecretFor job old
     × IsSecretOf job.new_pass job.new_key job.more_new_keys.items new × IsNewSecret new
 IsTaskFor command.Inspect job (task.Inspect key) = IsFileKeyOf job.raw job.file_key key
+IsTaskFor command.Range job (task.Range secret) = IsSecretFor job secret
 IsTaskFor command job task = ⊥
 
 -- A task of this job: its secret is a passphrase if a passphrase file alone is named, else one key
@@ -49,27 +50,12 @@ Works job task from sink result =
     × Performs job task from (moved sink.before taken) work
     × PerformsQuietly task sink.before taken work × Ends sink taken work result
 
--- `range` on a file, of which the size alone is known: what `range_of` says of any source
-abbrev pub RangesFile : (job : Job) (secret : Secret) (sink : Moved) (work : Result ⊤ FileFault)
-    → Type 0
-RangesFile job secret sink work =
-    (size : Option ℕ) × RangingAny (λ _ _ _. ⊤) (λ found. found) (limits_of job)
-    (answers_of secret job.max_work) job.at job.len size sink work
-
--- the same through a buffer before the output
-abbrev pub WorksOnRange : (job : Job) (secret : Secret) (sink : Moved)
-    (result : Result ⊤ FileFault) → Type 0
-WorksOnRange job secret sink result =
-    (taken : Known) × (work : Result ⊤ FileFault)
-    × RangesFile job secret (moved sink.before taken) work × Ends sink taken work result
-
--- what work comes to with what a failure names as its fault; memory may be refused before
-abbrev pub PerformsTo : (works : Result ⊤ FileFault → Type 0) (sink : Moved)
+-- the same with what a failure names as its fault
+abbrev pub PerformsTo : (job : Job) (task : Task) (from : Known) (sink : Moved)
     (result : Result ⊤ Failure) → Type 0
-PerformsTo works sink (Ok _) = works (Ok tt)
-PerformsTo works sink (Err failure) =
-    (fault : FileFault) × (failure.fault ≡ AgeFile fault)
-    × (((fault ≡ OutOfMemory) × Stays sink) ⊎ works (Err fault))
+PerformsTo job task from sink (Ok _) = Works job task from sink (Ok tt)
+PerformsTo job task from sink (Err failure) =
+    (fault : FileFault) × (failure.fault ≡ AgeFile fault) × Works job task from sink (Err fault)
 
 -- the bytes to come from IN: from standard input, or from a file that was opened
 abbrev pub IsInput : {A : Type 0} (F : Type 0) (remaining : F → Known) (name : Option A)
@@ -86,84 +72,60 @@ IsOutput F contents (Some name) standard sink =
 
 -- What work comes to that writes to OUT: it is done. Or it failed: then standard output is as it
 -- was, or has what the work wrote. Of a file nothing is said then.
-abbrev pub PerformsOn : {A : Type 0} (F : Type 0) (contents : F → Known) (name : Option A)
-    (works : Moved → Result ⊤ FileFault → Type 0) (sink : Moved) (result : Result ⊤ Failure)
-    → Type 0
-PerformsOn F contents name works sink (Ok _) =
-    (target : Moved) × IsOutput F contents name sink target × works target (Ok tt)
-PerformsOn F contents name works sink (Err failure) =
-    name ≡ None → Stays sink ⊎ ((fault : FileFault) × works sink (Err fault))
+abbrev pub PerformsOn : (F : Type 0) (contents : F → Known) (job : Job) (task : Task)
+    (from : Known) (sink : Moved) (result : Result ⊤ Failure) → Type 0
+PerformsOn F contents job task from sink (Ok _) =
+    (target : Moved) × IsOutput F contents job.output sink target
+    × Works job task from target (Ok tt)
+PerformsOn F contents job task from sink (Err failure) =
+    job.output ≡ None
+    → Stays sink ⊎ ((fault : FileFault) × Works job task from sink (Err fault))
 
--- a task of the job's command is done
+-- a task of the job is done
 abbrev pub Finishes : (job : Job) (from : Known) (sink : Moved) → Type 0
 Finishes job from sink =
     (task : Task) × IsTaskOf job task × Works job task from sink (Ok tt)
 
--- nothing was written, or a task of the job's command ended with a fault
-abbrev pub Begins : (job : Job) (from : Known) (sink : Moved) → Type 0
-Begins job from sink =
-    Stays sink
-    ⊎ ((task : Task) × IsTaskOf job task × (fault : FileFault)
-    × Works job task from sink (Err fault))
-
--- A task of the job's command is done, from its IN to its OUT. F has the files, with what they are
--- known to give and to have taken.
+-- A task of the job is done, from its IN to its OUT. F has the files, with what they are known to
+-- give and to have taken.
 abbrev pub FinishesOn : (F : Type 0) (remaining contents : F → Known) (job : Job) (from : Known)
     (sink : Moved) → Type 0
 FinishesOn F remaining contents job from sink =
     (source : Known) × IsInput F remaining job.input from source
     × ((target : Moved) × IsOutput F contents job.output sink target × Finishes job source target)
 
--- the secret that the job's options name
-abbrev pub IsSecretFor : (job : Job) (secret : Secret) → Type 0
-IsSecretFor job secret = IsSecretOf job.pass job.key job.more_keys.items secret
-
--- a range is done, under a secret that the job's options name, and written to its OUT
-abbrev pub FinishesRange : (F : Type 0) (contents : F → Known) (job : Job) (sink : Moved) → Type 0
-FinishesRange F contents job sink =
-    (secret : Secret) × IsSecretFor job secret
-    × ((target : Moved) × IsOutput F contents job.output sink target
-    × WorksOnRange job secret target (Ok tt))
-
--- nothing was written, or a range ended with a fault
-abbrev pub BeginsRange : (job : Job) (sink : Moved) → Type 0
-BeginsRange job sink =
+-- nothing was written, or a task of the job ended with a fault, from its IN
+abbrev pub Begins : (F : Type 0) (remaining : F → Known) (job : Job) (from : Known)
+    (sink : Moved) → Type 0
+Begins F remaining job from sink =
     Stays sink
-    ⊎ ((secret : Secret) × IsSecretFor job secret × (fault : FileFault)
-    × WorksOnRange job secret sink (Err fault))
+    ⊎ ((source : Known) × IsInput F remaining job.input from source
+    × ((task : Task) × IsTaskOf job task
+    × ((fault : FileFault) × Works job task source sink (Err fault))))
 
--- what `range` comes to
-abbrev pub CompletesRange : (F : Type 0) (contents : F → Known) (job : Job) (sink : Moved)
-    (result : Result ⊤ Failure) → Type 0
-CompletesRange F contents job sink (Ok _) = FinishesRange F contents job sink
-CompletesRange F contents job sink (Err failure) = job.output ≡ None → BeginsRange job sink
-
--- what the job's work comes to, but for `range`
+-- what the job's work comes to
 abbrev pub Completes : (F : Type 0) (remaining contents : F → Known) (job : Job) (from : Known)
     (sink : Moved) (result : Result ⊤ Failure) → Type 0
 Completes F remaining contents job from sink (Ok _) =
-    job.command ≢ command.Range → FinishesOn F remaining contents job from sink
+    FinishesOn F remaining contents job from sink
 Completes F remaining contents job from sink (Err failure) =
-    job.input ≡ None → job.output ≡ None → Begins job from sink
+    job.output ≡ None → Begins F remaining job from sink
 
 -- the words make a job, and it is done
 abbrev pub FinishesWords : (F : Type 0) (remaining contents : F → Known) (words : List Bytes)
     (from : Known) (sink : Moved) → Type 0
 FinishesWords F remaining contents words from sink =
-    (job : Job) × Makes words job
-    × (job.command ≢ command.Range → FinishesOn F remaining contents job from sink)
-    × (job.command ≡ command.Range → FinishesRange F contents job sink)
+    (job : Job) × Makes words job × FinishesOn F remaining contents job from sink
 
 -- the limits that the words set
 abbrev pub word_limits : (words : List Bytes) → Bounds
 word_limits words = record { max_header = header_limit words; max_chunks = 2 ^ 88 }
 
 -- the words make a job, and it ended with a fault
-abbrev pub BeginsWords : (words : List Bytes) (from : Known) (sink : Moved) → Type 0
-BeginsWords words from sink =
-    (job : Job) × Makes words job
-    × (job.input ≡ None → job.output ≡ None → Begins job from sink)
-    × (job.command ≡ command.Range → job.output ≡ None → BeginsRange job sink)
+abbrev pub BeginsWords : (F : Type 0) (remaining : F → Known) (words : List Bytes)
+    (from : Known) (sink : Moved) → Type 0
+BeginsWords F remaining words from sink =
+    (job : Job) × Makes words job × (job.output ≡ None → Begins F remaining job from sink)
 
 -- How a refusal is answered: memory by status 1, a text that was asked for by 0, or 1 if it was not
 -- written, and wrong words by 2. But for the text nothing is written.

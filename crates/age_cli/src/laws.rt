@@ -1,7 +1,7 @@
 //! What status 0 means, over the definitions alone: a function that does nothing, with laws as its
 //! contract.
 
-ghost use Rattle.std.specs.Prelude.{◌≡◌, ◌++◌, List, Ok, Option, Some};
+ghost use Rattle.std.specs.Prelude.{◌≡◌, ◌≤◌, ◌++◌, List, Ok, Option, Some, length};
 ghost use Rattle.age_header.specs.Device.{Bytes, Known, moved};
 ghost use Rattle.age_header.specs.Header.{HeaderParts, StanzaParts};
 ghost use Rattle.age_header.specs.Verdict.{HeaderVerdict};
@@ -24,10 +24,11 @@ use std::rt::Files;
 /// the input is an age file, and that the output gained its whole plaintext, and nothing else. An
 /// `encrypt` means that the output gained an age file of the input, and nothing else. Of `rewrap`
 /// it is the input with another header, and of `inspect` what is shown of the header with which the
-/// input begins: its text with `-r`, else its table.
+/// input begins: its text with `-r`, else its table. Of `range` it is at most as many bytes as the
+/// job requests.
 ///
 /// The same stands on the words of a `run` that ended with status 0, where they name no file. A
-/// `range` names one, so its law is `FinishesRange`.
+/// `range` names one.
 pub fn done_jobs<F: Files>()
     ensures decrypt { (job : Job) (b xs : Bytes) (new : Known) → job.command ≡ Command.Decrypt
         → Finishes job (Some b) (moved (Some xs) new)
@@ -75,6 +76,9 @@ pub fn done_jobs<F: Files>()
         × ((key : Option Bytes) × (shown : Bytes)
         × IsShown job.raw header (check_of key header) shown
         × (new ≡ Some (xs ++ shown)))) }
+    ensures range { (job : Job) (from : Known) (xs : Bytes) (new : Known)
+        → job.command ≡ Command.Range → Finishes job from (moved (Some xs) new)
+        → (part : Bytes) × (length part ≤ job.len) × (new ≡ Some (xs ++ part)) }
 {
     ok_is_age_file();
 }

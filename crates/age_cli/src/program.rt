@@ -2,21 +2,20 @@
 ghost use Rattle.std.specs.Prelude.{◌≡◌, ◌≢◌, ◌≤◌, ◌⊎◌, None, map, IfOk};
 ghost use Rattle.age_job.specs.Job.{IsInRange};
 ghost use Rattle.age_words.specs.JobOf.{AreWrong, AskForText};
-ghost use Rattle.age_cli.specs.Program.{AnswersRefusal, Begins, BeginsWords, FinishesWords};
-ghost use Rattle.age_cli.specs.Program.{BeginsRange, Completes, CompletesRange, FinishesOn, FinishesRange, IsTaskOf, PerformsOn, Works, WorksOnRange};
+ghost use Rattle.age_cli.specs.Program.{AnswersRefusal, Begins, BeginsWords, Completes, FinishesOn, FinishesWords, IsTaskOf, PerformsOn};
 ghost use Rattle.age_header.specs.Device.{Stays, moved_by};
 
 use crate::failure::Failure;
-use crate::work::{kept_prefix, perform_to, range_to};
+use crate::work::{kept_prefix, perform_to};
 use age_commands::{Seed, Task, seed_of};
 use age_job::{
-    Command, Job, Lines, ReadFiles, SEED_LEN, Secret, Watched, create, read_encrypt_secrets,
+    Command, Job, Lines, Pipe, ReadFiles, SEED_LEN, Watched, create, read_encrypt_secrets,
     read_file_key, read_rewrap_secrets, read_secret,
 };
 use age_words::{WordsFault, read_words};
 use std::alloc::Global;
 use std::fmt::Display;
-use std::io::{IsTerminal, Read, Write};
+use std::io::{IsTerminal, Read, Seek, Write};
 use std::rt::Files;
 
 /// Success.
@@ -59,8 +58,8 @@ pub fn run<F: Files + AllocGlobal, R: Read, W: Write + IsTerminal, E: Write>(
     // task of a job of these words ended with a fault.
     ensures begins { result ≡ 1 → AskForText (map (λ word. word.now) words.now)
         ⊎ (Stays (moved_by W.contents out.old out.new)
-        ⊎ BeginsWords (map (λ word. word.now) words.now) (R.remaining input.old)
-        (moved_by W.contents out.old out.new)) }
+        ⊎ BeginsWords F.File ⟦<F::File as Read>⟧.remaining (map (λ word. word.now) words.now)
+        (R.remaining input.old) (moved_by W.contents out.old out.new)) }
 {
     match read_words(rt.alloc(), words) {
         Ok(job) => run_job(rt, &job, input, out, err),
@@ -82,28 +81,22 @@ pub fn run_job<F: Files + AllocGlobal, R: Read, W: Write + IsTerminal, E: Write>
     // With status 0 nothing was written to standard error.
     ensures quiet { result ≡ 0 → err.new ≡ err.old }
     // Status 0: a task of the job's command was done, with some secret of the kind that the options
-    // name and some seed. Without IN and OUT, where the contents of both are known, the output
-    // gained exactly what the library says, and nothing else.
-    ensures finishes { result ≡ 0 → job.now.command ≢ Command.Range
-        → FinishesOn F.File ⟦<F::File as Read>⟧.remaining ⟦<F::File as Write>⟧.contents job.now
-        (R.remaining input.old) (moved_by W.contents out.old out.new) }
+    // name and some seed, from its IN to its OUT. Where the contents of both are known, the output
+    // gained exactly what the library says, and nothing else. Of a range's IN the size alone is
+    // known.
+    ensures finishes { result ≡ 0 → FinishesOn F.File ⟦<F::File as Read>⟧.remaining
+        ⟦<F::File as Write>⟧.contents job.now (R.remaining input.old)
+        (moved_by W.contents out.old out.new) }
     // No standard input is read if the job names IN.
     ensures input { job.now.input ≢ None → input.new ≡ input.old }
     // Nothing is written to standard output if the job names OUT.
     ensures output { job.now.output ≢ None → out.new ≡ out.old }
-    // Status 1 without IN and OUT: the output is as it was, or such a task ended with a fault: what
-    // the library says was written with this fault; after a failed write the output has what it
-    // had, and a prefix of what the library wrote.
-    ensures begins { result ≡ 1 → job.now.input ≡ None → job.now.output ≡ None
-        → Begins job.now (R.remaining input.old) (moved_by W.contents out.old out.new) }
-    // Status 0 of a range: it was done, under a secret that the options name, over a file of which
-    // the size alone is known.
-    ensures finishes_range { result ≡ 0 → job.now.command ≡ Command.Range
-        → FinishesRange F.File ⟦<F::File as Write>⟧.contents job.now
+    // Status 1 without OUT: the output is as it was, or such a task ended with a fault: what the
+    // library says was written with this fault; after a failed write the output has what it had,
+    // and a prefix of what the library wrote.
+    ensures begins { result ≡ 1 → job.now.output ≡ None
+        → Begins F.File ⟦<F::File as Read>⟧.remaining job.now (R.remaining input.old)
         (moved_by W.contents out.old out.new) }
-    // Status 1 of a range without OUT: nothing was written, or a range ended with a fault.
-    ensures begins_range { result ≡ 1 → job.now.command ≡ Command.Range → job.now.output ≡ None
-        → BeginsRange job.now (moved_by W.contents out.old out.new) }
 {
     match perform(rt, job, input, out) {
         Ok(()) => DONE,
@@ -123,36 +116,30 @@ fn perform<'a, F: Files + AllocGlobal, R: Read, W: Write + IsTerminal>(
     ensures completes { Completes F.File ⟦<F::File as Read>⟧.remaining
         ⟦<F::File as Write>⟧.contents job.now (R.remaining input.old)
         (moved_by W.contents out.old out.new) result }
-    ensures ranges { job.now.command ≡ Command.Range → CompletesRange F.File
-        ⟦<F::File as Write>⟧.contents job.now (moved_by W.contents out.old out.new) result }
     ensures input { job.now.input ≢ None → input.new ≡ input.old }
     ensures output { job.now.output ≢ None → out.new ≡ out.old }
 {
     let mut read = ReadFiles::new(rt, job);
-    if job.command == Command::Range {
-        return perform_range(rt, job, &mut read, out);
-    }
     let task = task_of(rt, job, &mut read, out)?;
     match &job.input {
         Some(name) => {
-            let mut file = read.open_input(rt, name.as_str())?;
-            perform_on(rt, job, &read, task, &mut file, out)
+            let file = read.open_input(rt, job.command, name.as_str())?;
+            perform_on(rt, job, &read, task, file, out)
         }
         None => {
             read.add_standard_input()?;
-            perform_on(rt, job, &read, task, input, out)
+            perform_on(rt, job, &read, task, Pipe(input), out)
         }
     }
 }
 
-/// The task of a job that reads its input from the start to the end.
+/// The task of a job, with the secrets that its options name.
 fn task_of<'a, F: Files + AllocGlobal, W: IsTerminal>(
     rt: &F,
     job: &'a Job,
     read: &mut ReadFiles<'a>,
     out: &W,
 ) -> Result<Task, age_job::Failure<'a>>
-    requires { job.now.command ≢ Command.Range }
     ensures { IfOk result (IsTaskOf job.now) }
 {
     match job.command {
@@ -166,7 +153,7 @@ fn task_of<'a, F: Files + AllocGlobal, W: IsTerminal>(
             Ok(Task::Rewrap(old, new, seed_from(&seed).salt))
         }
         Command::Inspect => Ok(Task::Inspect(read_file_key(rt, job, read)?)),
-        Command::Range => unreachable!(),
+        Command::Range => Ok(Task::Range(read_secret(rt, job, read)?)),
     }
 }
 
@@ -178,68 +165,18 @@ fn seed_from(bytes: &[u8; SEED_LEN]) -> Seed {
     seed
 }
 
-/// Like `perform`, for a range, whose input is read at offsets.
-#[tactic(auto, using(crate::proofs::ProgramLemmas::completes_range))]
-fn perform_range<'a, F: Files + AllocGlobal, W: Write>(
-    rt: &F,
-    job: &'a Job,
-    read: &mut ReadFiles<'a>,
-    out: &mut W,
-) -> Result<(), Failure<'a>>
-    requires range { IsInRange job.now }
-    requires command { job.now.command ≡ Command.Range }
-    ensures completes { CompletesRange F.File ⟦<F::File as Write>⟧.contents job.now
-        (moved_by W.contents out.old out.new) result }
-    ensures output { job.now.output ≢ None → out.new ≡ out.old }
-{
-    let secret = read_secret(rt, job, read)?;
-    let Some(name) = &job.input else {
-        unreachable!();
-    };
-    let file = read.open_seekable(rt, name.as_str())?;
-    range_on(rt, job, read, secret, file, out)
-}
-
-/// Creates the output, and writes a range of this file to it.
-fn range_on<'a, F: Files + AllocGlobal, W: Write>(
-    rt: &F,
-    job: &'a Job,
-    read: &ReadFiles<'a>,
-    secret: Secret,
-    file: F::File,
-    out: &mut W,
-) -> Result<(), Failure<'a>>
-    requires { IsInRange job.now }
-    ensures performs { PerformsOn F.File ⟦<F::File as Write>⟧.contents job.now.output
-        (WorksOnRange job.now secret) (moved_by W.contents out.old out.new) result }
-    ensures output { job.now.output ≢ None → out.new ≡ out.old }
-{
-    let mut input = Watched::new(rt.alloc(), file, kept_prefix(job));
-    match &job.output {
-        Some(name) => {
-            let mut output = create(rt, job, read, name.as_str())?;
-            range_to(rt.alloc(), job, secret, &mut input, &mut output)?;
-            Ok(output.finish(name.as_str())?)
-        }
-        None => {
-            read.refuse_standard_output()?;
-            range_to(rt.alloc(), job, secret, &mut input, out)
-        }
-    }
-}
-
 /// Creates the output, and does the work on this input.
-fn perform_on<'a, F: Files + AllocGlobal, R: Read, W: Write>(
+fn perform_on<'a, F: Files + AllocGlobal, R: Read + Seek + Drop, W: Write>(
     rt: &F,
     job: &'a Job,
     read: &ReadFiles<'a>,
     task: Task,
-    input: &mut R,
+    input: R,
     out: &mut W,
 ) -> Result<(), Failure<'a>>
     requires { IsInRange job.now }
-    ensures performs { PerformsOn F.File ⟦<F::File as Write>⟧.contents job.now.output
-        (Works job.now task (R.remaining input.old)) (moved_by W.contents out.old out.new) result }
+    ensures performs { PerformsOn F.File ⟦<F::File as Write>⟧.contents job.now task
+        (R.remaining input) (moved_by W.contents out.old out.new) result }
     ensures output { job.now.output ≢ None → out.new ≡ out.old }
 {
     let mut input = Watched::new(rt.alloc(), input, kept_prefix(job));

@@ -2,5 +2,5 @@ mod InspectLemmas
 mod OutputLemmas
 mod RangeLemmas
 mod SecretLemmas
-mod TaskLemmas
+pub mod TaskLemmas
 mod VerifiedLemmas

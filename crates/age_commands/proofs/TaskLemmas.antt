@@ -1,8 +1,13 @@
 -- What a task does, of which proofs see the bytes to come alone.
-use Rattle.std.proofs.Common.{◌≡◌, [], Some, None, subst}
+use Rattle.std.proofs.Common.{◌≡◌, [], Some, None, Err, inl, inr, refl, subst}
+use Rattle.std.proofs.KnownBytes.{Keeps-refl}
 use Rattle.std.specs.Prelude.{IfSome}
-use Rattle.age_header.specs.Device.{Bytes, Flow, Known, OfGiven}
-use Rattle.age_commands.specs.Task.{unseen}
+use Rattle.age_header.specs.Device.{Bytes, Flow, Known, OfGiven, moved}
+use Rattle.age_file.specs.declared.fault.Fault.TheVariants.{OutOfMemory}
+use Rattle.age_job.specs.declared.job.Job.{Job}
+use Rattle.age_commands.specs.declared.task.Task.{Task}
+use Rattle.age_commands.specs.declared.task.Task.TheVariants.{Encrypt, Decrypt, Rewrap, Inspect, Range}
+use Rattle.age_commands.specs.Task.{Performs, PerformsQuietly, unseen}
 
 -- what holds of the bytes that a source gave
 pub of-unseen : (source : Flow) (from : Known) (P : Bytes → Type 0) → source.before.to_come ≡ from → OfGiven source P
@@ -21,3 +26,18 @@ known-any (Some told) P p = p told
 -- what holds of any bytes
 pub unseen-any : (from : Known) (P : Bytes → Type 0) → ((b : Bytes) → P b) → OfGiven (unseen from) P
 unseen-any from P p = record { given = []; grew = λ past h. tt; holds = p []; known = known-any from P p }
+
+-- memory was refused before a task began
+pub no_memory : (job : Job) (task : Task) (from old : Known) → Performs job task from (moved old old) (Err OutOfMemory)
+no_memory job (Encrypt secret seed) from old = (Err OutOfMemory, refl, unseen-any from _ (λ b. tt), tt)
+no_memory job (Decrypt secret) from old = (Err OutOfMemory, refl, unseen-any from _ (λ b. tt))
+no_memory job (Rewrap one other salt) from old = unseen-any from _ (λ b. tt)
+no_memory job (Inspect key) from old = unseen-any from _ (λ b. Keeps-refl old)
+no_memory job (Range secret) from old = (None, inl (tt, Keeps-refl old))
+
+pub no_memory_quiet : {W : Type 0} (task : Task) (old : W) → PerformsQuietly task old old (Err OutOfMemory)
+no_memory_quiet (Encrypt secret seed) old = inr refl
+no_memory_quiet (Decrypt secret) old = inr refl
+no_memory_quiet (Rewrap one other salt) old = inr refl
+no_memory_quiet (Inspect key) old = inr (inr refl)
+no_memory_quiet (Range secret) old = inr refl

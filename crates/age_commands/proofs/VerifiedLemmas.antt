@@ -1,11 +1,11 @@
 -- What is written of a range of any source, piece by piece.
-use Rattle.std.proofs.Common.{◌≡◌, ◌∙◌, ◌++◌, ◌∷◌, List, Result, map, ◌+◌, ◌-◌, ◌<◌, ◌≤◌, ℕ, [], ap, arith, inl, inr, length, min, refl, slice_index, subst, sym, take, Option, Err}
-use Rattle.std.specs.Prelude.{⊤}
+use Rattle.std.proofs.Common.{◌≡◌, ◌∙◌, ◌++◌, ◌∷◌, List, Result, map, ◌+◌, ◌-◌, ◌<◌, ◌≤◌, ℕ, [], ap, arith, inl, inr, length, min, refl, slice_index, subst, sym, take, Option, None, Ok, Err}
+use Rattle.std.specs.Prelude.{◌^◌, ⊤, if◌then◌else◌}
 use Rattle.std.proofs.KnownBytes.{Appends-nil, Appends-trans, Keeps-refl}
 use Rattle.std.proofs.lemmas.List.{length-append, length-take, length-take-le, take-append-le, get_or-take, get_or_append_left, get_or-append-add}
 use Rattle.std.proofs.lemmas.Bool.{cases_lt}
 use Rattle.std.specs.Io.KnownBytes.{Appends}
-use Rattle.age_header.specs.Device.{Bytes, Known, moved}
+use Rattle.age_header.specs.Device.{Bytes, CountsFaultIf, Known, Moved, moved}
 use Rattle.age_header.specs.Header.{StanzaParts}
 use Rattle.age_recipient.specs.declared.unwrapped.Unwrapped.{Unwrapped}
 use Rattle.age_stream.proofs.VerifiedLemmas.{byte-stays}
@@ -15,9 +15,15 @@ use Rattle.age_stream.specs.Offsets.{StaysGiven}
 use Rattle.age_stream.specs.Ranges.{IsVerifiedByte, RangeState, Stops, range_len}
 use Rattle.age_file.specs.declared.fault.Fault.{Fault}
 use Rattle.age_file.specs.AgeFile.{Bounds}
-use Rattle.age_file.specs.Ranges.{BeginsFile, IsOpenFault}
+use Rattle.age_file.specs.Ranges.{BeginsFile, IsOpenFault, IsOpenStage}
+use Rattle.age_file.specs.Stage.{Stage, stage_of, at_header, at_key, at_nonce, at_chunk, at_read, at_write, at_memory, at_recipient}
 use Rattle.age_file.specs.Verdict.{Answering, stream_fault}
-use Rattle.age_commands.specs.Range.{RangingAny, WritesAny, WritesVerified}
+use Rattle.age_commands.specs.Range.{IsPartFault, RangingAny, WritesAny, WritesVerified}
+use Rattle.age_commands.specs.Secret.{answers_of, limits_of}
+use Rattle.age_commands.specs.Task.{RangesUnseen}
+use Rattle.age_file.specs.Device.{IsLate, IsQuiet, is_at_write, is_write}
+use Rattle.age_job.specs.declared.job.Job.{Job}
+use Rattle.age_job.specs.declared.secret.Secret.{Secret}
 
 -- nothing is written
 pub nothing : (gave : ℕ → ℕ → Type 0) (layout : Layout) (at n : ℕ) (old : Known) → n ≡ 0
@@ -163,3 +169,40 @@ pub ranging_meant : {D : Type 0} (gave : D → ℕ → ℕ → Type 0) (found : 
 ranging_meant gave found f g limits at len new old taken r same h =
     subst (λ (m : List StanzaParts → Unwrapped). RangingAny gave found limits (λ s. m s ∷ []) at len new
     (moved old taken) r) same h
+
+-- a range of a source, of which proofs see the size alone
+pub ranges_unseen : {D : Type 0} (found : D → Option ℕ) (job : Job) (secret : Secret) (new : D) (sink : Moved)
+    (r : Result ⊤ Fault)
+    → RangingAny (λ _ _ _. ⊤) found (limits_of job) (answers_of secret job.max_work) job.at job.len new sink r
+    → RangesUnseen job secret sink r
+ranges_unseen found job secret new sink r (inl none) = (None, inl none)
+ranges_unseen found job secret new sink r (inr o) = (
+  found o.source,
+  inr (record { source = found o.source; state = o.state; begins = o.begins; writes = o.writes }),
+)
+
+part_is_late : (fault : Fault) → IsPartFault fault → IsLate fault
+part_is_late fault (inl (i, is)) = subst IsLate (sym is) tt
+part_is_late fault (inr (inl is)) = subst IsLate (sym is) tt
+part_is_late fault (inr (inr is)) = subst IsLate (sym is) tt
+
+-- an opened file ends with a fault before which something may have been written
+pub quiet_part : {W : Type 0} (gave : ℕ → ℕ → Type 0) (s : RangeState) (at len : ℕ) (sink : Moved) (old new : W)
+    (r : Result ⊤ Fault) → WritesAny gave s at len sink r → IsQuiet old new r
+quiet_part gave s at len sink old new (Ok u) h = tt
+quiet_part gave s at len sink old new (Err fault) h = inl (part_is_late fault h.0)
+
+unwritten_at : (stage : Stage) (n : ℕ) → IsOpenStage stage
+    → n ≡ (if is_at_write stage then min (n + 1) (2 ^ 64 - 1) else n)
+unwritten_at at_header n is = refl
+unwritten_at at_key n is = refl
+unwritten_at at_nonce n is = refl
+unwritten_at at_chunk n is = refl
+unwritten_at at_read n is = refl
+unwritten_at at_write n is = absurd is
+unwritten_at at_memory n is = refl
+unwritten_at at_recipient n is = refl
+
+-- a fault of opening is no failed write
+pub opens_unwritten : (n : ℕ) (fault : Fault) → IsOpenFault fault → CountsFaultIf is_write n n fault
+opens_unwritten n fault is = unwritten_at (stage_of fault) n is

@@ -66,7 +66,7 @@ fn buffered_source<R: Read + Drop>(
 }
 
 /// Makes a `ReadAt` over this file, for a header, its payload's nonce, and whole chunks.
-pub fn source_at_offsets<F: Read + Seek + Drop>(
+pub(crate) fn source_at_offsets<F: Read + Seek + Drop>(
     alloc: Global,
     file: F,
 ) -> Result<FileAt<BufReader<F>>, Fault>

@@ -1,11 +1,11 @@
 //! The command `encrypt`: a file of the format, made of any bytes.
-ghost use Rattle.std.specs.Prelude.{◌∷◌, []};
-ghost use Rattle.age_file.specs.Device.{IsQuiet};
-ghost use Rattle.age_file.specs.NewFile.{Gathered};
+ghost use Rattle.std.specs.Prelude.{◌≡◌, ◌⊎◌, ◌∷◌, [], Err};
+ghost use Rattle.age_file.specs.Device.{IsQuiet, is_read, is_write};
+ghost use Rattle.age_file.specs.NewFile.{FillsChunk, Gathered};
 ghost use Rattle.age_job.specs.Job.{IsInRange};
 ghost use Rattle.age_commands.specs.Secret.{gathering_of, limits_of};
 ghost use Rattle.age_commands.specs.Task.{Encrypting};
-ghost use Rattle.age_header.specs.Device.{flow_by, moved_by};
+ghost use Rattle.age_header.specs.Device.{CountsIf, flow_by, moved_by};
 
 use crate::buffering::limits_of;
 use crate::recipient::SecretRecipient;
@@ -28,6 +28,10 @@ pub(crate) fn encrypt<S: Source, W: Sink>(
         (gathering_of secret job.now.work seed.now.salt seed.now.fresh.file_key)
         (flow_by S.to_come S.gave input.old input.new) (moved_by W.taken out.old out.new) result }
     ensures quiet { IsQuiet out.old out.new result }
+    ensures reads { CountsIf is_read (S.failed input.old) (S.failed input.new) result }
+    ensures writes { CountsIf is_write (W.failed out.old) (W.failed out.new) result }
+    ensures spared { result ≡ Err Fault.Read
+        → (out.new ≡ out.old) ⊎ FillsChunk (flow_by S.to_come S.gave input.old input.new) }
 {
     let Ok(recipient) = SecretRecipient::new(alloc, job, secret, seed.salt) else {
         return Err(Fault::OutOfMemory);
@@ -52,6 +56,10 @@ fn encrypt_for<S: Source, W: Sink>(
         (Gathered (wraps recipient fresh.now.file_key ∷ []) (the_labels recipient ∷ []))
         (flow_by S.to_come S.gave input.old input.new) (moved_by W.taken out.old out.new) result }
     ensures quiet { IsQuiet out.old out.new result }
+    ensures reads { CountsIf is_read (S.failed input.old) (S.failed input.new) result }
+    ensures writes { CountsIf is_write (W.failed out.old) (W.failed out.new) result }
+    ensures spared { result ≡ Err Fault.Read
+        → (out.new ≡ out.old) ⊎ FillsChunk (flow_by S.to_come S.gave input.old input.new) }
 {
     match vec![in alloc; recipient] {
         Ok(recipients) => {

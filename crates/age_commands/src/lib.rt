@@ -33,8 +33,7 @@ mod seed;
 mod task;
 
 pub use buffered_sink::{BufferedSink, Finished, Parts, Start, new_buffer};
-pub use buffering::{limits_of, source_at_offsets};
+pub use buffering::limits_of;
 pub use hint::{Hint, header_of, hint_at};
-pub use range::range_of;
 pub use seed::{Seed, seed_of};
 pub use task::{Task, perform_between};

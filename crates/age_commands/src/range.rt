@@ -3,22 +3,23 @@ ghost use Rattle.std.specs.Prelude.{◌≤◌, ◌<◌, ◌≡◌, ◌+◌, ◌-
 ghost use Rattle.age_stream.specs.Offsets.{StaysGiven};
 ghost use Rattle.age_stream.specs.Ranges.{IsSound, KeepsVerified, chunks_of, range_len, source_at_of};
 ghost use Rattle.age_stream.specs.Sizes.{chunk_size};
+ghost use Rattle.age_file.specs.Device.{IsQuiet, is_read, is_write};
 ghost use Rattle.age_job.specs.Job.{IsInRange};
 ghost use Rattle.age_job.specs.declared.ranges.TheConstants.{MOST_OFFSET};
 ghost use Rattle.age_commands.specs.Range.{Ranging, RangingAny, WritesNext, WritesNextAny, WritesAny, WritesRange};
 ghost use Rattle.age_commands.specs.Secret.{answers_of, limits_of};
-ghost use Rattle.age_header.specs.Device.{moved_by};
+ghost use Rattle.age_header.specs.Device.{CountsIf, moved_by};
 
 use crate::buffering::limits_of;
 use crate::identity::SecretIdentity;
-use age_file::{CHUNK_SIZE, Fault, Identity, RangeReader, ReadAt, Sink, open_ranges, write_all};
+use age_file::{CHUNK_SIZE, Fault, Identity, RangeReader, ReadAt, Sink, opened_ranges, write_all};
 use age_job::{Job, Secret};
 use std::alloc::Global;
 
 /// Writes the plaintext of the source from the job's offset on to the sink, at most as many bytes
 /// as the job requests. On a fault of a chunk the plaintext up to that chunk was written. If it
 /// requests none, key, header and last chunk are checked all the same.
-pub fn range_of<D: ReadAt, W: Sink>(
+pub(crate) fn range_of<D: ReadAt, W: Sink>(
     alloc: Global,
     job: &Job,
     secret: Secret,
@@ -39,6 +40,9 @@ pub fn range_of<D: ReadAt, W: Sink>(
     ensures any { RangingAny D.gave D.found (limits_of job.now)
         (answers_of secret job.now.max_work) job.now.at job.now.len input.new
         (moved_by W.taken out.old out.new) result }
+    ensures quiet { IsQuiet out.old out.new result }
+    ensures reads { CountsIf is_read (D.failed input.old) (D.failed input.new) result }
+    ensures writes { CountsIf is_write (W.failed out.old) (W.failed out.new) result }
 {
     let Ok(identity) = SecretIdentity::new(alloc, job, secret) else {
         return Err(Fault::OutOfMemory);
@@ -63,6 +67,9 @@ fn range_by<D: ReadAt, W: Sink>(
     ensures any { RangingAny D.gave D.found (limits_of job.now)
         (λ stanzas. meaning identity stanzas ∷ []) job.now.at job.now.len input.new
         (moved_by W.taken out.old out.new) result }
+    ensures quiet { IsQuiet out.old out.new result }
+    ensures reads { CountsIf is_read (D.failed input.old) (D.failed input.new) result }
+    ensures writes { CountsIf is_write (W.failed out.old) (W.failed out.new) result }
 {
     let Ok(identities) = vec![in alloc; identity] else {
         return Err(Fault::OutOfMemory);
@@ -70,7 +77,7 @@ fn range_by<D: ReadAt, W: Sink>(
     let Ok(mut piece) = vec![in alloc; 0u8; CHUNK_SIZE] else {
         return Err(Fault::OutOfMemory);
     };
-    match open_ranges(alloc, input, identities.as_slice(), &limits_of(job)) {
+    match opened_ranges(alloc, input, identities.as_slice(), &limits_of(job)) {
         Ok(mut reader) => {
             let written = write_range(&mut reader, job.at, job.len, piece.as_mut_slice(), out);
             let source = reader.into_inner();
@@ -78,7 +85,7 @@ fn range_by<D: ReadAt, W: Sink>(
             let _ = &*source;
             written
         }
-        Err(fault) => Err(fault),
+        Err(refused) => Err(refused.fault()),
     }
 }
 
@@ -101,6 +108,9 @@ fn write_range<D: ReadAt, W: Sink>(
     ensures any { KeepsVerified (D.gave (source_at_of reader.old).now) (chunks_of reader.old)
         → WritesAny (D.gave (source_at_of reader.new).now) (chunks_of reader.old) at len
         (moved_by W.taken out.old out.new) result }
+    ensures reads { CountsIf is_read (D.failed (source_at_of reader.old).now)
+        (D.failed (source_at_of reader.new).now) result }
+    ensures writes { CountsIf is_write (W.failed out.old) (W.failed out.new) result }
 {
     let mut at = at;
     let mut left = len;
@@ -138,7 +148,7 @@ fn write_next<D: ReadAt, W: Sink>(
         IsSound told (chunks_of reader.old) → IsSound told (chunks_of reader.new) }
     ensures number { IfOk result (λ n. n
         ≡ range_len (chunks_of reader.old) at (min left (chunk_size - at % chunk_size))) }
-    ensures writes { let told = D.bytes (source_at_of reader.old).now in
+    ensures known { let told = D.bytes (source_at_of reader.old).now in
         IsSound told (chunks_of reader.old) → WritesNext told (chunks_of reader.old) at left
         (moved_by W.taken out.old out.new) result }
     ensures stays_given { StaysGiven (D.gave (source_at_of reader.old).now)
@@ -149,6 +159,9 @@ fn write_next<D: ReadAt, W: Sink>(
     ensures any { KeepsVerified (D.gave (source_at_of reader.old).now) (chunks_of reader.old)
         → WritesNextAny (D.gave (source_at_of reader.new).now) (chunks_of reader.old) at left
         (moved_by W.taken out.old out.new) result }
+    ensures reads { CountsIf is_read (D.failed (source_at_of reader.old).now)
+        (D.failed (source_at_of reader.new).now) result }
+    ensures writes { CountsIf is_write (W.failed out.old) (W.failed out.new) result }
 {
     let most = left.min(CHUNK_SIZE as u64 - at % CHUNK_SIZE as u64) as usize;
     let n = match reader.read_range(at, &mut piece[..most]) {

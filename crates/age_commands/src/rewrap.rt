@@ -1,11 +1,11 @@
 //! The command `rewrap`: a file with a new header for the same file key.
 ghost use Rattle.std.specs.Prelude.{◌∷◌, []};
-ghost use Rattle.age_file.specs.Device.{IsQuiet};
+ghost use Rattle.age_file.specs.Device.{IsQuiet, is_read, is_write};
 ghost use Rattle.age_file.specs.NewFile.{Gathered};
 ghost use Rattle.age_file.specs.Rewrap.{Rewraps};
 ghost use Rattle.age_job.specs.Job.{IsInRange};
 ghost use Rattle.age_commands.specs.Secret.{answers_of, gathering_of, limits_of};
-ghost use Rattle.age_header.specs.Device.{flow_by, moved_by};
+ghost use Rattle.age_header.specs.Device.{CountsIf, flow_by, moved_by};
 
 use crate::buffering::limits_of;
 use crate::identity::SecretIdentity;
@@ -30,6 +30,8 @@ pub(crate) fn rewrap<S: Source, W: Sink>(
         (gathering_of new job.now.work salt)
         (flow_by S.to_come S.gave input.old input.new) (moved_by W.taken out.old out.new) result }
     ensures quiet { IsQuiet out.old out.new result }
+    ensures reads { CountsIf is_read (S.failed input.old) (S.failed input.new) result }
+    ensures writes { CountsIf is_write (W.failed out.old) (W.failed out.new) result }
 {
     let Ok(identity) = SecretIdentity::new(alloc, job, old) else {
         return Err(Fault::OutOfMemory);
@@ -60,6 +62,8 @@ fn rewrap_for<S: Source, W: Sink>(
         (λ key. Gathered (wraps recipient key ∷ []) (the_labels recipient ∷ []))
         (flow_by S.to_come S.gave input.old input.new) (moved_by W.taken out.old out.new) result }
     ensures quiet { IsQuiet out.old out.new result }
+    ensures reads { CountsIf is_read (S.failed input.old) (S.failed input.new) result }
+    ensures writes { CountsIf is_write (W.failed out.old) (W.failed out.new) result }
 {
     let Ok(identities) = vec![in alloc; identity] else {
         return Err(Fault::OutOfMemory);

@@ -2,20 +2,22 @@
 ghost use Rattle.std.specs.Prelude.{◌≡◌};
 ghost use Rattle.age_job.specs.Job.{IsInRange};
 ghost use Rattle.age_commands.specs.Task.{Performs, PerformsQuietly, without_counts};
-ghost use Rattle.age_header.specs.Device.{moved_by};
+ghost use Rattle.age_file.specs.Device.{is_write};
+ghost use Rattle.age_header.specs.Device.{CountsIf, moved_by};
 
-use crate::buffering::{file_source, header_source};
+use crate::buffering::{file_source, header_source, source_at_offsets};
 use crate::decrypt::decrypt;
 use crate::encrypt::encrypt;
 use crate::inspect::inspect;
+use crate::range::range_of;
 use crate::rewrap::rewrap;
 use crate::seed::Seed;
 use age_file::{Done, Fault, ReadSource, Sink};
 use age_job::{Job, Secret};
 use std::alloc::Global;
-use std::io::Read;
+use std::io::{Read, Seek};
 
-/// A command with all that it needs besides its input, which it reads from the start to the end.
+/// A command with all that it needs besides its job and its input.
 #[derive(Drop)]
 pub enum Task {
     Encrypt(Secret, Seed),
@@ -24,10 +26,12 @@ pub enum Task {
     Rewrap(Secret, Secret, [u8; 16]),
     /// With the file key, if the header is to be checked.
     Inspect(Option<[u8; 16]>),
+    Range(Secret),
 }
 
-/// Does the work from this input to this sink.
-pub fn perform_between<R: Read, W: Sink>(
+/// Does the work from this input to this sink. A range reads its input at offsets, and the other
+/// tasks read theirs from the start to the end.
+pub fn perform_between<R: Read + Seek, W: Sink>(
     alloc: Global,
     job: &Job,
     task: Task,
@@ -43,6 +47,7 @@ pub fn perform_between<R: Read, W: Sink>(
     // On a fault of the header or its key, or out of memory, the sink is as it was, also where its
     // contents are not known; but `inspect` shows a header whose MAC is wrong.
     ensures quiet { PerformsQuietly task out.old out.new result }
+    ensures writes { CountsIf is_write (W.failed out.old) (W.failed out.new) result }
 {
     match task {
         Task::Encrypt(secret, seed) => {
@@ -66,6 +71,12 @@ pub fn perform_between<R: Read, W: Sink>(
                 return Err(Fault::OutOfMemory);
             };
             inspect(alloc, job, &file_key, &mut source, out)
+        }
+        Task::Range(secret) => {
+            let Ok(mut source) = source_at_offsets(alloc, input) else {
+                return Err(Fault::OutOfMemory);
+            };
+            range_of(alloc, job, secret, &mut source, out)
         }
     }
 }

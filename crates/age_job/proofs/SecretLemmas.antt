@@ -1,5 +1,5 @@
 -- The secret of a job is one that its options name.
-use Rattle.std.proofs.Common.{◌≡◌, ◌≤◌, ◌+◌, ℕ, List, Option, None, Some, arith, length, subst}
+use Rattle.std.proofs.Common.{List, Option, None, Some, arith}
 use Rattle.age_job.specs.declared.secret.Secret.{Secret}
 use Rattle.age_job.specs.declared.secret.Secret.TheVariants.{Passphrase, Keys}
 use Rattle.age_job.specs.declared.small_files.SecretFiles.{SecretFiles}

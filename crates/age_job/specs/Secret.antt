@@ -1,5 +1,5 @@
 -- Which secrets the options of a job name.
-use Rattle.std.specs.Prelude.{◌≡◌, ◌≤◌, ◌<◌, ◌+◌, ℕ, Bool, true, false, List, Option, None, Some, IsSome, length, vec_len, ⊤}
+use Rattle.std.specs.Prelude.{◌≡◌, ◌≤◌, ◌<◌, ◌+◌, Bool, false, List, Option, None, Some, IsSome, length, vec_len, ⊤}
 use Rattle.age_job.specs.declared.secret.Secret.{Secret}
 use Rattle.age_job.specs.declared.secret.Secret.TheVariants.{Passphrase, Keys}
 use Rattle.age_job.specs.declared.small_files.SecretFiles.{SecretFiles}

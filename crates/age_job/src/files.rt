@@ -6,7 +6,7 @@ use crate::failure::{Doing, Failure};
 use crate::fault::Fault;
 use crate::file_names::{Name, Role};
 use crate::inode::{Inode, STANDARD_INPUT, STANDARD_OUTPUT};
-use crate::job::Job;
+use crate::job::{Command, Job};
 use std::alloc::{AllocError, Global};
 use std::fs::OpenFile;
 use std::io::{ErrorKind, Read, Seek, SeekFrom};
@@ -68,28 +68,26 @@ impl<'a> ReadFiles<'a> {
         read
     }
 
-    /// Opens IN, the file of this name. A folder opens, and its read fails.
-    pub fn open_input<F: Files>(&mut self, rt: &F, name: &'a str) -> Result<F::File, Failure<'a>> {
-        let file = open(rt, name)?;
+    /// Opens IN, the file of this name. A folder opens, and its read fails. A pipe or a terminal is
+    /// refused for a command that reads at offsets.
+    pub fn open_input<F: Files>(
+        &mut self,
+        rt: &F,
+        command: Command,
+        name: &'a str,
+    ) -> Result<F::File, Failure<'a>> {
+        let mut file = open(rt, name)?;
         let inode = match file.metadata() {
             Ok(found) => Some(Inode::of(&found)),
             Err(_) => None,
         };
         self.add_input(name, inode)?;
-        Ok(file)
-    }
-
-    /// Opens IN to be read at offsets, which a pipe or a terminal cannot be.
-    pub fn open_seekable<F: Files>(
-        &mut self,
-        rt: &F,
-        name: &'a str,
-    ) -> Result<F::File, Failure<'a>> {
-        let mut file = self.open_input(rt, name)?;
-        match file.seek(SeekFrom::Start(0)) {
-            Ok(_) => Ok(file),
-            Err(reason) => Err(cannot_open(name, reason)),
+        if command == Command::Range
+            && let Err(reason) = file.seek(SeekFrom::Start(0))
+        {
+            return Err(cannot_open(name, reason));
         }
+        Ok(file)
     }
 
     /// IN is standard input.

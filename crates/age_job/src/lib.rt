@@ -4,7 +4,7 @@
 //!
 //! ```
 //! let mut read = ReadFiles::new(rt, &job);
-//! let mut input = Watched::new(alloc, read.open_input(rt, name)?, 0);
+//! let mut input = Watched::new(alloc, read.open_input(rt, job.command, name)?, 0);
 //! let mut out = create(rt, &job, &read, out_name)?;
 //! ```
 //!
@@ -43,4 +43,4 @@ pub use output::{Output, create};
 pub use ranges::{DEFAULT_SEED, LEAST_HEADER, LEAST_WORK, MOST_HEADER, MOST_OFFSET, MOST_WORK};
 pub use secret::{SEED_LEN, Secret, exactly};
 pub use small_files::{read_encrypt_secrets, read_file_key, read_rewrap_secrets, read_secret};
-pub use watched::Watched;
+pub use watched::{Pipe, Watched};

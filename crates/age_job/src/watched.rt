@@ -3,7 +3,7 @@ ghost use Rattle.std.specs.Prelude.{◌≡◌};
 
 use std::alloc::Global;
 use std::io;
-use std::io::{Read, Seek, SeekFrom};
+use std::io::{ErrorKind, Read, Seek, SeekFrom};
 
 /// A reader that keeps the reason of its last failed read, the first bytes that it gave, and where
 /// it ended.
@@ -18,6 +18,24 @@ pub struct Watched<R> {
     at: u64,
     /// The size of the file, if it was found.
     end: Option<u64>,
+}
+
+/// A reader that cannot be read at offsets, such as standard input.
+#[derive(Drop)]
+pub struct Pipe<'a, R>(pub &'a mut R);
+
+impl<R: Read> Read for Pipe<'_, R> {
+    ghost remaining = { λ pipe. R.remaining pipe.0.now };
+
+    fn read(&mut self, buf: &mut [u8]) -> io::Result<usize> {
+        self.0.read(buf)
+    }
+}
+
+impl<R> Seek for Pipe<'_, R> {
+    fn seek(&mut self, _pos: SeekFrom) -> io::Result<u64> {
+        Err(io::Error::from(ErrorKind::NotSeekable))
+    }
 }
 
 impl<R> Watched<R> {

@@ -7,7 +7,6 @@ returns-in-Ok-clause-finishes g c = λ done. inr (
   c.in-Ok.job,
   c.in-Ok.ensures.reads,
   c.run_job.ensures.finishes done,
-  c.run_job.ensures.finishes_range done,
 )
 
 pub returns-in-Ok-clause-begins : goal.returns-in-Ok-clause-begins
@@ -16,7 +15,6 @@ returns-in-Ok-clause-begins g c =
       c.in-Ok.job,
       c.in-Ok.ensures.reads,
       c.run_job.ensures.begins failed,
-      c.run_job.ensures.begins_range failed,
     ))
 
 pub returns-in-Err-clause-refused : goal.returns-in-Err-clause-refused

@@ -18,8 +18,16 @@ returns-in-Ok-new-clause-encrypts g c =
 
 pub returns-in_default-clause-encrypts : goal.returns-in_default-clause-encrypts
 returns-in_default-clause-encrypts g c =
-    (of-any _ _ _ (some-none (seen_by g.S.Source.to_come g.S.Source.gave c.args.input.now)) (λ b. tt), tt)
+    record {
+      encrypts = of-any _ _ _ (some-none (seen_by g.S.Source.to_come g.S.Source.gave c.args.input.now)) (λ b. tt);
+      refused = tt;
+      took = tt;
+    }
 
 pub returns-clause-encrypts : goal.returns-clause-encrypts
 returns-clause-encrypts g c =
-    (of-any _ _ _ (some-none (seen_by g.S.Source.to_come g.S.Source.gave c.args.input.now)) (λ b. tt), tt)
+    record {
+      encrypts = of-any _ _ _ (some-none (seen_by g.S.Source.to_come g.S.Source.gave c.args.input.now)) (λ b. tt);
+      refused = tt;
+      took = tt;
+    }

@@ -4,4 +4,8 @@ use Rattle.age_commands.proofs.encrypt.encrypt_for.Goals as goal
 
 pub returns-clause-encrypts : goal.returns-clause-encrypts
 returns-clause-encrypts g c =
-    (of-any _ _ _ (some-none (seen_by g.S.Source.to_come g.S.Source.gave c.args.input.now)) (λ b. tt), tt)
+    record {
+      encrypts = of-any _ _ _ (some-none (seen_by g.S.Source.to_come g.S.Source.gave c.args.input.now)) (λ b. tt);
+      refused = tt;
+      took = tt;
+    }

@@ -37,4 +37,6 @@ returns g c = record {
       c.in-Ok.is c.inspect.ensures.verdict)
       c.in-Ok-check_of.ensures c.in_ok-show.ensures.shows (search rules);
   quiet = search rules;
+  reads = search rules;
+  writes = search rules;
 }

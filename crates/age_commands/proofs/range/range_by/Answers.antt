@@ -1,35 +1,57 @@
-use Rattle.std.proofs.Common.{rules, ◌∙◌, subst, sym}
-use Rattle.age_header.specs.Device.{moved}
+use Rattle.std.proofs.Common.{◌∙◌, rules, subst, sym}
+use Rattle.age_header.specs.Device.{CountsIf, moved}
+use Rattle.age_file.specs.Device.{is_read}
 use Rattle.age_commands.specs.Range.{WritesAny}
 use Rattle.age_commands.proofs.RangeLemmas.{ranged, unopened}
 use Rattle.age_commands.proofs.VerifiedLemmas as verified
 use Rattle.age_commands.proofs.range.range_by.Goals as goal
 
-pub returns-in-Ok-open_ranges-clause-known : goal.returns-in-Ok-open_ranges-clause-known
-returns-in-Ok-open_ranges-clause-known g c =
+pub returns-in-Ok-opened_ranges-clause-known : goal.returns-in-Ok-opened_ranges-clause-known
+returns-in-Ok-opened_ranges-clause-known g c =
     ranged (λ i. (goal.Identity-dyn g (i.vtable, i.value)).meaning i.value) c.in-Ok.identities.items c.args.identity _ _
     c.args.job.now.at c.args.job.now.len _ _ _ _ _ _ _ _ (search rules)
-    c.limits_of.ensures c.in-Ok-open_ranges.ensures.ranges.0
-    (rw c.as_slice.ensures.value at c.in-Ok-open_ranges.ensures.ranges.1) c.write_range-written.ensures.known
+    c.limits_of.ensures c.in-Ok-opened_ranges.ensures.ranges.0
+    (rw c.as_slice.ensures.value at c.in-Ok-opened_ranges.ensures.ranges.1) c.write_range-written.ensures.known
 
-pub returns-in-Ok-open_ranges-clause-any : goal.returns-in-Ok-open_ranges-clause-any
-returns-in-Ok-open_ranges-clause-any g c =
+pub returns-in-Ok-opened_ranges-clause-any : goal.returns-in-Ok-opened_ranges-clause-any
+returns-in-Ok-opened_ranges-clause-any g c =
     let same = c.into_inner-source.ensures.same_reference ∙ c.write_range-written.ensures.same_reference
-    ∙ c.in-Ok-open_ranges.ensures.same_reference in
+    ∙ c.in-Ok-opened_ranges.ensures.same_reference in
     verified.ranged _ _ (λ i. (goal.Identity-dyn g (i.vtable, i.value)).meaning i.value) c.in-Ok.identities.items
     c.args.identity _ _ c.args.job.now.at c.args.job.now.len _ _ _ _ _ _ (search rules)
-    c.limits_of.ensures (rw c.as_slice.ensures.value at c.in-Ok-open_ranges.ensures.ranges.2)
-    (subst (λ d. WritesAny (g.D.ReadAt.gave d) c.in-Ok-open_ranges.reader.chunks c.args.job.now.at c.args.job.now.len
+    c.limits_of.ensures (rw c.as_slice.ensures.value at c.in-Ok-opened_ranges.ensures.ranges.2)
+    (subst (λ d. WritesAny (g.D.ReadAt.gave d) c.in-Ok-opened_ranges.reader.chunks c.args.job.now.at c.args.job.now.len
     (moved (g.W.Sink.taken c.args.out.now) (g.W.Sink.taken c.write_range-written.new.out)) c.write_range-written.result)
     (sym c.into_inner-source.ensures.unchanged ∙ (search rules))
-    (c.write_range-written.ensures.any c.in-Ok-open_ranges.ensures.ranges.3))
+    (c.write_range-written.ensures.any c.in-Ok-opened_ranges.ensures.ranges.3))
 
 pub returns-clause-known : goal.returns-clause-known
 returns-clause-known g c =
-    unopened (λ i. (goal.Identity-dyn g (i.vtable, i.value)).meaning i.value) c.in-Ok.identities.items c.args.identity _
-    _ c.args.job.now.at c.args.job.now.len _ _ _ (search rules)
-    c.limits_of.ensures (rw c.as_slice.ensures.value at c.in-Err.ensures.refuses.1.misses)
+    rw c.fault.ensures.fault
+    (unopened (λ i. (goal.Identity-dyn g (i.vtable, i.value)).meaning i.value) c.in-Ok.identities.items c.args.identity
+    _ _ c.args.job.now.at c.args.job.now.len _ _ _ (search rules)
+    c.limits_of.ensures (rw c.as_slice.ensures.value at c.in-Err.ensures.refuses.misses))
 
 pub returns-clause-any : goal.returns-clause-any
 returns-clause-any g c =
-    verified.unopened _ _ _ _ c.args.job.now.at c.args.job.now.len _ _ _ c.in-Err.ensures.refuses.1.named
+    rw c.fault.ensures.fault
+    (verified.unopened _ _ _ _ c.args.job.now.at c.args.job.now.len _ _ _ c.in-Err.ensures.refuses.named)
+
+pub returns-clause-writes : goal.returns-clause-writes
+returns-clause-writes g c =
+    rw c.fault.ensures.fault
+    (verified.opens_unwritten (g.W.Sink.failed c.args.out.now) _ c.in-Err.ensures.refuses.named)
+
+pub returns-in-Ok-opened_ranges-clause-reads : goal.returns-in-Ok-opened_ranges-clause-reads
+returns-in-Ok-opened_ranges-clause-reads g c =
+    let same = c.into_inner-source.ensures.same_reference ∙ c.write_range-written.ensures.same_reference
+    ∙ c.in-Ok-opened_ranges.ensures.same_reference in
+    subst
+    (λ d. CountsIf is_read (g.D.ReadAt.failed c.args.input.now) (g.D.ReadAt.failed d) c.write_range-written.result)
+    (sym c.into_inner-source.ensures.unchanged ∙ (search rules))
+    (rw c.in-Ok-opened_ranges.ensures.ranges.6 at c.write_range-written.ensures.reads)
+
+pub returns-in-Ok-opened_ranges-clause-quiet : goal.returns-in-Ok-opened_ranges-clause-quiet
+returns-in-Ok-opened_ranges-clause-quiet g c =
+    verified.quiet_part _ c.in-Ok-opened_ranges.reader.chunks _ _ _ _ _ _
+    (c.write_range-written.ensures.any c.in-Ok-opened_ranges.ensures.ranges.3)

@@ -3,18 +3,18 @@ use Rattle.age_commands.proofs.RangeLemmas.{stopped, written, written_part}
 use Rattle.age_commands.proofs.VerifiedLemmas as verified
 use Rattle.age_commands.proofs.range.write_next.Goals as goal
 
-pub returns-in-Err-clause-writes : goal.returns-in-Err-clause-writes
-returns-in-Err-clause-writes g c = λ sound.
+pub returns-in-Err-clause-known : goal.returns-in-Err-clause-known
+returns-in-Err-clause-known g c = λ sound.
     stopped _ _ c.args.at c.args.left _ _ _ _ _ _ _ (search rules) (search rules) c.from.ensures sound
     c.in-Err.ensures.reads.stop
 
-pub returns-in-Ok-write_all-clause-writes : goal.returns-in-Ok-write_all-clause-writes
-returns-in-Ok-write_all-clause-writes g c = λ sound.
+pub returns-in-Ok-write_all-clause-known : goal.returns-in-Ok-write_all-clause-known
+returns-in-Ok-write_all-clause-known g c = λ sound.
     written _ _ c.args.at c.in-Ok.n c.read_range.new.buf _ _ _ (search rules) (c.in-Ok.ensures.reads.filled.1 sound)
     c.in-Ok-write_all.ensures.text
 
-pub returns-in-Err-write_all-clause-writes : goal.returns-in-Err-write_all-clause-writes
-returns-in-Err-write_all-clause-writes g c = λ sound.
+pub returns-in-Err-write_all-clause-known : goal.returns-in-Err-write_all-clause-known
+returns-in-Err-write_all-clause-known g c = λ sound.
     inr (
       inr refl,
       written_part _ _ c.args.at c.in-Ok.n _ _ c.read_range.new.buf _ _ _ (search rules)

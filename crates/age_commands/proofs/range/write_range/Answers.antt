@@ -19,7 +19,7 @@ returns-in-Err-clause-known g c = λ sound.
     let inv = c.loop-left.invariant in
     failed_on _ _ _ _ c.args.at c.args.len c.loop-left.at c.loop-left.left _ _ _ _ inv.stay inv.same inv.end inv.begin
     inv.some inv.whole (inv.written sound)
-    (c.in-Err.ensures.writes (subst (λ (k : Known). IsSound k c.loop-left.reader.chunks) (sym inv.stay)
+    (c.in-Err.ensures.known (subst (λ (k : Known). IsSound k c.loop-left.reader.chunks) (sym inv.stay)
     (inv.sound sound)))
 
 pub loop-left-preserved : goal.loop-left-preserved
@@ -49,13 +49,15 @@ loop-left-preserved g c =
       written = λ sound. joined _ _ _ _ c.args.at (c.loop-left.at - c.args.at) c.loop-left.at c.in-Ok.n
           (c.loop-left.at + c.in-Ok.n - c.args.at) _ _ _ inv.stay inv.same (omega arith) (omega arith)
           (inv.written sound)
-          (c.in-Ok.ensures.writes (subst (λ (k : Known). IsSound k c.loop-left.reader.chunks) (sym inv.stay)
+          (c.in-Ok.ensures.known (subst (λ (k : Known). IsSound k c.loop-left.reader.chunks) (sym inv.stay)
           (inv.sound sound)));
       given = λ at byte was. c.write_next.ensures.stays_given at byte (inv.given at byte was);
       keeps = λ keeps. c.write_next.ensures.keeps_verified (inv.keeps keeps);
       verified = λ keeps. verified.joined _ _ _ _ c.args.at (c.loop-left.at - c.args.at) c.loop-left.at c.in-Ok.n
           (c.loop-left.at + c.in-Ok.n - c.args.at) _ _ _ c.write_next.ensures.stays_given inv.same (omega arith)
           (omega arith) (inv.verified keeps) (c.in-Ok.ensures.any (inv.keeps keeps));
+      reads = c.in-Ok.ensures.reads ∙ inv.reads;
+      writes = c.in-Ok.ensures.writes ∙ inv.writes;
     }
 
 pub returns-in-Ok-eq0-clause-any : goal.returns-in-Ok-eq0-clause-any

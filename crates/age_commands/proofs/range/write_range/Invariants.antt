@@ -29,6 +29,8 @@ invariant-loop-left g l =
       verified : KeepsVerified (g.D.ReadAt.gave l.fn.reader.dev.now) s
           → WritesVerified (g.D.ReadAt.gave l.reader.dev.now) s.layout l.fn.at (l.at - l.fn.at)
           (moved_by g.W.Sink.taken l.fn.out l.out);
+      reads : g.D.ReadAt.failed l.reader.dev.now ≡ g.D.ReadAt.failed l.fn.reader.dev.now;
+      writes : g.W.Sink.failed l.out ≡ g.W.Sink.failed l.fn.out;
     }
 
 abbrev pub decreases-loop-left : goal.decreases-loop-left
