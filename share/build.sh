@@ -93,7 +93,7 @@ libraries() {
     # shellcheck disable=SC2086
     trap 'kill "$cipher" $words $recipient 2>/dev/null; rm -f "$finished"; exit 130' INT TERM
     if library age_kdf && library age_header && wait "$cipher"; then
-        library age_recipient --jobs 1 &
+        library age_recipient --jobs 2 &
         recipient=$!
         if library age_stream && wait "$recipient" && library age_file && [ -n "$words" ]; then
             library age_commands && wait "$words" && library age_cli || :

@@ -77,9 +77,7 @@ stopped told s at left most was buf opened fault named old le within is sound st
         stops.chunk,
         is ∙ ap stream_fault lost.0,
         record {
-          some = omega arith;
-          from = stops.from;
-          to = omega arith;
+          has = record { some = omega arith; from = stops.from; to = omega arith };
           lost = lost.1 sound;
           writes = nothing told s.layout at (65536 * stops.chunk - at) old
               (within_one at (range_len s at most) most stops.chunk to (omega arith) within);
@@ -172,16 +170,14 @@ pub failed_on : (told again : Known) (s t : RangeState) (begin len at left : ℕ
     → WritesRange told s begin len (moved old new) (Err fault)
 failed_on told again s t begin len at left old mid new fault et el end low some whole one (inl (i, is, stops)) =
     let plain : t.layout.plain ≡ s.layout.plain = ap (λ (l : Layout). l.plain) el in
-    let has : 0 < range_len t at left = stops.some in
-    let from : at < 65536 * (i + 1) = stops.from in
-    let to : 65536 * i < at + range_len t at left = stops.to in
+    let has : 0 < range_len t at left = stops.has.some in
+    let from : at < 65536 * (i + 1) = stops.has.from in
+    let to : 65536 * i < at + range_len t at left = stops.has.to in
     inl (
       i,
       is,
       record {
-        some = omega arith;
-        from = omega arith;
-        to = omega arith;
+        has = record { some = omega arith; from = omega arith; to = omega arith };
         lost = subst (λ (l : Layout). opens_to told l i ≡ None) el
             (subst (λ (k : Known). opens_to k t.layout i ≡ None) et stops.lost);
         writes = joined told again s.layout t.layout begin (at - begin) at (65536 * i - at) (65536 * i - begin) old mid

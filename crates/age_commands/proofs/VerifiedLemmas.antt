@@ -1,5 +1,5 @@
 -- What is written of a range of any source, piece by piece.
-use Rattle.std.proofs.Common.{◌≡◌, ◌∙◌, ◌++◌, ◌∷◌, List, Result, map, ◌+◌, ◌-◌, ◌<◌, ◌≤◌, ℕ, [], ap, arith, inl, inr, length, min, refl, slice_index, subst, sym, take, Option, None, Ok, Err}
+use Rattle.std.proofs.Common.{◌≡◌, ◌∙◌, ◌++◌, ◌∷◌, List, Result, map, ◌+◌, ◌-◌, ◌*◌, ◌<◌, ◌≤◌, ℕ, [], ap, arith, inl, inr, length, min, refl, slice_index, subst, sym, take, Option, None, Ok, Err}
 use Rattle.std.specs.Prelude.{◌^◌, ⊤, if◌then◌else◌}
 use Rattle.std.proofs.KnownBytes.{Appends-nil, Appends-trans, Keeps-refl}
 use Rattle.std.proofs.lemmas.List.{length-append, length-take, length-take-le, take-append-le, get_or-take, get_or_append_left, get_or-append-add}
@@ -83,15 +83,32 @@ written_part gave layout at n k most buf rest old new le verified low a =
 
 -- a range that stops within its first piece has written nothing
 pub stopped : (gave : ℕ → ℕ → Type 0) (told : Known) (s : RangeState) (at left most : ℕ) (was buf : Bytes)
-    (opened : ℕ) (fault : StreamFault) (named : Fault) (old : Known) → named ≡ stream_fault fault
-    → Stops told s at most was buf opened fault → WritesAny gave s at left (moved old old) (Err named)
-stopped gave told s at left most was buf opened fault named old is stops = (
-  elim stops.lost [
-    | inl failed ↦ inr (inl (is ∙ ap stream_fault failed))
-    | inr lost ↦ inl (stops.chunk, is ∙ ap stream_fault lost.0)
-  ],
-  (0, omega arith, nothing gave s.layout at 0 old refl),
-)
+    (opened : ℕ) (fault : StreamFault) (named : Fault) (old : Known) → most ≤ left → named ≡ stream_fault fault
+    → Stops told s at (range_len s at most) was buf opened fault → WritesAny gave s at left (moved old old) (Err named)
+stopped gave told s at left most was buf opened fault named old le is stops =
+    let some : 0 < range_len s at most = stops.some in
+    let to : 65536 * stops.chunk < at + range_len s at most = stops.to in (
+      elim stops.lost [
+        | inl failed ↦ inr (inl (is ∙ ap stream_fault failed))
+        | inr lost ↦ inl (
+          stops.chunk,
+          is ∙ ap stream_fault lost.0,
+          record { some = omega (arith, some, le); from = stops.from; to = omega (arith, to, le) },
+        )
+      ],
+      (0, omega arith, nothing gave s.layout at 0 old refl),
+    )
+
+-- a fault of a later part is one of the whole
+part_of_whole : (s t : RangeState) (begin len at left : ℕ) (fault : Fault) → t.layout ≡ s.layout
+    → at + left ≡ begin + len → begin ≤ at → IsPartFault t at left fault → IsPartFault s begin len fault
+part_of_whole s t begin len at left fault el end low (inr failed) = inr failed
+part_of_whole s t begin len at left fault el end low (inl (i, is, has)) =
+    let plain : t.layout.plain ≡ s.layout.plain = ap (λ (l : Layout). l.plain) el in
+    let some : 0 < range_len t at left = has.some in
+    let from : at < 65536 * (i + 1) = has.from in
+    let to : 65536 * i < at + range_len t at left = has.to in
+    inl (i, is, record { some = omega arith; from = omega arith; to = omega arith })
 
 -- two parts that follow one another are one
 pub joined : (early late : ℕ → ℕ → Type 0) (layout same : Layout) (at k from n m : ℕ) (old mid new : Known)
@@ -131,7 +148,7 @@ pub failed_on : (early late : ℕ → ℕ → Type 0) (s t : RangeState) (begin 
     → WritesAny late t at left (moved mid new) (Err fault) → WritesAny late s begin len (moved old new) (Err fault)
 failed_on early late s t begin len at left old mid new fault stays el end low some one (which, (n, within, more)) =
     let plain : t.layout.plain ≡ s.layout.plain = ap (λ (l : Layout). l.plain) el in (
-      which,
+      part_of_whole s t begin len at left fault el end low which,
       (
         at - begin + n,
         omega (arith, within, plain, end, low, some),
@@ -181,16 +198,16 @@ ranges_unseen found job secret new sink r (inr o) = (
   inr (record { source = found o.source; state = o.state; begins = o.begins; writes = o.writes }),
 )
 
-part_is_late : (fault : Fault) → IsPartFault fault → IsLate fault
-part_is_late fault (inl (i, is)) = subst IsLate (sym is) tt
-part_is_late fault (inr (inl is)) = subst IsLate (sym is) tt
-part_is_late fault (inr (inr is)) = subst IsLate (sym is) tt
+part_is_late : (s : RangeState) (at len : ℕ) (fault : Fault) → IsPartFault s at len fault → IsLate fault
+part_is_late s at len fault (inl (i, is, has)) = subst IsLate (sym is) tt
+part_is_late s at len fault (inr (inl is)) = subst IsLate (sym is) tt
+part_is_late s at len fault (inr (inr is)) = subst IsLate (sym is) tt
 
 -- an opened file ends with a fault before which something may have been written
 pub quiet_part : {W : Type 0} (gave : ℕ → ℕ → Type 0) (s : RangeState) (at len : ℕ) (sink : Moved) (old new : W)
     (r : Result ⊤ Fault) → WritesAny gave s at len sink r → IsQuiet old new r
 quiet_part gave s at len sink old new (Ok u) h = tt
-quiet_part gave s at len sink old new (Err fault) h = inl (part_is_late fault h.0)
+quiet_part gave s at len sink old new (Err fault) h = inl (part_is_late s at len fault h.0)
 
 unwritten_at : (stage : Stage) (n : ℕ) → IsOpenStage stage
     → n ≡ (if is_at_write stage then min (n + 1) (2 ^ 64 - 1) else n)

@@ -17,12 +17,15 @@ pub record WritesPlain (told : Known) (layout : Layout) (at n : ℕ) (sink : Mov
   pub plain : HasPlain told layout at part
   pub appends : Took sink part
 
--- a range of at most `len` bytes from `at` on has bytes of chunk i, which does not open; those
--- before the chunk were written
-pub record StopsAt (told : Known) (s : RangeState) (at len i : ℕ) (sink : Moved) : Type 0 where
+-- a range of at most `len` bytes from `at` on has bytes of chunk i
+pub record HasBytesOf (s : RangeState) (at len i : ℕ) : Type 0 where
   pub some : 0 < range_len s at len
   pub from : at < chunk_size * (i + 1)
   pub to : chunk_size * i < at + range_len s at len
+
+-- a range has bytes of chunk i, which does not open; those before the chunk were written
+pub record StopsAt (told : Known) (s : RangeState) (at len i : ℕ) (sink : Moved) : Type 0 where
+  pub has : HasBytesOf s at len i
   pub lost : opens_to told s.layout i ≡ None
   pub writes : WritesPlain told s.layout at (chunk_size * i - at) sink
 
@@ -75,9 +78,12 @@ pub record WritesVerified (gave : (at byte : ℕ) → Type 0) (layout : Layout) 
       → IsVerifiedByte gave layout (at + k) (slice_index part k)
   pub appends : Took sink part
 
--- a fault with which the work on an opened file may end
-abbrev pub IsPartFault : Fault → Type 0
-IsPartFault fault = ((i : ℕ) × (fault ≡ BadChunk i)) ⊎ ((fault ≡ Read) ⊎ (fault ≡ Write))
+-- a fault with which the work on an opened file may end: a damaged chunk of the range, or a failed
+-- read or write
+abbrev pub IsPartFault : (s : RangeState) (at len : ℕ) (fault : Fault) → Type 0
+IsPartFault s at len fault =
+    ((i : ℕ) × (fault ≡ BadChunk i) × HasBytesOf s at len i)
+    ⊎ ((fault ≡ Read) ⊎ (fault ≡ Write))
 
 -- Of an opened file at most `len` bytes from `at` on were written: all that there are, or some
 abbrev pub WritesAny : (gave : (at byte : ℕ) → Type 0) (s : RangeState) (at len : ℕ)
@@ -85,7 +91,7 @@ abbrev pub WritesAny : (gave : (at byte : ℕ) → Type 0) (s : RangeState) (at 
 WritesAny gave s at len sink (Ok _) =
     WritesVerified gave s.layout at (range_len s at len) sink
 WritesAny gave s at len sink (Err fault) =
-    IsPartFault fault
+    IsPartFault s at len fault
     × ((n : ℕ) × (n ≤ range_len s at len) × WritesVerified gave s.layout at n sink)
 
 -- the same of the next bytes, which are of one chunk

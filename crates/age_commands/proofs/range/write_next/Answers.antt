@@ -23,7 +23,8 @@ returns-in-Err-write_all-clause-known g c = λ sound.
 
 pub returns-in-Err-clause-any : goal.returns-in-Err-clause-any
 returns-in-Err-clause-any g c = λ keeps.
-    verified.stopped _ _ _ c.args.at c.args.left _ _ _ _ _ _ _ c.from.ensures c.in-Err.ensures.reads.stop
+    verified.stopped _ _ _ c.args.at c.args.left _ _ _ _ _ _ _ (search rules) c.from.ensures
+    c.in-Err.ensures.reads.stop
 
 pub returns-in-Ok-write_all-clause-any : goal.returns-in-Ok-write_all-clause-any
 returns-in-Ok-write_all-clause-any g c = λ keeps.
