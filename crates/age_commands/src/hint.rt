@@ -12,7 +12,7 @@ use age_file::{
     CHUNK_SIZE, Fault, Header, MemSource, NONCE_SIZE, SEALED_CHUNK_SIZE, Stanza, StanzaFault,
     TAG_SIZE, inspect,
 };
-use age_job::{Job, MOST_HEADER, MOST_WORK, Watched};
+use age_job::{Command, Job, MOST_HEADER, MOST_WORK, Watched};
 use std::alloc::Global;
 use std::fmt;
 use std::fmt::Write;
@@ -37,8 +37,20 @@ pub enum Hint {
     Stanzas(Header),
     /// The work factor of this header is too high.
     WorkFactor(Header),
-    /// The damaged chunk. The size of its plaintext is given if it is the last of the file.
-    Chunk(u128, Option<u128>),
+    /// This line of the header has another form.
+    HeaderLine(u64),
+    /// A stanza has another form.
+    Stanza,
+    /// A key fits, and the header's MAC does not.
+    ChangedHeader,
+    /// The MAC does not fit a file key that was given.
+    OtherFileKey,
+    /// The file ends within the payload's nonce.
+    EndsInNonce,
+    /// The damaged chunk, which others follow.
+    Chunk(u128),
+    /// The damaged chunk is the last of the file.
+    LastChunk(u128),
     /// The last chunk has so many bytes, fewer than a tag.
     EndsInChunk(u128, u128),
 }
@@ -60,6 +72,11 @@ pub fn hint_at<R>(alloc: Global, job: &Job, fault: Fault, input: &Watched<R>) ->
             Some(header) => Hint::WorkFactor(header),
             None => Hint::None,
         },
+        Fault::BadLine(line) => Hint::HeaderLine(line),
+        Fault::Malformed(_) => Hint::Stanza,
+        Fault::BadMac if job.command == Command::Inspect => Hint::OtherFileKey,
+        Fault::BadMac => Hint::ChangedHeader,
+        Fault::NonceTruncated => Hint::EndsInNonce,
         Fault::BadChunk(index) | Fault::ChunkShort(index) => chunk(alloc, job, index, input),
         _ => Hint::None,
     }
@@ -92,10 +109,8 @@ fn chunk<R>(alloc: Global, job: &Job, index: u128, input: &Watched<R>) -> Hint
     };
     match bytes_from(index, header.text_len(), input.end()) {
         Some(left) if left < TAG_SIZE as u128 => Hint::EndsInChunk(index, left),
-        Some(left) if left <= SEALED_CHUNK_SIZE as u128 => {
-            Hint::Chunk(index, Some(left - TAG_SIZE as u128))
-        }
-        _ => Hint::Chunk(index, None),
+        Some(left) if left <= SEALED_CHUNK_SIZE as u128 => Hint::LastChunk(index),
+        _ => Hint::Chunk(index),
     }
 }
 
@@ -111,18 +126,33 @@ fn bytes_from(index: u128, header: u64, size: Option<u64>) -> Option<u128>
     chunks.checked_sub(index.checked_mul(SEALED_CHUNK_SIZE as u128)?)
 }
 
+impl Hint {
+    /// The text of a hint without numbers.
+    fn words(&self) -> &'static str {
+        match self {
+            Hint::Empty => "the file is empty",
+            Hint::Armor => "ASCII armor stands at its start; age decrypts such a file",
+            Hint::ByteOrderMark => "a byte-order mark stands at its start",
+            Hint::NoVersionLine => "the first line of an age file is age-encryption.org/v1",
+            Hint::Stanza => {
+                "the file is damaged, or another program made it: a stanza for -p or -k is not valid"
+            }
+            Hint::ChangedHeader => "a key fits, but the header was changed after it was written",
+            Hint::OtherFileKey => {
+                "the file key is not the one of this file, or the header was changed"
+            }
+            Hint::EndsInNonce => "the file ends within the 16 bytes that follow its header",
+            _ => "",
+        }
+    }
+}
+
 impl fmt::Display for Hint {
     fn fmt<W: fmt::Write>(&self, f: &mut fmt::Formatter<W>) -> fmt::Result {
         match self {
-            Hint::None => Ok(()),
-            Hint::Empty => f.write_str("the file is empty"),
             Hint::EndsInHeader(len) => {
-                write!(f, "the file ends after {len} bytes, within its header")
-            }
-            Hint::Armor => f.write_str("ASCII armor stands at its start; age decrypts such a file"),
-            Hint::ByteOrderMark => f.write_str("a byte-order mark stands at its start"),
-            Hint::NoVersionLine => {
-                f.write_str("the first line of an age file is age-encryption.org/v1")
+                let len = Bytes(*len as u128);
+                write!(f, "the file ends after {len}, within its header")
             }
             Hint::HeaderLimit(limit) => write!(
                 f,
@@ -130,15 +160,36 @@ impl fmt::Display for Hint {
             ),
             Hint::Stanzas(header) => write_stanzas(header.stanzas(), f),
             Hint::WorkFactor(header) => write_work(header.stanzas(), f),
-            Hint::Chunk(index, len) => write_chunk(*index, *len, f),
-            Hint::EndsInChunk(index, len) => {
+            Hint::HeaderLine(line) => write!(
+                f,
+                "the file is damaged, or was changed as a text: line {line} is not valid"
+            ),
+            Hint::Chunk(index) => {
+                let first = first_byte(*index);
+                let last = last_byte(*index);
                 write!(
                     f,
-                    "the file ends {len} bytes into chunk {index}, which starts at "
-                )?;
+                    "chunk {index} holds the plaintext from byte {first} to {last}"
+                )
+            }
+            Hint::LastChunk(index) => {
                 let first = first_byte(*index);
+                write!(
+                    f,
+                    "chunk {index}, from byte {first} of the plaintext on, is the last: "
+                )?;
+                f.write_str("the file may be cut short, or have bytes behind its end")
+            }
+            Hint::EndsInChunk(index, len) => {
+                let len = Bytes(*len);
+                let first = first_byte(*index);
+                write!(
+                    f,
+                    "the file ends {len} into chunk {index}, which starts at "
+                )?;
                 write!(f, "byte {first} of the plaintext")
             }
+            hint => f.write_str(hint.words()),
         }
     }
 }
@@ -150,31 +201,23 @@ fn first_byte(index: u128) -> u128
     index.saturating_mul(CHUNK_SIZE as u128)
 }
 
-/// The offset of the last byte of this chunk, if it holds so many, at least one.
-fn last_byte(index: u128, len: u128) -> Option<u128>
-    ensures some { index < most_chunks → len ≤ chunk_size
-        → IfSome result (λ last. last + 1 ≡ chunk_size * index + len) }
-    ensures none { IfNone result (len ≡ 0) }
+/// The offset of the last byte of this chunk, which others follow.
+fn last_byte(index: u128) -> u128
+    ensures { index < most_chunks → result + 1 ≡ chunk_size * (index + 1) }
 {
-    let more = len.checked_sub(1)?;
-    Some(first_byte(index).saturating_add(more))
+    first_byte(index).saturating_add(CHUNK_SIZE as u128 - 1)
 }
 
-/// Writes where this chunk is in the plaintext.
-fn write_chunk<W: fmt::Write>(
-    index: u128,
-    len: Option<u128>,
-    f: &mut fmt::Formatter<W>,
-) -> fmt::Result {
-    write!(f, "chunk {index} holds ")?;
-    let first = first_byte(index);
-    match last_byte(index, len.unwrap_or(CHUNK_SIZE as u128)) {
-        Some(last) => write!(f, "the plaintext from byte {first} to {last}")?,
-        None => f.write_str("no byte of the plaintext")?,
-    }
-    match len {
-        Some(_) => f.write_str("; it is the last chunk, so the file may be cut short"),
-        None => Ok(()),
+/// A number of bytes, in words.
+#[derive(Clone, Copy)]
+struct Bytes(u128);
+
+impl fmt::Display for Bytes {
+    fn fmt<W: fmt::Write>(&self, f: &mut fmt::Formatter<W>) -> fmt::Result {
+        match self.0 {
+            1 => f.write_str("1 byte"),
+            n => write!(f, "{n} bytes"),
+        }
     }
 }
 

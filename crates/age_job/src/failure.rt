@@ -23,6 +23,8 @@ pub enum Detail<'a> {
     Size(Role, Name<'a>, usize),
     /// The passphrase file is empty.
     NoPassphrase(Role, Name<'a>),
+    /// The file is no device.
+    NoDevice(Role, Name<'a>),
 }
 
 /// What was being done with a file.
@@ -32,6 +34,8 @@ pub enum Doing {
     Identifying,
     Creating,
     Reading,
+    /// Reading a small file in this role.
+    ReadingAs(Role),
     Writing,
     Truncating,
     Syncing,
@@ -80,6 +84,7 @@ impl<T: Drop> From<AllocFailed<T>> for Failure<'_> {
 impl fmt::Display for Doing {
     fn fmt<W: fmt::Write>(&self, f: &mut fmt::Formatter<W>) -> fmt::Result {
         f.write_str(match self {
+            Doing::ReadingAs(role) => return write!(f, "reading {role}"),
             Doing::Opening => "opening",
             Doing::Identifying => "identifying",
             Doing::Creating => "creating",
@@ -103,6 +108,13 @@ impl fmt::Display for Detail<'_> {
             Detail::NoPassphrase(role, name) => {
                 let words = role.words();
                 write!(f, "{words} {name}: no byte, or one LF alone")
+            }
+            Detail::NoDevice(role, name) => {
+                let words = role.words();
+                write!(
+                    f,
+                    "{words} {name}: no device, so its bytes may be the same again"
+                )
             }
         }
     }

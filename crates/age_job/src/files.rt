@@ -250,7 +250,7 @@ fn add_all<'a>(
 /// again here, and only here.
 pub(crate) fn read_prefix<'a, R: Read + Drop>(
     alloc: Global,
-    name: &'a str,
+    named: NamedFile<'a>,
     file: R,
     most: usize,
 ) -> Result<Vec<u8>, Failure<'a>>
@@ -262,6 +262,9 @@ pub(crate) fn read_prefix<'a, R: Read + Drop>(
     match file.take(most as u64).read_to_end(&mut bytes) {
         Ok(_) => Ok(bytes),
         Err(reason) if reason.kind() == ErrorKind::OutOfMemory => Err(Fault::OutOfMemory.into()),
-        Err(reason) => Err(Failure::of_system(Fault::Read, Doing::Reading, name, reason)),
+        Err(reason) => {
+            let NamedFile { role, name } = named;
+            Err(Failure::of_system(Fault::Read, Doing::ReadingAs(role), name, reason))
+        }
     }
 }

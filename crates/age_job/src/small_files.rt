@@ -192,7 +192,7 @@ fn read_passphrase<'a, F: Files + AllocGlobal>(
 ) -> Result<Vec<u8>, Failure<'a>> {
     let NamedFile { role, name } = named;
     let file = read.open_small(rt, named)?;
-    let bytes = read_prefix(rt.alloc(), name, file, MOST_SMALL + 1)?;
+    let bytes = read_prefix(rt.alloc(), named, file, MOST_SMALL + 1)?;
     let len = bytes.len();
     if len > MOST_SMALL {
         return Err(Failure::with(Fault::PassphraseLength, Detail::Size(role, Name(name), len)));
@@ -231,11 +231,15 @@ fn read_seed<'a, F: Files + AllocGlobal>(
 ) -> Result<[u8; SEED_LEN], Failure<'a>> {
     let name = job.seed.as_str();
     let role = Role::Seed;
-    let file = read.open_small(rt, NamedFile { role, name })?;
+    let named = NamedFile { role, name };
+    let file = read.open_small(rt, named)?;
     if name == DEFAULT_SEED && !is_char_device(&file) {
-        return Err(Fault::CannotOpen(Name(name)).into());
+        return Err(Failure::with(
+            Fault::CannotOpen(Name(name)),
+            Detail::NoDevice(role, Name(name)),
+        ));
     }
-    let bytes = read_prefix(rt.alloc(), name, file, SEED_LEN)?;
+    let bytes = read_prefix(rt.alloc(), named, file, SEED_LEN)?;
     match exactly(bytes.as_slice()) {
         Some(seed) => Ok(seed),
         None => Err(Failure::with(
@@ -262,7 +266,7 @@ fn read_just<'a, F: Files + AllocGlobal, const N: usize>(
 ) -> Result<[u8; N], Failure<'a>> {
     let NamedFile { role, name } = named;
     let file = read.open_small(rt, named)?;
-    let bytes = read_prefix(rt.alloc(), name, file, MOST_SMALL + 1)?;
+    let bytes = read_prefix(rt.alloc(), named, file, MOST_SMALL + 1)?;
     match exactly(bytes.as_slice()) {
         Some(bytes) => Ok(bytes),
         None => Err(Failure::with(length, Detail::Size(role, Name(name), bytes.len()))),
