@@ -27,11 +27,9 @@ pub(crate) fn range_of<D: ReadAt, W: Sink>(
     out: &mut W,
 ) -> Result<(), Fault>
     requires { IsInRange job.now }
-    // The plaintext's bytes from the job's offset on, as many as there are up to the job's length,
-    // of the payload that opens under this secret's identity and these limits. Before a chunk that
-    // does not open exactly the bytes before it were written; after a failed read or write a prefix
-    // of the range. If the file does not open, nothing was written, and the fault is that of
-    // opening it.
+    // The plaintext's bytes from the job's offset on, up to its length, of the payload that opens
+    // under this secret and these limits. Before a chunk that does not open: the bytes before it;
+    // after a failed read or write a prefix. If the file does not open: nothing, and that fault.
     ensures known { Ranging (limits_of job.now) (answers_of secret job.now.max_work) job.now.at
         job.now.len (D.bytes input.old) (moved_by W.taken out.old out.new) result }
     // Of any source, as a file, each byte that was written was verified at its place, in order from

@@ -78,10 +78,10 @@ pub fn opened_ranges<'a, D: ReadAt>(
 ) -> Result<RangeReader<'a, D>, Refused<'a, D, Fault>>
     ensures same_reference { IfOk result
         (λ reader. (source_at_of reader).ghost_name ≡ dev.entry.ghost_name) }
-    // The payload begins after the file's header, under the key that the identities choose; its
-    // length is the plaintext's, the last chunk is kept, and at most the header, the nonce and the
-    // last piece were read. For a file too, the header was read from the first byte on, the key is
-    // the one that was chosen for it, and the last chunk was verified.
+    // The payload after the file's header, under the key that the identities choose, with its
+    // length; the last chunk is kept, and at most header, nonce and last piece were read. For a
+    // file too the header was read from byte 0 on, and the last chunk was verified under the key
+    // chosen for it.
     ensures ranges { IfOk result (λ reader. StartsFileRanges D.bytes D.given D.failed D.gave
         D.found limits.now (answers_by identities.now (λ i s. meaning i s)) dev.old
         (source_at_of reader).now (Ok (chunks_of reader))) }
@@ -130,10 +130,7 @@ pub fn open_ranges<'a, D: ReadAt>(
 ) -> Result<RangeReader<'a, D>, Fault>
     ensures same_reference { IfOk result
         (λ reader. (source_at_of reader).ghost_name ≡ dev.entry.ghost_name) }
-    // The payload begins after the file's header, under the key that the identities choose; its
-    // length is the plaintext's, the last chunk is kept, and at most the header, the nonce and the
-    // last piece were read. For a file too, the header was read from the first byte on, the key is
-    // the one that was chosen for it, and the last chunk was verified.
+    // As `opened_ranges`.
     ensures ranges { IfOk result (λ reader. StartsFileRanges D.bytes D.given D.failed D.gave
         D.found limits.now (answers_by identities.now (λ i s. meaning i s)) dev.old
         (source_at_of reader).now (Ok (chunks_of reader))) }

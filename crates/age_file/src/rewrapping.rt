@@ -35,10 +35,9 @@ pub fn rewrap<S: Source, W: Sink>(
     recipients: &[Box<dyn Recipient>],
     limits: &Limits,
 ) -> Result<(), Fault>
-    // On Ok the rewrapped file was written: the text of the new recipients' stanzas with their MAC
-    // under the same file key, then every byte that followed the old header, unchanged. Otherwise
-    // the first that applies: the faults of `decrypt` up to the MAC, of the old header; those of
-    // `encrypt`, of the new header; or out of memory.
+    // On Ok: the text of the new stanzas with their MAC under the same file key, then every byte
+    // that followed the old header. Otherwise the first that applies: the faults of `decrypt` up to
+    // the MAC, of the old header; those of `encrypt`, of the new one; or out of memory.
     ensures rewraps { Rewraps limits.now (answers_by identities.now (λ i s. meaning i s))
         (gathering_by recipients.now (λ r k. wraps r k) (λ r. the_labels r))
         (flow_by S.to_come S.gave input.old input.new) (moved_by W.taken out.old out.new) result }

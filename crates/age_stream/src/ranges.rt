@@ -41,10 +41,9 @@ impl<'a, D: ReadAt> RangeReader<'a, D> {
     ) -> Result<RangeReader<'a, D>, Refused<'a, D, StreamFault>>
         ensures same_reference { IfOk result
             (λ reader. reader.dev.ghost_name ≡ dev.entry.ghost_name) }
-        // The last chunk is kept and one chunk was opened; the length is that of all chunks; at
-        // most the nonce and the last piece were read. For a file too, the key is that of the file
-        // key and of a nonce read at the payload's offset, and the pieces end where the size that
-        // was found ends.
+        // The last chunk is kept, one was opened, and at most nonce and last piece were read; the
+        // length is that of all chunks. For a file too, the key is that of the file key and a nonce
+        // read at the offset, and the pieces end where the size that was found ends.
         ensures opens { IfOk result (λ reader. StartsRanges D.bytes D.given D.failed D.gave
             D.found key.now max_chunks payload_at dev.old reader.dev.now (Ok reader.chunks)) }
         ensures handed_back { IfErr result
@@ -80,10 +79,7 @@ impl<'a, D: ReadAt> RangeReader<'a, D> {
     ) -> Result<RangeReader<'a, D>, StreamFault>
         ensures same_reference { IfOk result
             (λ reader. reader.dev.ghost_name ≡ dev.entry.ghost_name) }
-        // The last chunk is kept and one chunk was opened; the length is that of all chunks; at
-        // most the nonce and the last piece were read. For a file too, the key is that of the file
-        // key and of a nonce read at the payload's offset, and the pieces end where the size that
-        // was found ends.
+        // As `started`.
         ensures opens { IfOk result (λ reader. StartsRanges D.bytes D.given D.failed D.gave
             D.found key.now max_chunks payload_at dev.old reader.dev.now (Ok reader.chunks)) }
         // As `started`, of some state of the source, which is not handed back.
@@ -132,10 +128,9 @@ impl<'a, D: ReadAt> RangeReader<'a, D> {
     /// and no chunk is kept. A later call reads the source again.
     pub fn read_range(&mut self, at: u64, buf: &mut [u8]) -> Result<usize, StreamFault>
         ensures same_reference { self.new.dev.ghost_name ≡ self.old.dev.ghost_name }
-        // The smaller of the buffer's length and the length of the plaintext from the offset on is
-        // returned, and these bytes, if every touched chunk opens. Otherwise the first touched
-        // chunk that does not open, or a failed read, with the bytes before it. The rest of the
-        // buffer is unchanged.
+        // The smaller of the buffer's length and that of the plaintext from the offset on, and
+        // these bytes, if every touched chunk opens; else the first that does not, or a failed
+        // read, with the bytes before it. The rest of the buffer is unchanged.
         ensures reads { ReadsRange D.bytes D.given D.failed D.gave at
             (record { source = self.old.dev.now; chunks = self.old.chunks; buf = buf.old })
             (record { source = self.new.dev.now; chunks = self.new.chunks; buf = buf.new })

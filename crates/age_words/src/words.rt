@@ -24,10 +24,9 @@ use std::alloc::{AllocError, Global};
 /// `Refused` with `clap`'s own text for arguments that make no job, and for help and the version;
 /// `Memory` if an allocation was refused.
 pub fn read_words(alloc: Global, words: &[&str]) -> Result<Job, WordsFault>
-    // A job is returned only where `clap` has no reason to refuse the words. Its command is the one
-    // that they name, and each field has the value of its option: the first value, the values after
-    // the first, the number, whether the flag is set, the default where it is missing. A refusal
-    // has one of `clap`'s reasons.
+    // A job only where `clap` has no reason to refuse the words: its command is the one that they
+    // name, and each field the value, the values, the number or the flag of its option, or the
+    // default. A refusal has one of `clap`'s reasons.
     ensures reads { Reads (texts words.now) result }
     // Each number of a job is in its range, and a range has a file to read.
     ensures ranges { IfOk result IsInRange }
