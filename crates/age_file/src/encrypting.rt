@@ -47,10 +47,9 @@ pub fn encrypt<S: Source, W: Sink>(
     ensures encrypts { EncryptsGiven limits.now fresh.now
         (gathering_by recipients.now (λ r k. wraps r k) (λ r. the_labels r) fresh.now.file_key)
         (flow_by S.to_come S.gave plain.old plain.new) (moved_by W.taken out.old out.new) result }
-    // The first that applies: a refusal, with its recipient's index; the least index from 1 up
-    // whose labels do not go together with those of recipient 0; no stanza; a `scrypt` stanza that
-    // is not alone; a header over the limit. The labels are some that the recipients may have
-    // returned.
+    // The first that applies: a refusal, with its index; the least index above 0 whose labels do
+    // not go together with those of recipient 0; no stanza; a `scrypt` stanza that is not alone; a
+    // header over the limit. The labels are some that the recipients may have returned.
     ensures refused { IfErr result (RefusesFirst limits.now fresh.now.file_key
         (gathering_by recipients.now (λ r k. wraps r k) (λ r. the_labels r) fresh.now.file_key)) }
     // On a fault of a header or its key, a truncated nonce, a refusal, recipients that do not go

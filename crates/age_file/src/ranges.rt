@@ -80,8 +80,7 @@ pub fn opened_ranges<'a, D: ReadAt>(
         (λ reader. (source_at_of reader).ghost_name ≡ dev.entry.ghost_name) }
     // The payload after the file's header, under the key that the identities choose, with its
     // length; the last chunk is kept, and at most header, nonce and last piece were read. For a
-    // file too the header was read from byte 0 on, and the last chunk was verified under the key
-    // chosen for it.
+    // file too the header was read from byte 0 on, and the last chunk was verified under its key.
     ensures ranges { IfOk result (λ reader. StartsFileRanges D.bytes D.given D.failed D.gave
         D.found limits.now (answers_by identities.now (λ i s. meaning i s)) dev.old
         (source_at_of reader).now (Ok (chunks_of reader))) }

@@ -92,6 +92,7 @@ fn new_mode(command: Command) -> u32
 
 impl<F: OpenFile> Output<F> {
     fn over(file: F, is_regular: bool) -> Output<F>
+        // A regular OUT counts as holding what it held.
         ensures { result.is_stale ≡ is_regular }
     {
         Output {
@@ -103,8 +104,8 @@ impl<F: OpenFile> Output<F> {
 
     /// Truncates a file that may still have its old contents.
     fn empty(&mut self) -> io::Result<()>
-        // Until it returned Ok a regular OUT counts as holding what it held. That it calls
-        // `set_len(0)`, and that this cuts the file, is only tested.
+        // On Ok it no longer does. That this calls `set_len(0)`, and that this cuts the file, is
+        // only tested.
         ensures emptied { IsOk result → self.new.is_stale ≡ false }
         ensures same_file { self.new.file ≡ self.old.file }
     {
