@@ -8,6 +8,8 @@ pub mod RangeLemmas
 pub mod ReadAtLemmas
 pub mod ReaderLemmas
 pub mod ReadingLemmas
+pub mod SalvageLemmas
+pub mod SalvageReading
 pub mod SealingLemmas
 pub mod SliceLemmas
 pub mod TailLemmas

@@ -1,11 +1,13 @@
 //! Laws over the definitions alone: functions that do nothing, each with a law as its contract.
 
-ghost use Rattle.std.specs.Prelude.{◌≡◌, ◌↔◌, ◌<◌, ◌≤◌, ℕ, List, Ok, drop, length, take};
+ghost use Rattle.std.specs.Prelude.{◌≡◌, ◌↔◌, ◌<◌, ◌≤◌, ◌++◌, ℕ, List, [], Ok, drop, length, take};
 ghost use Rattle.age_kdf.specs.Bytes.{Bytes};
 ghost use Rattle.age_header.specs.declared.file_key.FileKey.{FileKey};
 ghost use Rattle.age_stream.specs.Cutting.{cut, IsCut};
 ghost use Rattle.age_stream.specs.Payload.{chunks, payload, payload_key, pieces};
 ghost use Rattle.age_stream.specs.Reading.{payload_reading, whole};
+ghost use Rattle.age_stream.specs.Salvage.{last_saved, losses, payload_parts, salvaged};
+ghost use Rattle.age_stream.specs.declared.salvaged.Saved.TheVariants.{LastChunk};
 ghost use Rattle.age_stream.specs.Slice.{IsSlice, plain_len, range_outcome};
 ghost use Rattle.age_stream.specs.Sizes.{nonce_size};
 
@@ -40,4 +42,21 @@ pub fn whole_is_sliced()
         → payload_reading file_key max text ≡ whole plain
         → IsSlice (payload_key file_key (take nonce_size text)) (drop nonce_size text) at xs
         → xs ≡ take (length xs) (drop at plain) }
+{}
+
+/// What is saved of a payload that reads whole is its plaintext: no chunk is lost, and the last
+/// piece is the last chunk. Of any payload it begins with what a reading gives before its fault.
+pub fn salvage_is_reading()
+    ensures whole { (file_key : FileKey) (text plain : Bytes) (max : ℕ)
+        → payload_reading file_key max text ≡ whole plain
+        → salvaged (payload_parts file_key text) ≡ plain }
+    ensures none { (file_key : FileKey) (text plain : Bytes) (max : ℕ)
+        → payload_reading file_key max text ≡ whole plain
+        → losses 0 0 (payload_parts file_key text) ≡ [] }
+    ensures last { (file_key : FileKey) (text plain : Bytes) (max : ℕ)
+        → payload_reading file_key max text ≡ whole plain
+        → last_saved (payload_parts file_key text) ≡ LastChunk }
+    ensures front { (file_key : FileKey) (text : Bytes) (max : ℕ)
+        → (rest : Bytes) × (salvaged (take max (payload_parts file_key text))
+        ≡ (payload_reading file_key max text).front ++ rest) }
 {}

@@ -248,7 +248,7 @@ fn next_piece<S: Source>(
 }
 
 /// The 16 bytes of a payload's nonce.
-fn read_nonce<S: Source>(source: &mut S) -> Result<[u8; 16], StreamFault>
+pub(crate) fn read_nonce<S: Source>(source: &mut S) -> Result<[u8; 16], StreamFault>
     ensures nonce { GivesNonce (flow_by S.to_come S.gave source.old source.new) result }
     ensures gave { IsErrOf result StreamFault.Read
         ⊎ GaveAtMost nonce_size (flow_by S.to_come S.gave source.old source.new) }
@@ -263,7 +263,7 @@ fn read_nonce<S: Source>(source: &mut S) -> Result<[u8; 16], StreamFault>
 }
 
 /// Moves what was read ahead to the start of the buffer.
-fn carry(bytes: &mut [u8], ahead: usize)
+pub(crate) fn carry(bytes: &mut [u8], ahead: usize)
     requires size { length bytes.old ≡ chunk_buf_size }
     requires ahead { ahead ≤ 1 }
     ensures len { length bytes.new ≡ chunk_buf_size }

@@ -1,0 +1,66 @@
+use Rattle.std.proofs.Common.{rules, arith, ◌∙◌, refl, []}
+use Rattle.std.proofs.lemmas.List.{length-take-le}
+use Rattle.age_stream.proofs.OpeningLemmas.{ahead-one}
+use Rattle.age_stream.proofs.SalvageLemmas.{counted, salvaging-more, salvaging-none, saves-last, saves-many, saves-read, saves-write}
+use Rattle.age_stream.proofs.salvaging.save_pieces.Goals as goal
+
+pub loop-done-init : goal.loop-done-init
+loop-done-init g c = record {
+  size = c.requires.size;
+  ahead = omega arith;
+  within = omega arith;
+  saved = salvaging-none c.args.key.now _ [] _ _ _ refl refl refl refl;
+  silent = λ none. refl;
+  reads = refl;
+  writes = refl;
+}
+
+pub returns-then-done-max-clause-saves : goal.returns-then-done-max-clause-saves
+returns-then-done-max-clause-saves g c =
+    saves-many _ _ c.loop-done.done _ _ _ _ _ _ _ c.loop-done.invariant.saved
+    (omega (arith, c.loop-done.invariant.within))
+
+pub returns-in_default-clause-saves : goal.returns-in_default-clause-saves
+returns-in_default-clause-saves g c =
+    saves-read _ c.args.max c.loop-done.done _ _ _ _ _ _ _ _ c.loop-done.invariant.saved c.in_default.ensures.lost
+
+pub returns-in-Err-clause-saves : goal.returns-in-Err-clause-saves
+returns-in-Err-clause-saves g c =
+    let saved = c.save_first-len.ensures in
+    saves-write _ c.args.max c.loop-done.done _ c.in-Ok.n c.read_piece.new.bytes _ _ _ _ _ _ _ _ _
+    c.loop-done.invariant.saved c.in-Ok.ensures.reads c.read_piece.ensures.len saved.part c.in-Err.ensures.text
+
+pub returns-then-n-le-SEALED_CHUNK_SIZE-clause-saves : goal.returns-then-n-le-SEALED_CHUNK_SIZE-clause-saves
+returns-then-n-le-SEALED_CHUNK_SIZE-clause-saves g c =
+    saves-last _ _ c.loop-done.done c.note.new.done _ c.in-Ok.n c.read_piece.new.bytes _ _ _ _ _ _ _ _ _ _
+    c.save_first-len.result.0 c.loop-done.invariant.saved
+    c.in-Ok.ensures.reads c.read_piece.ensures.len (omega arith) (omega arith)
+    (length-take-le c.save_first-len.result.0 c.save_first-len.new.bytes (omega (
+      arith,
+      c.save_first-len.ensures.len,
+      c.save_first-len.ensures.text,
+    )))
+    c.save_first-len.ensures.part c.in-Ok-write_all.ensures.text c.note.ensures.reports c.note.ensures.counts
+
+pub loop-done-preserved : goal.loop-done-preserved
+loop-done-preserved g c =
+    let bytes = c.save_first-len.new.bytes in
+    let more = counted c.loop-done.done c.note.new.done _ _ c.note.ensures.counts in
+    record {
+      size = c.save_first-len.ensures.len;
+      ahead = omega arith;
+      within = omega (arith, more.0);
+      saved = salvaging-more _ c.loop-done.done c.note.new.done _ _ c.in-Ok.n c.read_piece.new.bytes _ _ _ _ _ _ _ _ _ _
+          c.save_first-len.result.0 c.loop-done.invariant.saved
+          c.in-Ok.ensures.reads c.read_piece.ensures.len (omega arith) c.save_first-len.ensures.text
+          (length-take-le c.save_first-len.result.0 c.save_first-len.new.bytes (omega (
+            arith,
+            c.save_first-len.ensures.len,
+            c.save_first-len.ensures.text,
+          )))
+          c.save_first-len.ensures.part c.in-Ok-write_all.ensures.text c.note.ensures.reports c.note.ensures.counts
+          (ahead-one bytes c.save_first-len.ensures.len ∙ c.save_first-len.ensures.rest);
+      silent = λ none. c.note.ensures.silent none ∙ c.loop-done.invariant.silent (omega (arith, none, more.1));
+      reads = search rules;
+      writes = search rules;
+    }

@@ -1,0 +1,166 @@
+-- What can be saved of a payload of which not all chunks open.
+use Rattle.std.specs.Prelude.{ℕ, ◌+◌, ◌-◌, ◌≡◌, ◌≤◌, ◌<◌, ⊤, List, [], ◌∷◌, ◌++◌, Bool, not, length, map, take, drop, replicate, nat_le, IfSome, Option, Some, None, Result, Ok, Err, if◌then◌else◌}
+use Rattle.std.specs.Io.KnownBytes.{IsAtEnd}
+use Rattle.std.specs.List.{concat}
+use Rattle.age_cipher.specs.Bytes.{Key}
+use Rattle.age_kdf.specs.Bytes.{Bytes}
+use Rattle.age_header.specs.Device.{Flow, Gave, Moved, OfGiven, Took, WritesPart}
+use Rattle.age_header.specs.declared.file_key.FileKey.{FileKey}
+use Rattle.age_stream.specs.declared.fault.StreamFault.{StreamFault}
+use Rattle.age_stream.specs.declared.fault.StreamFault.TheVariants.{NonceTruncated, TooManyChunks, Read, Write, Memory}
+use Rattle.age_stream.specs.declared.salvaged.Lost.{Lost}
+use Rattle.age_stream.specs.declared.salvaged.Salvaged.{Salvaged}
+use Rattle.age_stream.specs.declared.salvaged.Saved.{Saved}
+use Rattle.age_stream.specs.declared.salvaged.Saved.TheVariants.{Chunk, LastChunk, Zeros, Nothing}
+use Rattle.age_stream.specs.Payload.{is_end, payload_key, pieces}
+use Rattle.age_stream.specs.Reading.{opened_at}
+use Rattle.age_stream.specs.Sizes.{chunk_buf_size, nonce_size, sealed_chunk_size, tag_size}
+
+-- what stands for a piece in the text that was saved
+pub record Part : Type 0 where
+  pub text : Bytes
+  pub saved : Saved
+
+-- as many zeros as the piece has text
+abbrev pub lost_part : (piece : Bytes) → Part
+lost_part piece = record {
+  text = replicate (length piece - tag_size) 0;
+  saved = if nat_le (length piece) tag_size then Nothing else Zeros;
+}
+
+-- the opening of a piece, or else another part
+abbrev pub opening_or : (last : Bool) (opening : Option Bytes) (other : Part) → Part
+opening_or last (Some text) other =
+    record { text = text; saved = if last then LastChunk else Chunk }
+opening_or last None other = other
+
+-- Piece i as the chunk that its place asks for, else as the last where it isn't, or as one of the
+-- others where it is; else zeros.
+abbrev pub part : (key : Key) (i : ℕ) (last : Bool) (piece : Bytes) → Part
+part key i last piece =
+    opening_or last (opened_at key i last piece)
+    (opening_or (not last) (opened_at key i (not last) piece) (lost_part piece))
+
+-- the parts of these pieces, numbered from i on
+abbrev pub parts : (key : Key) (i : ℕ) (pieces : List Bytes) → List Part
+parts key i [] = []
+parts key i (piece ∷ more) = part key i (is_end more) piece ∷ parts key (i + 1) more
+
+-- the parts of a payload
+abbrev pub payload_parts : (file_key : FileKey) (text : Bytes) → List Part
+payload_parts file_key text =
+    parts (payload_key file_key (take nonce_size text)) 0 (pieces (drop nonce_size text))
+
+-- the parts, joined
+abbrev pub salvaged : List Part → Bytes
+salvaged parts = concat (map (λ p. p.text) parts)
+
+-- the chunk, if zeros are in its place
+abbrev pub loss : (saved : Saved) (lost : Lost) → List Lost
+loss Zeros lost = lost ∷ []
+loss _ lost = []
+
+-- the lost chunks, in order: the first part is chunk i, at this offset
+abbrev pub losses : (i at : ℕ) (parts : List Part) → List Lost
+losses i at [] = []
+losses i at (p ∷ more) =
+    loss p.saved (record { chunk = i; start = at; len = length p.text })
+    ++ losses (i + 1) (at + length p.text) more
+
+-- what was saved of the last piece
+abbrev pub last_saved : List Part → Saved
+last_saved [] = Nothing
+last_saved (p ∷ []) = p.saved
+last_saved (p ∷ q ∷ more) = last_saved (q ∷ more)
+
+-- how much there is of each
+abbrev pub summary : (parts : List Part) → Salvaged
+summary parts = record {
+  bytes = length (salvaged parts);
+  chunks = length parts;
+  lost = length (losses 0 0 parts);
+  last = last_saved parts;
+}
+
+-- the chunks that were reported as lost, if they are known, before a call and after it
+abbrev pub KnownLosses : Type 0
+KnownLosses = Option (List Lost)
+
+pub record Told : Type 0 where
+  pub before : KnownLosses
+  pub after : KnownLosses
+
+abbrev pub told : (before after : KnownLosses) → Told
+told before after = record { before = before; after = after }
+
+abbrev pub told_by : {L : Type 0} (lost : L → KnownLosses) (old new : L) → Told
+told_by lost old new = told (lost old) (lost new)
+
+-- these chunks were reported, after those that were reported before
+abbrev pub Reports : (losses : Told) (list : List Lost) → Type 0
+Reports losses list = IfSome losses.before (λ past. losses.after ≡ Some (past ++ list))
+
+-- the first n parts were written, and the lost chunks among them reported
+abbrev pub Saves : (n : ℕ) (parts : List Part) (sink : Moved) (lost : Told) → Type 0
+Saves n parts sink lost =
+    Took sink (salvaged (take n parts)) × Reports lost (losses 0 0 (take n parts))
+
+-- What is returned where these are the parts: all were written, or as many as chunks are allowed,
+-- or some where a read failed, and where a write failed a prefix of their text.
+abbrev pub SavesParts : (max : ℕ) (parts : List Part) (sink : Moved) (lost : Told)
+    (r : Result Salvaged StreamFault) → Type 0
+SavesParts max parts sink lost (Ok s) =
+    (length parts ≤ max) × Saves (length parts) parts sink lost × (s ≡ summary parts)
+SavesParts max parts sink lost (Err TooManyChunks) =
+    (max < length parts) × Saves max parts sink lost
+SavesParts max parts sink lost (Err Read) = (n : ℕ) × Saves n parts sink lost
+SavesParts max parts sink lost (Err Write) =
+    (n : ℕ) × WritesPart sink (salvaged parts) × Reports lost (losses 0 0 (take n parts))
+SavesParts max parts sink lost (Err _) = ⊥
+
+-- the same of a payload; nothing was written where there is no whole nonce, or no memory
+abbrev pub SavesPayload : (file_key : FileKey) (max : ℕ) (text : Bytes) (sink : Moved)
+    (lost : Told) (r : Result Salvaged StreamFault) → Type 0
+SavesPayload file_key max text sink lost (Err NonceTruncated) =
+    (length text < nonce_size) × Saves 0 [] sink lost
+SavesPayload file_key max text sink lost (Err Memory) = Saves 0 [] sink lost
+SavesPayload file_key max text sink lost (Err Read) =
+    SavesParts max (payload_parts file_key text) sink lost (Err Read)
+SavesPayload file_key max text sink lost r =
+    (nonce_size ≤ length text) × SavesParts max (payload_parts file_key text) sink lost r
+
+-- the same of the bytes that the source gave
+abbrev pub Salvages : (file_key : FileKey) (max : ℕ) (source : Flow) (sink : Moved) (lost : Told)
+    (r : Result Salvaged StreamFault) → Type 0
+Salvages file_key max source sink lost r =
+    OfGiven source (λ text. SavesPayload file_key max text sink lost r)
+
+-- a fault before which something may have been written
+abbrev pub IsOfPieces : StreamFault → Type 0
+IsOfPieces TooManyChunks = ⊤
+IsOfPieces Read = ⊤
+IsOfPieces Write = ⊤
+IsOfPieces _ = ⊥
+
+-- what the first piece of c gives as piece i; it is the last where no byte follows it
+abbrev pub first_part : (key : Key) (i : ℕ) (c : Bytes) → Part
+first_part key i c =
+    part key i (nat_le (length c) sealed_chunk_size) (take sealed_chunk_size c)
+
+-- the summary with one part more
+abbrev pub with_part : (s : Salvaged) (len : ℕ) (saved : Saved) → Salvaged
+with_part s len saved = record {
+  bytes = s.bytes + len;
+  chunks = s.chunks + 1;
+  lost = s.lost + length (loss saved (record { chunk = s.chunks; start = s.bytes; len = len }));
+  last = saved;
+}
+
+-- So many bytes are at the start of the buffer: those that were held, and after them those that the
+-- source gave. Fewer than it has room for are all up to the end of the source.
+pub record ReadsAhead (held : Bytes) (n : ℕ) (after : Bytes) (source : Flow) : Type 0 where
+  pub given : Bytes
+  pub gave : Gave source given
+  pub is : take n after ≡ held ++ given
+  pub room : n ≤ chunk_buf_size
+  pub end : n < chunk_buf_size → IsAtEnd source.after.to_come

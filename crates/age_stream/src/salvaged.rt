@@ -1,0 +1,50 @@
+//! What was saved of a payload, and what was lost.
+ghost use Rattle.std.specs.Prelude.{[], ◌∷◌};
+ghost use Rattle.age_stream.specs.Salvage.{KnownLosses, Reports, told_by};
+
+/// What was saved of one piece of a payload.
+#[derive(Clone, Copy, Debug, Drop, PartialEq, Eq)]
+pub enum Saved {
+    /// A chunk that others follow.
+    Chunk,
+    /// The last chunk.
+    LastChunk,
+    /// The piece opens neither as the last chunk nor as another: zeros stand in its place.
+    Zeros,
+    /// The same of a piece without text: it has no more bytes than a tag, 16.
+    Nothing,
+}
+
+/// A chunk that was lost. Chunks are numbered from 0.
+#[derive(Clone, Copy, Debug, Drop, PartialEq, Eq)]
+pub struct Lost {
+    /// The chunk's number.
+    pub chunk: u128,
+    /// The offset of its text in the plaintext.
+    pub start: u128,
+    /// The length of its text.
+    pub len: usize,
+}
+
+/// How much was saved.
+#[derive(Clone, Copy, Debug, Drop, PartialEq, Eq)]
+pub struct Salvaged {
+    /// The number of bytes written, zeros included.
+    pub bytes: u128,
+    /// The number of pieces.
+    pub chunks: u128,
+    /// The number of lost chunks.
+    pub lost: u128,
+    /// What was saved of the last piece.
+    pub last: Saved,
+}
+
+/// Where lost chunks are reported.
+pub trait Losses {
+    // The chunks reported so far, if they are known to proofs.
+    ghost lost: { Self → KnownLosses };
+
+    /// Reports one more lost chunk.
+    fn lose(&mut self, chunk: Lost)
+        ensures { Reports (told_by lost self.old self.new) (chunk ∷ []) };
+}

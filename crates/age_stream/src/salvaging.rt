@@ -1,0 +1,205 @@
+//! Saving the chunks that open of a damaged payload.
+ghost use Rattle.std.specs.Prelude.{◌≡◌, ◌⊎◌, ◌<◌, ◌≤◌, ◌+◌, ◌-◌, ◌^◌, length, take, drop, Some, None, Ok, Err, IfOk, OnErr, IfErr};
+ghost use Rattle.std.specs.Io.KnownBytes.{IsAtEnd};
+ghost use Rattle.age_header.specs.Device.{Counts, CountsIf, GaveSome, OfGiven, flow_by, moved_by};
+ghost use Rattle.age_header.specs.Filling.{Filled};
+ghost use Rattle.age_stream.specs.Counts.{is_read, is_write};
+ghost use Rattle.age_stream.specs.Payload.{pieces};
+ghost use Rattle.age_stream.specs.Salvage.{IsOfPieces, ReadsAhead, Reports, Salvages, SavesParts, first_part, loss, part, parts, told_by, with_part};
+ghost use Rattle.age_stream.specs.Sizes.{chunk_size, sealed_chunk_size, most_chunks, tag_size, chunk_buf_size};
+
+use crate::buffer::ChunkBuf;
+use crate::chunk_keys::{chunk_nonce, payload_key};
+use crate::fault::StreamFault;
+use crate::opening::{carry, open_prefix, read_nonce};
+use crate::salvaged::{Losses, Lost, Salvaged, Saved};
+use crate::sizes::{SEALED_CHUNK_SIZE, TAG_SIZE};
+use age_header::{DeviceFault, FileKey, Sink, Source, fill_from, write_all};
+use std::alloc::Global;
+
+/// Saves what it can of a payload that is left in the source. It writes the text of each chunk that
+/// opens, at its offset: in the place of one that doesn't open there are zeros, and the chunk is
+/// reported. A chunk opens as the last or as another, wherever it stands.
+///
+/// Each chunk that was saved is genuine, and stands where it stood in the plaintext. The plaintext
+/// as a whole is genuine only if no chunk was lost and the last piece is the last chunk.
+///
+/// # Errors
+/// `Memory` if the allocation was refused: nothing was read. `NonceTruncated` if the source returns
+/// fewer than 16 bytes. `TooManyChunks` if there are more than `max_chunks`, which were written.
+/// `Read` and `Write` if a device failed: what was saved before was written, and on `Write` a
+/// prefix of one more chunk.
+pub fn salvage_payload<S: Source, W: Sink, L: Losses>(
+    alloc: Global,
+    key: &FileKey,
+    source: &mut S,
+    out: &mut W,
+    losses: &mut L,
+    max_chunks: u128,
+) -> Result<Salvaged, StreamFault>
+    requires { max_chunks ≤ most_chunks }
+    // Each chunk that opens was written at its offset, zeros for each other, and each lost chunk
+    // was reported, in order.
+    ensures salvages { Salvages key.now max_chunks
+        (flow_by S.to_come S.gave source.old source.new) (moved_by W.taken out.old out.new)
+        (told_by L.lost losses.old losses.new) result }
+    // Where no chunk is lost none was reported.
+    ensures silent { IfOk result (λ s. s.lost ≡ 0 → losses.new ≡ losses.old) }
+    // Without a nonce, or memory, nothing was written or reported.
+    ensures quiet { IfErr result
+        (λ fault. IsOfPieces fault ⊎ ((out.new ≡ out.old) × (losses.new ≡ losses.old))) }
+    ensures reads { CountsIf is_read (S.failed source.old) (S.failed source.new) result }
+    ensures writes { CountsIf is_write (W.failed out.old) (W.failed out.new) result }
+{
+    let Ok(buf) = ChunkBuf::new(alloc) else {
+        return Err(StreamFault::Memory);
+    };
+    let nonce = match read_nonce(source) {
+        Ok(nonce) => nonce,
+        Err(fault) => return Err(fault),
+    };
+    let mut bytes = buf.into_bytes();
+    let key = payload_key(key, &nonce);
+    save_pieces(source, out, losses, &key, max_chunks, bytes.as_mut_slice())
+}
+
+/// Saves what it can of the pieces that are left in the source.
+fn save_pieces<S: Source, W: Sink, L: Losses>(
+    source: &mut S,
+    out: &mut W,
+    losses: &mut L,
+    key: &[u8; 32],
+    max: u128,
+    bytes: &mut [u8],
+) -> Result<Salvaged, StreamFault>
+    requires size { length bytes.old ≡ chunk_buf_size }
+    requires small { max ≤ most_chunks }
+    ensures saves { OfGiven (flow_by S.to_come S.gave source.old source.new)
+        (λ rest. SavesParts max (parts key.now 0 (pieces rest)) (moved_by W.taken out.old out.new)
+        (told_by L.lost losses.old losses.new) result) }
+    ensures silent { IfOk result (λ s. s.lost ≡ 0 → losses.new ≡ losses.old) }
+    ensures pieces { IfErr result IsOfPieces }
+    ensures reads { CountsIf is_read (S.failed source.old) (S.failed source.new) result }
+    ensures writes { CountsIf is_write (W.failed out.old) (W.failed out.new) result }
+{
+    let mut done = Salvaged {
+        bytes: 0,
+        chunks: 0,
+        lost: 0,
+        last: Saved::Nothing,
+    };
+    let mut ahead = 0;
+    loop {
+        if done.chunks >= max {
+            return Err(StreamFault::TooManyChunks);
+        }
+        let Ok(n) = read_piece(source, bytes, ahead) else {
+            return Err(StreamFault::Read);
+        };
+        let (len, saved) = save_first(key, done.chunks, bytes, n);
+        match write_all(out, &bytes[..len]) {
+            Ok(()) => note(&mut done, losses, len, saved),
+            Err(_) => return Err(StreamFault::Write),
+        }
+        if n <= SEALED_CHUNK_SIZE {
+            return Ok(done);
+        }
+        ahead = 1;
+    }
+}
+
+/// Reads the next piece, and the byte after it. Before the call the last byte of the buffer is the
+/// first of this piece, if `ahead` is 1.
+fn read_piece<S: Source>(
+    source: &mut S,
+    bytes: &mut [u8],
+    ahead: usize,
+) -> Result<usize, DeviceFault>
+    requires size { length bytes.old ≡ chunk_buf_size }
+    requires ahead { ahead ≤ 1 }
+    ensures len { length bytes.new ≡ chunk_buf_size }
+    ensures reads { IfOk result (λ n. ReadsAhead (take ahead (drop sealed_chunk_size bytes.old)) n
+        bytes.new (flow_by S.to_come S.gave source.old source.new)) }
+    ensures lost { OnErr result (GaveSome (flow_by S.to_come S.gave source.old source.new)) }
+    ensures count { Counts (S.failed source.old) (S.failed source.new) result }
+{
+    carry(bytes, ahead);
+    fill_from(source, bytes, ahead)
+}
+
+/// Saves what it can of piece i, which is the first of these `n` bytes: its text, or zeros, is then
+/// at the start of the buffer. Returns its length.
+fn save_first(key: &[u8; 32], i: u128, bytes: &mut [u8], n: usize) -> (usize, Saved)
+    requires size { length bytes.old ≡ chunk_buf_size }
+    requires high { n ≤ chunk_buf_size }
+    requires small { i < most_chunks }
+    ensures len { length bytes.new ≡ chunk_buf_size }
+    ensures part { first_part key.now i (take n bytes.old)
+        ≡ record { text = take result.0 bytes.new; saved = result.1 } }
+    ensures rest { drop sealed_chunk_size bytes.new ≡ drop sealed_chunk_size bytes.old }
+    ensures text { result.0 ≤ chunk_size }
+{
+    let (piece, _) = bytes.split_at_mut(SEALED_CHUNK_SIZE);
+    if n <= SEALED_CHUNK_SIZE {
+        (
+            n.saturating_sub(TAG_SIZE),
+            save_piece(key, i, true, piece, n),
+        )
+    } else {
+        (
+            SEALED_CHUNK_SIZE - TAG_SIZE,
+            save_piece(key, i, false, piece, SEALED_CHUNK_SIZE),
+        )
+    }
+}
+
+/// Opens the first `end` bytes in place as chunk i, last or not, the likelier first. If they open
+/// as neither, zeros are written over their text.
+fn save_piece(key: &[u8; 32], i: u128, last: bool, bytes: &mut [u8], end: usize) -> Saved
+    requires high { end ≤ length bytes.old }
+    requires size { end ≤ sealed_chunk_size }
+    requires small { i < most_chunks }
+    ensures len { length bytes.new ≡ length bytes.old }
+    ensures part { part key.now i last (take end bytes.old)
+        ≡ record { text = take (end - tag_size) bytes.new; saved = result } }
+{
+    if end < TAG_SIZE {
+        return Saved::Nothing;
+    }
+    if open_prefix(key, &chunk_nonce(i, last), bytes, end) {
+        return if last { Saved::LastChunk } else { Saved::Chunk };
+    }
+    if open_prefix(key, &chunk_nonce(i, !last), bytes, end) {
+        return if last { Saved::Chunk } else { Saved::LastChunk };
+    }
+    let (text, _) = bytes.split_at_mut(end - TAG_SIZE);
+    text.fill(0);
+    if end == TAG_SIZE {
+        Saved::Nothing
+    } else {
+        Saved::Zeros
+    }
+}
+
+/// Counts one part more, and reports a lost chunk.
+fn note<L: Losses>(done: &mut Salvaged, losses: &mut L, len: usize, saved: Saved)
+    requires bytes { done.old.bytes + len < 2 ^ 128 }
+    requires chunks { done.old.chunks + 1 < 2 ^ 128 }
+    requires lost { done.old.lost ≤ done.old.chunks }
+    ensures counts { done.new ≡ with_part done.old len saved }
+    ensures reports { Reports (told_by L.lost losses.old losses.new)
+        (loss saved (record { chunk = done.old.chunks; start = done.old.bytes; len = len })) }
+    ensures silent { done.new.lost ≡ 0 → losses.new ≡ losses.old }
+{
+    if let Saved::Zeros = saved {
+        losses.lose(Lost {
+            chunk: done.chunks,
+            start: done.bytes,
+            len,
+        });
+        done.lost += 1;
+    }
+    done.bytes += len as u128;
+    done.chunks += 1;
+    done.last = saved;
+}
