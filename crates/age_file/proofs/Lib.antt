@@ -9,4 +9,6 @@ pub mod OwnLabels
 mod PayloadLemmas
 mod RangeLemmas
 mod RewrapLemmas
+mod SalvageLaws
+mod SalvageLemmas
 mod SlicedLemmas

@@ -6,6 +6,7 @@ pub mod Inspect
 pub mod NewFile
 pub mod Ranges
 pub mod Rewrap
+pub mod Salvage
 pub mod Stage
 pub mod States
 pub mod Verdict

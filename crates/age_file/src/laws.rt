@@ -1,20 +1,25 @@
 //! Laws over the definitions alone: functions that do nothing, each with a law as its contract.
 
-ghost use Rattle.std.specs.Prelude.{◌≡◌, ◌↔◌, ◌⊎◌, ℕ, ◌+◌, List, [], ◌∷◌, ◌++◌, replicate, length, take, drop, Option, Some, None, Ok};
-ghost use Rattle.age_header.specs.Device.{Bytes};
+ghost use Rattle.std.specs.Prelude.{◌≡◌, ◌↔◌, ◌⊎◌, ℕ, ◌+◌, List, [], ◌∷◌, ◌++◌, replicate, length, take, drop, Option, Some, None, Ok, Err};
+ghost use Rattle.age_header.specs.Device.{Bytes, Moved, Took};
 ghost use Rattle.age_header.specs.Header.{StanzaParts};
 ghost use Rattle.age_header.specs.declared.file_key.FileKey.{FileKey};
 ghost use Rattle.age_recipient.specs.Choice.{choice};
 ghost use Rattle.age_recipient.specs.Key.{IsFileKey};
 ghost use Rattle.age_recipient.specs.Labels.{incompatible};
 ghost use Rattle.age_stream.specs.Ranges.{HasPlain, RangeState};
-ghost use Rattle.age_stream.specs.Reading.{Reading, whole};
+ghost use Rattle.age_stream.specs.Reading.{Reading, stops, whole};
+ghost use Rattle.age_stream.specs.Salvage.{Reports, Told};
+ghost use Rattle.age_stream.specs.declared.salvaged.Salvaged.{Salvaged};
+ghost use Rattle.age_stream.specs.declared.salvaged.Saved.TheVariants.{LastChunk};
 ghost use Rattle.age_file.specs.declared.fault.Fault.{Fault};
 ghost use Rattle.age_file.specs.declared.fault.Fault.TheVariants.{OutOfMemory, Read};
 ghost use Rattle.age_file.specs.AgeFile.{AgeFile, Bounds};
+ghost use Rattle.age_file.specs.Device.{IsLate};
 ghost use Rattle.age_file.specs.NewFile.{IsIncompatible};
 ghost use Rattle.age_file.specs.Ranges.{IsRangesOf, MissesRanges};
 ghost use Rattle.age_file.specs.Rewrap.{Rewrapped};
+ghost use Rattle.age_file.specs.Salvage.{SavesFile};
 ghost use Rattle.age_file.specs.Verdict.{Answering, IsVerdict};
 
 use age_recipient::{Labels, Matched};
@@ -82,4 +87,25 @@ pub fn rewrap_keeps()
     ensures { (limits : Bounds) (old new : Answering) (b c : Bytes) (is : Rewrapped limits old b c)
         → choice (new is.stanzas) ≡ Ok is.key → (v : Reading Fault)
         → IsVerdict limits old b v ↔ IsVerdict limits new c v }
+{}
+
+/// What salvaging writes of a file is its plaintext, if the verdict on it is that plaintext: no
+/// chunk is lost, and the last piece is the last chunk. Of any file it begins with the plaintext of
+/// the verdict. A fault before which nothing was written is the verdict's.
+pub fn salvage_is_verdict()
+    ensures whole { (limits : Bounds) (answers : Answering) (b plain : Bytes) (sink : Moved)
+        (lost : Told) (s : Salvaged) → IsVerdict limits answers b (whole plain)
+        → SavesFile limits answers b sink lost (Ok s) → Took sink plain }
+    ensures none { (limits : Bounds) (answers : Answering) (b plain : Bytes) (sink : Moved)
+        (lost : Told) (s : Salvaged) → IsVerdict limits answers b (whole plain)
+        → SavesFile limits answers b sink lost (Ok s) → Reports lost [] × (s.lost ≡ 0)
+        × (s.last ≡ LastChunk) }
+    ensures front { (limits : Bounds) (answers : Answering) (b : Bytes) (v : Reading Fault)
+        (sink : Moved) (lost : Told) (s : Salvaged) → IsVerdict limits answers b v
+        → SavesFile limits answers b sink lost (Ok s)
+        → (rest : Bytes) × Took sink (v.front ++ rest) }
+    ensures fault { (limits : Bounds) (answers : Answering) (b : Bytes) (v : Reading Fault)
+        (sink : Moved) (lost : Told) (fault : Fault) → IsVerdict limits answers b v
+        → SavesFile limits answers b sink lost (Err fault)
+        → IsLate fault ⊎ (fault ≡ OutOfMemory) ⊎ (v ≡ stops fault) }
 {}

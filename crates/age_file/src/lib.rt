@@ -13,11 +13,11 @@
 //!
 //! `encrypt` needs recipients and `decrypt` identities, in boxes; `Fresh` is 32 random bytes that
 //! are never used for two files. `rewrap` gives a file another passphrase or key, `open_ranges`
-//! reads any part of a plaintext, `inspect` reads a header, and `Encryptor` and `Decryptor` are the
-//! two in steps: the first takes the plaintext piece by piece, the second returns it chunk by
-//! chunk. One definition, the verdict (`specs/Verdict.antt`), says what bytes are to given
-//! identities. The contracts and the laws in `laws` cite it. The terms are defined in
-//! docs/DESIGN.md, "Words".
+//! reads any part of a plaintext, `salvage` saves what it can of a damaged file, `inspect` reads a
+//! header, and `Encryptor` and `Decryptor` are the two in steps: the first takes the plaintext
+//! piece by piece, the second returns it chunk by chunk. One definition, the verdict
+//! (`specs/Verdict.antt`), says what bytes are to given identities. The contracts and the laws in
+//! `laws` cite it. The terms are defined in docs/DESIGN.md, "Words".
 //!
 //! `fault` has the texts of the errors, and `limits` the limits of a header and of the number of
 //! chunks. The chunk size is in `age_stream` (`src/sizes.rt`, `specs/Sizes.antt`), the range of
@@ -48,6 +48,7 @@ mod limits;
 mod new_header;
 mod ranges;
 mod rewrapping;
+mod salvaging;
 mod unlocking;
 
 pub use age_header::{
@@ -60,8 +61,9 @@ pub use age_recipient::{
     WrapFault, first_incompatible, unlock,
 };
 pub use age_stream::{
-    CHUNK_SIZE, ChunkBuf, Done, FileAt, MemAt, NONCE_SIZE, RangeReader, ReadAt, Refused,
-    SEALED_CHUNK_SIZE, StreamFault, StreamReader, StreamWriter, TAG_SIZE, chunk_nonce,
+    CHUNK_SIZE, ChunkBuf, Done, FileAt, Losses, Lost, MemAt, NONCE_SIZE, RangeReader, ReadAt,
+    Refused, SEALED_CHUNK_SIZE, Salvaged, Saved, StreamFault, StreamReader, StreamWriter, TAG_SIZE,
+    chunk_nonce,
 };
 pub use copying::BUFFER_SIZE;
 pub use decrypting::decrypt;
@@ -74,4 +76,5 @@ pub use limits::{Fresh, Limits, MOST_CHUNKS};
 pub use new_header::header_for;
 pub use ranges::{open_ranges, opened_ranges};
 pub use rewrapping::rewrap;
+pub use salvaging::salvage;
 pub use unlocking::{is_mixed, unlock_header};

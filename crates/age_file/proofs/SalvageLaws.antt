@@ -1,0 +1,151 @@
+-- What is saved of a file, and the verdict on it.
+use Rattle.std.proofs.Common.{◌≡◌, ◌⊎◌, ◌∙◌, ◌++◌, [], length, take, drop, sym, ap, subst, List, inl, inr, arith, nat_lt, Result, Ok, Err}
+use Rattle.std.proofs.lemmas.Bool.{lt-ltb, cond-true}
+use Rattle.std.proofs.lemmas.List.{take_all}
+use Rattle.age_header.specs.declared.fault.HeaderFault.{HeaderFault}
+use Rattle.age_header.specs.declared.file_key.FileKey.{FileKey}
+use Rattle.age_header.specs.Device.{Bytes, Moved, Took}
+use Rattle.age_header.specs.Verdict.{Found}
+use Rattle.age_header.proofs.VerdictUniqueLemmas as headers
+use Rattle.age_stream.specs.declared.fault.StreamFault.{StreamFault}
+use Rattle.age_stream.specs.declared.fault.StreamFault.TheVariants as stream
+use Rattle.age_stream.specs.declared.salvaged.Salvaged.{Salvaged}
+use Rattle.age_stream.specs.declared.salvaged.Saved.TheVariants.{LastChunk}
+use Rattle.age_stream.specs.Reading.{Reading, payload_reading, stops, whole}
+use Rattle.age_stream.specs.Salvage.{IsOfPieces, Part, Reports, Saves, SavesParts, SavesPayload, Told, losses, payload_parts, salvaged}
+use Rattle.age_stream.proofs.SalvageReading.{payload-front, payload-whole}
+use Rattle.age_file.specs.declared.fault.Fault.{Fault}
+use Rattle.age_file.specs.declared.fault.Fault.TheVariants.{OutOfMemory}
+use Rattle.age_file.specs.AgeFile.{Bounds}
+use Rattle.age_file.specs.Device.{IsLate}
+use Rattle.age_file.specs.Salvage.{SavesAfter, SavesFile, SavesUnder}
+use Rattle.age_file.specs.Verdict.{Answering, IsVerdict, header_fault, judged, parts_of, read_under, stream_fault, unlocked, with_file_fault}
+use Rattle.age_file.proofs.DecryptLemmas.{err-err}
+use Rattle.age_file.proofs.FileLemmas.{with_file_fault-whole}
+
+err-ok : (f : Fault) (s : Salvaged) → ◌≡◌ {A = Result Salvaged Fault} (Ok s) (Err f) → ⊥
+err-ok f s e = cc
+
+ok-ok : (s t : Salvaged) → ◌≡◌ {A = Result Salvaged Fault} (Ok s) (Ok t) → s ≡ t
+ok-ok s t e = cc
+
+-- the header of the verdict is the one under which the file was saved
+same-header : (limits : Bounds) (answers : Answering) (b : Bytes) (v : Reading Fault) (sink : Moved) (lost : Told)
+    (r : Result Salvaged Fault) → IsVerdict limits answers b v → (f : SavesFile limits answers b sink lost r)
+    → v ≡ judged limits answers b f.header
+same-header limits answers b v sink lost r i f = i.is ∙ ap (judged limits answers b)
+    (headers.one_verdict b limits.max_header i.header f.header i.header_verdict f.header_verdict)
+
+-- a payload that was read for the verdict was saved
+record SavedOf (limits : Bounds) (v : Reading Fault) (sink : Moved) (lost : Told) (s : Salvaged) : Type 0 where
+  pub key : FileKey
+  pub rest : Bytes
+  pub reads : v ≡ with_file_fault (payload_reading key limits.max_chunks rest)
+  pub saves : SavesParts limits.max_chunks (payload_parts key rest) sink lost (Ok s)
+
+saved-of : (limits : Bounds) (answers : Answering) (b : Bytes) (v : Reading Fault) (sink : Moved) (lost : Told)
+    (s : Salvaged) → IsVerdict limits answers b v → SavesFile limits answers b sink lost (Ok s)
+    → SavedOf limits v sink lost s
+saved-of limits answers b v sink lost s i f = go f.header (same-header limits answers b v sink lost (Ok s) i f) f.saves
+  where
+    under : (rest : Bytes) (key : Result FileKey Fault) → v ≡ read_under limits rest key
+        → SavesUnder limits rest key sink lost (Ok s) → SavedOf limits v sink lost s
+    under rest (Err fault) is h = absurd (err-ok fault s h.0)
+    under rest (Ok k) is (Err g, e, h) = absurd (err-ok (stream_fault g) s e)
+    under rest (Ok k) is (Ok t, e, h) = record {
+      key = k;
+      rest = rest;
+      reads = is;
+      saves = subst (λ x. SavesParts limits.max_chunks (payload_parts k rest) sink lost (Ok x)) (sym (ok-ok s t e)) h.1;
+    }
+
+    go : (header : Result Found HeaderFault) → v ≡ judged limits answers b header
+        → SavesAfter limits answers b header sink lost (Ok s) → SavedOf limits v sink lost s
+    go (Err g) is h = absurd (err-ok (header_fault g) s h.0)
+    go (Ok found) is h = under (drop (length found.text) b) (unlocked answers (parts_of found)) is h
+
+-- all parts were written
+written : (ps : List Part) (sink : Moved) (lost : Told) → Saves (length ps) ps sink lost
+    → Took sink (salvaged ps) × Reports lost (losses 0 0 ps)
+written ps sink lost h =
+    let all : take (length ps) ps ≡ ps = take_all (length ps) ps (omega arith) in
+    subst (λ x. Took sink (salvaged x) × Reports lost (losses 0 0 x)) all h
+
+pub saved-front : (limits : Bounds) (answers : Answering) (b : Bytes) (v : Reading Fault) (sink : Moved) (lost : Told)
+    (s : Salvaged) → IsVerdict limits answers b v → SavesFile limits answers b sink lost (Ok s)
+    → (rest : Bytes) × Took sink (v.front ++ rest)
+saved-front limits answers b v sink lost s i f =
+    let o = saved-of limits answers b v sink lost s i f in
+    let ps : List Part = payload_parts o.key o.rest in
+    let begins = payload-front o.key o.rest limits.max_chunks in
+    let all : take limits.max_chunks ps ≡ ps = take_all limits.max_chunks ps o.saves.0 in
+    let text : salvaged ps ≡ v.front ++ begins.0 = ap salvaged (sym all) ∙ begins.1
+    ∙ ap (λ (r : Reading Fault). r.front ++ begins.0) (sym o.reads) in
+    (begins.0, subst (Took sink) text (written ps sink lost o.saves.1).0)
+
+pub saved-whole : (limits : Bounds) (answers : Answering) (b plain : Bytes) (sink : Moved) (lost : Told)
+    (s : Salvaged) → IsVerdict limits answers b (whole plain) → SavesFile limits answers b sink lost (Ok s)
+    → Took sink plain × Reports lost [] × (s.lost ≡ 0) × (s.last ≡ LastChunk)
+saved-whole limits answers b plain sink lost s i f =
+    let o = saved-of limits answers b (whole plain) sink lost s i f in
+    let ps : List Part = payload_parts o.key o.rest in
+    let a = payload-whole o.key o.rest plain limits.max_chunks (with_file_fault-whole plain _ o.reads) in
+    let w = written ps sink lost o.saves.1 in (
+      subst (Took sink) a.is w.0,
+      subst (Reports lost) (a.none 0) w.1,
+      ap (λ (x : Salvaged). x.lost) o.saves.2 ∙ ap length (a.none 0),
+      ap (λ (x : Salvaged). x.last) o.saves.2 ∙ a.ends,
+    )
+
+-- a fault of a payload of which something may have been saved is late
+late-pieces : (g : StreamFault) → IsOfPieces g → IsLate (stream_fault g)
+late-pieces stream.TooManyChunks h = tt
+late-pieces stream.Read h = tt
+late-pieces stream.Write h = tt
+late-pieces _ h = absurd h
+
+pub quiet-pieces : {P Q : Type 0} (g : StreamFault) → IsOfPieces g ⊎ (P × Q) → IsLate (stream_fault g) ⊎ P
+quiet-pieces g (inl h) = inl (late-pieces g h)
+quiet-pieces g (inr h) = inr h.0
+
+pub saved-fault : (limits : Bounds) (answers : Answering) (b : Bytes) (v : Reading Fault) (sink : Moved) (lost : Told)
+    (fault : Fault) → IsVerdict limits answers b v → SavesFile limits answers b sink lost (Err fault)
+    → IsLate fault ⊎ (fault ≡ OutOfMemory) ⊎ (v ≡ stops fault)
+saved-fault limits answers b v sink lost fault i f =
+    go f.header (same-header limits answers b v sink lost (Err fault) i f) f.saves
+  where
+    same : (g : Fault) → ◌≡◌ {A = Result Salvaged Fault} (Err fault) (Err g) → v ≡ stops g
+        → IsLate fault ⊎ (fault ≡ OutOfMemory) ⊎ (v ≡ stops fault)
+    same g e is = inr (inr (is ∙ ap stops (sym (err-err {A = Salvaged} fault g e))))
+
+    late : (g : StreamFault) → ◌≡◌ {A = Result Salvaged Fault} (Err fault) (Err (stream_fault g)) → IsOfPieces g
+        → IsLate fault ⊎ (fault ≡ OutOfMemory) ⊎ (v ≡ stops fault)
+    late g e h = inl (subst IsLate (sym (err-err {A = Salvaged} fault (stream_fault g) e)) (late-pieces g h))
+
+    piece : (k : FileKey) (rest : Bytes) (g : StreamFault) → v ≡ read_under limits rest (Ok k)
+        → ◌≡◌ {A = Result Salvaged Fault} (Err fault) (Err (stream_fault g))
+        → SavesPayload k limits.max_chunks rest sink lost (Err g)
+        → IsLate fault ⊎ (fault ≡ OutOfMemory) ⊎ (v ≡ stops fault)
+    piece k rest stream.Read is e h = late stream.Read e tt
+    piece k rest stream.Write is e h = late stream.Write e tt
+    piece k rest stream.TooManyChunks is e h = late stream.TooManyChunks e tt
+    piece k rest stream.Memory is e h = inr (inl (err-err {A = Salvaged} fault OutOfMemory e))
+    piece k rest stream.NonceTruncated is e h =
+        same (stream_fault stream.NonceTruncated) e
+        (is ∙ ap with_file_fault (cond-true (nat_lt (length rest) 16) _ _ (lt-ltb (length rest) 16 h.0)))
+    piece k rest (stream.ChunkShort j) is e h = absurd h.1
+    piece k rest (stream.EmptyFinal j) is e h = absurd h.1
+    piece k rest (stream.BadChunk j) is e h = absurd h.1
+
+    under : (rest : Bytes) (key : Result FileKey Fault) → v ≡ read_under limits rest key
+        → SavesUnder limits rest key sink lost (Err fault)
+        → IsLate fault ⊎ (fault ≡ OutOfMemory) ⊎ (v ≡ stops fault)
+    under rest (Err g) is h = same g h.0 is
+    under rest (Ok k) is (Ok t, e, h) = absurd (err-ok fault t (sym e))
+    under rest (Ok k) is (Err g, e, h) = piece k rest g is e h
+
+    go : (header : Result Found HeaderFault) → v ≡ judged limits answers b header
+        → SavesAfter limits answers b header sink lost (Err fault)
+        → IsLate fault ⊎ (fault ≡ OutOfMemory) ⊎ (v ≡ stops fault)
+    go (Err g) is h = same (header_fault g) h.0 is
+    go (Ok found) is h = under (drop (length found.text) b) (unlocked answers (parts_of found)) is h

@@ -1,0 +1,63 @@
+//! Saving what can be saved of a damaged file.
+
+ghost use Rattle.std.specs.Prelude.{◌≡◌, IfOk};
+ghost use Rattle.age_header.specs.Device.{CountsIf, flow_by, moved_by};
+ghost use Rattle.age_stream.specs.Salvage.{told_by};
+ghost use Rattle.age_file.specs.Device.{IsQuiet, is_read, is_write};
+ghost use Rattle.age_file.specs.Salvage.{SalvagesFile};
+ghost use Rattle.age_file.specs.Verdict.{answers_by};
+
+use crate::fault::Fault;
+use crate::fault_conversions::stream_fault;
+use crate::inspecting::inspect;
+use crate::limits::Limits;
+use crate::unlocking::unlock_header;
+use age_header::{Sink, Source};
+use age_recipient::Identity;
+use age_stream::{Losses, Salvaged, salvage_payload};
+use std::alloc::Global;
+
+/// Saves what it can of a damaged file (C2SP `age.md`), which is all bytes left in the source. It
+/// writes the plaintext of each chunk that opens, at its offset, and zeros in the place of each
+/// other, which it reports.
+///
+/// Each chunk that was saved is genuine, and stands where it stood in the plaintext. The plaintext
+/// as a whole is genuine only if no chunk was lost and the last piece is the last chunk.
+///
+/// # Errors
+/// Those of `decrypt` up to `NonceTruncated`: nothing was written. `TooManyChunks` if there are
+/// more than the limit, which were written. `Read` and `Write` if a device failed: what was saved
+/// before was written. `OutOfMemory` if an allocation was refused or an identity returned it;
+/// nothing was written.
+pub fn salvage<S: Source, W: Sink, L: Losses>(
+    alloc: Global,
+    input: &mut S,
+    out: &mut W,
+    losses: &mut L,
+    identities: &[Box<dyn Identity>],
+    limits: &Limits,
+) -> Result<Salvaged, Fault>
+    // The header, its key and its MAC are judged as by `decrypt`. Then each chunk that opens was
+    // written at its offset, zeros for each other, and each lost chunk was reported, in order.
+    ensures salvages { SalvagesFile limits.now (answers_by identities.now (λ i s. meaning i s))
+        (flow_by S.to_come S.gave input.old input.new) (moved_by W.taken out.old out.new)
+        (told_by L.lost losses.old losses.new) result }
+    // Where no chunk is lost none was reported.
+    ensures silent { IfOk result (λ s. s.lost ≡ 0 → losses.new ≡ losses.old) }
+    ensures quiet { IsQuiet out.old out.new result }
+    ensures reads { CountsIf is_read (S.failed input.old) (S.failed input.new) result }
+    ensures writes { CountsIf is_write (W.failed out.old) (W.failed out.new) result }
+{
+    let header = match inspect(alloc, input, limits) {
+        Ok(header) => header,
+        Err(fault) => return Err(fault),
+    };
+    let key = match unlock_header(alloc, identities, &header) {
+        Ok(key) => key,
+        Err(fault) => return Err(fault),
+    };
+    match salvage_payload(alloc, &key, input, out, losses, limits.max_chunks()) {
+        Ok(salvaged) => Ok(salvaged),
+        Err(fault) => Err(stream_fault(fault)),
+    }
+}
