@@ -7,6 +7,7 @@ mod failing;
 mod objects;
 mod ranges;
 mod rewrapping;
+mod salvaging;
 mod steps;
 mod texts;
 
