@@ -89,23 +89,26 @@ pub fn rewrap_keeps()
         → IsVerdict limits old b v ↔ IsVerdict limits new c v }
 {}
 
-/// What salvaging writes of a file is its plaintext, if the verdict on it is that plaintext: no
-/// chunk is lost, and the last piece is the last chunk. Of any file it begins with the plaintext of
-/// the verdict. A fault before which nothing was written is the verdict's.
+/// Salvaging a whole file is decrypting it. Of any file it writes what decrypting writes before its
+/// fault, and then more.
 pub fn salvage_is_verdict()
+    // If the verdict is a plaintext without fault, that plaintext is written.
     ensures whole { (limits : Bounds) (answers : Answering) (b plain : Bytes) (sink : Moved)
         (lost : Told) (s : Salvaged) → IsVerdict limits answers b (whole plain)
         → SavesFile limits answers b sink lost (Ok s) → Took sink plain }
+    // Then no chunk is reported, and the last piece is the last chunk.
     ensures none { (limits : Bounds) (answers : Answering) (b plain : Bytes) (sink : Moved)
         (lost : Told) (s : Salvaged) → IsVerdict limits answers b (whole plain)
         → SavesFile limits answers b sink lost (Ok s) → Reports lost [] × (s.lost ≡ 0)
         × (s.last ≡ LastChunk) }
-    ensures front { (limits : Bounds) (answers : Answering) (b : Bytes) (v : Reading Fault)
-        (sink : Moved) (lost : Told) (s : Salvaged) → IsVerdict limits answers b v
-        → SavesFile limits answers b sink lost (Ok s)
-        → (rest : Bytes) × Took sink (v.front ++ rest) }
+    // A fault before which nothing was written is the verdict's, or out of memory.
     ensures fault { (limits : Bounds) (answers : Answering) (b : Bytes) (v : Reading Fault)
         (sink : Moved) (lost : Told) (fault : Fault) → IsVerdict limits answers b v
         → SavesFile limits answers b sink lost (Err fault)
         → IsLate fault ⊎ (fault ≡ OutOfMemory) ⊎ (v ≡ stops fault) }
+    // What is written begins with the verdict's plaintext.
+    ensures front { (limits : Bounds) (answers : Answering) (b : Bytes) (v : Reading Fault)
+        (sink : Moved) (lost : Told) (s : Salvaged) → IsVerdict limits answers b v
+        → SavesFile limits answers b sink lost (Ok s)
+        → (rest : Bytes) × Took sink (v.front ++ rest) }
 {}

@@ -7,6 +7,7 @@ pub mod Offsets
 pub mod Ranges
 pub mod Reader
 pub mod Reading
+pub mod Runs
 pub mod Salvage
 pub mod Sealing
 pub mod Slice

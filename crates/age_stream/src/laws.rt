@@ -44,18 +44,23 @@ pub fn whole_is_sliced()
         → xs ≡ take (length xs) (drop at plain) }
 {}
 
-/// What is saved of a payload that reads whole is its plaintext: no chunk is lost, and the last
-/// piece is the last chunk. Of any payload it begins with what a reading gives before its fault.
+/// Salvaging a payload that reads whole is reading it. Of any payload what is saved begins with what
+/// a reading gives before its fault.
 pub fn salvage_is_reading()
+    // What is saved of a payload that reads whole is its plaintext.
     ensures whole { (file_key : FileKey) (text plain : Bytes) (max : ℕ)
         → payload_reading file_key max text ≡ whole plain
         → salvaged (payload_parts file_key text) ≡ plain }
+    // Then no chunk is lost.
     ensures none { (file_key : FileKey) (text plain : Bytes) (max : ℕ)
         → payload_reading file_key max text ≡ whole plain
         → losses 0 0 (payload_parts file_key text) ≡ [] }
+    // Then the last piece is the last chunk.
     ensures last { (file_key : FileKey) (text plain : Bytes) (max : ℕ)
         → payload_reading file_key max text ≡ whole plain
         → last_saved (payload_parts file_key text) ≡ LastChunk }
+    // Of any payload, what is saved of as many pieces as chunks are allowed begins with the text
+    // before the first fault.
     ensures front { (file_key : FileKey) (text : Bytes) (max : ℕ)
         → (rest : Bytes) × (salvaged (take max (payload_parts file_key text))
         ≡ (payload_reading file_key max text).front ++ rest) }

@@ -11,8 +11,8 @@
 //! while let Some(chunk) = reader.next_chunk()? {} // lent once its tag was verified
 //! ```
 //!
-//! `RangeReader` reads any part of a plaintext. `open_chunk` and `seal_chunk` work on one chunk in
-//! the caller's memory.
+//! `RangeReader` reads any part of a plaintext, and `salvage_payload` saves what it can of a damaged
+//! payload. `open_chunk` and `seal_chunk` work on one chunk in the caller's memory.
 //!
 //! `sizes` has the sizes of a payload's parts, `specs/Sizes.antt` the same for clauses.
 //!
@@ -39,6 +39,7 @@ mod ranges;
 mod read_at;
 mod reader;
 mod refused;
+mod runs;
 mod salvaged;
 mod salvaging;
 mod sealing;
@@ -54,6 +55,7 @@ pub use ranges::RangeReader;
 pub use read_at::{FileAt, MemAt, ReadAt};
 pub use reader::StreamReader;
 pub use refused::Refused;
+pub use runs::{LostRun, join_lost};
 pub use salvaged::{Losses, Lost, Salvaged, Saved};
 pub use salvaging::salvage_payload;
 pub use sealing::{ChunkSealer, seal_chunk};

@@ -1,0 +1,51 @@
+//! Chunks that are lost one after another.
+ghost use Rattle.std.specs.Prelude.{◌≡◌, ◌<◌, ◌+◌, ◌^◌, ◌∷◌, ◌++◌, List, option_to_list};
+ghost use Rattle.age_stream.specs.Runs.{continued, runs};
+
+use crate::salvaged::Lost;
+
+/// A run of lost chunks, with none between them that was saved, and the bytes of the plaintext that
+/// they had. Chunks and bytes are numbered from 0.
+#[derive(Clone, Copy, Debug, Drop, PartialEq, Eq)]
+pub struct LostRun {
+    /// The first chunk.
+    pub first: u128,
+    /// The last chunk.
+    pub last: u128,
+    /// The offset of the first byte.
+    pub start: u128,
+    /// The offset behind the last byte.
+    pub end: u128,
+}
+
+/// Adds a lost chunk to the run that may go on. Returns that run, if it ends before this chunk,
+/// which then begins the next.
+pub fn join_lost(run: &mut Option<LostRun>, chunk: Lost) -> Option<LostRun>
+    requires { chunk.start + chunk.len < 2 ^ 128 }
+    // Whatever chunks follow, the runs from now on are the one that is returned and those after it.
+    ensures { (rest : List Lost) → continued run.old (runs (chunk ∷ rest))
+        ≡ option_to_list result ++ continued run.new (runs rest) }
+{
+    let end = chunk.start + chunk.len as u128;
+    let alone = LostRun {
+        first: chunk.chunk,
+        last: chunk.chunk,
+        start: chunk.start,
+        end,
+    };
+    match *run {
+        Some(before) if chunk.chunk > 0 && chunk.chunk - 1 == before.last => {
+            *run = Some(LostRun {
+                first: before.first,
+                last: chunk.chunk,
+                start: before.start,
+                end,
+            });
+            None
+        }
+        before => {
+            *run = Some(alone);
+            before
+        }
+    }
+}
