@@ -44,8 +44,8 @@ pub fn whole_is_sliced()
         → xs ≡ take (length xs) (drop at plain) }
 {}
 
-/// Salvaging a payload that reads whole is reading it. Of any payload what is saved begins with what
-/// a reading gives before its fault.
+/// Salvaging a payload that reads whole is reading it. Of any payload what is saved begins with
+/// what a reading gives before its fault.
 pub fn salvage_is_reading()
     // What is saved of a payload that reads whole is its plaintext.
     ensures whole { (file_key : FileKey) (text plain : Bytes) (max : ℕ)

@@ -11,8 +11,8 @@
 //! while let Some(chunk) = reader.next_chunk()? {} // lent once its tag was verified
 //! ```
 //!
-//! `RangeReader` reads any part of a plaintext, and `salvage_payload` saves what it can of a damaged
-//! payload. `open_chunk` and `seal_chunk` work on one chunk in the caller's memory.
+//! `RangeReader` reads any part of a plaintext, and `salvage_payload` saves what it can of a
+//! damaged payload. `open_chunk` and `seal_chunk` work on one chunk in the caller's memory.
 //!
 //! `sizes` has the sizes of a payload's parts, `specs/Sizes.antt` the same for clauses.
 //!
