@@ -1,5 +1,5 @@
 -- What is saved of a file, and the verdict on it.
-use Rattle.std.proofs.Common.{◌≡◌, ◌⊎◌, ◌∙◌, ◌++◌, [], length, take, drop, sym, ap, subst, List, inl, inr, arith, nat_lt, Result, Ok, Err}
+use Rattle.std.proofs.Common.{true, nat_eq, ◌≡◌, ◌⊎◌, ◌∙◌, ◌++◌, [], length, take, drop, sym, ap, subst, List, inl, inr, arith, nat_lt, Result, Ok, Err}
 use Rattle.std.proofs.lemmas.Bool.{lt-ltb, cond-true}
 use Rattle.std.proofs.lemmas.List.{take_all}
 use Rattle.age_header.specs.declared.fault.HeaderFault.{HeaderFault}
@@ -10,9 +10,8 @@ use Rattle.age_header.proofs.VerdictUniqueLemmas as headers
 use Rattle.age_stream.specs.declared.fault.StreamFault.{StreamFault}
 use Rattle.age_stream.specs.declared.fault.StreamFault.TheVariants as stream
 use Rattle.age_stream.specs.declared.salvaged.Salvaged.{Salvaged}
-use Rattle.age_stream.specs.declared.salvaged.Saved.TheVariants.{LastChunk}
 use Rattle.age_stream.specs.Reading.{Reading, payload_reading, stops, whole}
-use Rattle.age_stream.specs.Salvage.{IsOfPieces, Part, Reports, Saves, SavesParts, SavesPayload, Told, losses, payload_parts, salvaged}
+use Rattle.age_stream.specs.Salvage.{IsOfPieces, Part, Reports, Saves, SavesParts, SavesPayload, Told, losses, is_whole, is_whole_to, payload_parts, salvaged}
 use Rattle.age_stream.proofs.SalvageReading.{payload-front, payload-whole}
 use Rattle.age_file.specs.declared.fault.Fault.{Fault}
 use Rattle.age_file.specs.declared.fault.Fault.TheVariants.{OutOfMemory}
@@ -85,7 +84,7 @@ saved-front limits answers b v sink lost s i f =
 
 pub saved-whole : (limits : Bounds) (answers : Answering) (b plain : Bytes) (sink : Moved) (lost : Told)
     (s : Salvaged) → IsVerdict limits answers b (whole plain) → SavesFile limits answers b sink lost (Ok s)
-    → Took sink plain × Reports lost [] × (s.lost ≡ 0) × (s.last ≡ LastChunk)
+    → Took sink plain × Reports lost [] × (is_whole s ≡ true)
 saved-whole limits answers b plain sink lost s i f =
     let o = saved-of limits answers b (whole plain) sink lost s i f in
     let ps : List Part = payload_parts o.key o.rest in
@@ -93,8 +92,8 @@ saved-whole limits answers b plain sink lost s i f =
     let w = written ps sink lost o.saves.1 in (
       subst (Took sink) a.is w.0,
       subst (Reports lost) (a.none 0) w.1,
-      ap (λ (x : Salvaged). x.lost) o.saves.2 ∙ ap length (a.none 0),
-      ap (λ (x : Salvaged). x.last) o.saves.2 ∙ a.ends,
+      ap is_whole o.saves.2 ∙ ap (λ l. is_whole_to l (length (losses 0 0 ps))) a.ends
+          ∙ ap (λ x. nat_eq (length x) 0) (a.none 0),
     )
 
 -- a fault of a payload of which something may have been saved is late

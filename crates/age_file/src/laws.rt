@@ -1,6 +1,6 @@
 //! Laws over the definitions alone: functions that do nothing, each with a law as its contract.
 
-ghost use Rattle.std.specs.Prelude.{◌≡◌, ◌↔◌, ◌⊎◌, ℕ, ◌+◌, List, [], ◌∷◌, ◌++◌, replicate, length, take, drop, Option, Some, None, Ok, Err};
+ghost use Rattle.std.specs.Prelude.{◌≡◌, ◌↔◌, ◌⊎◌, ℕ, ◌+◌, List, [], ◌∷◌, ◌++◌, replicate, length, take, drop, Option, Some, None, Ok, Err, true};
 ghost use Rattle.age_header.specs.Device.{Bytes, Moved, Took};
 ghost use Rattle.age_header.specs.Header.{StanzaParts};
 ghost use Rattle.age_header.specs.declared.file_key.FileKey.{FileKey};
@@ -9,9 +9,8 @@ ghost use Rattle.age_recipient.specs.Key.{IsFileKey};
 ghost use Rattle.age_recipient.specs.Labels.{incompatible};
 ghost use Rattle.age_stream.specs.Ranges.{HasPlain, RangeState};
 ghost use Rattle.age_stream.specs.Reading.{Reading, stops, whole};
-ghost use Rattle.age_stream.specs.Salvage.{Reports, Told};
+ghost use Rattle.age_stream.specs.Salvage.{Reports, Told, is_whole};
 ghost use Rattle.age_stream.specs.declared.salvaged.Salvaged.{Salvaged};
-ghost use Rattle.age_stream.specs.declared.salvaged.Saved.TheVariants.{LastChunk};
 ghost use Rattle.age_file.specs.declared.fault.Fault.{Fault};
 ghost use Rattle.age_file.specs.declared.fault.Fault.TheVariants.{OutOfMemory, Read};
 ghost use Rattle.age_file.specs.AgeFile.{AgeFile, Bounds};
@@ -96,11 +95,10 @@ pub fn salvage_is_verdict()
     ensures whole { (limits : Bounds) (answers : Answering) (b plain : Bytes) (sink : Moved)
         (lost : Told) (s : Salvaged) → IsVerdict limits answers b (whole plain)
         → SavesFile limits answers b sink lost (Ok s) → Took sink plain }
-    // Then no chunk is reported, and the last piece is the last chunk.
+    // Then no chunk is reported, and what is returned says that all is saved.
     ensures none { (limits : Bounds) (answers : Answering) (b plain : Bytes) (sink : Moved)
         (lost : Told) (s : Salvaged) → IsVerdict limits answers b (whole plain)
-        → SavesFile limits answers b sink lost (Ok s) → Reports lost [] × (s.lost ≡ 0)
-        × (s.last ≡ LastChunk) }
+        → SavesFile limits answers b sink lost (Ok s) → Reports lost [] × (is_whole s ≡ true) }
     // A fault before which nothing was written is the verdict's, or out of memory.
     ensures fault { (limits : Bounds) (answers : Answering) (b : Bytes) (v : Reading Fault)
         (sink : Moved) (lost : Told) (fault : Fault) → IsVerdict limits answers b v

@@ -1,5 +1,5 @@
 -- What can be saved of a payload of which not all chunks open.
-use Rattle.std.specs.Prelude.{ℕ, ◌+◌, ◌-◌, ◌≡◌, ◌≤◌, ◌<◌, ⊤, List, [], ◌∷◌, ◌++◌, Bool, not, length, map, take, drop, replicate, nat_le, IfSome, Option, Some, None, Result, Ok, Err, if◌then◌else◌}
+use Rattle.std.specs.Prelude.{ℕ, ◌+◌, ◌-◌, ◌≡◌, ◌≤◌, ◌<◌, ⊤, List, [], ◌∷◌, ◌++◌, Bool, true, false, not, length, map, take, drop, replicate, nat_eq, nat_le, IfSome, Option, Some, None, Result, Ok, Err, if◌then◌else◌}
 use Rattle.std.specs.Io.KnownBytes.{IsAtEnd}
 use Rattle.std.specs.List.{concat}
 use Rattle.age_cipher.specs.Bytes.{Key}
@@ -81,6 +81,20 @@ summary parts = record {
   lost = length (losses 0 0 parts);
   last = last_saved parts;
 }
+
+-- the end of the payload is missing
+abbrev pub is_cut : (last : Saved) → Bool
+is_cut Chunk = true
+is_cut Nothing = true
+is_cut _ = false
+
+-- all that there was is saved: no chunk is lost, and the last piece is the last chunk
+abbrev pub is_whole_to : (last : Saved) (lost : ℕ) → Bool
+is_whole_to LastChunk lost = nat_eq lost 0
+is_whole_to _ lost = false
+
+abbrev pub is_whole : (s : Salvaged) → Bool
+is_whole s = is_whole_to s.last s.lost
 
 -- the chunks that were reported as lost, if they are known, before a call and after it
 abbrev pub KnownLosses : Type 0

@@ -1,6 +1,6 @@
 //! What was saved of a payload, and what was lost.
-ghost use Rattle.std.specs.Prelude.{[], ◌∷◌};
-ghost use Rattle.age_stream.specs.Salvage.{KnownLosses, Reports, told_by};
+ghost use Rattle.std.specs.Prelude.{◌≡◌, [], ◌∷◌};
+ghost use Rattle.age_stream.specs.Salvage.{KnownLosses, Reports, is_cut, is_whole, told_by};
 
 /// What was saved of one piece of a payload.
 #[derive(Clone, Copy, Debug, Drop, PartialEq, Eq)]
@@ -37,6 +37,29 @@ pub struct Salvaged {
     pub lost: u128,
     /// What was saved of the last piece.
     pub last: Saved,
+}
+
+impl Salvaged {
+    /// Whether no chunk is lost and the last piece is the last chunk.
+    pub fn is_whole(&self) -> bool
+        ensures { result ≡ is_whole self.now }
+    {
+        match self.last {
+            Saved::LastChunk => self.lost == 0,
+            _ => false,
+        }
+    }
+
+    /// Whether the payload is cut short: its last piece is a chunk that others follow, or too short
+    /// to have text. Where zeros stand for the last piece, nobody knows.
+    pub fn is_cut(&self) -> bool
+        ensures { result ≡ is_cut self.now.last }
+    {
+        match self.last {
+            Saved::Chunk | Saved::Nothing => true,
+            Saved::LastChunk | Saved::Zeros => false,
+        }
+    }
 }
 
 /// Where lost chunks are reported.

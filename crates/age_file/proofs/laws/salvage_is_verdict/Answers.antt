@@ -5,7 +5,7 @@ pub returns : goal.returns
 returns c = record {
   whole = λ limits answers b plain sink lost s i f. (saved-whole limits answers b plain sink lost s i f).0;
   none = λ limits answers b plain sink lost s i f.
-      let h = saved-whole limits answers b plain sink lost s i f in (h.1, h.2, h.3);
+      let h = saved-whole limits answers b plain sink lost s i f in (h.1, h.2);
   front = saved-front;
   fault = saved-fault;
 }
