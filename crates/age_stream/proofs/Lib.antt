@@ -10,6 +10,7 @@ pub mod ReaderLemmas
 pub mod ReadingLemmas
 pub mod SalvageLemmas
 pub mod SalvageReading
+mod SalvageSlices
 pub mod SealingLemmas
 pub mod SliceLemmas
 pub mod TailLemmas

@@ -65,3 +65,16 @@ pub fn salvage_is_reading()
         → (rest : Bytes) × (salvaged (take max (payload_parts file_key text))
         ≡ (payload_reading file_key max text).front ++ rest) }
 {}
+
+/// What is saved stands at its offset: what a range of a damaged payload reads is there, and there
+/// are as many bytes as the plaintext had.
+pub fn salvage_is_sliced()
+    // A slice of the payload, of which only the chunks that it touches need to open, is the slice
+    // of what is saved.
+    ensures slice { (file_key : FileKey) (text xs : Bytes) (at : ℕ)
+        → IsSlice (payload_key file_key (take nonce_size text)) (drop nonce_size text) at xs
+        → xs ≡ take (length xs) (drop at (salvaged (payload_parts file_key text))) }
+    // The length is that of the plaintext, as a reader of ranges finds it.
+    ensures len { (file_key : FileKey) (text : Bytes)
+        → length (salvaged (payload_parts file_key text)) ≡ plain_len (drop nonce_size text) }
+{}
