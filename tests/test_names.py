@@ -78,7 +78,7 @@ class Names(ProgramCase):
 
     def test_in(self):
         """All of them in the name of IN."""
-        end = "chunk 0 holds the plaintext from byte 0 to 5; it is the last chunk, so the file may be cut short"
+        end = "chunk 0, from byte 0 of the plaintext on, is the last: the file may be cut short, or have bytes behind its end"
         rows = [
             (b"", "key", message("HeaderTruncated"), f"{SHOWN}: the file is empty"),
             (fixture.changed(read("key.age"), -1), "key", message("BadChunk", 0), f"{SHOWN}: {end}"),
