@@ -1,19 +1,78 @@
-//! Opening the sealed chunks of a payload into a buffer for its plaintext.
+//! Decrypting a whole file by its file key.
 
 ghost use Rattle.std.specs.Prelude.{◌≡◌, ◌≤◌, ◌-◌, length, min, IfOk};
 ghost use Rattle.age_stream.specs.Reading.{first_outcome, reading_from};
 ghost use Rattle.age_stream.specs.Sizes.{sealed_chunk_size, tag_size};
-ghost use Rattle.agefile.specs.Decrypting.{GivesFirst, GivesReading};
+ghost use Rattle.agefile.specs.Decrypting.{Decrypts, GivesFirst, GivesReading};
 ghost use Rattle.agefile.specs.Limits.{limits};
+ghost use Rattle.agefile.specs.Opening.{by_file_key};
 ghost use Rattle.agefile.specs.Sizes.{opened_len};
 
+use crate::code::{OK, OUT_OF_MEMORY, TOO_SMALL, fault_code};
+use crate::giving::give_up;
+use crate::heading::refuse;
 use crate::limits::MAX_CHUNKS;
+use crate::opening::start_under;
+use crate::report::Report;
+use crate::sizes::opened_len;
+use age_file::Fault;
 use age_stream::{SEALED_CHUNK_SIZE, StreamFault, open_chunk};
+use std::alloc::Global;
+
+/// Decrypts a whole file by its file key. On a chunk's fault `out` has the plaintext of the chunks
+/// before it, and is unchanged behind it.
+///
+/// # Errors
+/// The first that applies of those of `agefile_open`; 21 if `out` is too small for the plaintext of
+/// a whole file of this length, which is then the report's; those of the chunks, as
+/// `age_file::decrypt` says. 17 if an allocation was refused. `out` is unchanged before the first
+/// chunk.
+#[unsafe(no_mangle)]
+pub extern "C" fn agefile_decrypt(
+    alloc: Global,
+    file: &[u8],
+    file_key: &[u8; 16],
+    out: &mut [u8],
+    report: &mut Report,
+) -> u32
+    // The first fault before the chunks that the verdict has for an identity that gives this key;
+    // else 21 if `out` has no room for the plaintext of sealed chunks of this length, which is
+    // reported; or 17; in each with `out` unchanged. Else the verdict's plaintext is in `out`, the
+    // bytes after it are unchanged, and the verdict's fault is returned.
+    ensures { Decrypts (by_file_key file_key.now) file.now out.old out.new report.new result }
+{
+    let start = match start_under(alloc, file, file_key) {
+        Ok(start) => start,
+        Err(fault) => return refuse(fault, out, report),
+    };
+    let (_, sealed) = file.split_at(start.first as usize);
+    let room = opened_len(sealed.len() as u64);
+    if room > out.len() as u64 {
+        *report = Report::of_len(room);
+        return TOO_SMALL;
+    }
+    let Ok(chunk) = vec![in alloc; 0; SEALED_CHUNK_SIZE] else {
+        return give_up(OUT_OF_MEMORY, out, report);
+    };
+    let mut chunk = chunk;
+    let (len, fault) = open_pieces(&start.key, sealed, chunk.as_mut_slice(), out);
+    match fault {
+        Some(fault) => {
+            let fault = Fault::from(fault);
+            *report = Report::of_fault(len as u64, fault);
+            fault_code(fault)
+        }
+        None => {
+            *report = Report::of_len(len as u64);
+            OK
+        }
+    }
+}
 
 /// Opens sealed chunks in order to the start of a buffer, each in the memory of `chunk` first, so
 /// that no byte of a chunk with a fault is written. Returns the length of their text, and the first
 /// fault.
-pub(crate) fn open_pieces(
+fn open_pieces(
     key: &[u8; 32],
     sealed: &[u8],
     chunk: &mut [u8],

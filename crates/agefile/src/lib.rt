@@ -15,9 +15,9 @@
 //!
 //! The exports are in `inspecting` and `listing` (what is in a header), `unlocking` (from a secret
 //! to a file key), `wrapping` (from a file key to a stanza), `heading` (from stanzas to a header),
-//! `opening` and `sealing` (by a file key: whole buffers, and the start of a payload), `payload`
-//! and `part` (chunks in order, and on many threads), `ranges`, `sizes` and `version`. The other
-//! modules have none.
+//! `decrypting` and `sealing` (whole buffers by a file key), `opening` (the start of a payload by
+//! one), `payload` and `part` (chunks in order, and on many threads), `ranges`, `sizes` and
+//! `version`. The other modules have none.
 //!
 //! *What a contract sees.* A buffer of C is a slice, so a list of bytes, before the call and after
 //! it; a pointer to a struct is the record of its fields. The bytes of a struct may be any: no

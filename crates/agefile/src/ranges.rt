@@ -4,17 +4,20 @@ ghost use Rattle.std.specs.Prelude.{◌≡◌, ◌≤◌, ◌/◌, None, true};
 ghost use Rattle.std.specs.Bool.{OnFalse, OnTrue};
 ghost use Rattle.age_stream.specs.Reading.{outcome};
 ghost use Rattle.agefile.specs.Limits.{limits};
-ghost use Rattle.agefile.specs.Ranges.{GivesFrom, OpensAt, StaysClosed, Verified, closed, gives, has_byte, last_index, may_open, may_verify, piece_len, piece_report, plain_of};
+ghost use Rattle.agefile.specs.Opening.{by_file_key};
+ghost use Rattle.agefile.specs.Ranges.{GivesFrom, OpensAt, OpensRanges, StaysClosed, Verified, closed, gives, has_byte, last_index, may_open, may_verify, piece_len, piece_report, plain_of};
 ghost use Rattle.agefile.specs.Report.{report_of};
 ghost use Rattle.age_stream.specs.Sizes.{chunk_size};
 ghost use Rattle.agefile.specs.Codes.{ok, out_of_order};
 
 use crate::code::{OK, OUT_OF_ORDER, fault_code};
 use crate::limits::MAX_CHUNKS;
+use crate::opening::start_under;
 use crate::report::Report;
 use crate::start::Start;
 use age_file::Fault;
 use age_stream::{CHUNK_SIZE, SEALED_CHUNK_SIZE, TAG_SIZE, open_chunk};
+use std::alloc::Global;
 
 /// Nothing was opened.
 const CLOSED: u64 = 0;
@@ -62,8 +65,35 @@ fn stay_closed(ranges: &mut Ranges, report: &mut Report) -> u32
     OUT_OF_ORDER
 }
 
+/// Opens a file of `file_len` bytes for ranges by its file key. `front` is any beginning of it that
+/// has its header and the 16 bytes after it. On 0 the report has the last sealed chunk's offset in
+/// the file and its length.
+///
+/// # Errors
+/// Those of `agefile_open`; then 23 if the file ends before its first sealed chunk. No payload is
+/// open then.
+#[unsafe(no_mangle)]
+pub extern "C" fn agefile_ranges_open(
+    alloc: Global,
+    front: &[u8],
+    file_len: u64,
+    file_key: &[u8; 16],
+    ranges: &mut Ranges,
+    report: &mut Report,
+) -> u32
+    ensures { OpensRanges (by_file_key file_key.now) front.now file_len ranges.new report.new
+        result }
+{
+    open_at(
+        start_under(alloc, front, file_key),
+        file_len,
+        ranges,
+        report,
+    )
+}
+
 /// The payload from this start to the end of a file of this many bytes, or none.
-pub(crate) fn open_at(
+fn open_at(
     start: Result<Start, Fault>,
     file_len: u64,
     ranges: &mut Ranges,

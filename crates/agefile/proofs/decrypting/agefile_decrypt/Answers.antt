@@ -5,7 +5,7 @@ use Rattle.agefile.specs.Opening.{by_file_key}
 use Rattle.agefile.specs.Report.{report_of}
 use Rattle.agefile.specs.Codes.{code_of}
 use Rattle.agefile.proofs.DecryptingLemmas.{decrypts_opened, no_room, start_within}
-use Rattle.agefile.proofs.opening.agefile_decrypt.Goals as goal
+use Rattle.agefile.proofs.decrypting.agefile_decrypt.Goals as goal
 
 pub split_at-requires : goal.split_at-requires
 split_at-requires c = start_within (by_file_key c.args.file_key.now) _ c.in-Ok.start c.in-Ok.ensures
