@@ -1,5 +1,5 @@
 -- What calls on a payload and on its parts seal.
-use Rattle.std.proofs.Common.{◌≡◌, ℕ, ◌+◌, ◌-◌, Bool, true, false, List, [], ◌∷◌, ◌++◌, length, take, sym, ◌∙◌, ap, refl, subst, arith, inl, inr, append_assoc, length-append}
+use Rattle.std.proofs.Common.{◌≡◌, ℕ, ◌+◌, ◌-◌, Bool, true, false, nat_lt, List, [], ◌∷◌, ◌++◌, length, take, sym, ◌∙◌, ap, refl, subst, arith, inl, inr, append_assoc, length-append}
 use Rattle.std.specs.List.{concat}
 use Rattle.std.proofs.lemmas.List.{append-nil, take_at}
 use Rattle.age_kdf.specs.Bytes.{Bytes}
@@ -10,33 +10,38 @@ use Rattle.agefile.specs.declared.payload.Payload.{Payload}
 use Rattle.agefile.specs.declared.report.Report.{Report}
 use Rattle.agefile.specs.Groups.{PartSeals, SealsGroups, SealsSome, all_of, sealed_open}
 use Rattle.agefile.specs.Part as part
-use Rattle.agefile.specs.Payload.{SealsNext}
+use Rattle.agefile.specs.Payload.{SealsNext, may_seal}
+use Rattle.agefile.specs.Steps.{Steps}
 
 text_of : (text room : Bytes) → length room ≡ 16 → take (length (text ++ room) - 16) (text ++ room) ≡ text
 text_of text room len = take_at text room (length (text ++ room) - 16) (omega (arith, len, length-append text room))
 
+-- a call that returned 0 fits the state
+pub fitting : {S : Type 0} {does : Type 0} {old new : S} {chunk after : Bytes} {report : Report} (fits : Bool)
+    → Steps fits does old new chunk after report 0 → does
+fitting true step = step.done
+fitting false step = let bad : ◌≡◌ {A = ℕ} 0 23 = step.out_of_order.returned in absurd (omega arith)
+
+payload_step : (p new : Payload) (text room after : Bytes) (last : Bool) (report : Report) → length room ≡ 16
+    → SealsNext p new (text ++ room) after last report 0
+    → (after ≡ sealed p.key (chunk_nonce p.number last) [] text) × ((new.key ≡ p.key) × (new.number ≡ p.number + 1))
+payload_step p new text room after last report len step =
+    let (seals, is) = fitting (may_seal p (length (text ++ room)) last) step in
+    elim seals [
+      | inr (many, bad, reported, kept) ↦ absurd (omega (arith, bad))
+      | inl (few, zero_is, reported, gives) ↦ (
+        gives ∙ ap (sealed p.key (chunk_nonce p.number last) []) (text_of text room len),
+        (ap (λ (q : Payload). q.key) is, ap (λ (q : Payload). q.number) is),
+      )
+    ]
+
 part_step : (p new : Part) (text room after : Bytes) (report : Report) → length room ≡ 16
     → part.SealsNext p new (text ++ room) after report 0
     → (after ≡ sealed p.key (chunk_nonce p.number false) [] text) × ((new.key ≡ p.key) × (new.number ≡ p.number + 1))
-part_step p new text room after report len (inl (_, out)) = let bad : ◌≡◌ {A = ℕ} 0 23 = out.returned in
-    absurd (omega arith)
-part_step p new text room after report len (inr (_, inr (many, bad, reported, kept), is)) = absurd (omega (arith, bad))
-part_step p new text room after report len (inr (_, inl (few, zero_is, reported, gives), is)) = (
-  gives ∙ ap (sealed p.key (chunk_nonce p.number false) []) (text_of text room len),
-  (ap (λ (q : Part). q.key) is, ap (λ (q : Part). q.number) is),
-)
-
-pub payload_step : (p new : Payload) (text room after : Bytes) (last : Bool) (report : Report) → length room ≡ 16
-    → SealsNext p new (text ++ room) after last report 0
-    → (after ≡ sealed p.key (chunk_nonce p.number last) [] text) × ((new.key ≡ p.key) × (new.number ≡ p.number + 1))
-payload_step p new text room after last report len (inl (_, out)) = let bad : ◌≡◌ {A = ℕ} 0 23 = out.returned in
-    absurd (omega arith)
-payload_step p new text room after last report len (inr (_, inr (many, bad, reported, kept), is)) =
-    absurd (omega (arith, bad))
-payload_step p new text room after last report len (inr (_, inl (few, zero_is, reported, gives), is)) = (
-  gives ∙ ap (sealed p.key (chunk_nonce p.number last) []) (text_of text room len),
-  (ap (λ (q : Payload). q.key) is, ap (λ (q : Payload). q.number) is),
-)
+part_step p new text room after report len step =
+    let (q, call, is) = fitting (nat_lt 0 p.left) step in
+    let s = payload_step (part.payload_of p) q text room after false report len call in
+    (s.0, (ap (λ (x : Part). x.key) is, ap (λ (x : Part). x.number) is ∙ s.1.1))
 
 part_seals : (p : Part) (texts : List Bytes) (out : Bytes) → PartSeals p texts out
     → out ≡ concat (sealed_open p.key p.number texts)

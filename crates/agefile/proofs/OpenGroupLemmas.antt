@@ -1,5 +1,5 @@
 -- What calls on a payload and on its parts open.
-use Rattle.std.proofs.Common.{◌≡◌, ℕ, ◌+◌, Bool, true, false, List, [], ◌∷◌, ◌++◌, length, take, drop, sym, ◌∙◌, ap, refl, subst, arith, inl, inr, append_assoc, length-append, None, Result, Ok, Err}
+use Rattle.std.proofs.Common.{◌≡◌, ℕ, ◌+◌, Bool, true, false, nat_lt, List, [], ◌∷◌, ◌++◌, length, take, drop, sym, ◌∙◌, ap, refl, subst, arith, inl, inr, append_assoc, length-append, None, Result, Ok, Err}
 use Rattle.std.specs.Prelude.{option_map}
 use Rattle.std.proofs.lemmas.List.{append-nil}
 use Rattle.std.proofs.Math.Seq.{take-append_seam}
@@ -19,9 +19,10 @@ use Rattle.agefile.specs.Groups.{OpensGroups, OpensSome, PartOpens, all_of}
 use Rattle.agefile.specs.Limits.{limits}
 use Rattle.agefile.specs.Opening.{Opens, StartsAt}
 use Rattle.agefile.specs.Part as part
-use Rattle.agefile.specs.Payload.{OpensNext}
+use Rattle.agefile.specs.Payload.{OpensNext, may_open}
 use Rattle.agefile.specs.Report.{report_of}
 use Rattle.agefile.proofs.FrontLemmas.{whole-start}
+use Rattle.agefile.proofs.GroupLemmas.{fitting}
 use Rattle.agefile.proofs.OpensRunLemmas.{some-code}
 use Rattle.agefile.proofs.StepsReadLemmas.{IsVerdictFrom, verdict-from}
 
@@ -43,21 +44,21 @@ opened_ok chunk after report (Ok text) (zero_is, reported, buffer) =
     }
 opened_ok chunk after report (Err fault) (is, reported, buffer) = absurd (some-code (stream_fault fault) (sym is))
 
-part_step : (p new : Part) (piece after : Bytes) (report : Report) → part.OpensNext p new piece after report 0
-    → IsOpened (outcome p.key limits.max_chunks p.number false piece) after report
-    × ((new.key ≡ p.key) × (new.number ≡ p.number + 1))
-part_step p new piece after report (inl (_, out)) = let bad : ◌≡◌ {A = ℕ} 0 23 = out.returned in absurd (omega arith)
-part_step p new piece after report (inr (_, opened, is)) =
-    (opened_ok piece after report _ opened, (ap (λ (q : Part). q.key) is, ap (λ (q : Part). q.number) is))
-
 payload_step : (p new : Payload) (piece after : Bytes) (last : Bool) (report : Report)
     → OpensNext p new piece after last report 0
     → IsOpened (outcome p.key limits.max_chunks p.number last piece) after report
     × ((new.key ≡ p.key) × (new.number ≡ p.number + 1))
-payload_step p new piece after last report (inl (_, out)) = let bad : ◌≡◌ {A = ℕ} 0 23 = out.returned in
-    absurd (omega arith)
-payload_step p new piece after last report (inr (_, opened, is)) =
-    (opened_ok piece after report _ opened, (ap (λ (q : Payload). q.key) is, ap (λ (q : Payload). q.number) is))
+payload_step p new piece after last report step =
+    let s = fitting (may_open p (length piece) last) step in
+    (opened_ok piece after report _ s.0, (ap (λ (q : Payload). q.key) s.1, ap (λ (q : Payload). q.number) s.1))
+
+part_step : (p new : Part) (piece after : Bytes) (report : Report) → part.OpensNext p new piece after report 0
+    → IsOpened (outcome p.key limits.max_chunks p.number false piece) after report
+    × ((new.key ≡ p.key) × (new.number ≡ p.number + 1))
+part_step p new piece after report step =
+    let (q, call, is) = fitting (nat_lt 0 p.left) step in
+    let s = payload_step (part.payload_of p) q piece after false report call in
+    (s.0, (ap (λ (x : Part). x.key) is, ap (λ (x : Part). x.number) is ∙ s.1.1))
 
 -- ---- some pieces, none of them the last
 

@@ -1,5 +1,6 @@
 -- What runs of calls that open give.
 use Rattle.std.proofs.Common.{◌≡◌, ◌≢◌, ◌⊎◌, ℕ, ◌+◌, ◌≤◌, List, [], ◌∷◌, ◌++◌, length, take, replicate, Bool, true, false, sym, ◌∙◌, ap, subst, arith, inl, inr, Result, Ok, Err}
+use Rattle.std.specs.Bool.{OnTrue}
 use Rattle.std.specs.Prelude.{option_map}
 use Rattle.std.proofs.lemmas.Bool.{le-leb}
 use Rattle.std.proofs.Math.Seq.{take-append_seam}
@@ -17,7 +18,7 @@ use Rattle.agefile.specs.Codes.{code_of, fault_code, fault_place}
 use Rattle.agefile.specs.Limits.{limits}
 use Rattle.agefile.specs.Report.{report_of}
 use Rattle.agefile.specs.Payload.{after_chunk, may_open}
-use Rattle.agefile.specs.Chunk.{Opened}
+use Rattle.agefile.specs.Chunk.{Opened, OpensAs}
 use Rattle.agefile.specs.Runs.{OpensRun}
 
 -- a payload for reading before chunk i
@@ -61,9 +62,10 @@ run-first : (key : Bytes) (i : ℕ) (chunk text : Bytes) (more : List Bytes) (co
     → may_open (reading_at key i) (length chunk) (is_end more) ≡ true
     → OpensRun (reading_at key i) (chunk ∷ more) text code place
     → RunsBy (reading_at key i) (is_end more) more text code place (outcome key limits.max_chunks i (is_end more) chunk)
-run-first key i chunk text more code place fits (new, after, report, step_code, inl (unfit, _), on) = absurd (cc)
-run-first key i chunk text more code place fits (new, after, report, step_code, inr (_, opened, state), on) =
-    open-by (reading_at key i) new chunk after text more (is_end more) report step_code code place _ opened state on
+run-first key i chunk text more code place fits (new, after, report, step_code, step, on) =
+    let d = subst (λ b. OnTrue b (OpensAs key i (is_end more) chunk after report step_code
+    × (new ≡ after_chunk (reading_at key i) (is_end more) step_code))) fits step.done in
+    open-by (reading_at key i) new chunk after text more (is_end more) report step_code code place _ d.0 d.1 on
 
 -- the reading of pieces from number i on
 abbrev pub IsRead : Bytes → ℕ → List Bytes → Bytes → ℕ → ℕ → Type 0

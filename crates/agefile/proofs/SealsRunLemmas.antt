@@ -1,6 +1,7 @@
 -- What a run of calls that seal gives is the file.
 use Rattle.std.proofs.Common.{◌≡◌, ◌≢◌, ◌⊎◌, ℕ, ◌+◌, ◌-◌, ◌<◌, ◌≤◌, List, [], ◌∷◌, ◌++◌, length, take, replicate, nat_eq, Bool, true, false, sym, ◌∙◌, ap, refl, subst, arith, inl, inr, append_assoc, length-append, Ok, Err}
 use Rattle.std.specs.Prelude.{◌&&◌, ◌||◌}
+use Rattle.std.specs.Bool.{OnTrue}
 use Rattle.std.specs.List.{concat}
 use Rattle.std.proofs.lemmas.Bool.{cases_lt, le-leb, lt-ltb}
 use Rattle.std.proofs.Math.Seq.{take-append_seam}
@@ -12,11 +13,11 @@ use Rattle.age_stream.specs.Payload.{chunks, is_end, payload, payload_key, chunk
 use Rattle.age_stream.proofs.CuttingLemmas.{is_cut}
 use Rattle.agefile.specs.declared.payload.Payload.{Payload}
 use Rattle.agefile.specs.declared.report.Report.{Report}
-use Rattle.agefile.specs.Chunk.{has_text}
+use Rattle.agefile.specs.Chunk.{SealsAs, has_text}
 use Rattle.agefile.specs.Encrypting.{IsNewFile}
 use Rattle.agefile.specs.Heading.{BeginsFile}
 use Rattle.agefile.specs.Limits.{limits}
-use Rattle.agefile.specs.Payload.{SealsNext, after_chunk, may_seal}
+use Rattle.agefile.specs.Payload.{after_chunk, may_seal}
 use Rattle.agefile.specs.Runs.{SealsRun}
 use Rattle.agefile.proofs.OpensRunLemmas.{some-code}
 
@@ -76,22 +77,18 @@ text-of c room size =
     ap (λ k. take k (c ++ room)) n ∙ take-append_seam c room
 
 write-by : (key : Bytes) (i : ℕ) (last : Bool) (c room : Bytes) (more : List Bytes) (out : Bytes) (code : ℕ)
-    (new : Payload) (after : Bytes) (report : Report) (step_code : ℕ)
-    → may_seal (writing_at key i) (length c + 16) last ≡ true → length room ≡ 16
-    → SealsNext (writing_at key i) new (c ++ room) after last report step_code
+    (new : Payload) (after : Bytes) (report : Report) (step_code : ℕ) → length room ≡ 16
+    → SealsAs key i last (c ++ room) after report step_code
+    → new ≡ after_chunk (writing_at key i) last step_code
     → ((step_code ≡ 0) × ((rest : Bytes) × (out ≡ after ++ rest) × SealsRun new more rest code))
     ⊎ ((step_code ≢ 0) × ((out ≡ []) × (code ≡ step_code)))
     → WritesBy key i last c more out code
-write-by key i last c room more out code new after report step_code fits size (inl (unfit, _)) on =
-    let n : length (c ++ room) ≡ length c + 16 = omega (arith, length-append c room) in
-    let clash : true ≡ false = sym fits ∙ ap (λ k. may_seal (writing_at key i) k last) (sym n) ∙ unfit in
-    absurd (cc)
-write-by key i last c room more out code new after report step_code fits size
-    (inr (_, inr (many, too_many, reported, kept), state)) (inl (zero, _)) = absurd (omega (arith, too_many, zero))
-write-by key i last c room more out code new after report step_code fits size
-    (inr (_, inr (many, too_many, reported, kept), state)) (inr (_, (none, is))) = inr (many, is ∙ too_many)
-write-by key i last c room more out code new after report step_code fits size
-    (inr (_, inl (few, returned, reported, buffer), state)) (inl (zero, (rest, joined, run))) =
+write-by key i last c room more out code new after report step_code size (inr (many, too_many, reported, kept)) state
+    (inl (zero, _)) = absurd (omega (arith, too_many, zero))
+write-by key i last c room more out code new after report step_code size (inr (many, too_many, reported, kept)) state
+    (inr (_, (none, is))) = inr (many, is ∙ too_many)
+write-by key i last c room more out code new after report step_code size (inl (few, returned, reported, buffer)) state
+    (inl (zero, (rest, joined, run))) =
     inl (
       few,
       (
@@ -100,14 +97,19 @@ write-by key i last c room more out code new after report step_code fits size
         subst (λ w. SealsRun w more rest code) (state ∙ ap (after_chunk (writing_at key i) last) returned) run,
       ),
     )
-write-by key i last c room more out code new after report step_code fits size
-    (inr (_, inl (few, returned, reported, buffer), state)) (inr (nonzero, _)) = absurd (nonzero returned)
+write-by key i last c room more out code new after report step_code size (inl (few, returned, reported, buffer)) state
+    (inr (nonzero, _)) = absurd (nonzero returned)
 
 write-first : (key : Bytes) (i : ℕ) (c : Bytes) (more : List Bytes) (out : Bytes) (code : ℕ)
     → may_seal (writing_at key i) (length c + 16) (is_end more) ≡ true
     → SealsRun (writing_at key i) (c ∷ more) out code → WritesBy key i (is_end more) c more out code
 write-first key i c more out code fits (new, room, size, after, report, step_code, step, on) =
-    write-by key i (is_end more) c room more out code new after report step_code fits size step on
+    let last : Bool = is_end more in
+    let n : length (c ++ room) ≡ length c + 16 = omega (arith, size, length-append c room) in
+    let d = subst (λ b. OnTrue b (SealsAs key i last (c ++ room) after report step_code
+    × (new ≡ after_chunk (writing_at key i) last step_code)))
+    (ap (λ k. may_seal (writing_at key i) k last) n ∙ fits) step.done in
+    write-by key i last c room more out code new after report step_code size d.0 d.1 on
 
 -- ---- all steps
 

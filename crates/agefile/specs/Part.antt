@@ -1,18 +1,16 @@
 -- A part of a payload: some of its chunks, none of them the last.
-use Rattle.std.specs.Prelude.{◌≡◌, ◌⊎◌, ℕ, ◌+◌, ◌-◌, ◌<◌, ◌≤◌, ◌&&◌, ◌||◌, Bool, true, false, length, nat_eq, nat_lt, replicate, Some, None, if◌then◌else◌}
+use Rattle.std.specs.Prelude.{◌≡◌, ◌⊎◌, ℕ, ◌+◌, ◌-◌, ◌<◌, ◌≤◌, ◌&&◌, ◌||◌, Bool, true, false, nat_eq, nat_lt, replicate, Some, None, if◌then◌else◌}
 use Rattle.age_kdf.specs.Bytes.{Bytes}
-use Rattle.age_stream.specs.Sizes.{sealed_chunk_size}
 use Rattle.age_file.specs.declared.fault.Fault.TheVariants.{TooManyChunks}
 use Rattle.agefile.specs.declared.part.Part.{Part}
 use Rattle.agefile.specs.declared.payload.Payload.{Payload}
 use Rattle.agefile.specs.declared.report.Report.{Report}
-use Rattle.agefile.specs.Chunk.{OpensAs, SealsAs}
 use Rattle.agefile.specs.Codes.{ok, out_of_order, too_many_chunks}
 use Rattle.agefile.specs.Limits.{limits}
-use Rattle.agefile.specs.Payload.{moved}
-use Rattle.agefile.specs.Phase.{phase_closed, phase_reading, phase_writing, phase_ended, phase_failed}
+use Rattle.agefile.specs.Payload as payload
+use Rattle.agefile.specs.Phase.{phase_closed, phase_reading, phase_writing, phase_ended}
 use Rattle.agefile.specs.Report.{report_of}
-use Rattle.agefile.specs.Steps.{IsOutOfOrder}
+use Rattle.agefile.specs.Steps.{Steps}
 
 -- nothing is open
 abbrev pub closed : Part
@@ -34,7 +32,7 @@ pub record IsTaken (old new : Payload) (count : ℕ) (part : Part) (report : Rep
   pub few : old.number + count ≤ limits.max_chunks
   pub returned : code ≡ ok
   pub reported : report ≡ report_of 0 None
-  pub payload : new ≡ moved old count old.state
+  pub payload : new ≡ record old { number = old.number + count }
   pub given : part ≡ next_of old count
 
 -- there is no part, and the payload is as it was
@@ -53,43 +51,34 @@ TakesPart old new count part report code =
     × (report ≡ report_of 0 (Some TooManyChunks)) × IsRefused old new part)
     ⊎ IsTaken old new count part report code))
 
--- after a chunk that was accepted, the part has one less, and has ended with the last of them; or
--- after a fault
-abbrev pub after_chunk : (p : Part) (code : ℕ) → Part
-after_chunk p code =
-    if nat_eq code ok
-    then record {
-      key = p.key;
-      number = p.number + 1;
-      left = p.left - 1;
-      state = if nat_eq p.left 1 then phase_ended else p.state;
-      spare = p.spare;
-    }
-    else record {
-      key = p.key;
-      number = p.number;
-      left = p.left;
-      state = phase_failed;
-      spare = p.spare;
+-- a part is a payload with a count
+abbrev pub payload_of : Part → Payload
+payload_of p = record { key = p.key; number = p.number; state = p.state; spare = replicate 2 0 }
+
+-- where its payload accepted a chunk, a part has one less, and has ended with the last of them
+abbrev pub with_payload : (p : Part) (q : Payload) (code : ℕ) → Part
+with_payload p q code =
+    record p {
+      number = q.number;
+      left = if nat_eq code ok then p.left - 1 else p.left;
+      state = if nat_eq code ok && nat_eq p.left 1 then phase_ended else q.state;
     }
 
--- whether a part in this phase accepts a chunk of `len` bytes
-abbrev pub accepts : (p : Part) (phase len : ℕ) → Bool
-accepts p phase len =
-    nat_eq p.state phase && nat_lt 0 p.left && nat_eq len sealed_chunk_size
+-- one call on a part that has chunks left is this call on its payload
+abbrev pub OnPayload : (call : Payload → Type 0) (old new : Part) (chunk after : Bytes)
+    (report : Report) (code : ℕ) → Type 0
+OnPayload call old new chunk after report code =
+    Steps (nat_lt 0 old.left) ((q : Payload) × call q × (new ≡ with_payload old q code)) old new
+    chunk after report code
 
--- one call: the chunk is opened as the part's next one, where the part is read
+-- one call: the chunk is opened as the part's next one, not as the last, where the part is read
 abbrev pub OpensNext : (old new : Part) (chunk after : Bytes) (report : Report) (code : ℕ) → Type 0
 OpensNext old new chunk after report code =
-    ((accepts old phase_reading (length chunk) ≡ false)
-    × IsOutOfOrder old new chunk after report code)
-    ⊎ ((accepts old phase_reading (length chunk) ≡ true)
-    × OpensAs old.key old.number false chunk after report code × (new ≡ after_chunk old code))
+    OnPayload (λ q. payload.OpensNext (payload_of old) q chunk after false report code) old new
+    chunk after report code
 
--- one call: the chunk is sealed as the part's next one, where the part is written
+-- one call: the chunk is sealed as the part's next one, not as the last, where the part is written
 abbrev pub SealsNext : (old new : Part) (chunk after : Bytes) (report : Report) (code : ℕ) → Type 0
 SealsNext old new chunk after report code =
-    ((accepts old phase_writing (length chunk) ≡ false)
-    × IsOutOfOrder old new chunk after report code)
-    ⊎ ((accepts old phase_writing (length chunk) ≡ true)
-    × SealsAs old.key old.number false chunk after report code × (new ≡ after_chunk old code))
+    OnPayload (λ q. payload.SealsNext (payload_of old) q chunk after false report code) old new
+    chunk after report code

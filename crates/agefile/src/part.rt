@@ -1,17 +1,14 @@
 //! A part of a payload: some of its chunks, none of them the last, which another thread may open or
 //! seal.
 
-ghost use Rattle.std.specs.Prelude.{◌≡◌, ◌+◌, ◌^◌, ◌<◌};
-ghost use Rattle.agefile.specs.Codes.{ok};
-ghost use Rattle.agefile.specs.Part.{OpensNext, SealsNext, TakesPart, accepts, after_chunk, closed, may_take};
+ghost use Rattle.std.specs.Prelude.{◌≡◌, ◌<◌};
+ghost use Rattle.agefile.specs.Part.{OpensNext, SealsNext, TakesPart, closed, may_take, payload_of, with_payload};
 
-use crate::chunk::{open_as, seal_as};
 use crate::code::{OK, OUT_OF_ORDER, fault_code};
-use crate::payload::Payload;
-use crate::phase::{CLOSED, ENDED, FAILED, READING, WRITING};
+use crate::payload::{Payload, agefile_open_next, agefile_seal_next};
+use crate::phase::{CLOSED, ENDED, READING, WRITING};
 use crate::report::Report;
 use age_file::Fault;
-use age_stream::SEALED_CHUNK_SIZE;
 
 /// Some chunks of a payload, from the next one on, in their caller's memory. It may hold any bytes.
 #[repr(C)]
@@ -43,11 +40,32 @@ impl Part {
         }
     }
 
-    /// Whether it accepts a chunk of this many bytes in this phase.
-    fn accepts(&self, phase: u64, len: usize) -> bool
-        ensures { result ≡ accepts self.now phase len }
+    /// The payload that it is, but for its count.
+    fn payload(&self) -> Payload
+        ensures { result ≡ payload_of self.now }
     {
-        self.state == phase && self.left > 0 && len == SEALED_CHUNK_SIZE
+        Payload {
+            key: self.key,
+            number: self.number,
+            state: self.state,
+            spare: [0; 2],
+        }
+    }
+
+    /// Takes over what a call on its payload did, and counts a chunk that was accepted.
+    fn follow(&mut self, payload: &Payload, code: u32)
+        requires { 0 < self.old.left }
+        ensures { self.new ≡ with_payload self.old payload.now code }
+    {
+        self.number = payload.number;
+        self.state = payload.state;
+        if code != OK {
+            return;
+        }
+        self.left -= 1;
+        if self.left == 0 {
+            self.state = ENDED;
+        }
     }
 }
 
@@ -108,12 +126,13 @@ pub extern "C" fn agefile_part_open_next(
 ) -> u32
     ensures { OpensNext part.old part.new chunk.old chunk.new report.new result }
 {
-    if !part.accepts(READING, chunk.len()) {
+    if part.left == 0 {
         *report = Report::default();
         return OUT_OF_ORDER;
     }
-    let code = open_as(&part.key, part.number, false, chunk, report);
-    go_on(part, code);
+    let mut payload = part.payload();
+    let code = agefile_open_next(&mut payload, chunk, false, report);
+    part.follow(&payload, code);
     code
 }
 
@@ -131,28 +150,12 @@ pub extern "C" fn agefile_part_seal_next(
 ) -> u32
     ensures { SealsNext part.old part.new chunk.old chunk.new report.new result }
 {
-    if !part.accepts(WRITING, chunk.len()) {
+    if part.left == 0 {
         *report = Report::default();
         return OUT_OF_ORDER;
     }
-    let code = seal_as(&part.key, part.number, false, chunk, report);
-    go_on(part, code);
+    let mut payload = part.payload();
+    let code = agefile_seal_next(&mut payload, chunk, false, report);
+    part.follow(&payload, code);
     code
-}
-
-/// Counts a chunk that was accepted, or keeps a fault.
-fn go_on(part: &mut Part, code: u32)
-    requires number { code ≡ ok → part.old.number + 1 < 2 ^ 64 }
-    requires left { 0 < part.old.left }
-    ensures { part.new ≡ after_chunk part.old code }
-{
-    if code != OK {
-        part.state = FAILED;
-        return;
-    }
-    part.number += 1;
-    part.left -= 1;
-    if part.left == 0 {
-        part.state = ENDED;
-    }
 }
