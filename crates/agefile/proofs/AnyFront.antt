@@ -1,6 +1,6 @@
 -- What is found in any beginning of a file that holds its header and its nonce.
-use Rattle.std.proofs.Common.{◌≡◌, ◌≢◌, ℕ, ◌+◌, ◌-◌, ◌≤◌, ◌++◌, length, take, drop, nat_lt, sym, ◌∙◌, ap, refl, subst, arith, inl, inr, append_assoc, length-append, length-take, Result, Ok, Err}
-use Rattle.std.proofs.lemmas.Bool.{cases_lt, le-ltb, lt-ltb, cond-false, cond-true}
+use Rattle.std.proofs.Common.{◌≡◌, ◌≢◌, ℕ, ◌+◌, ◌-◌, ◌≤◌, ◌++◌, length, take, drop, nat_lt, sym, ◌∙◌, ap, refl, subst, arith, append_assoc, length-append, length-take, Result, Ok, Err}
+use Rattle.std.proofs.lemmas.Bool.{le-ltb, cond-false}
 use Rattle.std.proofs.lemmas.List.{drop_at, take-append-drop, take-append-le, take-take}
 use Rattle.std.proofs.Math.Seq.{take-append-add}
 use Rattle.age_kdf.specs.Bytes.{Bytes}
@@ -8,7 +8,6 @@ use Rattle.age_header.proofs.VerdictUniqueLemmas as headers
 use Rattle.age_header.specs.declared.file_key.FileKey.{FileKey}
 use Rattle.age_stream.specs.Payload.{payload_key}
 use Rattle.age_file.specs.declared.fault.Fault.{Fault}
-use Rattle.age_file.specs.declared.fault.Fault.TheVariants.{NonceTruncated, OutOfMemory}
 use Rattle.age_file.specs.Verdict.{Answering, parts_of, unlocked}
 use Rattle.agefile.specs.declared.payload.Payload.{Payload}
 use Rattle.agefile.specs.declared.report.Report.{Report}
@@ -16,30 +15,9 @@ use Rattle.agefile.specs.declared.start.Start.{Start}
 use Rattle.agefile.specs.Limits.{limits}
 use Rattle.agefile.specs.Opening.{Opens, StartsAt}
 use Rattle.agefile.specs.Start.{IsStart, start_of, start_under}
-use Rattle.agefile.proofs.OpensRunLemmas.{some-code}
-use Rattle.agefile.proofs.StartLemmas.{ok-ok}
+use Rattle.agefile.proofs.StartLemmas.{found_start, opened_start, under}
 
 -- ---- the bytes after the header
-
--- sixteen bytes follow, and the start is known
-record StartsUnder (len : ℕ) (rest : Bytes) (k : FileKey) (s : Start) : Type 0 where
-  long : 16 ≤ length rest
-  is : s ≡ record { first = len + 16; key = payload_key k (take 16 rest) }
-
-under : (len : ℕ) (rest : Bytes) (k : FileKey) (s : Start) → Ok s ≡ start_under len rest (Ok k)
-    → StartsUnder len rest k s
-under len rest k s is =
-    let other : Result Start Fault = Err NonceTruncated in
-    let found : Result Start Fault = Ok (record { first = len + 16; key = payload_key k (take 16 rest) }) in
-    elim (cases_lt (length rest) 16) [
-      | inl lt ↦ let none : ◌≡◌ {A = Result Start Fault} (Ok s) (Err NonceTruncated) = is
-          ∙ cond-true (nat_lt (length rest) 16) other found (lt-ltb (length rest) 16 lt) in absurd (cc)
-      | inr ge ↦ record {
-        long = ge;
-        is =
-            ok-ok s _ (is ∙ cond-false (nat_lt (length rest) 16) other found (le-ltb (length rest) 16 ge));
-      }
-    ]
 
 start_there : (len : ℕ) (rest : Bytes) (k : FileKey) → 16 ≤ length rest
     → start_under len rest (Ok k) ≡ Ok (record { first = len + 16; key = payload_key k (take 16 rest) })
@@ -49,10 +27,10 @@ start_there len rest k ge = cond-false (nat_lt (length rest) 16) _ _ (le-ltb (le
 under_as : (len : ℕ) (rest more : Bytes) (key : Result FileKey Fault) (s : Start) → Ok s ≡ start_under len rest key
     → 16 ≤ length more → take 16 more ≡ take 16 rest
     → Ok s ≡ start_under len more key
-under_as len rest more (Err fault) s is long same = absurd (cc)
-under_as len rest more (Ok k) s is long same =
-    ap Ok ((under len rest k s is).is ∙ ap (λ n. record { first = len + 16; key = payload_key k n }) (sym same))
-    ∙ sym (start_there len more k long)
+under_as len rest more key s is long same =
+    let u = under len rest key s is in
+    ap Ok (u.is ∙ ap (λ n. record { first = len + 16; key = payload_key u.k n }) (sym same))
+    ∙ sym (start_there len more u.k long) ∙ ap (start_under len more) (sym u.unlocks)
 
 -- ---- a beginning and its file
 
@@ -70,7 +48,7 @@ longer answers n b s (Ok found, verdict, is) =
     let key = unlocked answers (parts_of found) in
     let mine : Ok s ≡ start_under (length found.text) w.rest key = is
     ∙ ap (λ r. start_under (length found.text) r key) before in
-    let long : 16 ≤ length w.rest = long_of (length found.text) w.rest key s mine in
+    let long : 16 ≤ length w.rest = (under (length found.text) w.rest key s mine).long in
     let same : take 16 (w.rest ++ drop n b) ≡ take 16 w.rest = take-append-le 16 w.rest (drop n b) long in (
       Ok found,
       headers.found_begins b limits.max_header found
@@ -79,16 +57,10 @@ longer answers n b s (Ok found, verdict, is) =
           (omega (arith, long, length-append w.rest (drop n b))) same
           ∙ ap (λ r. start_under (length found.text) r key) (sym behind),
     )
-  where
-    long_of : (len : ℕ) (rest : Bytes) (key : Result FileKey Fault) (s : Start) → Ok s ≡ start_under len rest key
-        → 16 ≤ length rest
-    long_of len rest (Err fault) s is = absurd (cc)
-    long_of len rest (Ok k) s is = (under len rest k s is).long
 
 pub first_of : (len : ℕ) (rest : Bytes) (key : Result FileKey Fault) (s : Start) → Ok s ≡ start_under len rest key
     → (16 ≤ length rest) × (s.first ≡ len + 16)
-first_of len rest (Err fault) s is = absurd (cc)
-first_of len rest (Ok k) s is = let u = under len rest k s is in (u.long, ap (λ (x : Start). x.first) u.is)
+first_of len rest key s is = let u = under len rest key s is in (u.long, ap (λ (x : Start). x.first) u.is)
 
 shorter : (answers : Answering) (n : ℕ) (b : Bytes) (s : Start) → s.first ≤ n → IsStart answers b (Ok s)
     → IsStart answers (take n b) (Ok s)
@@ -135,44 +107,21 @@ gave s p q report r code start first same second =
     (h.0, (h.2 ∙ sym first.2, h.1 ∙ sym first.1))
 
 -- what a beginning opened, the file opens
-opened_front : (answers : Answering) (n : ℕ) (b : Bytes) (p q : Payload) (report r : Report) (code : ℕ)
-    (s : Result Start Fault) → IsStart answers (take n b) s → StartsAt s p report 0
-    → Opens answers b q r code → code ≢ 17 → (code ≡ 0) × ((q ≡ p) × (r ≡ report))
-opened_front answers n b p q report r code (Err fault) is first second other = absurd (some-code fault (sym first.0))
-opened_front answers n b p q report r code (Ok s) is first (start, inl memory, second) other =
-    let refused : StartsAt (Err OutOfMemory) q r code = subst (λ x. StartsAt x q r code) memory second in
-    absurd (other refused.0)
-opened_front answers n b p q report r code (Ok s) is first (start, inr there, second) other =
-    gave s p q report r code start first (one_start answers b start (Ok s) there (longer answers n b s is)) second
-
 pub front_opens : (answers : Answering) (n : ℕ) (b : Bytes) (p q : Payload) (report r : Report) (code : ℕ)
     → Opens answers (take n b) p report 0
     → Opens answers b q r code → code ≢ 17 → (code ≡ 0) × ((q ≡ p) × (r ≡ report))
-front_opens answers n b p q report r code (start, inl memory, first) second other =
-    let refused : StartsAt (Err OutOfMemory) p report 0 = subst (λ s. StartsAt s p report 0) memory first in
-    absurd (some-code OutOfMemory (sym refused.0))
-front_opens answers n b p q report r code (start, inr is, first) second other =
-    opened_front answers n b p q report r code start is first second other
+front_opens answers n b p q report r code first second other =
+    let (s, is, at) = opened_start answers (take n b) p report first in
+    let (start, there, gives) = found_start answers b q r code second other in
+    gave s p q report r code start at (one_start answers b start (Ok s) there (longer answers n b s is)) gives
 
 -- what the file opened, a beginning opens that holds header and nonce
-opened_file : (answers : Answering) (n : ℕ) (b : Bytes) (p q : Payload) (report r : Report) (code : ℕ)
-    (s : Result Start Fault) → IsStart answers b s → StartsAt s p report 0 → report.len ≤ n
-    → Opens answers (take n b) q r code → code ≢ 17 → (code ≡ 0) × ((q ≡ p) × (r ≡ report))
-opened_file answers n b p q report r code (Err fault) is first within second other =
-    absurd (some-code fault (sym first.0))
-opened_file answers n b p q report r code (Ok s) is first within (start, inl memory, second) other =
-    let refused : StartsAt (Err OutOfMemory) q r code = subst (λ x. StartsAt x q r code) memory second in
-    absurd (other refused.0)
-opened_file answers n b p q report r code (Ok s) is first within (start, inr there, second) other =
-    let low : s.first ≤ n = subst (λ (x : Report). x.len ≤ n) first.1 within in
-    gave s p q report r code start first
-    (one_start answers (take n b) start (Ok s) there (shorter answers n b s low is)) second
-
 pub file_opens : (answers : Answering) (n : ℕ) (b : Bytes) (p q : Payload) (report r : Report) (code : ℕ)
     → Opens answers b p report 0 → report.len ≤ n
     → Opens answers (take n b) q r code → code ≢ 17 → (code ≡ 0) × ((q ≡ p) × (r ≡ report))
-file_opens answers n b p q report r code (start, inl memory, first) within second other =
-    let refused : StartsAt (Err OutOfMemory) p report 0 = subst (λ s. StartsAt s p report 0) memory first in
-    absurd (some-code OutOfMemory (sym refused.0))
-file_opens answers n b p q report r code (start, inr is, first) within second other =
-    opened_file answers n b p q report r code start is first within second other
+file_opens answers n b p q report r code first within second other =
+    let (s, is, at) = opened_start answers b p report first in
+    let (start, there, gives) = found_start answers (take n b) q r code second other in
+    let low : s.first ≤ n = subst (λ (x : Report). x.len ≤ n) at.1 within in
+    gave s p q report r code start at (one_start answers (take n b) start (Ok s) there (shorter answers n b s low is))
+    gives

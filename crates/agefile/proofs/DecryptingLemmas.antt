@@ -1,19 +1,17 @@
 -- Opening the sealed chunks of a payload into a buffer.
-use Rattle.std.proofs.Common.{◌≡◌, ◌⊎◌, ℕ, ◌+◌, ◌-◌, ◌*◌, ◌/◌, ◌<◌, ◌≤◌, ◌++◌, length, take, drop, min, nat_le, nat_lt, sym, ◌∙◌, ap, refl, subst, arith, inl, inr, append_assoc, length-append, length-drop, Option, Some, None, Result, Ok, Err}
+use Rattle.std.proofs.Common.{◌≡◌, ◌⊎◌, ℕ, ◌+◌, ◌-◌, ◌*◌, ◌/◌, ◌<◌, ◌≤◌, ◌++◌, length, take, drop, min, nat_le, sym, ◌∙◌, ap, refl, subst, arith, inl, inr, append_assoc, length-append, length-drop, Option, Some, None, Result, Ok, Err}
 use Rattle.std.specs.Prelude.{option_map}
-use Rattle.std.proofs.lemmas.Bool.{cases_lt, le-leb, le-ltb, lt-leb, lt-ltb, cond-false, cond-true}
+use Rattle.std.proofs.lemmas.Bool.{cases_lt, le-leb, lt-leb, cond-false, cond-true}
 use Rattle.std.proofs.lemmas.List.{append-nil, drop-drop, length-take-le, take-append-drop, take_all}
 use Rattle.age_kdf.specs.Bytes.{Bytes}
-use Rattle.age_header.specs.declared.file_key.FileKey.{FileKey}
 use Rattle.age_stream.specs.declared.fault.StreamFault.{StreamFault}
 use Rattle.age_stream.specs.Opening.{GivesText}
-use Rattle.age_stream.specs.Payload.{payload_key}
 use Rattle.age_stream.specs.Reading.{Reading, after_first, first_outcome, outcome, reading_from, stops}
 use Rattle.age_stream.proofs.RangeLemmas.{put-prefix, put-rest, rest-on}
 use Rattle.age_stream.proofs.WritesAllLemmas.{before, first-err, first-ok}
 use Rattle.age_file.specs.declared.fault.Fault.{Fault}
-use Rattle.age_file.specs.declared.fault.Fault.TheVariants.{NonceTruncated, OutOfMemory}
-use Rattle.age_file.specs.Verdict.{Answering, IsVerdict, judged, parts_of, stream_fault, unlocked}
+use Rattle.age_file.specs.declared.fault.Fault.TheVariants.{OutOfMemory}
+use Rattle.age_file.specs.Verdict.{Answering, IsVerdict, judged, stream_fault}
 use Rattle.age_file.proofs.DecryptLemmas.{err-err}
 use Rattle.agefile.specs.declared.report.Report.{Report}
 use Rattle.agefile.specs.declared.start.Start.{Start}
@@ -24,8 +22,7 @@ use Rattle.agefile.specs.Heading.{Refuses}
 use Rattle.agefile.specs.Limits.{limits}
 use Rattle.agefile.specs.Report.{report_of}
 use Rattle.agefile.specs.Sizes.{opened_len}
-use Rattle.agefile.specs.Start.{FindsStart, start_under}
-use Rattle.agefile.proofs.StartLemmas.{ok-ok}
+use Rattle.agefile.specs.Start.{FindsStart}
 use Rattle.agefile.proofs.StepsReadLemmas.{IsVerdictFrom, verdict-from}
 
 -- ---- one chunk
@@ -229,32 +226,6 @@ read_more key sealed old out at len number n mid new r gives joined more count =
     }
 
 -- ---- the whole file
-
--- a start is within its file
-start_of_key : (b : Bytes) (n : ℕ) (start : Start) (key : Result FileKey Fault)
-    → Ok start ≡ start_under n (drop n b) key → start.first ≤ length b
-start_of_key b n start (Err fault) is = absurd (cc)
-start_of_key b n start (Ok k) is =
-    let other : Result Start Fault = Err NonceTruncated in
-    let found : Result Start Fault = Ok (record { first = n + 16; key = payload_key k (take 16 (drop n b)) }) in
-    elim (cases_lt (length (drop n b)) 16) [
-      | inl lt ↦
-          let none : ◌≡◌ {A = Result Start Fault} (Ok start) (Err NonceTruncated) = is
-          ∙ cond-true (nat_lt (length (drop n b)) 16) other found (lt-ltb (length (drop n b)) 16 lt) in
-          absurd (cc)
-      | inr ge ↦
-          let same : start ≡ record { first = n + 16; key = payload_key k (take 16 (drop n b)) } =
-          ok-ok start _ (is ∙ cond-false (nat_lt (length (drop n b)) 16) other found
-          (le-ltb (length (drop n b)) 16 ge)) in
-          omega (arith, ge, ap (λ (s : Start). s.first) same, length-drop n b)
-    ]
-
-pub start_within : (answers : Answering) (b : Bytes) (start : Start) → FindsStart answers b (Ok start)
-    → start.first ≤ length b
-start_within answers b start (inl memory) = absurd (cc)
-start_within answers b start (inr (Err e, verdict, is)) = absurd (cc)
-start_within answers b start (inr (Ok found, verdict, is)) =
-    start_of_key b (length found.text) start (unlocked answers (parts_of found)) is
 
 -- no start was found
 pub decrypts_none : (answers : Answering) (b old new : Bytes) (report : Report) (code : ℕ) (fault : Fault)

@@ -20,4 +20,3 @@ mod WrapLemmas
 mod GroupLemmas
 mod OpeningLaws
 mod OpenGroupLemmas
-mod RewrapLemmas

@@ -8,18 +8,11 @@ use Rattle.age_header.specs.Header.{AreStanzas, Head, IsStanza, StanzaParts}
 use Rattle.age_header.specs.Verdict.{Found, HeaderVerdict}
 use Rattle.age_header.proofs.VerdictUniqueLemmas as headers
 use Rattle.age_header.specs.declared.file_key.FileKey.{FileKey}
-use Rattle.age_recipient.specs.Choice.{choice}
-use Rattle.age_recipient.specs.Key.{IsFileKey}
-use Rattle.age_recipient.specs.KeyedHolders.{key_unwraps}
 use Rattle.age_recipient.specs.KeyedStanza.{keyed_stanza}
-use Rattle.age_recipient.specs.Pairing.{key_pair_law, pair_law}
-use Rattle.age_recipient.specs.PassphraseHolders.{PairFits, pass_unwraps}
 use Rattle.age_recipient.specs.PassphraseStanza.{pass_stanza}
-use Rattle.age_recipient.specs.Salt.{IsSalt}
 use Rattle.age_stream.specs.Payload.{chunks, payload}
 use Rattle.age_file.specs.AgeFile.{AgeFile}
 use Rattle.agefile.specs.Encrypting.{IsNewFile}
-use Rattle.agefile.specs.Giving.{alone}
 use Rattle.agefile.specs.Heading.{MakesHeader, probe}
 use Rattle.agefile.specs.Limits.{limits}
 use Rattle.agefile.specs.Sizes.{file_len, sealed_len}
@@ -96,21 +89,6 @@ pub one_file : (stanza : StanzaParts) (text file_key nonce plain file : Bytes) �
 one_file stanza text file_key nonce plain file len is new =
     let f = new_file text file_key nonce plain file len new in
     subst (λ ss. AgeFile limits (record { 0 = file_key }) ss plain file) (alone_of text stanza f.0 is f.2) f.1
-
--- ---- the file key is chosen
-
-pub key_chosen : (key salt : Bytes) (k : FileKey) → IsSalt salt → IsFileKey k
-    → choice (alone (key_unwraps key) (keyed_stanza key salt k ∷ [])) ≡ Ok k
-key_chosen key salt k salted keyed =
-    ap (λ answer. choice (answer ∷ []))
-    (key_pair_law (record { key = key; salt = salt }) key k (keyed_stanza key salt k ∷ []) refl salted keyed refl)
-
-pub pass_chosen : (pass salt : Bytes) (work max : ℕ) (k : FileKey) → IsSalt salt → IsFileKey k → PairFits work max
-    → choice (alone (pass_unwraps (record { pass = pass; max = max })) (pass_stanza pass work salt k ∷ [])) ≡ Ok k
-pass_chosen pass salt work max k salted keyed fits =
-    ap (λ answer. choice (answer ∷ []))
-    (pair_law (record { pass = pass; salt = salt; work = work }) (record { pass = pass; max = max }) k
-    (pass_stanza pass work salt k ∷ []) refl salted fits keyed refl)
 
 -- ---- sizes
 

@@ -8,22 +8,21 @@ use Rattle.age_stream.specs.declared.fault.StreamFault.{StreamFault}
 use Rattle.age_stream.specs.Payload.{is_end, pieces}
 use Rattle.age_stream.specs.Reading.{Reading, first_fault, front, outcome, outcomes, reading_from, whole}
 use Rattle.age_file.specs.declared.fault.Fault.{Fault}
-use Rattle.age_file.specs.declared.fault.Fault.TheVariants.{OutOfMemory}
 use Rattle.age_file.specs.Verdict.{Answering, IsVerdict, stream_fault}
 use Rattle.agefile.specs.declared.part.Part.{Part}
 use Rattle.agefile.specs.declared.payload.Payload.{Payload}
 use Rattle.agefile.specs.declared.report.Report.{Report}
-use Rattle.agefile.specs.declared.start.Start.{Start}
 use Rattle.agefile.specs.Chunk.{Opened}
 use Rattle.agefile.specs.Groups.{OpensGroups, OpensSome, PartOpens, all_of}
 use Rattle.agefile.specs.Limits.{limits}
-use Rattle.agefile.specs.Opening.{Opens, StartsAt}
+use Rattle.agefile.specs.Opening.{Opens}
 use Rattle.agefile.specs.Part as part
 use Rattle.agefile.specs.Payload.{OpensNext, may_open}
 use Rattle.agefile.specs.Report.{report_of}
 use Rattle.agefile.proofs.FrontLemmas.{whole-start}
 use Rattle.agefile.proofs.GroupLemmas.{fitting}
 use Rattle.agefile.proofs.OpensRunLemmas.{some-code}
+use Rattle.agefile.proofs.StartLemmas.{opened_start}
 use Rattle.agefile.proofs.StepsReadLemmas.{IsVerdictFrom, verdict-from}
 
 -- ---- one piece
@@ -159,31 +158,21 @@ goes_on key i (c ∷ cs) text d ds (t, rest, is, joined, on) =
 -- ---- the laws
 
 -- the verdict, where the payload was opened
-by_start : (b : Bytes) (p : Payload) (report : Report) (v : Reading Fault) (start : Result Start Fault)
-    → StartsAt start p report 0 → IsVerdictFrom b v start
-    → v ≡ record {
-      front = (reading_from p.key limits.max_chunks p.number (drop report.len b)).front;
-      fault = option_map stream_fault (reading_from p.key limits.max_chunks p.number (drop report.len b)).fault;
-    }
-by_start b p report v (Err fault) opens from = absurd (some-code fault (sym opens.0))
-by_start b p report v (Ok start) opens from =
-    let of : Payload → Report → Reading Fault = λ q r. record {
-      front = (reading_from q.key limits.max_chunks q.number (drop r.len b)).front;
-      fault = option_map stream_fault (reading_from q.key limits.max_chunks q.number (drop r.len b)).fault;
-    } in
-    from ∙ ap (λ q. of q (report_of start.first None)) (sym opens.2) ∙ ap (of p) (sym opens.1)
-
 by_payload : (answers : Answering) (b : Bytes) (p : Payload) (report : Report) (v : Reading Fault)
     → Opens answers (take 65552 b) p report 0 → IsVerdict limits answers b v
     → v ≡ record {
       front = (reading_from p.key limits.max_chunks p.number (drop report.len b)).front;
       fault = option_map stream_fault (reading_from p.key limits.max_chunks p.number (drop report.len b)).fault;
     }
-by_payload answers b p report v (start, inl memory, opens) h =
-    let refused : StartsAt (Err OutOfMemory) p report 0 = subst (λ s. StartsAt s p report 0) memory opens in
-    absurd (some-code OutOfMemory (sym refused.0))
-by_payload answers b p report v (start, inr is, opens) h =
-    by_start b p report v start opens (verdict-from answers b start v (whole-start answers b start is) h)
+by_payload answers b p report v opens h =
+    let (start, is, at) = opened_start answers (take 65552 b) p report opens in
+    let from : IsVerdictFrom b v (Ok start) =
+    verdict-from answers b (Ok start) v (whole-start answers b (Ok start) is) h in
+    let of : Payload → Report → Reading Fault = λ q r. record {
+      front = (reading_from q.key limits.max_chunks q.number (drop r.len b)).front;
+      fault = option_map stream_fault (reading_from q.key limits.max_chunks q.number (drop r.len b)).fault;
+    } in
+    from ∙ ap (λ q. of q (report_of start.first None)) (sym at.2) ∙ ap (of p) (sym at.1)
 
 pub opened_so_far : (answers : Answering) (b : Bytes) (p new : Payload) (report : Report) (groups : List (List Bytes))
     (text next : Bytes) (more : List Bytes) (v : Reading Fault)

@@ -13,7 +13,7 @@ use Rattle.age_header.proofs.VerdictUniqueLemmas as headers
 use Rattle.age_header.specs.declared.file_key.FileKey.{FileKey}
 use Rattle.age_stream.specs.Payload.{payload_key}
 use Rattle.age_file.specs.declared.fault.Fault.{Fault}
-use Rattle.age_file.specs.declared.fault.Fault.TheVariants.{HeaderTruncated, NonceTruncated, OutOfMemory}
+use Rattle.age_file.specs.declared.fault.Fault.TheVariants.{HeaderTruncated, NonceTruncated}
 use Rattle.age_file.specs.Verdict.{Answering, parts_of, unlocked}
 use Rattle.agefile.specs.declared.payload.Payload.{Payload}
 use Rattle.agefile.specs.declared.report.Report.{Report}
@@ -23,7 +23,7 @@ use Rattle.agefile.specs.Limits.{limits}
 use Rattle.agefile.specs.Opening.{Opens, StartsAt}
 use Rattle.agefile.specs.Start.{IsStart, start_under}
 use Rattle.agefile.proofs.AnyFront.{first_of, one_start}
-use Rattle.agefile.proofs.OpensRunLemmas.{some-code}
+use Rattle.agefile.proofs.StartLemmas.{found_start, opened_start}
 
 -- ---- a beginning of a header
 
@@ -197,25 +197,12 @@ gave_short answers p q r code start there second (inr nonce) =
     subst (λ x. StartsAt x q r code) (one_start answers p start (Err NonceTruncated) there nonce) second in
     inr h.0
 
-shorter_file : (answers : Answering) (n : ℕ) (b : Bytes) (p q : Payload) (report r : Report) (code : ℕ)
-    (s : Result Start Fault) → IsStart answers b s → StartsAt s p report 0 → n < report.len
-    → Opens answers (take n b) q r code → code ≢ 17
-    → (code ≡ fault_code HeaderTruncated) ⊎ (code ≡ fault_code NonceTruncated)
-shorter_file answers n b p q report r code (Err fault) is first low second other =
-    absurd (some-code fault (sym first.0))
-shorter_file answers n b p q report r code (Ok s) is first low (start, inl memory, second) other =
-    let refused : StartsAt (Err OutOfMemory) q r code = subst (λ x. StartsAt x q r code) memory second in
-    absurd (other refused.0)
-shorter_file answers n b p q report r code (Ok s) is first low (start, inr there, second) other =
-    let below : n < s.first = subst (λ (x : Report). n < x.len) first.1 low in
-    gave_short answers (take n b) q r code start there second (short_start answers n b s below is)
-
 pub short_fronts : (answers : Answering) (n : ℕ) (b : Bytes) (p q : Payload) (report r : Report) (code : ℕ)
     → Opens answers b p report 0 → n < report.len
     → Opens answers (take n b) q r code → code ≢ 17
     → (code ≡ fault_code HeaderTruncated) ⊎ (code ≡ fault_code NonceTruncated)
-short_fronts answers n b p q report r code (start, inl memory, first) low second other =
-    let refused : StartsAt (Err OutOfMemory) p report 0 = subst (λ s. StartsAt s p report 0) memory first in
-    absurd (some-code OutOfMemory (sym refused.0))
-short_fronts answers n b p q report r code (start, inr is, first) low second other =
-    shorter_file answers n b p q report r code start is first low second other
+short_fronts answers n b p q report r code first low second other =
+    let (s, is, at) = opened_start answers b p report first in
+    let (start, there, gives) = found_start answers (take n b) q r code second other in
+    let below : n < s.first = subst (λ (x : Report). n < x.len) at.1 low in
+    gave_short answers (take n b) q r code start there gives (short_start answers n b s below is)

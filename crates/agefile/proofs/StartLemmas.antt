@@ -1,6 +1,6 @@
 -- Where a file's chunks begin, from what its parts return.
-use Rattle.std.proofs.Common.{◌≡◌, ◌⊎◌, ◌+◌, ◌-◌, ◌<◌, ◌≤◌, List, [], ◌∷◌, map, ◌++◌, length, take, drop, nat_lt, sym, ◌∙◌, ap, refl, subst, arith, inl, inr, length-append, Result, Ok, Err}
-use Rattle.std.proofs.lemmas.Bool.{le-ltb, lt-ltb, cond-false, cond-true}
+use Rattle.std.proofs.Common.{◌≡◌, ◌≢◌, ◌⊎◌, ℕ, ◌+◌, ◌-◌, ◌<◌, ◌≤◌, List, [], ◌∷◌, map, ◌++◌, length, take, drop, nat_lt, sym, ◌∙◌, ap, refl, subst, arith, inl, inr, length-append, length-drop, Result, Ok, Err}
+use Rattle.std.proofs.lemmas.Bool.{cases_lt, le-ltb, lt-ltb, cond-false, cond-true}
 use Rattle.std.proofs.lemmas.List.{drop_at}
 use Rattle.age_kdf.specs.Bytes.{Bytes}
 use Rattle.age_header.specs.Device.{CountsFaultIf, Seen, flow}
@@ -17,12 +17,16 @@ use Rattle.age_file.specs.declared.fault.Fault.{Fault}
 use Rattle.age_file.specs.declared.fault.Fault.TheVariants.{NonceTruncated, OutOfMemory, Read}
 use Rattle.age_file.specs.Device.{is_read}
 use Rattle.age_file.specs.Inspect.{Inspects}
-use Rattle.age_file.specs.Verdict.{Answering, header_fault, unlocked}
+use Rattle.age_file.specs.Verdict.{Answering, header_fault, parts_of, unlocked}
 use Rattle.age_file.proofs.DecryptLemmas.{err-err}
+use Rattle.agefile.specs.declared.payload.Payload.{Payload}
+use Rattle.agefile.specs.declared.report.Report.{Report}
 use Rattle.agefile.specs.declared.start.Start.{Start}
 use Rattle.agefile.specs.Giving.{alone}
 use Rattle.agefile.specs.Limits.{limits}
-use Rattle.agefile.specs.Start.{FindsStart, start_under}
+use Rattle.agefile.specs.Opening.{Opens, StartsAt}
+use Rattle.agefile.specs.Start.{FindsStart, IsStart, start_under}
+use Rattle.agefile.proofs.OpensRunLemmas.{some-code}
 
 pub ok-ok : {A : Type 0} (x y : A) → ◌≡◌ {A = Result A Fault} (Ok x) (Ok y) → x ≡ y
 ok-ok x y e = cc
@@ -115,3 +119,56 @@ start_alone m items x b start one h = subst (λ xs. FindsStart (λ s. map (λ i.
 pub start_meant : (f g : List StanzaParts → Unwrapped) (b : Bytes) (start : Result Start Fault) → f ≡ g
     → FindsStart (alone f) b start → FindsStart (alone g) b start
 start_meant f g b start same h = subst (λ m. FindsStart (alone m) b start) same h
+
+-- ---- what a start is
+
+-- a file key was unlocked, sixteen bytes follow the header, and the start is known
+pub record StartsUnder (len : ℕ) (rest : Bytes) (key : Result FileKey Fault) (s : Start) : Type 0 where
+  pub k : FileKey
+  pub unlocks : key ≡ Ok k
+  pub long : 16 ≤ length rest
+  pub is : s ≡ record { first = len + 16; key = payload_key k (take 16 rest) }
+
+pub under : (len : ℕ) (rest : Bytes) (key : Result FileKey Fault) (s : Start) → Ok s ≡ start_under len rest key
+    → StartsUnder len rest key s
+under len rest (Err fault) s is = absurd (cc)
+under len rest (Ok k) s is =
+    let other : Result Start Fault = Err NonceTruncated in
+    let found : Result Start Fault = Ok (record { first = len + 16; key = payload_key k (take 16 rest) }) in
+    elim (cases_lt (length rest) 16) [
+      | inl lt ↦ let none : ◌≡◌ {A = Result Start Fault} (Ok s) (Err NonceTruncated) = is
+          ∙ cond-true (nat_lt (length rest) 16) other found (lt-ltb (length rest) 16 lt) in absurd (cc)
+      | inr ge ↦ record {
+        k = k;
+        unlocks = refl;
+        long = ge;
+        is =
+            ok-ok s _ (is ∙ cond-false (nat_lt (length rest) 16) other found (le-ltb (length rest) 16 ge));
+      }
+    ]
+
+pub start_within : (answers : Answering) (b : Bytes) (start : Start) → FindsStart answers b (Ok start)
+    → start.first ≤ length b
+start_within answers b start (inl memory) = absurd (cc)
+start_within answers b start (inr (Err e, verdict, is)) = absurd (cc)
+start_within answers b start (inr (Ok found, verdict, is)) =
+    let u = under (length found.text) (drop (length found.text) b) (unlocked answers (parts_of found)) start is in
+    omega (arith, u.long, ap (λ (s : Start). s.first) u.is, length-drop (length found.text) b)
+
+-- ---- what opening found
+
+-- a payload was opened: there is a start
+pub opened_start : (answers : Answering) (b : Bytes) (p : Payload) (report : Report) → Opens answers b p report 0
+    → (s : Start) × IsStart answers b (Ok s) × StartsAt (Ok s) p report 0
+opened_start answers b p report (Err fault, is, opens) = absurd (some-code fault (sym opens.0))
+opened_start answers b p report (Ok s, inl memory, opens) = absurd (cc)
+opened_start answers b p report (Ok s, inr is, opens) = (s, is, opens)
+
+-- there is a start, or its fault, unless an allocation was refused
+pub found_start : (answers : Answering) (b : Bytes) (p : Payload) (report : Report) (code : ℕ)
+    → Opens answers b p report code → code ≢ 17
+    → (start : Result Start Fault) × IsStart answers b start × StartsAt start p report code
+found_start answers b p report code (start, inl memory, opens) other =
+    let refused : StartsAt (Err OutOfMemory) p report code = subst (λ s. StartsAt s p report code) memory opens in
+    absurd (other refused.0)
+found_start answers b p report code (start, inr is, opens) other = (start, is, opens)

@@ -1,5 +1,5 @@
 -- What the calls on a file give is its verdict.
-use Rattle.std.proofs.Common.{◌≡◌, ◌≢◌, ℕ, ◌+◌, [], length, take, drop, nat_lt, Bool, true, false, cond, sym, ◌∙◌, ap, refl, subst, inl, inr, Result, Ok, Err}
+use Rattle.std.proofs.Common.{◌≡◌, ◌≢◌, ℕ, ◌+◌, [], length, take, drop, nat_lt, Bool, true, false, cond, sym, ◌∙◌, ap, refl, subst, Result, Ok, Err}
 use Rattle.std.specs.Prelude.{option_map}
 use Rattle.std.proofs.lemmas.List.{drop-drop}
 use Rattle.age_kdf.specs.Bytes.{Bytes}
@@ -8,7 +8,7 @@ use Rattle.age_stream.specs.declared.fault.StreamFault.TheVariants as stream
 use Rattle.age_stream.specs.Payload.{payload_key, pieces}
 use Rattle.age_stream.specs.Reading.{Reading, reading_from, stops}
 use Rattle.age_file.specs.declared.fault.Fault.{Fault}
-use Rattle.age_file.specs.declared.fault.Fault.TheVariants.{NonceTruncated, OutOfMemory}
+use Rattle.age_file.specs.declared.fault.Fault.TheVariants.{NonceTruncated}
 use Rattle.age_file.specs.Verdict.{Answering, IsVerdict, judged, header_fault, parts_of, read_under, stream_fault, unlocked, with_file_fault}
 use Rattle.age_file.proofs.FileLemmas.{one_verdict}
 use Rattle.agefile.specs.declared.payload.Payload.{Payload}
@@ -16,15 +16,14 @@ use Rattle.agefile.specs.declared.report.Report.{Report}
 use Rattle.agefile.specs.declared.start.Start.{Start}
 use Rattle.agefile.specs.Codes.{code_of}
 use Rattle.agefile.specs.Limits.{limits}
-use Rattle.agefile.specs.Opening.{Opens, StartsAt, by_file_key}
+use Rattle.agefile.specs.Opening.{Opens, StartsAt}
 use Rattle.agefile.specs.Payload.{before_first}
 use Rattle.agefile.specs.Report.{report_of}
 use Rattle.agefile.specs.Runs.{OpensRun}
 use Rattle.agefile.specs.Start.{IsStart, start_under}
-use Rattle.agefile.specs.Unlock.{Unlocks}
 use Rattle.agefile.proofs.FrontLemmas.{whole-start}
-use Rattle.agefile.proofs.OpeningLaws.{opens_unlocked}
-use Rattle.agefile.proofs.OpensRunLemmas.{payload_reads, some-code}
+use Rattle.agefile.proofs.OpensRunLemmas.{payload_reads}
+use Rattle.agefile.proofs.StartLemmas.{found_start, opened_start}
 
 -- ---- the verdict, by the start
 
@@ -76,54 +75,25 @@ pub opening_refused : (answers : Answering) (b : Bytes) (p : Payload) (report : 
     → Opens answers (take 65552 b) p report code
     → IsVerdict limits answers b v → code ≢ 0 → code ≢ 17
     → (v.front ≡ []) × (code_of v.fault ≡ code) × (report ≡ report_of 0 v.fault)
-opening_refused answers b p report code v (start, inl memory, opens) h some other =
-    let refused : StartsAt (Err OutOfMemory) p report code = subst (λ s. StartsAt s p report code) memory opens in
-    absurd (other refused.0)
-opening_refused answers b p report code v (start, inr is, opens) h some other =
-    refused-by b p report code v start opens (verdict-from answers b start v (whole-start answers b start is) h) some
-
-reads-by : (b : Bytes) (p : Payload) (report : Report) (text : Bytes) (code place : ℕ) (v : Reading Fault)
-    (start : Result Start Fault) → StartsAt start p report 0 → IsVerdictFrom b v start
-    → OpensRun p (pieces (drop report.len b)) text code place
-    → (v.front ≡ text) × ((code_of v.fault ≡ code) × ((report_of 0 v.fault).place ≡ place))
-reads-by b p report text code place v (Err fault) opens from run = absurd (some-code fault (sym opens.0))
-reads-by b p report text code place v (Ok start) opens from run =
-    let there : OpensRun (before_first start.key 1) (pieces (drop start.first b)) text code place =
-    subst (λ r. OpensRun r (pieces (drop start.first b)) text code place) opens.2
-    (subst (λ (x : Report). OpensRun p (pieces (drop x.len b)) text code place) opens.1 run) in
-    let h = payload_reads start.key (drop start.first b) text code place there in (
-      ap (λ (r : Reading Fault). r.front) from ∙ sym h.0,
-      (
-        ap (λ (r : Reading Fault). code_of r.fault) from ∙ sym h.1.0,
-        ap (λ (r : Reading Fault). (report_of 0 r.fault).place) from ∙ sym h.1.1,
-      ),
-    )
+opening_refused answers b p report code v opens h some other =
+    let (start, is, gives) = found_start answers (take 65552 b) p report code opens other in
+    refused-by b p report code v start gives (verdict-from answers b start v (whole-start answers b start is) h) some
 
 pub steps_read : (answers : Answering) (b : Bytes) (p : Payload) (report : Report) (text : Bytes) (code place : ℕ)
     (v : Reading Fault) → Opens answers (take 65552 b) p report 0
     → OpensRun p (pieces (drop report.len b)) text code place → IsVerdict limits answers b v
     → (v.front ≡ text) × ((code_of v.fault ≡ code) × ((report_of 0 v.fault).place ≡ place))
-steps_read answers b p report text code place v (start, inl memory, opens) run h =
-    let refused : StartsAt (Err OutOfMemory) p report 0 = subst (λ s. StartsAt s p report 0) memory opens in
-    absurd (some-code OutOfMemory (sym refused.0))
-steps_read answers b p report text code place v (start, inr is, opens) run h =
-    reads-by b p report text code place v start opens
-    (verdict-from answers b start v (whole-start answers b start is) h) run
-
--- the same after unlocking
-pub unlocked_refused : (answers : Answering) (b old key : Bytes) (p : Payload) (at report : Report) (code : ℕ)
-    (v : Reading Fault) → Unlocks answers b old key at 0
-    → Opens (by_file_key key) (take 65552 b) p report code → IsVerdict limits answers b v → code ≢ 0 → code ≢ 17
-    → (v.front ≡ []) × (code_of v.fault ≡ code) × (report ≡ report_of 0 v.fault)
-unlocked_refused answers b old key p at report code v unlocks opens h some other =
-    opening_refused (by_file_key key) b p report code v opens (opens_unlocked answers b old key at v unlocks h) some
-    other
-
-pub unlocked_read : (answers : Answering) (b old key : Bytes) (p : Payload) (at report : Report) (text : Bytes)
-    (code place : ℕ) (v : Reading Fault) → Unlocks answers b old key at 0
-    → Opens (by_file_key key) (take 65552 b) p report 0 → OpensRun p (pieces (drop report.len b)) text code place
-    → IsVerdict limits answers b v
-    → (v.front ≡ text) × ((code_of v.fault ≡ code) × ((report_of 0 v.fault).place ≡ place))
-unlocked_read answers b old key p at report text code place v unlocks opens run h =
-    steps_read (by_file_key key) b p report text code place v opens run
-    (opens_unlocked answers b old key at v unlocks h)
+steps_read answers b p report text code place v opens run h =
+    let (start, is, at) = opened_start answers (take 65552 b) p report opens in
+    let from : IsVerdictFrom b v (Ok start) =
+    verdict-from answers b (Ok start) v (whole-start answers b (Ok start) is) h in
+    let there : OpensRun (before_first start.key 1) (pieces (drop start.first b)) text code place =
+    subst (λ r. OpensRun r (pieces (drop start.first b)) text code place) at.2
+    (subst (λ (x : Report). OpensRun p (pieces (drop x.len b)) text code place) at.1 run) in
+    let reads = payload_reads start.key (drop start.first b) text code place there in (
+      ap (λ (r : Reading Fault). r.front) from ∙ sym reads.0,
+      (
+        ap (λ (r : Reading Fault). code_of r.fault) from ∙ sym reads.1.0,
+        ap (λ (r : Reading Fault). (report_of 0 r.fault).place) from ∙ sym reads.1.1,
+      ),
+    )

@@ -26,7 +26,6 @@ use Rattle.agefile.specs.Limits.{limits}
 use Rattle.agefile.specs.Report.{report_of}
 use Rattle.agefile.specs.Unlock.{FindsKey, GivesKey, IsKey, Unlocks, with_len}
 use Rattle.agefile.proofs.FrontLemmas.{whole_verdict}
-use Rattle.agefile.proofs.OpensRunLemmas.{some-code}
 use Rattle.agefile.proofs.StartLemmas.{fronts}
 
 -- no header was read
@@ -138,20 +137,3 @@ unlocking_refused answers b old new report code v (key, inl memory, gives) h som
     absurd (other refused.0)
 unlocking_refused answers b old new report code v (key, inr is, gives) h some other =
     refused-by b old new report code v key gives (verdict-under answers b key v is h) some
-
-reads-by : (b old new : Bytes) (report : Report) (v : Reading Fault) (key : Result Unlocked Fault)
-    → GivesKey key old new report 0 → IsVerdictUnder b v key
-    → v ≡ read_under limits (drop report.len b) (Ok (record { 0 = new }))
-reads-by b old new report v (Err fault) gives under = absurd (some-code fault (sym gives.0))
-reads-by b old new report v (Ok found) gives under =
-    under ∙ ap (λ n. read_under limits (drop n b) (Ok found.key)) (sym (ap (λ (r : Report). r.len) gives.1))
-    ∙ ap (λ k. read_under limits (drop report.len b) (Ok (record { 0 = k }))) (sym gives.2)
-
-pub unlocking_reads : (answers : Answering) (b old new : Bytes) (report : Report) (v : Reading Fault)
-    → Unlocks answers b old new report 0
-    → IsVerdict limits answers b v → v ≡ read_under limits (drop report.len b) (Ok (record { 0 = new }))
-unlocking_reads answers b old new report v (key, inl memory, gives) h =
-    let refused : GivesKey (Err OutOfMemory) old new report 0 = subst (λ k. GivesKey k old new report 0) memory gives in
-    absurd (some-code OutOfMemory (sym refused.0))
-unlocking_reads answers b old new report v (key, inr is, gives) h =
-    reads-by b old new report v key gives (verdict-under answers b key v is h)

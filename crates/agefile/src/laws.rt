@@ -1,23 +1,24 @@
 //! Laws over the definitions alone: functions that do nothing, each with a law as its contract.
 
-ghost use Rattle.std.specs.Prelude.{None, Ok, List, Vec, [], ◌∷◌, drop, length, take, true, ℕ, ◌≤◌, ◌%◌, ◌++◌, ◌+◌, ◌/◌, ◌<◌, ◌≡◌, ◌≢◌, ◌⊎◌};
-ghost use Rattle.std.specs.Global.{Global};
+ghost use Rattle.std.specs.Prelude.{Ok, List, [], ◌∷◌, drop, length, take, true, ℕ, ◌≤◌, ◌%◌, ◌++◌, ◌+◌, ◌/◌, ◌<◌, ◌≡◌, ◌≢◌, ◌⊎◌};
 ghost use Rattle.std.specs.List.{concat};
 ghost use Rattle.age_kdf.specs.Bytes.{Bytes};
+ghost use Rattle.age_header.specs.Header.{IsStanza, StanzaParts};
 ghost use Rattle.age_stream.specs.Payload.{chunks, pieces, sealed_from};
 ghost use Rattle.age_stream.specs.Reading.{Reading, outcome, whole};
 ghost use Rattle.age_stream.specs.Sizes.{chunk_size, nonce_size, tag_size};
 ghost use Rattle.age_stream.specs.Slice.{IsSlice, last_outcome, plain_len};
 ghost use Rattle.age_file.specs.declared.fault.Fault.{Fault};
 ghost use Rattle.age_file.specs.declared.fault.Fault.TheVariants.{HeaderTruncated, NonceTruncated};
-ghost use Rattle.age_file.specs.Verdict.{Answering, IsVerdict, read_under};
+ghost use Rattle.age_file.specs.AgeFile.{AgeFile};
+ghost use Rattle.age_file.specs.Verdict.{Answering, IsVerdict};
 ghost use Rattle.agefile.specs.declared.payload.Payload.{Payload};
 ghost use Rattle.agefile.specs.declared.ranges.Ranges.{Ranges};
 ghost use Rattle.agefile.specs.declared.report.Report.{Report};
 ghost use Rattle.agefile.specs.Codes.{code_of, fault_code, ok, out_of_memory, too_many_chunks};
 ghost use Rattle.agefile.specs.Encrypting.{IsNewFile};
 ghost use Rattle.agefile.specs.Groups.{OpensGroups, SealsGroups, all_of, sealed_open};
-ghost use Rattle.agefile.specs.Heading.{BeginsFile, MakesHeader};
+ghost use Rattle.agefile.specs.Heading.{BeginsFile};
 ghost use Rattle.agefile.specs.Limits.{limits, front_size};
 ghost use Rattle.agefile.specs.Opening.{Opens, by_file_key};
 ghost use Rattle.agefile.specs.Payload.{OpensNext, SealsNext};
@@ -27,13 +28,10 @@ ghost use Rattle.agefile.specs.Runs.{OpensRun, SealsRun};
 ghost use Rattle.agefile.specs.Start.{IsStart};
 ghost use Rattle.agefile.specs.Unlock.{Unlocks};
 
-use age_file::laws;
-
 /// Reading a file in steps returns what decrypting it returns. The front of 65,552 bytes of a file
 /// b is enough to open it. A fault of the opening, except out of memory, is the verdict's, before
 /// any plaintext. Otherwise the texts of the sealed chunks after the nonce, joined up to the first
 /// fault, are the verdict's plaintext, and that fault, with its line or chunk, is the verdict's.
-/// The same is so of the verdict for a secret, if the file key was unlocked by it.
 pub fn steps_read()
     ensures refused { (answers : Answering) (b : Bytes) (p : Payload) (report : Report) (code : ℕ)
         (v : Reading Fault)
@@ -43,16 +41,6 @@ pub fn steps_read()
     ensures read { (answers : Answering) (b : Bytes) (p : Payload) (report : Report) (text : Bytes)
         (code place : ℕ) (v : Reading Fault)
         → Opens answers (take front_size b) p report ok
-        → OpensRun p (pieces (drop report.len b)) text code place → IsVerdict limits answers b v
-        → (v.front ≡ text) × ((code_of v.fault ≡ code) × ((report_of 0 v.fault).place ≡ place)) }
-    ensures unlocked_refused { (answers : Answering) (b old key : Bytes) (p : Payload)
-        (at report : Report) (code : ℕ) (v : Reading Fault) → Unlocks answers b old key at ok
-        → Opens (by_file_key key) (take front_size b) p report code → IsVerdict limits answers b v
-        → code ≢ ok → code ≢ out_of_memory
-        → (v.front ≡ []) × (code_of v.fault ≡ code) × (report ≡ report_of 0 v.fault) }
-    ensures unlocked_read { (answers : Answering) (b old key : Bytes) (p : Payload)
-        (at report : Report) (text : Bytes) (code place : ℕ) (v : Reading Fault)
-        → Unlocks answers b old key at ok → Opens (by_file_key key) (take front_size b) p report ok
         → OpensRun p (pieces (drop report.len b)) text code place → IsVerdict limits answers b v
         → (v.front ≡ text) × ((code_of v.fault ≡ code) × ((report_of 0 v.fault).place ≡ place)) }
 {}
@@ -72,8 +60,8 @@ pub fn steps_write()
 /// and its length are enough to open it. A fault of the opening, except out of memory, is the
 /// verdict's, before any plaintext. Otherwise what was opened is b's own payload: the piece that is
 /// verified first is its last one, and with it the plaintext's length is known. The text of a
-/// located piece, from the requested byte on, is a slice of the plaintext; if the verdict has no
-/// fault, it is a part of the verdict's plaintext.
+/// located piece, from the requested byte on, is a slice of the plaintext, which by
+/// `age_stream::laws::whole_is_sliced` is a part of the verdict's, if this has no fault.
 pub fn ranges_in_steps()
     ensures refused { (answers : Answering) (b : Bytes) (r : Ranges) (report : Report) (code : ℕ)
         (v : Reading Fault)
@@ -96,27 +84,6 @@ pub fn ranges_in_steps()
         → gives r (at / chunk_size) (piece_at r b (at / chunk_size)) ≡ Ok text
         → (at % chunk_size < length text)
         × IsSlice r.key (drop r.first b) at (drop (at % chunk_size) text) }
-    ensures verdict { (answers : Answering) (b : Bytes) (r : Ranges) (report : Report)
-        (v : Reading Fault) (at : ℕ) (text : Bytes)
-        → OpensRanges answers (take front_size b) (length b) r report ok
-        → IsVerdict limits answers b v → v.fault ≡ None → at < plain_of r.sealed_len
-        → gives r (at / chunk_size) (piece_at r b (at / chunk_size)) ≡ Ok text
-        → drop (at % chunk_size) text
-        ≡ take (length (drop (at % chunk_size) text)) (drop at v.front) }
-{}
-
-/// Unlocking a header leads to what decrypting the file returns. A fault, except out of memory, is
-/// the verdict's, before any plaintext. Otherwise the verdict is what the payload after the header
-/// is under the file key.
-pub fn unlocked_reads()
-    ensures refused { (answers : Answering) (b old new : Bytes) (report : Report) (code : ℕ)
-        (v : Reading Fault)
-        → Unlocks answers b old new report code → IsVerdict limits answers b v
-        → code ≢ ok → code ≢ out_of_memory
-        → (v.front ≡ []) × (code_of v.fault ≡ code) × (report ≡ report_of 0 v.fault) }
-    ensures read { (answers : Answering) (b old new : Bytes) (report : Report) (v : Reading Fault)
-        → Unlocks answers b old new report ok → IsVerdict limits answers b v
-        → v ≡ read_under limits (drop report.len b) (Ok (record { 0 = new })) }
 {}
 
 /// Chunks that a payload and its parts sealed are the payload's, in any order of the calls on
@@ -135,19 +102,30 @@ pub fn parts_seal()
         → out ++ after ≡ concat (sealed_from old.key old.number (all_of groups ++ text ∷ [])) }
 {}
 
-/// A file that encrypting writes has for its file key the verdict "this plaintext, no fault",
-/// whatever the stanzas.
-pub fn written_reads()
-    ensures { (stanzas file_key nonce plain file : Bytes) → length nonce ≡ nonce_size
+/// A file that encrypting writes is an age file of this plaintext for its file key, whatever the
+/// stanzas; of one stanza that is given it is one with this stanza. So it has the verdict "this
+/// plaintext, no fault" for the file key, by `age_file::laws::ok_is_age_file`, and by `pair_opens`
+/// for the key or passphrase that the stanza was made with.
+pub fn written_is_age_file()
+    ensures any { (stanzas file_key nonce plain file : Bytes) → length nonce ≡ nonce_size
         → IsNewFile stanzas file_key nonce plain file
-        → IsVerdict limits (by_file_key file_key) file (whole plain) }
-{
-    laws::ok_is_age_file();
-}
+        → (ss : List StanzaParts) × AgeFile limits (record { 0 = file_key }) ss plain file }
+    ensures one { (stanza : StanzaParts) (text file_key nonce plain file : Bytes)
+        → length nonce ≡ nonce_size → IsStanza stanza text
+        → IsNewFile text file_key nonce plain file
+        → AgeFile limits (record { 0 = file_key }) (stanza ∷ []) plain file }
+{}
 
-/// A file has for the file key that was unlocked the verdict that it has for the secret.
+/// What unlocking a header finds is what decrypting the file finds. A fault, except out of memory,
+/// is the verdict's, before any plaintext. Otherwise the file has for the file key that was
+/// unlocked the verdict that it has for the secret.
 pub fn unlocked_opens()
-    ensures { (answers : Answering) (b old new : Bytes) (report : Report) (v : Reading Fault)
+    ensures refused { (answers : Answering) (b old new : Bytes) (report : Report) (code : ℕ)
+        (v : Reading Fault)
+        → Unlocks answers b old new report code → IsVerdict limits answers b v
+        → code ≢ ok → code ≢ out_of_memory
+        → (v.front ≡ []) × (code_of v.fault ≡ code) × (report ≡ report_of 0 v.fault) }
+    ensures opens { (answers : Answering) (b old new : Bytes) (report : Report) (v : Reading Fault)
         → Unlocks answers b old new report ok → IsVerdict limits answers b v
         → IsVerdict limits (by_file_key new) b v }
 {}
@@ -185,13 +163,4 @@ pub fn any_front()
         (code : ℕ) → Opens answers b p report ok → n < report.len
         → Opens answers (take n b) q r code → code ≢ out_of_memory
         → (code ≡ fault_code HeaderTruncated) ⊎ (code ≡ fault_code NonceTruncated) }
-{}
-
-/// A header of other stanzas that was made under a file's own file key keeps the verdict: before
-/// the bytes after the old header it has for the file key the verdict that the file has.
-pub fn other_stanzas_keep()
-    ensures { (answers : Answering) (b old key stanzas : Bytes) (report : Report)
-        (header : Vec ℕ Global) (v : Reading Fault) → Unlocks answers b old key report ok
-        → MakesHeader stanzas (record { 0 = key }) (Ok header) → IsVerdict limits answers b v
-        → IsVerdict limits (by_file_key key) (header.items ++ drop report.len b) v }
 {}

@@ -42,7 +42,6 @@ mod payload;
 mod phase;
 mod ranges;
 mod report;
-pub mod round_trips;
 mod sealing;
 mod sizes;
 mod start;

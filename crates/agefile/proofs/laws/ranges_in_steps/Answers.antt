@@ -1,4 +1,4 @@
-use Rattle.agefile.proofs.RangeFront.{opened-range, range-of-verdict, refused-range}
+use Rattle.agefile.proofs.RangeFront.{opened-range, refused-range}
 use Rattle.agefile.proofs.RangeLemmas.{last-there, len-there, slice-there}
 use Rattle.agefile.proofs.laws.ranges_in_steps.Goals as goal
 
@@ -9,5 +9,4 @@ returns c = record {
   last = λ r b. last-there r b;
   len = λ r b text. len-there r b text;
   slice = λ r b text at. slice-there r b text at;
-  verdict = range-of-verdict;
 }

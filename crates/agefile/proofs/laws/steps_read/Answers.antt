@@ -1,11 +1,5 @@
-use Rattle.agefile.proofs.StepsReadLemmas.{opening_refused, steps_read, unlocked_read, unlocked_refused}
+use Rattle.agefile.proofs.StepsReadLemmas.{opening_refused, steps_read}
 use Rattle.agefile.proofs.laws.steps_read.Goals as goal
 
 pub returns : goal.returns
-returns c = record {
-  refused = opening_refused;
-  read = steps_read;
-  unlocked_refused = unlocked_refused;
-  unlocked_read =
-      unlocked_read;
-}
+returns c = record { refused = opening_refused; read = steps_read }

@@ -1,5 +1,6 @@
 use Rattle.agefile.proofs.OpeningLaws.{opens_unlocked}
+use Rattle.agefile.proofs.UnlockLemmas.{unlocking_refused}
 use Rattle.agefile.proofs.laws.unlocked_opens.Goals as goal
 
 pub returns : goal.returns
-returns c = opens_unlocked
+returns c = record { refused = unlocking_refused; opens = opens_unlocked }
