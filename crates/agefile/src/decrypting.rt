@@ -35,10 +35,9 @@ pub extern "C" fn agefile_decrypt(
     out: &mut [u8],
     report: &mut Report,
 ) -> u32
-    // The first fault before the chunks that the verdict has for an identity that gives this key;
-    // else 21 if `out` has no room for the plaintext of sealed chunks of this length, which is
-    // reported; or 17; in each with `out` unchanged. Else the verdict's plaintext is in `out`, the
-    // bytes after it are unchanged, and the verdict's fault is returned.
+    // The first fault before the chunks, for an identity that gives this key; else 21 if `out` has
+    // no room, whose size is reported; or 17: `out` is unchanged. Else the verdict's plaintext is
+    // in `out`, the bytes after it are unchanged, and the verdict's fault is returned.
     ensures { Decrypts (by_file_key file_key.now) file.now out.old out.new report.new result }
 {
     let start = match start_under(alloc, file, file_key) {
