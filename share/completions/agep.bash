@@ -3,7 +3,7 @@
 _agep() {
     local word=${COMP_WORDS[COMP_CWORD]} options= i
     # generated: commands of bash, one line
-    local commands="encrypt decrypt inspect range rewrap help"
+    local commands="encrypt decrypt inspect range rewrap salvage help"
     COMPREPLY=()
     if [[ $COMP_CWORD -eq 1 ]]; then
         mapfile -t COMPREPLY < <(compgen -W "$commands -h --help -V --version" -- "$word")
@@ -33,6 +33,7 @@ _agep() {
         inspect) options="-r --raw -f --file-key -H --max-header -v --verbose -h --help -V --version" ;;
         range) options="-p --passphrase -k --key -m --max-work -H --max-header -o --output -v --verbose -h --help -V --version" ;;
         rewrap) options="-p --passphrase -k --key -m --max-work -H --max-header -o --output -v --verbose -P --new-pass -K --new-key -w --work -s --seed -h --help -V --version" ;;
+        salvage) options="-p --passphrase -k --key -m --max-work -H --max-header -o --output -v --verbose -h --help -V --version" ;;
         # end of options of bash
         help) mapfile -t COMPREPLY < <(compgen -W "$commands" -- "$word") ;;
     esac

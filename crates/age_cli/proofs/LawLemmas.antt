@@ -75,6 +75,7 @@ decrypt_done law job b xs new (task.Encrypt secret seed) is w = absurd is
 decrypt_done law job b xs new (task.Rewrap old other salt) is w = absurd is
 decrypt_done law job b xs new (task.Inspect key) is w = absurd is
 decrypt_done law job b xs new (task.Range secret) is w = absurd is
+decrypt_done law job b xs new (task.Salvage secret) is w = absurd is
 
 pub done_decrypt : OkIsAgeFile → (job : Job) (b xs : Bytes) (new : Known) → job.command ≡ command.Decrypt
     → Finishes job (Some b) (moved (Some xs) new) → Gained (limits_of job) b xs new
@@ -115,6 +116,7 @@ encrypt_done job plain xs new (task.Decrypt secret) is w = absurd is
 encrypt_done job plain xs new (task.Rewrap old other salt) is w = absurd is
 encrypt_done job plain xs new (task.Inspect key) is w = absurd is
 encrypt_done job plain xs new (task.Range secret) is w = absurd is
+encrypt_done job plain xs new (task.Salvage secret) is w = absurd is
 
 pub done_encrypt : (job : Job) (plain xs : Bytes) (new : Known) → job.command ≡ command.Encrypt
     → Finishes job (Some plain) (moved (Some xs) new) → Made (limits_of job) plain xs new
@@ -143,6 +145,7 @@ rewrap_done job b xs new (task.Encrypt secret seed) is w = absurd is
 rewrap_done job b xs new (task.Decrypt secret) is w = absurd is
 rewrap_done job b xs new (task.Inspect key) is w = absurd is
 rewrap_done job b xs new (task.Range secret) is w = absurd is
+rewrap_done job b xs new (task.Salvage secret) is w = absurd is
 
 pub done_rewrap : (job : Job) (b xs : Bytes) (new : Known) → job.command ≡ command.Rewrap
     → Finishes job (Some b) (moved (Some xs) new) → Rewrote (limits_of job) b xs new
@@ -174,6 +177,7 @@ inspect_done job b xs new (task.Encrypt secret seed) is w = absurd is
 inspect_done job b xs new (task.Decrypt secret) is w = absurd is
 inspect_done job b xs new (task.Rewrap old other salt) is w = absurd is
 inspect_done job b xs new (task.Range secret) is w = absurd is
+inspect_done job b xs new (task.Salvage secret) is w = absurd is
 
 pub done_inspect : (job : Job) (b xs : Bytes) (new : Known) → job.command ≡ command.Inspect
     → Finishes job (Some b) (moved (Some xs) new) → Showed (limits_of job) job.raw b xs new
@@ -204,6 +208,7 @@ range_done job from xs new (task.Encrypt secret seed) is w = absurd is
 range_done job from xs new (task.Decrypt secret) is w = absurd is
 range_done job from xs new (task.Rewrap old other salt) is w = absurd is
 range_done job from xs new (task.Inspect key) is w = absurd is
+range_done job from xs new (task.Salvage secret) is w = absurd is
 
 pub done_range : (job : Job) (from : Known) (xs : Bytes) (new : Known) → job.command ≡ command.Range
     → Finishes job from (moved (Some xs) new) → GainedAtMost job.len xs new

@@ -32,6 +32,7 @@ IsTaskFor command.Rewrap job (task.Rewrap old new salt) =
     × IsSecretOf job.new_pass job.new_key job.more_new_keys.items new × IsNewSecret new
 IsTaskFor command.Inspect job (task.Inspect key) = IsFileKeyOf job.raw job.file_key key
 IsTaskFor command.Range job (task.Range secret) = IsSecretFor job secret
+IsTaskFor command.Salvage job (task.Salvage secret) = IsSecretFor job secret
 IsTaskFor command job task = ⊥
 
 -- A task of this job: its secret is a passphrase if a passphrase file alone is named, else one key

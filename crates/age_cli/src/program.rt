@@ -1,13 +1,14 @@
 //! The program, over a reader and two writers.
-ghost use Rattle.std.specs.Prelude.{◌≡◌, ◌≢◌, ◌≤◌, ◌⊎◌, None, map, IfOk};
+ghost use Rattle.std.specs.Prelude.{◌≡◌, ◌≢◌, ◌≤◌, ◌⊎◌, None, map, IfOk, OnOk};
 ghost use Rattle.age_job.specs.Job.{IsInRange};
 ghost use Rattle.age_words.specs.JobOf.{AreWrong, AskForText};
 ghost use Rattle.age_cli.specs.Program.{AnswersRefusal, Begins, BeginsWords, Completes, FinishesOn, FinishesWords, IsTaskOf, PerformsOn};
 ghost use Rattle.age_header.specs.Device.{Stays, moved_by};
 
-use crate::failure::Failure;
+use crate::failure::{Failure, Fault};
+use crate::lines::LossLines;
 use crate::work::{kept_prefix, perform_to};
-use age_commands::{Seed, Task, seed_of};
+use age_commands::{Report, Seed, Task, seed_of};
 use age_job::{
     Command, Job, Lines, Pipe, ReadFiles, SEED_LEN, Watched, create, read_encrypt_secrets,
     read_file_key, read_rewrap_secrets, read_secret,
@@ -98,21 +99,44 @@ pub fn run_job<F: Files + AllocGlobal, R: Read, W: Write + IsTerminal, E: Write>
         → Begins F.File ⟦<F::File as Read>⟧.remaining job.now (R.remaining input.old)
         (moved_by W.contents out.old out.new) }
 {
-    match perform(rt, job, input, out) {
+    let mut lines = LossLines {
+        alloc: rt.alloc(),
+        err,
+        run: None,
+    };
+    match perform(rt, job, input, out, &mut lines) {
         Ok(()) => DONE,
-        Err(failure) => report(rt.alloc(), &failure, job.verbose, err),
+        Err(failure) => {
+            lines.end();
+            let LossLines { alloc, err, run: _ } = lines;
+            if is_told(job, &failure) {
+                FAILED
+            } else {
+                report(alloc, &failure, job.verbose, err)
+            }
+        }
+    }
+}
+
+/// Whether lines on what is lost were printed in place of the fault.
+fn is_told(job: &Job, failure: &Failure<'_>) -> bool {
+    match failure.fault {
+        Fault::AgeFile(age_file::Fault::BadChunk(_)) => job.command == Command::Salvage,
+        _ => false,
     }
 }
 
 /// Reads the small files, opens the input, creates the output, and does the work, in this order.
 #[tactic(auto, using(crate::proofs::ProgramLemmas::completes))]
-fn perform<'a, F: Files + AllocGlobal, R: Read, W: Write + IsTerminal>(
+fn perform<'a, F: Files + AllocGlobal, R: Read, W: Write + IsTerminal, L: Report>(
     rt: &F,
     job: &'a Job,
     input: &mut R,
     out: &mut W,
+    lines: &mut L,
 ) -> Result<(), Failure<'a>>
     requires { IsInRange job.now }
+    ensures silent { OnOk result (lines.new ≡ lines.old) }
     ensures completes { Completes F.File ⟦<F::File as Read>⟧.remaining
         ⟦<F::File as Write>⟧.contents job.now (R.remaining input.old)
         (moved_by W.contents out.old out.new) result }
@@ -124,11 +148,11 @@ fn perform<'a, F: Files + AllocGlobal, R: Read, W: Write + IsTerminal>(
     match &job.input {
         Some(name) => {
             let file = read.open_input(rt, job.command, name.as_str())?;
-            perform_on(rt, job, &read, task, file, out)
+            perform_on(rt, job, &read, task, file, out, lines)
         }
         None => {
             read.add_standard_input()?;
-            perform_on(rt, job, &read, task, Pipe(input), out)
+            perform_on(rt, job, &read, task, Pipe(input), out, lines)
         }
     }
 }
@@ -154,6 +178,7 @@ fn task_of<'a, F: Files + AllocGlobal, W: IsTerminal>(
         }
         Command::Inspect => Ok(Task::Inspect(read_file_key(rt, job, read)?)),
         Command::Range => Ok(Task::Range(read_secret(rt, job, read)?)),
+        Command::Salvage => Ok(Task::Salvage(read_secret(rt, job, read)?)),
     }
 }
 
@@ -166,15 +191,17 @@ fn seed_from(bytes: &[u8; SEED_LEN]) -> Seed {
 }
 
 /// Creates the output, and does the work on this input.
-fn perform_on<'a, F: Files + AllocGlobal, R: Read + Seek + Drop, W: Write>(
+fn perform_on<'a, F: Files + AllocGlobal, R: Read + Seek + Drop, W: Write, L: Report>(
     rt: &F,
     job: &'a Job,
     read: &ReadFiles<'a>,
     task: Task,
     input: R,
     out: &mut W,
+    lines: &mut L,
 ) -> Result<(), Failure<'a>>
     requires { IsInRange job.now }
+    ensures silent { OnOk result (lines.new ≡ lines.old) }
     ensures performs { PerformsOn F.File ⟦<F::File as Write>⟧.contents job.now task
         (R.remaining input) (moved_by W.contents out.old out.new) result }
     ensures output { job.now.output ≢ None → out.new ≡ out.old }
@@ -183,19 +210,19 @@ fn perform_on<'a, F: Files + AllocGlobal, R: Read + Seek + Drop, W: Write>(
     match &job.output {
         Some(name) => {
             let mut output = create(rt, job, read, name.as_str())?;
-            perform_to(rt.alloc(), job, task, &mut input, &mut output)?;
+            perform_to(rt.alloc(), job, task, &mut input, &mut output, lines)?;
             Ok(output.finish(name.as_str())?)
         }
         None => {
             read.refuse_standard_output()?;
-            perform_to(rt.alloc(), job, task, &mut input, out)
+            perform_to(rt.alloc(), job, task, &mut input, out, lines)
         }
     }
 }
 
 /// Prints a text on standard error, in one write if it fits into memory. A failed write changes
 /// nothing.
-fn say<D: Display, E: Write>(alloc: Global, text: &D, err: &mut E) {
+pub(crate) fn say<D: Display, E: Write>(alloc: Global, text: &D, err: &mut E) {
     let mut whole = Vec::new(alloc);
     let _ = match write!(whole, "{text}") {
         Ok(()) => err.write_all(whole.as_slice()),

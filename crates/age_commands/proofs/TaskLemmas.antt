@@ -1,12 +1,13 @@
 -- What a task does, of which proofs see the bytes to come alone.
 use Rattle.std.proofs.Common.{◌≡◌, [], Some, None, Err, inl, inr, refl, subst}
-use Rattle.std.proofs.KnownBytes.{Keeps-refl}
+use Rattle.std.proofs.KnownBytes.{Appends-nil, Keeps-refl}
+use Rattle.age_stream.specs.Salvage.{told}
 use Rattle.std.specs.Prelude.{IfSome}
 use Rattle.age_header.specs.Device.{Bytes, Flow, Known, OfGiven, moved}
 use Rattle.age_file.specs.declared.fault.Fault.TheVariants.{OutOfMemory}
 use Rattle.age_job.specs.declared.job.Job.{Job}
 use Rattle.age_commands.specs.declared.task.Task.{Task}
-use Rattle.age_commands.specs.declared.task.Task.TheVariants.{Encrypt, Decrypt, Rewrap, Inspect, Range}
+use Rattle.age_commands.specs.declared.task.Task.TheVariants.{Encrypt, Decrypt, Rewrap, Inspect, Range, Salvage}
 use Rattle.age_commands.specs.Task.{Performs, PerformsQuietly, unseen}
 
 -- what holds of the bytes that a source gave
@@ -33,6 +34,8 @@ no_memory job (Encrypt secret seed) from old = (Err OutOfMemory, refl, unseen-an
 no_memory job (Decrypt secret) from old = (Err OutOfMemory, refl, unseen-any from _ (λ b. tt))
 no_memory job (Rewrap one other salt) from old = unseen-any from _ (λ b. tt)
 no_memory job (Inspect key) from old = unseen-any from _ (λ b. Keeps-refl old)
+no_memory job (Salvage secret) from old =
+    (Err OutOfMemory, refl, (told None None, unseen-any from _ (λ b. (Appends-nil old, tt))))
 no_memory job (Range secret) from old = (None, inl (tt, Keeps-refl old))
 
 pub no_memory_quiet : {W : Type 0} (task : Task) (old : W) → PerformsQuietly task old old (Err OutOfMemory)
@@ -40,4 +43,5 @@ no_memory_quiet (Encrypt secret seed) old = inr refl
 no_memory_quiet (Decrypt secret) old = inr refl
 no_memory_quiet (Rewrap one other salt) old = inr refl
 no_memory_quiet (Inspect key) old = inr (inr refl)
+no_memory_quiet (Salvage secret) old = inr refl
 no_memory_quiet (Range secret) old = inr refl

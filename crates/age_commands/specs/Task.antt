@@ -1,19 +1,23 @@
 -- What a job does with its secrets: from what its input gives to what its output takes.
-use Rattle.std.specs.Prelude.{◌≡◌, ◌⊎◌, ℕ, ⊤, IfErr, Option, None, Result, Ok, Err}
+use Rattle.std.specs.Prelude.{◌≡◌, ◌⊎◌, ℕ, ⊤, IfErr, Option, None, Result, Ok, Err, if◌then◌else◌}
 use Rattle.age_header.specs.Device.{Flow, Known, Moved, flow}
 use Rattle.age_stream.specs.declared.done.Done.{Done}
 use Rattle.age_file.specs.declared.fault.Fault.{Fault}
-use Rattle.age_file.specs.declared.fault.Fault.TheVariants.{BadMac}
+use Rattle.age_file.specs.declared.fault.Fault.TheVariants.{BadChunk, BadMac}
 use Rattle.age_file.specs.declared.limits.Fresh.{Fresh}
 use Rattle.age_file.specs.AgeFile.{Bounds}
 use Rattle.age_file.specs.Decrypt.{Decrypts}
 use Rattle.age_file.specs.Device.{IsQuiet}
 use Rattle.age_file.specs.NewFile.{EncryptsGiven, Gathering, RefusesFirst, TookWhileEncrypting}
 use Rattle.age_file.specs.Rewrap.{Rewraps}
+use Rattle.age_file.specs.Salvage.{SalvagesFile}
+use Rattle.age_file.specs.Verdict.{Answering}
+use Rattle.age_stream.specs.Salvage.{Told, is_whole}
+use Rattle.age_stream.specs.declared.salvaged.Salvaged.{Salvaged}
 use Rattle.age_job.specs.declared.job.Job.{Job}
 use Rattle.age_job.specs.declared.secret.Secret.{Secret}
 use Rattle.age_commands.specs.declared.task.Task.{Task}
-use Rattle.age_commands.specs.declared.task.Task.TheVariants.{Encrypt, Decrypt, Rewrap, Inspect, Range}
+use Rattle.age_commands.specs.declared.task.Task.TheVariants.{Encrypt, Decrypt, Rewrap, Inspect, Range, Salvage}
 use Rattle.age_commands.specs.Inspect.{Inspecting}
 use Rattle.age_commands.specs.Range.{RangingAny}
 use Rattle.age_commands.specs.Secret.{answers_of, gathering_of, limits_of}
@@ -29,6 +33,18 @@ pub record Encrypting (limits : Bounds) (fresh : Fresh) (gathered : Gathering) (
   pub encrypts : EncryptsGiven limits fresh gathered source sink done
   pub refused : IfErr done (RefusesFirst limits fresh.file_key gathered)
   pub took : IfErr done (TookWhileEncrypting limits fresh gathered source sink)
+
+-- the result of salvaging: success only where all is saved
+abbrev pub if_whole : Result Salvaged Fault → Result ⊤ Fault
+if_whole (Ok s) = if is_whole s then Ok tt else Err (BadChunk s.chunks)
+if_whole (Err fault) = Err fault
+
+-- what `salvage` returns and writes, whatever is known of what it reports
+abbrev pub SalvagesAll : (limits : Bounds) (answers : Answering) (source : Flow) (sink : Moved)
+    (result : Result ⊤ Fault) → Type 0
+SalvagesAll limits answers source sink result =
+    (done : Result Salvaged Fault) × (result ≡ if_whole done)
+    × ((lost : Told) × SalvagesFile limits answers source sink lost done)
 
 -- a source of which proofs see the bytes to come alone, if they are known
 abbrev pub unseen : (from : Known) → Flow
@@ -59,6 +75,8 @@ Performs job (Rewrap one other salt) from sink result =
     (unseen from) sink result
 Performs job (Inspect key) from sink result =
     Inspecting (limits_of job) job.raw key (unseen from) sink result
+Performs job (Salvage secret) from sink result =
+    SalvagesAll (limits_of job) (answers_of secret job.max_work) (unseen from) sink result
 Performs job (Range secret) from sink result = RangesUnseen job secret sink result
 
 -- a task that ends with a fault which is not late leaves the output as it was, whether its contents

@@ -29,11 +29,13 @@ mod inspect;
 mod range;
 mod recipient;
 mod rewrap;
+mod salvage;
 mod seed;
 mod task;
 
 pub use buffered_sink::{BufferedSink, Finished, Parts, Start, new_buffer};
 pub use buffering::limits_of;
 pub use hint::{Hint, header_of, hint_at};
+pub use salvage::Report;
 pub use seed::{Seed, seed_of};
 pub use task::{Task, perform_between};

@@ -1,5 +1,5 @@
 //! A command with its secrets, and its work from an input to a sink.
-ghost use Rattle.std.specs.Prelude.{◌≡◌};
+ghost use Rattle.std.specs.Prelude.{◌≡◌, OnOk};
 ghost use Rattle.age_job.specs.Job.{IsInRange};
 ghost use Rattle.age_commands.specs.Task.{Performs, PerformsQuietly, without_counts};
 ghost use Rattle.age_file.specs.Device.{is_write};
@@ -11,6 +11,7 @@ use crate::encrypt::encrypt;
 use crate::inspect::inspect;
 use crate::range::range_of;
 use crate::rewrap::rewrap;
+use crate::salvage::{Report, salvage_all};
 use crate::seed::Seed;
 use age_file::{Done, Fault, ReadSource, Sink};
 use age_job::{Job, Secret};
@@ -27,16 +28,18 @@ pub enum Task {
     /// With the file key, if the header is to be checked.
     Inspect(Option<[u8; 16]>),
     Range(Secret),
+    Salvage(Secret),
 }
 
-/// Does the work from this input to this sink. A range reads its input at offsets, and the other
-/// tasks read theirs from the start to the end.
-pub fn perform_between<R: Read + Seek, W: Sink>(
+/// Does the work from this input to this sink, and reports what `salvage` misses. A range reads its
+/// input at offsets, and the other tasks read theirs from the start to the end.
+pub fn perform_between<R: Read + Seek, W: Sink, L: Report>(
     alloc: Global,
     job: &Job,
     task: Task,
     input: &mut R,
     out: &mut W,
+    report: &mut L,
 ) -> Result<(), Fault>
     requires { IsInRange job.now }
     // Each command returns and writes what the library says of the recipient, the identity and the
@@ -47,6 +50,8 @@ pub fn perform_between<R: Read + Seek, W: Sink>(
     // On a fault of the header or its key, or out of memory, the sink is as it was, also where its
     // contents are not known; but `inspect` shows a header whose MAC is wrong.
     ensures quiet { PerformsQuietly task out.old out.new result }
+    // What is done with success reported nothing.
+    ensures silent { OnOk result (report.new ≡ report.old) }
     ensures writes { CountsIf is_write (W.failed out.old) (W.failed out.new) result }
 {
     match task {
@@ -77,6 +82,12 @@ pub fn perform_between<R: Read + Seek, W: Sink>(
                 return Err(Fault::OutOfMemory);
             };
             range_of(alloc, job, secret, &mut source, out)
+        }
+        Task::Salvage(secret) => {
+            let Ok(mut source) = file_source(alloc, input) else {
+                return Err(Fault::OutOfMemory);
+            };
+            salvage_all(alloc, job, secret, &mut source, out, report)
         }
     }
 }

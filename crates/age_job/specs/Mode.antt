@@ -8,4 +8,5 @@ use Rattle.age_job.specs.declared.output.TheConstants.{FILE_MODE, PLAINTEXT_MODE
 abbrev pub new_mode : Command → ℕ
 new_mode command.Decrypt = PLAINTEXT_MODE
 new_mode command.Range = PLAINTEXT_MODE
+new_mode command.Salvage = PLAINTEXT_MODE
 new_mode _ = FILE_MODE

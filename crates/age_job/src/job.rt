@@ -13,6 +13,8 @@ pub enum Command {
     Range,
     /// Gives a file a new header for another passphrase or key.
     Rewrap,
+    /// Saves what can be saved of a damaged file.
+    Salvage,
 }
 
 /// A command with its options. A field whose option the command lacks has that option's default, or
@@ -38,7 +40,7 @@ pub struct Job {
     /// The file whose first 48 bytes are the file key, the nonce and the salt that `encrypt` uses;
     /// `rewrap` uses only the salt.
     pub seed: String,
-    /// The greatest work factor that `decrypt`, `range` and `rewrap` accept, 1 to 30.
+    /// The greatest work factor that `decrypt`, `range`, `rewrap` and `salvage` accept, 1 to 30.
     pub max_work: u8,
     /// The maximum size of a header in bytes, 1,024 to 16,777,216.
     pub max_header: usize,

@@ -85,7 +85,7 @@ fn new_mode(command: Command) -> u32
     ensures { result ≡ new_mode command }
 {
     match command {
-        Command::Decrypt | Command::Range => PLAINTEXT_MODE,
+        Command::Decrypt | Command::Range | Command::Salvage => PLAINTEXT_MODE,
         Command::Encrypt | Command::Inspect | Command::Rewrap => FILE_MODE,
     }
 }

@@ -11,7 +11,7 @@ use Rattle.clap.specs.Words.{ReadsOne, Text}
 use Rattle.std.specs.Option.{is_some}
 use Rattle.age_job.specs.Job.{IsBetween, NamesInput}
 use Rattle.age_job.specs.declared.job.Command.{Command}
-use Rattle.age_job.specs.declared.job.Command.TheVariants.{Encrypt, Decrypt, Inspect, Range, Rewrap}
+use Rattle.age_job.specs.declared.job.Command.TheVariants.{Encrypt, Decrypt, Inspect, Range, Rewrap, Salvage}
 use Rattle.age_words.specs.JobOf.{number_of}
 
 pub copies_take : (xs : List (Bor Text)) (i : ℕ) (d : Bor Text) (old new : List (String Global))
@@ -74,5 +74,6 @@ names_input f Encrypt o v e h = tt
 names_input f Decrypt o v e h = tt
 names_input f Inspect o v e h = tt
 names_input f Rewrap o v e h = tt
+names_input f Salvage o v e h = tt
 names_input f Range None v e h = ap is_some e ∙ h
 names_input f Range (Some x) v e h = refl

@@ -29,7 +29,7 @@ use Rattle.age_words.specs.CommandLine.{agep}
 use Rattle.age_job.specs.Job.{NamesInput}
 use Rattle.age_words.specs.JobOf.{HasNumber, IsTaken, name_of}
 use Rattle.age_job.specs.declared.job.Command.{Command}
-use Rattle.age_job.specs.declared.job.Command.TheVariants.{Encrypt, Decrypt, Inspect, Range, Rewrap}
+use Rattle.age_job.specs.declared.job.Command.TheVariants.{Encrypt, Decrypt, Inspect, Range, Rewrap, Salvage}
 use Rattle.age_job.specs.declared.ranges.TheConstants.{LEAST_HEADER, LEAST_WORK, MOST_HEADER, MOST_OFFSET, MOST_WORK}
 use Rattle.age_words.proofs.LevelLemmas.{DefaultsWell, Each, UsesWell, first_none, level_ok, second_none, test_fails}
 
@@ -338,7 +338,10 @@ all_make = (
         (inr (Range, refl, refl), refl),
         (
           (inr (Rewrap, refl, refl), refl),
-          ((inl refl, refl), tt),
+          (
+            (inr (Salvage, refl, refl), refl),
+            ((inl refl, refl), tt),
+          ),
         ),
       ),
     ),
@@ -371,6 +374,7 @@ names_input Encrypt s rows w q n = tt
 names_input Decrypt s rows w q n = tt
 names_input Inspect s rows w q n = tt
 names_input Rewrap s rows w q n = tt
+names_input Salvage s rows w q n = tt
 names_input Range s rows w q n = given_first (codes "input") rows q (wanted_given (codes "input") s.rules rows n w)
 
 level_taken : (command : Command) (s : Shape) (words : List Text) → is_good_for command s ≡ true
@@ -479,6 +483,7 @@ command_of name =
     else if bytes_eq name (codes "inspect") then Some Inspect
     else if bytes_eq name (codes "range") then Some Range
     else if bytes_eq name (codes "rewrap") then Some Rewrap
+    else if bytes_eq name (codes "salvage") then Some Salvage
     else None
 
 known : (command : Command) → command_of (name_of command) ≡ Some command
@@ -488,6 +493,7 @@ known Decrypt = refl
 known Inspect = refl
 known Range = refl
 known Rewrap = refl
+known Salvage = refl
 
 pub one_command : (a b : Command) → name_of a ≡ name_of b → a ≡ b
 one_command a b e = let same : Some a ≡ Some b = sym (known a) ∙ ap command_of e ∙ known b in cc

@@ -116,6 +116,9 @@ abbrev pub rewrap : Shape
 rewrap = command (codes "rewrap")
     (opening ++ new_pass ∷ new_key ∷ work ∷ seed ∷ input ∷ [])
 
+abbrev pub salvage : Shape
+salvage = command (codes "salvage") (opening ++ input ∷ [])
+
 -- the program without its commands
 abbrev pub bare : App
 bare = record {
@@ -127,7 +130,7 @@ bare = record {
 abbrev pub agep : App
 agep = record {
   top = record bare.top { is_leaf = false; subcommand_required = true };
-  subs = encrypt ∷ decrypt ∷ inspect ∷ range ∷ rewrap ∷ [];
+  subs = encrypt ∷ decrypt ∷ inspect ∷ range ∷ rewrap ∷ salvage ∷ [];
 }
 
 -- the argument has this rule, and no other command takes it

@@ -13,7 +13,7 @@ use Rattle.clap.specs.declared.error.kind.ErrorKind.TheVariants.{DisplayHelp, Di
 use Rattle.age_words.specs.CommandLine.{agep}
 use Rattle.age_job.specs.Job.{NamesInput}
 use Rattle.age_job.specs.declared.job.Command.{Command}
-use Rattle.age_job.specs.declared.job.Command.TheVariants.{Encrypt, Decrypt, Inspect, Range, Rewrap}
+use Rattle.age_job.specs.declared.job.Command.TheVariants.{Encrypt, Decrypt, Inspect, Range, Rewrap, Salvage}
 use Rattle.age_job.specs.declared.job.Job.{Job}
 use Rattle.age_words.specs.declared.fault.WordsFault.{WordsFault}
 use Rattle.age_words.specs.declared.fault.WordsFault.TheVariants.{Memory, Refused}
@@ -26,6 +26,7 @@ name_of Decrypt = codes "decrypt"
 name_of Inspect = codes "inspect"
 name_of Range = codes "range"
 name_of Rewrap = codes "rewrap"
+name_of Salvage = codes "salvage"
 
 -- the values of an option after the first
 abbrev pub rest_of : (id : Text) (rows : List Row) → List Text

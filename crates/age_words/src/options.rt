@@ -8,8 +8,8 @@ ghost use Rattle.age_words.specs.CommandLine.{IsArg};
 use crate::texts::{
     DECRYPT_END, ENCRYPT_END, ENCRYPTED_OUTPUT_HELP, FILE_KEY_HELP, INPUT_HELP, INSPECT_END,
     KEY_HELP, MAX_HEADER_HELP, MAX_WORK_HELP, NEW_KEY_HELP, NEW_PASS_HELP, PASS_HELP,
-    PLAIN_OUTPUT_HELP, RANGE_END, REWRAP_END, SALT_HELP, SEED_HELP, SEEKABLE_INPUT_HELP,
-    VERBOSE_HELP, WHOLE_END, WORK_HELP,
+    PLAIN_OUTPUT_HELP, RANGE_END, REWRAP_END, SALT_HELP, SALVAGE_END, SEED_HELP,
+    SEEKABLE_INPUT_HELP, VERBOSE_HELP, WHOLE_END, WORK_HELP,
 };
 use age_job::{DEFAULT_SEED, LEAST_HEADER, LEAST_WORK, MOST_HEADER, MOST_OFFSET, MOST_WORK};
 use clap::{Arg, ArgAction, Command, value_parser};
@@ -52,8 +52,8 @@ pub(crate) const DEFAULT_WORK_TEXT: &str = "18";
 /// The same as a number, which the job of a command without this option holds.
 pub(crate) const DEFAULT_WORK: u8 = 18;
 
-/// The greatest work factor that `decrypt`, `range` and `rewrap` accept if the arguments name none,
-/// as `clap` takes it.
+/// The greatest work factor that `decrypt`, `range`, `rewrap` and `salvage` accept if the arguments
+/// name none, as `clap` takes it.
 pub(crate) const DEFAULT_MAX_WORK_TEXT: &str = "22";
 
 /// The same as a number, which the job of a command without this option holds.
@@ -80,7 +80,8 @@ pub(crate) fn whole_command<'a>(alloc: Global) -> Result<Command<'a>, AllocError
         .subcommand(decrypt_command(alloc)?)?
         .subcommand(inspect_command(alloc)?)?
         .subcommand(range_command(alloc)?)?
-        .subcommand(rewrap_command(alloc)?)?;
+        .subcommand(rewrap_command(alloc)?)?
+        .subcommand(salvage_command(alloc)?)?;
     Ok(command.subcommand_required(true))
 }
 
@@ -230,6 +231,19 @@ fn rewrap_command<'a>(alloc: Global) -> Result<Command<'a>, AllocError>
     let command = with_arg(command, new_key)?;
     let command = with_arg(command, work_option(alloc))?;
     let command = with_arg(command, seed_option(alloc, SALT_HELP))?;
+    with_arg(command, input_word(alloc))
+}
+
+fn salvage_command<'a>(alloc: Global) -> Result<Command<'a>, AllocError>
+    ensures { IfOk result (λ command. shape_of command ≡ line.salvage) }
+{
+    let command = bare_subcommand(
+        alloc,
+        "salvage",
+        "Save what can be saved of a damaged file",
+        SALVAGE_END,
+    )?;
+    let command = with_opening_options(alloc, command, PLAIN_OUTPUT_HELP)?;
     with_arg(command, input_word(alloc))
 }
 

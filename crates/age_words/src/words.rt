@@ -65,6 +65,7 @@ fn command_named(name: &str) -> Command
         "inspect" => Command::Inspect,
         "range" => Command::Range,
         "rewrap" => Command::Rewrap,
+        "salvage" => Command::Salvage,
         _ => unreachable!(),
     }
 }

@@ -1,0 +1,26 @@
+use Rattle.std.proofs.Common.{◌∙◌, ap}
+use denote.Param.Object.{read_made}
+use Rattle.std.proofs.KnownBytes.{Appends-nil}
+use Rattle.age_header.proofs.DeviceLemmas.{of-any, some-none}
+use Rattle.age_header.specs.Device.{seen_by}
+use Rattle.age_stream.proofs.SalvageLemmas.{reports-none}
+use Rattle.age_commands.specs.Secret.{unwraps_of}
+use Rattle.age_commands.proofs.SecretLemmas.{salvaging_meant}
+use Rattle.age_commands.proofs.salvage.salvage.Goals as goal
+use Rattle.age_commands.proofs.salvage.salvage.OwnLists.{own-1, entry-1-1, at-1-1, same-1-1}
+
+pub returns-in-Ok-new-clause-salvages : goal.returns-in-Ok-new-clause-salvages
+returns-in-Ok-new-clause-salvages g c =
+    let same = read_made own-1 entry-1-1 at-1-1 same-1-1 _ (λ j y. j.1.meaning y) _ _ _ c.into_dyn_box.ensures.1
+    ∙ ap unwraps_of (c.in-Ok-new.ensures.ok ∙ c.in-Ok.ensures) in
+    salvaging_meant _ _ _ _ _ _ _ _ _ same c.salvage_by.ensures.salvages
+
+pub returns-in_default-clause-salvages : goal.returns-in_default-clause-salvages
+returns-in_default-clause-salvages g c =
+    of-any _ _ _ (some-none (seen_by g.S.Source.to_come g.S.Source.gave c.args.input.now)) (λ b.
+    (Appends-nil (g.W.Sink.taken c.args.out.now), reports-none (g.L.Losses.lost c.args.losses.now)))
+
+pub returns-clause-salvages : goal.returns-clause-salvages
+returns-clause-salvages g c =
+    of-any _ _ _ (some-none (seen_by g.S.Source.to_come g.S.Source.gave c.args.input.now)) (λ b.
+    (Appends-nil (g.W.Sink.taken c.args.out.now), reports-none (g.L.Losses.lost c.args.losses.now)))

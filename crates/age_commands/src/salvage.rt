@@ -1,0 +1,111 @@
+//! The command `salvage`: what can be saved of a damaged file.
+ghost use Rattle.std.specs.Prelude.{◌≡◌, ◌∷◌, [], IfOk, OnOk};
+ghost use Rattle.age_file.specs.Device.{IsQuiet, is_read, is_write};
+ghost use Rattle.age_file.specs.Salvage.{SalvagesFile};
+ghost use Rattle.age_job.specs.Job.{IsInRange};
+ghost use Rattle.age_commands.specs.Task.{SalvagesAll};
+ghost use Rattle.age_commands.specs.Secret.{answers_of, limits_of};
+ghost use Rattle.age_header.specs.Device.{CountsIf, flow_by, moved_by};
+ghost use Rattle.age_stream.specs.Salvage.{told_by};
+
+use crate::buffering::limits_of;
+use crate::identity::SecretIdentity;
+use age_file::{Fault, Identity, Losses, Salvaged, Sink, Source};
+use age_job::{Job, Secret};
+use std::alloc::Global;
+
+/// Where `salvage` reports what is missing.
+pub trait Report: Losses {
+    /// The file is cut short after so many bytes of the plaintext.
+    fn cut(&mut self, bytes: u128);
+}
+
+/// Saves what it can of the source to the sink, with the identity of this secret. It reports each
+/// lost chunk, and at the end that the file is cut short. Where not all is saved the fault is
+/// `BadChunk`, with the number of pieces: what was reported says more.
+pub(crate) fn salvage_all<S: Source, W: Sink, L: Report>(
+    alloc: Global,
+    job: &Job,
+    secret: Secret,
+    input: &mut S,
+    out: &mut W,
+    report: &mut L,
+) -> Result<(), Fault>
+    requires { IsInRange job.now }
+    ensures salvages { SalvagesAll (limits_of job.now) (answers_of secret job.now.max_work)
+        (flow_by S.to_come S.gave input.old input.new) (moved_by W.taken out.old out.new) result }
+    // Where all is saved nothing was reported.
+    ensures silent { OnOk result (report.new ≡ report.old) }
+    ensures quiet { IsQuiet out.old out.new result }
+    ensures writes { CountsIf is_write (W.failed out.old) (W.failed out.new) result }
+{
+    match salvage(alloc, job, secret, input, out, report) {
+        Ok(saved) if saved.is_whole() => Ok(()),
+        Ok(saved) => {
+            if saved.is_cut() {
+                report.cut(saved.bytes);
+            }
+            Err(Fault::BadChunk(saved.chunks))
+        }
+        Err(fault) => Err(fault),
+    }
+}
+
+/// Saves what it can of the source to the sink, with the identity of this secret, as
+/// `age_file::salvage` does. Each lost chunk is reported.
+fn salvage<S: Source, W: Sink, L: Losses>(
+    alloc: Global,
+    job: &Job,
+    secret: Secret,
+    input: &mut S,
+    out: &mut W,
+    losses: &mut L,
+) -> Result<Salvaged, Fault>
+    requires { IsInRange job.now }
+    // What is returned, written and reported is what the library says of the identity and the
+    // limits that the job and its secret mean.
+    ensures salvages { SalvagesFile (limits_of job.now) (answers_of secret job.now.max_work)
+        (flow_by S.to_come S.gave input.old input.new) (moved_by W.taken out.old out.new)
+        (told_by L.lost losses.old losses.new) result }
+    // Where no chunk is lost none was reported.
+    ensures silent { IfOk result (λ s. s.lost ≡ 0 → losses.new ≡ losses.old) }
+    // On a fault of the header or its key, or out of memory, the sink is as it was.
+    ensures quiet { IsQuiet out.old out.new result }
+    ensures reads { CountsIf is_read (S.failed input.old) (S.failed input.new) result }
+    ensures writes { CountsIf is_write (W.failed out.old) (W.failed out.new) result }
+{
+    let Ok(identity) = SecretIdentity::new(alloc, job, secret) else {
+        return Err(Fault::OutOfMemory);
+    };
+    match Box::new(alloc, identity) {
+        Ok(identity) => salvage_by(alloc, job, identity, input, out, losses),
+        Err(_) => Err(Fault::OutOfMemory),
+    }
+}
+
+/// The same with any identity.
+fn salvage_by<S: Source, W: Sink, L: Losses>(
+    alloc: Global,
+    job: &Job,
+    identity: Box<dyn Identity>,
+    input: &mut S,
+    out: &mut W,
+    losses: &mut L,
+) -> Result<Salvaged, Fault>
+    requires { IsInRange job.now }
+    ensures salvages { SalvagesFile (limits_of job.now) (λ stanzas. meaning identity stanzas ∷ [])
+        (flow_by S.to_come S.gave input.old input.new) (moved_by W.taken out.old out.new)
+        (told_by L.lost losses.old losses.new) result }
+    ensures silent { IfOk result (λ s. s.lost ≡ 0 → losses.new ≡ losses.old) }
+    ensures quiet { IsQuiet out.old out.new result }
+    ensures reads { CountsIf is_read (S.failed input.old) (S.failed input.new) result }
+    ensures writes { CountsIf is_write (W.failed out.old) (W.failed out.new) result }
+{
+    match vec![in alloc; identity] {
+        Ok(identities) => {
+            let limits = &limits_of(job);
+            age_file::salvage(alloc, input, out, losses, identities.as_slice(), limits)
+        }
+        Err(_) => Err(Fault::OutOfMemory),
+    }
+}
