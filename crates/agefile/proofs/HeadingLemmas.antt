@@ -24,7 +24,7 @@ use Rattle.agefile.specs.Heading.{FindsMac, HasStanzas, IsMac, MakesHeader, fram
 use Rattle.agefile.specs.Inspect.{HeaderOf}
 use Rattle.agefile.specs.Limits.{limits}
 use Rattle.age_recipient.proofs.HeaderSizeLemmas.{b64_size}
-use Rattle.agefile.proofs.StartLemmas.{Fronts, ok-ok}
+use Rattle.agefile.proofs.UnlockLemmas.{Fronts, ok-ok}
 
 -- ---- the MAC
 

@@ -1,5 +1,5 @@
 -- What opening by a file key comes to.
-use Rattle.std.proofs.Common.{◌≡◌, ℕ, Bool, true, false, length, drop, cond, sym, ◌∙◌, ap, refl, subst, inl, inr, Result, Ok, Err}
+use Rattle.std.proofs.Common.{◌≡◌, Bool, true, false, length, drop, cond, sym, ◌∙◌, ap, refl, subst, inl, inr, Result, Ok, Err}
 use Rattle.std.specs.Str.{bytes_eq}
 use Rattle.age_kdf.specs.Bytes.{Bytes}
 use Rattle.age_header.specs.declared.fault.HeaderFault.{HeaderFault}
@@ -19,9 +19,9 @@ use Rattle.agefile.specs.declared.report.Report.{Report}
 use Rattle.agefile.specs.declared.unlocking.Unlocked.{Unlocked}
 use Rattle.agefile.specs.Limits.{limits}
 use Rattle.agefile.specs.Opening.{by_file_key}
-use Rattle.agefile.specs.Unlock.{GivesKey, Unlocks, key_of, with_len}
+use Rattle.agefile.specs.Unlock.{GivesKey, Unlocks, key_of}
 use Rattle.agefile.proofs.OpensRunLemmas.{some-code}
-use Rattle.agefile.proofs.StartLemmas.{ok-ok}
+use Rattle.agefile.proofs.UnlockLemmas.{key_within, ok-ok}
 
 same_key : (t : Bool) (j k : FileKey) → ◌≡◌ {A = Result FileKey Fault} (cond t (Ok j) (Err BadMac)) (Ok k) → j ≡ k
 same_key true j k e = ok-ok j k e
@@ -44,17 +44,13 @@ key_again : (answers : Answering) (p : HeaderParts) (k : FileKey) → unlocked a
     → unlocked (by_file_key k.0) p ≡ Ok k
 key_again answers p k e = key_alone (is_mixed p.stanzas) p k (choice (answers p.stanzas)) e
 
-key_within : (n : ℕ) (found : Unlocked) (r : Result FileKey Fault) → Ok found ≡ with_len n r → r ≡ Ok found.key
-key_within n found (Err fault) e = absurd (cc)
-key_within n found (Ok k) e = ap (λ (u : Unlocked). Ok u.key) (sym (ok-ok found (record { header_len = n; key = k }) e))
-
 opens_header : (answers : Answering) (b new : Bytes) (found : Unlocked) (v : Reading Fault)
     (header : Result Found HeaderFault) → HeaderVerdict b limits.max_header header
     → Ok found ≡ key_of answers header → new ≡ found.key.0 → IsVerdict limits answers b v
     → IsVerdict limits (by_file_key new) b v
 opens_header answers b new found v (Err reason) verdict is same h = absurd (cc)
 opens_header answers b new found v (Ok head) verdict is same h =
-    let mine = key_within (length head.text) found (unlocked answers (parts_of head)) is in
+    let mine = (key_within (length head.text) found (unlocked answers (parts_of head)) is).0 in
     let again = key_again answers (parts_of head) found.key mine in
     let judged_so : v ≡ judged limits answers b (Ok head) =
     one_verdict limits answers b v (judged limits answers b (Ok head)) h

@@ -1,24 +1,19 @@
 -- Where a file's chunks begin, from what its parts return.
-use Rattle.std.proofs.Common.{◌≡◌, ◌≢◌, ◌⊎◌, ℕ, ◌+◌, ◌-◌, ◌<◌, ◌≤◌, List, [], ◌∷◌, map, ◌++◌, length, take, drop, nat_lt, sym, ◌∙◌, ap, refl, subst, arith, inl, inr, length-append, length-drop, Result, Ok, Err}
+use Rattle.std.proofs.Common.{◌≡◌, ◌≢◌, ℕ, ◌+◌, ◌-◌, ◌<◌, ◌≤◌, List, length, take, drop, nat_lt, sym, ◌∙◌, ap, refl, subst, arith, inl, inr, length-append, length-drop, Result, Ok, Err}
 use Rattle.std.proofs.lemmas.Bool.{cases_lt, le-ltb, lt-ltb, cond-false, cond-true}
-use Rattle.std.proofs.lemmas.List.{drop_at}
 use Rattle.age_kdf.specs.Bytes.{Bytes}
-use Rattle.age_header.specs.Device.{CountsFaultIf, Seen, flow}
-use Rattle.age_header.proofs.DeviceLemmas.{of_told}
-use Rattle.age_header.specs.declared.fault.HeaderFault.{HeaderFault}
-use Rattle.age_header.specs.declared.fault.HeaderFault.TheVariants as header
-use Rattle.age_header.specs.Header.{StanzaParts, HeaderParts}
-use Rattle.age_header.specs.Verdict.{HeaderVerdict}
-use Rattle.age_header.proofs.ReaderLemmas.{reads_known}
+use Rattle.age_header.specs.Header.{StanzaParts}
 use Rattle.age_header.specs.declared.file_key.FileKey.{FileKey}
 use Rattle.age_recipient.specs.declared.unwrapped.Unwrapped.{Unwrapped}
 use Rattle.age_stream.specs.Payload.{payload_key}
 use Rattle.age_file.specs.declared.fault.Fault.{Fault}
-use Rattle.age_file.specs.declared.fault.Fault.TheVariants.{NonceTruncated, OutOfMemory, Read}
-use Rattle.age_file.specs.Device.{is_read}
-use Rattle.age_file.specs.Inspect.{Inspects}
+use Rattle.age_file.specs.declared.fault.Fault.TheVariants.{NonceTruncated, OutOfMemory}
 use Rattle.age_file.specs.Verdict.{Answering, header_fault, parts_of, unlocked}
 use Rattle.age_file.proofs.DecryptLemmas.{err-err}
+use Rattle.age_header.proofs.VerdictUniqueLemmas.{begins_found}
+use Rattle.agefile.specs.declared.unlocking.Unlocked.{Unlocked}
+use Rattle.agefile.specs.Unlock.{FindsKey, with_len}
+use Rattle.agefile.proofs.UnlockLemmas.{key_within, ok-ok}
 use Rattle.agefile.specs.declared.payload.Payload.{Payload}
 use Rattle.agefile.specs.declared.report.Report.{Report}
 use Rattle.agefile.specs.declared.start.Start.{Start}
@@ -28,92 +23,62 @@ use Rattle.agefile.specs.Opening.{Opens, StartsAt}
 use Rattle.agefile.specs.Start.{FindsStart, IsStart, start_under}
 use Rattle.agefile.proofs.OpensRunLemmas.{some-code}
 
-pub ok-ok : {A : Type 0} (x y : A) → ◌≡◌ {A = Result A Fault} (Ok x) (Ok y) → x ≡ y
-ok-ok x y e = cc
+-- no file key was found
+pub start_failed : (answers : Answering) (b : Bytes) (fault : Fault) → FindsKey answers b (Err fault)
+    → FindsStart answers b (Err fault)
+start_failed answers b fault (inl memory) = inl (ap Err (err-err {A = Unlocked} fault OutOfMemory memory))
+start_failed answers b fault (inr (Err e, verdict, is)) =
+    inr (Err e, verdict, ap Err (err-err {A = Unlocked} fault (header_fault e) is))
+start_failed answers b fault (inr (Ok found, verdict, is)) =
+    let locked = key_locked_so (length found.text) fault (unlocked answers (parts_of found)) is in
+    inr (Ok found, verdict, ap (start_under (length found.text) (drop (length found.text) b)) (sym locked))
+  where
+    key_locked_so : (n : ℕ) (fault : Fault) (r : Result FileKey Fault) → Err fault ≡ with_len n r → r ≡ Err fault
+    key_locked_so n fault (Ok k) e = absurd (cc)
+    key_locked_so n fault (Err other) e = ap Err (sym (err-err {A = Unlocked} fault other e))
 
--- no header was read
-faulty : (answers : Answering) (b : Bytes) (g : HeaderFault) → HeaderVerdict b 65536 (Err g)
-    → FindsStart answers b (Err (header_fault g))
-faulty answers b g verdict = inr (Err g, verdict, refl)
-
-pub start_none : (answers : Answering) (b : Bytes) (mid : Seen) (fault : Fault)
-    → Inspects limits (flow (of_told b) mid) (Err fault)
-    → CountsFaultIf is_read 0 0 fault → FindsStart answers b (Err fault)
-start_none answers b mid fault (Ok parts, is, h) count = absurd (cc)
-start_none answers b mid fault (Err header.Read, is, h) count =
-    let read_count : CountsFaultIf is_read 0 0 Read =
-    subst (λ f. CountsFaultIf is_read 0 0 f) (err-err {A = HeaderParts} fault Read is) count in
-    absurd (omega (arith, read_count))
-start_none answers b mid fault (Err header.Memory, is, h) count =
-    inl (ap Err (err-err {A = HeaderParts} fault OutOfMemory is))
-start_none answers b mid fault (Err g, is, h) count =
-    subst (λ f. FindsStart answers b (Err f)) (sym (err-err {A = HeaderParts} fault _ is))
-    (faulty answers b g (reads_known b (flow (of_told b) mid) limits.max_header (Err g) refl h))
-
--- a header that was read, and what follows it
-pub record Fronts (b rest : Bytes) (h : HeaderParts) : Type 0 where
-  pub text : Bytes
-  pub verdict : HeaderVerdict b 65536 (Ok (record { stanzas = h.stanzas; mac = h.mac; text = text }))
-  pub front : b ≡ text ++ rest
-
-pub fronts : (b rest : Bytes) (h : HeaderParts) → Inspects limits (flow (of_told b) (of_told rest)) (Ok h)
-    → Fronts b rest h
-fronts b rest h (Err g, is, _) = absurd (cc)
-fronts b rest h (Ok parts, is, reads) =
-    let r = reads_known b (flow (of_told b) (of_told rest)) limits.max_header (Ok parts) refl reads in
-    subst (Fronts b rest) (sym (ok-ok h parts is)) (record { text = r.0; verdict = r.1; front = r.2.consumes })
-
-found-start : (answers : Answering) (b rest : Bytes) (h : HeaderParts) (f : Fronts b rest h)
-    (start : Result Start Fault)
-    → start ≡ start_under (length f.text) rest (unlocked answers h) → FindsStart answers b start
-found-start answers b rest h f start is =
+-- a file key was found: what follows the header says whether there is a start
+pub start_after : (answers : Answering) (b : Bytes) (found : Unlocked) (start : Result Start Fault)
+    → FindsKey answers b (Ok found)
+    → start ≡ start_under found.header_len (drop found.header_len b) (Ok found.key) → FindsStart answers b start
+start_after answers b found start (inl memory) is = absurd (cc)
+start_after answers b found start (inr (Err e, verdict, opens)) is = absurd (cc)
+start_after answers b found start (inr (Ok head, verdict, opens)) is =
+    let k = key_within (length head.text) found (unlocked answers (parts_of head)) opens in
     inr (
-      Ok (record { stanzas = h.stanzas; mac = h.mac; text = f.text }),
-      f.verdict,
-      is ∙ ap (λ r. start_under (length f.text) r (unlocked answers h))
-          (sym (ap (drop (length f.text)) f.front ∙ drop_at f.text rest (length f.text) refl)),
+      Ok head,
+      verdict,
+      is ∙ ap (λ n. start_under n (drop n b) (Ok found.key)) k.1
+          ∙ ap (start_under (length head.text) (drop (length head.text) b)) (sym k.0),
     )
 
-pub start_locked : (answers : Answering) (b rest : Bytes) (h : HeaderParts) (fault : Fault)
-    → Inspects limits (flow (of_told b) (of_told rest)) (Ok h)
-    → (◌≡◌ {A = Result FileKey Fault} (Err fault) (Err OutOfMemory)) ⊎ (Err fault ≡ unlocked answers h)
-    → FindsStart answers b (Err fault)
-start_locked answers b rest h fault i (inl memory) = inl (ap Err (err-err {A = FileKey} fault OutOfMemory memory))
-start_locked answers b rest h fault i (inr is) =
-    let f = fronts b rest h i in
-    found-start answers b rest h f (Err fault) (ap (start_under (length f.text) rest) is)
+pub key_in_front : (answers : Answering) (b : Bytes) (found : Unlocked) → FindsKey answers b (Ok found)
+    → found.header_len ≤ length b
+key_in_front answers b found (inl memory) = absurd (cc)
+key_in_front answers b found (inr (Err e, verdict, opens)) = absurd (cc)
+key_in_front answers b found (inr (Ok head, verdict, opens)) =
+    let k = key_within (length head.text) found (unlocked answers (parts_of head)) opens in
+    let w = begins_found b limits.max_header head verdict in
+    omega (arith, k.1, ap length w.prefix, length-append head.text w.rest)
 
-pub start_cut : (answers : Answering) (b rest : Bytes) (h : HeaderParts) (k : FileKey)
-    → Inspects limits (flow (of_told b) (of_told rest)) (Ok h)
-    → (◌≡◌ {A = Result FileKey Fault} (Ok k) (Err OutOfMemory)) ⊎ (Ok k ≡ unlocked answers h) → length rest < 16
-    → FindsStart answers b (Err NonceTruncated)
-start_cut answers b rest h k i (inl memory) short = absurd (cc)
-start_cut answers b rest h k i (inr is) short =
-    let f = fronts b rest h i in
-    found-start answers b rest h f (Err NonceTruncated)
+pub start_cut : (answers : Answering) (b rest : Bytes) (found : Unlocked) → FindsKey answers b (Ok found)
+    → rest ≡ drop found.header_len b → length rest < 16 → FindsStart answers b (Err NonceTruncated)
+start_cut answers b rest found finds back short =
+    start_after answers b found (Err NonceTruncated) finds
     (sym (cond-true (nat_lt (length rest) 16) _ _ (lt-ltb (length rest) 16 short))
-    ∙ ap (start_under (length f.text) rest) is)
+    ∙ ap (λ r. start_under found.header_len r (Ok found.key)) back)
 
-pub start_found : (answers : Answering) (b rest nonce key : Bytes) (h : HeaderParts) (k : FileKey)
-    → Inspects limits (flow (of_told b) (of_told rest)) (Ok h)
-    → (◌≡◌ {A = Result FileKey Fault} (Ok k) (Err OutOfMemory)) ⊎ (Ok k ≡ unlocked answers h) → 16 ≤ length rest
-    → nonce ≡ take 16 rest
-    → key ≡ payload_key k nonce → FindsStart answers b (Ok (record { first = length b - length rest + 16; key = key }))
-start_found answers b rest nonce key h k i (inl memory) long nonce_is key_is = absurd (cc)
-start_found answers b rest nonce key h k i (inr is) long nonce_is key_is =
-    let f = fronts b rest h i in
-    let size : length b ≡ length f.text + length rest = ap length f.front ∙ length-append f.text rest in
-    found-start answers b rest h f (Ok (record { first = length b - length rest + 16; key = key }))
-    (ap (λ n. Ok (record { first = n; key = key })) (omega arith)
-    ∙ ap (λ x. Ok (record { first = length f.text + 16; key = x })) (key_is ∙ ap (payload_key k) nonce_is)
+pub start_found : (answers : Answering) (b rest nonce key : Bytes) (found : Unlocked)
+    → FindsKey answers b (Ok found) → rest ≡ drop found.header_len b → 16 ≤ length rest → nonce ≡ take 16 rest → key ≡ payload_key found.key nonce
+    → FindsStart answers b (Ok (record { first = length b - length rest + 16; key = key }))
+start_found answers b rest nonce key found finds back long nonce_is key_is =
+    let low = key_in_front answers b found finds in
+    let size : length rest ≡ length b - found.header_len = ap length back ∙ length-drop found.header_len b in
+    start_after answers b found _ finds
+    (ap (λ n. Ok (record { first = n; key = key })) (omega (arith, low, size))
+    ∙ ap (λ x. Ok (record { first = found.header_len + 16; key = x })) (key_is ∙ ap (payload_key found.key) nonce_is)
     ∙ sym (cond-false (nat_lt (length rest) 16) _ _ (le-ltb (length rest) 16 long))
-    ∙ ap (start_under (length f.text) rest) is)
-
--- of one identity in a list
-pub start_alone : {X : Type 0} (m : X → List StanzaParts → Unwrapped) (items : List X) (x : X) (b : Bytes)
-    (start : Result Start Fault) → items ≡ x ∷ []
-    → FindsStart (λ s. map (λ i. m i s) items) b start → FindsStart (alone (m x)) b start
-start_alone m items x b start one h = subst (λ xs. FindsStart (λ s. map (λ i. m i s) xs) b start) one h
+    ∙ ap (λ r. start_under found.header_len r (Ok found.key)) back)
 
 -- of one identity, known by its meaning
 pub start_meant : (f g : List StanzaParts → Unwrapped) (b : Bytes) (start : Result Start Fault) → f ≡ g

@@ -1,5 +1,5 @@
 -- Finding a file key, from what its parts return; and the verdict, by the file key.
-use Rattle.std.proofs.Common.{◌≡◌, ◌≢◌, ◌⊎◌, ℕ, ◌+◌, ◌-◌, List, [], ◌∷◌, map, length, take, drop, sym, ◌∙◌, ap, refl, subst, arith, inl, inr, length-append, Result, Ok, Err}
+use Rattle.std.proofs.Common.{◌≡◌, ◌≢◌, ◌⊎◌, ℕ, ◌+◌, ◌-◌, List, [], ◌∷◌, ◌++◌, map, length, take, drop, sym, ◌∙◌, ap, refl, subst, arith, inl, inr, length-append, Result, Ok, Err}
 use Rattle.age_kdf.specs.Bytes.{Bytes}
 use Rattle.age_header.specs.Device.{CountsFaultIf, Seen, flow}
 use Rattle.age_header.proofs.DeviceLemmas.{of_told}
@@ -26,7 +26,30 @@ use Rattle.agefile.specs.Limits.{limits}
 use Rattle.agefile.specs.Report.{report_of}
 use Rattle.agefile.specs.Unlock.{FindsKey, GivesKey, IsKey, Unlocks, with_len}
 use Rattle.agefile.proofs.FrontLemmas.{whole_verdict}
-use Rattle.agefile.proofs.StartLemmas.{fronts}
+
+pub ok-ok : {A : Type 0} (x y : A) → ◌≡◌ {A = Result A Fault} (Ok x) (Ok y) → x ≡ y
+ok-ok x y e = cc
+
+-- a header that was read, and what follows it
+pub record Fronts (b rest : Bytes) (h : HeaderParts) : Type 0 where
+  pub text : Bytes
+  pub verdict : HeaderVerdict b 65536 (Ok (record { stanzas = h.stanzas; mac = h.mac; text = text }))
+  pub front : b ≡ text ++ rest
+
+pub fronts : (b rest : Bytes) (h : HeaderParts) → Inspects limits (flow (of_told b) (of_told rest)) (Ok h)
+    → Fronts b rest h
+fronts b rest h (Err g, is, _) = absurd (cc)
+fronts b rest h (Ok parts, is, reads) =
+    let r = reads_known b (flow (of_told b) (of_told rest)) limits.max_header (Ok parts) refl reads in
+    subst (Fronts b rest) (sym (ok-ok h parts is)) (record { text = r.0; verdict = r.1; front = r.2.consumes })
+
+-- a header's length and its file key are those that were found
+pub key_within : (n : ℕ) (found : Unlocked) (r : Result FileKey Fault) → Ok found ≡ with_len n r
+    → (r ≡ Ok found.key) × (found.header_len ≡ n)
+key_within n found (Err fault) e = absurd (cc)
+key_within n found (Ok k) e =
+    let same = ok-ok found (record { header_len = n; key = k }) e in
+    (ap (λ (u : Unlocked). Ok u.key) (sym same), ap (λ (u : Unlocked). u.header_len) same)
 
 -- no header was read
 faulty : (answers : Answering) (b : Bytes) (fault : Fault) (g : HeaderFault)

@@ -1,11 +1,10 @@
 //! The offset of a file's first sealed chunk, and the key of its chunks.
 
-ghost use Rattle.std.specs.Prelude.{map};
 ghost use Rattle.agefile.specs.Giving.{alone};
 ghost use Rattle.agefile.specs.Start.{FindsStart};
 
-use crate::limits::limits;
-use age_file::{Fault, Identity, MemSource, inspect, unlock_header};
+use crate::unlocking::key_for;
+use age_file::{Fault, Identity};
 use age_stream::{NONCE_SIZE, payload_key};
 use std::alloc::Global;
 
@@ -24,26 +23,12 @@ pub(crate) fn start_for(
 ) -> Result<Start, Fault>
     ensures { FindsStart (alone (meaning identity)) front.now result }
 {
-    match vec![in alloc; identity] {
-        Ok(identities) => find_start(alloc, front, identities.as_slice()),
-        Err(_) => Err(Fault::OutOfMemory),
-    }
-}
-
-/// Finds the start of a file with this front for some identities.
-fn find_start(alloc: Global, front: &[u8], identities: &[Box<dyn Identity>]) -> Result<Start, Fault>
-    ensures { FindsStart (λ stanzas. map (λ i. meaning i stanzas) identities.now) front.now result }
-{
-    let mut source = MemSource::new(front);
-    let header = match inspect(alloc, &mut source, &limits()) {
-        Ok(header) => header,
+    let found = match key_for(alloc, front, identity) {
+        Ok(found) => found,
         Err(fault) => return Err(fault),
     };
-    let key = match unlock_header(alloc, identities, &header) {
-        Ok(key) => key,
-        Err(fault) => return Err(fault),
-    };
-    let rest = source.rest();
+    let key = found.key;
+    let (_, rest) = front.split_at(found.header_len as usize);
     if rest.len() < NONCE_SIZE {
         return Err(Fault::NonceTruncated);
     }

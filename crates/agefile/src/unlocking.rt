@@ -141,7 +141,11 @@ fn key_for_key(alloc: Global, front: &[u8], key: &[u8; 32]) -> Result<Unlocked, 
 }
 
 /// Finds the file key for one identity.
-fn key_for(alloc: Global, front: &[u8], identity: Box<dyn Identity>) -> Result<Unlocked, Fault>
+pub(crate) fn key_for(
+    alloc: Global,
+    front: &[u8],
+    identity: Box<dyn Identity>,
+) -> Result<Unlocked, Fault>
     ensures { FindsKey (alone (meaning identity)) front.now result }
 {
     match vec![in alloc; identity] {

@@ -3,7 +3,7 @@ use Rattle.age_file.specs.declared.fault.Fault.TheVariants.{BadLine}
 use Rattle.agefile.specs.Inspect.{HeaderOf}
 use Rattle.agefile.proofs.HeaderLemmas.{header_found}
 use Rattle.agefile.proofs.HeadingLemmas.{mac_early, mac_made, mac_mixed, mac_none}
-use Rattle.agefile.proofs.StartLemmas.{fronts}
+use Rattle.agefile.proofs.UnlockLemmas.{fronts}
 use Rattle.agefile.proofs.heading.mac_under.Goals as goal
 
 pub returns-in-Err : goal.returns-in-Err
