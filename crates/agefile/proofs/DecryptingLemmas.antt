@@ -18,9 +18,8 @@ use Rattle.agefile.specs.declared.start.Start.{Start}
 use Rattle.agefile.specs.Codes.{code_of, fault_code}
 use Rattle.agefile.specs.Decrypting.{Decrypts, GivesFirst, GivesReading}
 use Rattle.agefile.specs.Giving.{Exceeds, Fits}
-use Rattle.agefile.specs.Heading.{Refuses}
 use Rattle.agefile.specs.Limits.{limits}
-use Rattle.agefile.specs.Report.{report_of}
+use Rattle.agefile.specs.Report.{Refuses, report_of}
 use Rattle.agefile.specs.Sizes.{opened_len}
 use Rattle.agefile.specs.Start.{FindsStart}
 use Rattle.agefile.proofs.StepsReadLemmas.{IsVerdictFrom, verdict-from}
@@ -237,7 +236,7 @@ decrypts_none answers b old new report code fault (inl memory) refuses =
       returned = refuses.returned ∙ ap fault_code same;
       reported = refuses.reported
           ∙ ap (λ f. report_of 0 (Some f)) same;
-      buffer = refuses.buffer;
+      same = refuses.same;
     })
 decrypts_none answers b old new report code fault (inr is) refuses = inr (Err fault, is, refuses)
 

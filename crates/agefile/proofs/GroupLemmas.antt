@@ -20,7 +20,7 @@ text_of text room len = take_at text room (length (text ++ room) - 16) (omega (a
 pub fitting : {S : Type 0} {does : Type 0} {old new : S} {chunk after : Bytes} {report : Report} (fits : Bool)
     → Steps fits does old new chunk after report 0 → does
 fitting true step = step.done
-fitting false step = let bad : ◌≡◌ {A = ℕ} 0 23 = step.out_of_order.returned in absurd (omega arith)
+fitting false step = let bad : ◌≡◌ {A = ℕ} 0 23 = step.out_of_order.0.returned in absurd (omega arith)
 
 payload_step : (p new : Payload) (text room after : Bytes) (last : Bool) (report : Report) → length room ≡ 16
     → SealsNext p new (text ++ room) after last report 0
@@ -64,9 +64,10 @@ some_seals old new texts out (inl (text, room, one, len, (report, step))) =
     let s = payload_step old new text room out false report len step in
     subst (λ ts. Sealed old new ts out) (sym one)
     (s.0 ∙ sym (append-nil (sealed old.key (chunk_nonce old.number false) [] text)), s.1)
-some_seals old new texts out (inr (given, report, inl (_, bad, reported, kept), run)) = absurd (omega (arith, bad))
-some_seals old new texts out (inr (given, report, inr (_, inl (many, bad, reported, kept)), run)) =
-    absurd (omega (arith, bad))
+some_seals old new texts out (inr (given, report, inl (_, refused, none), run)) =
+    absurd (omega (arith, refused.returned))
+some_seals old new texts out (inr (given, report, inr (_, inl (many, refused, none)), run)) =
+    absurd (omega (arith, refused.returned))
 some_seals old new texts out (inr (given, report, inr (_, inr taken), run)) = (
   part_seals given texts out run ∙ ap (λ (q : Part). concat (sealed_open q.key q.number texts)) taken.given,
   (ap (λ (q : Payload). q.key) taken.payload, ap (λ (q : Payload). q.number) taken.payload),

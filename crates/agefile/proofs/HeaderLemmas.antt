@@ -84,9 +84,21 @@ pub inspected_fault : (b : Bytes) (old : Summary) (report : Report) (code : ℕ)
     → report ≡ report_of 0 (Some fault) → code ≡ fault_code fault
     → Inspected b old old report code
 inspected_fault b old report code fault (inl memory) place returned =
-    inl (returned ∙ ap fault_code memory, place ∙ ap (λ f. report_of 0 (Some f)) memory, refl)
+    inl (record {
+      returned = returned ∙ ap fault_code memory;
+      reported = place ∙ ap (λ f. report_of 0 (Some f)) memory;
+      same = refl;
+    })
 inspected_fault b old report code fault (inr (reason, found, same)) place returned =
-    inr (Err reason, found, ((returned ∙ ap fault_code same, place ∙ ap (λ f. report_of 0 (Some f)) same), refl))
+    inr (
+      Err reason,
+      found,
+      record {
+        returned = returned ∙ ap fault_code same;
+        reported = place ∙ ap (λ f. report_of 0 (Some f)) same;
+        same = refl;
+      },
+    )
 
 join_map : {X : Type 0} (f : X → Bytes) (xs : List X)
     → flat_map (λ x. 32 ∷ [] ++ f x) xs ≡ flat_map (λ a. 32 ∷ [] ++ a) (map f xs)

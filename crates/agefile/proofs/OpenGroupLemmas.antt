@@ -86,9 +86,10 @@ some_open old new cs text (inl (piece, after, report, one, step, is)) =
     let s = payload_step old new piece after false report step in
     subst (λ xs. OpensTo old new xs text) (sym one)
     ((s.0.text, [], s.0.is, is ∙ s.0.front ∙ sym (append-nil s.0.text), refl), s.1)
-some_open old new cs text (inr (given, report, inl (_, bad, reported, kept), run)) = absurd (omega (arith, bad))
-some_open old new cs text (inr (given, report, inr (_, inl (many, bad, reported, kept)), run)) =
-    absurd (omega (arith, bad))
+some_open old new cs text (inr (given, report, inl (_, refused, none), run)) =
+    absurd (omega (arith, refused.returned))
+some_open old new cs text (inr (given, report, inr (_, inl (many, refused, none)), run)) =
+    absurd (omega (arith, refused.returned))
 some_open old new cs text (inr (given, report, inr (_, inr taken), run)) = (
   subst (λ (q : Part). OpenTo q.key q.number cs text) taken.given (part_opens given cs text run),
   (ap (λ (q : Payload). q.key) taken.payload, ap (λ (q : Payload). q.number) taken.payload),

@@ -12,7 +12,8 @@ use Rattle.age_header.specs.Text.{IsHeaderValue, IsWhole, signed, stanza_text}
 use Rattle.age_header.proofs.LengthLemmas.{length-version_line}
 use Rattle.age_header.proofs.TextLemmas.{stanza_text_is}
 use Rattle.agefile.specs.declared.report.Report.{Report}
-use Rattle.agefile.specs.Giving.{Gives, GivesUp}
+use Rattle.agefile.specs.Giving.{Gives}
+use Rattle.agefile.specs.Report.{Returns}
 use Rattle.agefile.specs.Wrapping.{GivesOwn, GivesText, refusal_code, words}
 
 spelled : (ss : List StanzaParts) → signed ss ≡ version_line ++ (flat_map stanza_text ss ++ codes "---")
@@ -71,7 +72,7 @@ at_index (x ∷ xs) zero d all low = all.0
 at_index (x ∷ xs) (suc i) d all low = at_index xs i d all.1 (omega (arith, low))
 
 pub own_refused : (args body old new : Bytes) (report : Report) (code : ℕ) (error : StanzaError)
-    → IsStanzaError (words args) error → GivesUp (refusal_code error) old new report code
+    → IsStanzaError (words args) error → Returns (refusal_code error) None old new report code
     → GivesOwn args body old new report code
 own_refused args body old new report code NoArgs h up = inr (inl (λ are. are.1.0 h, up))
 own_refused args body old new report code (EmptyArg i) h up =

@@ -1,5 +1,5 @@
 -- What decrypting a file by its file key gives.
-use Rattle.std.specs.Prelude.{◌≡◌, ◌⊎◌, ◌≤◌, ◌-◌, ◌++◌, ℕ, length, drop, Option, Result, Ok, Err}
+use Rattle.std.specs.Prelude.{◌≡◌, ◌⊎◌, ◌≤◌, ◌-◌, ◌++◌, ℕ, length, drop, Option, None, Result, Ok, Err}
 use Rattle.age_kdf.specs.Bytes.{Bytes}
 use Rattle.age_stream.specs.declared.fault.StreamFault.{StreamFault}
 use Rattle.age_stream.specs.Reading.{Reading}
@@ -8,9 +8,9 @@ use Rattle.age_file.specs.Verdict.{Answering, IsVerdict}
 use Rattle.agefile.specs.declared.report.Report.{Report}
 use Rattle.agefile.specs.declared.start.Start.{Start}
 use Rattle.agefile.specs.Codes.{out_of_memory}
-use Rattle.agefile.specs.Giving.{Exceeds, Fits, GivesUp}
-use Rattle.agefile.specs.Heading.{Refuses}
+use Rattle.agefile.specs.Giving.{Exceeds, Fits}
 use Rattle.agefile.specs.Limits.{limits}
+use Rattle.agefile.specs.Report.{Refuses, Returns}
 use Rattle.agefile.specs.Sizes.{opened_len}
 use Rattle.agefile.specs.Start.{IsStart}
 
@@ -30,7 +30,7 @@ DecryptsFrom answers b (Ok start) old new report code =
 abbrev pub Decrypts : (answers : Answering) (b old new : Bytes) (report : Report) (code : ℕ)
     → Type 0
 Decrypts answers b old new report code =
-    GivesUp out_of_memory old new report code
+    Returns out_of_memory None old new report code
     ⊎ ((start : Result Start Fault) × IsStart answers b start
     × DecryptsFrom answers b start old new report code)
 

@@ -7,9 +7,10 @@ use Rattle.age_stream.specs.Payload.{chunks, payload}
 use Rattle.age_file.specs.declared.fault.Fault.{Fault}
 use Rattle.agefile.specs.declared.report.Report.{Report}
 use Rattle.agefile.specs.Codes.{out_of_memory}
-use Rattle.agefile.specs.Giving.{Gives, GivesUp}
-use Rattle.agefile.specs.Heading.{MakesHeader, Refuses}
+use Rattle.agefile.specs.Giving.{Gives}
+use Rattle.agefile.specs.Heading.{MakesHeader}
 use Rattle.agefile.specs.Limits.{limits}
+use Rattle.agefile.specs.Report.{Refuses, Returns}
 
 -- The file of a plaintext that has a header of this text of stanzas, and the payload under this
 -- file key and nonce.
@@ -32,6 +33,6 @@ abbrev pub Encrypts : (stanzas file_key nonce plain old new : Bytes) (report : R
     → Type 0
 Encrypts stanzas file_key nonce plain old new report code =
     let k : FileKey = record { 0 = file_key } in
-    GivesUp out_of_memory old new report code
+    Returns out_of_memory None old new report code
     ⊎ ((made : Result (Vec ℕ Global) Fault) × MakesHeader stanzas k made
     × EncryptsUnder made k nonce plain old new report code)

@@ -9,12 +9,6 @@ use Rattle.agefile.specs.declared.report.Report.{Report}
 use Rattle.agefile.specs.Codes.{code_of, too_small}
 use Rattle.agefile.specs.Report.{report_of}
 
--- the call returns this code alone, and the buffer is as it was
-pub record GivesUp (expected : ℕ) (old new : Bytes) (report : Report) (code : ℕ) : Type 0 where
-  pub returned : code ≡ expected
-  pub reported : report ≡ report_of 0 None
-  pub buffer : new ≡ old
-
 -- the buffer begins with the text, and its rest is as it was, and its fault is reported
 pub record Fits (text : Bytes) (fault : Option Fault) (old new : Bytes) (report : Report)
     (code : ℕ) : Type 0 where

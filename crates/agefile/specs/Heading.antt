@@ -1,5 +1,5 @@
 -- What a text of stanzas is, and what calls give that make a header of it.
-use Rattle.std.specs.Prelude.{◌≡◌, ◌≢◌, ◌⊎◌, ◌==◌, ℕ, ◌-◌, ◌++◌, List, [], length, replicate, codes, nat_lt, Some, None, Result, Ok, Err, if◌then◌else◌, Vec}
+use Rattle.std.specs.Prelude.{◌≡◌, ◌≢◌, ◌⊎◌, ◌==◌, ℕ, ◌-◌, ◌++◌, List, [], length, replicate, codes, nat_lt, None, Result, Ok, Err, if◌then◌else◌, Vec}
 use Rattle.std.specs.Global.{Global}
 use Rattle.std.specs.List.{count_by}
 use Rattle.age_kdf.specs.Bytes.{Bytes}
@@ -16,12 +16,12 @@ use Rattle.age_file.specs.Verdict.{header_fault}
 use Rattle.age_stream.specs.Payload.{payload_key}
 use Rattle.agefile.specs.declared.payload.Payload.{Payload}
 use Rattle.agefile.specs.declared.report.Report.{Report}
-use Rattle.agefile.specs.Codes.{fault_code, out_of_memory}
-use Rattle.agefile.specs.Giving.{Exceeds, Fits, Gives, GivesUp}
+use Rattle.agefile.specs.Codes.{out_of_memory}
+use Rattle.agefile.specs.Giving.{Exceeds, Fits, Gives}
 use Rattle.agefile.specs.Limits.{limits}
 use Rattle.agefile.specs.Payload.{before_first, closed}
 use Rattle.agefile.specs.Phase.{phase_writing}
-use Rattle.agefile.specs.Report.{report_of}
+use Rattle.agefile.specs.Report.{Refuses, Returns}
 
 -- a text between the version line and an end line with these characters
 abbrev pub framed : (text characters : Bytes) → Bytes
@@ -99,12 +99,6 @@ MakesHeader text k result =
     ⊎ ((stanzas : Result (List StanzaParts) Fault) × HasStanzas text stanzas
     × Signs k stanzas result)
 
--- the fault is returned, and the buffer is as it was
-pub record Refuses (fault : Fault) (old new : Bytes) (report : Report) (code : ℕ) : Type 0 where
-  pub returned : code ≡ fault_code fault
-  pub reported : report ≡ report_of 0 (Some fault)
-  pub buffer : new ≡ old
-
 -- a header is given, if it fits the buffer; or its fault
 abbrev pub GivesMade : (made : Result (Vec ℕ Global) Fault) (old new : Bytes) (report : Report)
     (code : ℕ) → Type 0
@@ -133,6 +127,6 @@ abbrev pub BeginsFile : (stanzas file_key nonce old new : Bytes) (payload : Payl
     (report : Report) (code : ℕ) → Type 0
 BeginsFile stanzas file_key nonce old new payload report code =
     let k : FileKey = record { 0 = file_key } in
-    (GivesUp out_of_memory old new report code × (payload ≡ closed))
+    (Returns out_of_memory None old new report code × (payload ≡ closed))
     ⊎ ((made : Result (Vec ℕ Global) Fault) × MakesHeader stanzas k made
     × BeginsMade made k nonce old new payload report code)

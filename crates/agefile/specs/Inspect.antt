@@ -1,5 +1,5 @@
 -- What calls over a header give.
-use Rattle.std.specs.Prelude.{◌≡◌, ◌⊎◌, ℕ, List, [], ◌∷◌, length, Some, None, Result, Ok, Err}
+use Rattle.std.specs.Prelude.{◌≡◌, ◌⊎◌, ℕ, List, [], ◌∷◌, length, None, Result, Ok, Err}
 use Rattle.std.specs.List.{join_by}
 use Rattle.age_kdf.specs.Bytes.{Bytes}
 use Rattle.age_header.specs.declared.fault.HeaderFault.{HeaderFault}
@@ -11,9 +11,9 @@ use Rattle.age_file.specs.Verdict.{header_fault}
 use Rattle.agefile.specs.declared.inspecting.StanzaSummary.{StanzaSummary}
 use Rattle.agefile.specs.declared.inspecting.Summary.{Summary}
 use Rattle.agefile.specs.declared.report.Report.{Report}
-use Rattle.agefile.specs.Codes.{fault_code, ok, out_of_memory}
+use Rattle.agefile.specs.Codes.{ok, out_of_memory}
 use Rattle.agefile.specs.Limits.{limits}
-use Rattle.agefile.specs.Report.{report_of}
+use Rattle.agefile.specs.Report.{Refuses, Returns, report_of}
 
 -- the header at the start of b, or its fault, or out of memory
 abbrev pub HeaderOf : (b : Bytes) (result : Result HeaderParts Fault) → Type 0
@@ -26,11 +26,6 @@ HeaderOf b (Err fault) =
     ⊎ ((reason : HeaderFault) × HeaderVerdict b limits.max_header (Err reason)
     × (fault ≡ header_fault reason))
 
--- a header's fault is returned, and its place reported
-abbrev pub ReportsFault : (reason : HeaderFault) (report : Report) (code : ℕ) → Type 0
-ReportsFault reason report code =
-    (code ≡ fault_code (header_fault reason)) × (report ≡ report_of 0 (Some (header_fault reason)))
-
 -- what a header is summed up as
 abbrev pub summary_of : Found → Summary
 summary_of found =
@@ -41,12 +36,12 @@ abbrev pub SumsUp : (verdict : Result Found HeaderFault) (old new : Summary) (re
     (code : ℕ) → Type 0
 SumsUp (Ok found) old new report code =
     (code ≡ ok) × (report ≡ report_of 0 None) × (new ≡ summary_of found)
-SumsUp (Err reason) old new report code = ReportsFault reason report code × (new ≡ old)
+SumsUp (Err reason) old new report code = Refuses (header_fault reason) old new report code
 
 -- what inspecting b gives, by its header verdict; or out of memory, with the summary as it was
 abbrev pub Inspected : (b : Bytes) (old new : Summary) (report : Report) (code : ℕ) → Type 0
 Inspected b old new report code =
-    ((code ≡ out_of_memory) × (report ≡ report_of 0 None) × (new ≡ old))
+    Returns out_of_memory None old new report code
     ⊎ ((verdict : Result Found HeaderFault) × HeaderVerdict b limits.max_header verdict
     × SumsUp verdict old new report code)
 

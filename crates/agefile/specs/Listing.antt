@@ -4,12 +4,13 @@ use Rattle.age_kdf.specs.Bytes.{Bytes}
 use Rattle.age_header.specs.declared.fault.HeaderFault.{HeaderFault}
 use Rattle.age_header.specs.Header.{StanzaParts}
 use Rattle.age_header.specs.Verdict.{Found, HeaderVerdict}
+use Rattle.age_file.specs.Verdict.{header_fault}
 use Rattle.agefile.specs.declared.inspecting.StanzaSummary.{StanzaSummary}
 use Rattle.agefile.specs.declared.report.Report.{Report}
 use Rattle.agefile.specs.Codes.{ok, out_of_memory, too_small}
-use Rattle.agefile.specs.Inspect.{ReportsFault, joined, stanza_summary}
+use Rattle.agefile.specs.Inspect.{joined, stanza_summary}
 use Rattle.agefile.specs.Limits.{limits}
-use Rattle.agefile.specs.Report.{report_of}
+use Rattle.agefile.specs.Report.{Refuses, Returns}
 
 -- the text of a list of stanzas: of each its arguments, joined by single spaces, and its body
 abbrev pub listed : List StanzaParts → Bytes
@@ -57,20 +58,12 @@ abbrev pub StanzasOf : (verdict : Result Found HeaderFault) (before after : List
 StanzasOf (Ok found) before after old new report code =
     GivesStanzas found.stanzas before after old new report code
 StanzasOf (Err reason) before after old new report code =
-    ReportsFault reason report code × (after ≡ before) × (new ≡ old)
-
--- an allocation was refused, and nothing is given
-pub record ListRefused (before after : List StanzaSummary) (old new : Bytes) (report : Report)
-    (code : ℕ) : Type 0 where
-  pub returned : code ≡ out_of_memory
-  pub reported : report ≡ report_of 0 None
-  pub array : after ≡ before
-  pub buffer : new ≡ old
+    Refuses (header_fault reason) before after report code × (new ≡ old)
 
 -- what asking for the stanzas of b's header gives; or out of memory
 abbrev pub InspectsStanzas : (b : Bytes) (before after : List StanzaSummary) (old new : Bytes)
     (report : Report) (code : ℕ) → Type 0
 InspectsStanzas b before after old new report code =
-    ListRefused before after old new report code
+    (Returns out_of_memory None before after report code × (new ≡ old))
     ⊎ ((verdict : Result Found HeaderFault) × HeaderVerdict b limits.max_header verdict
     × StanzasOf verdict before after old new report code)

@@ -1,15 +1,15 @@
 -- A part of a payload: some of its chunks, none of them the last.
-use Rattle.std.specs.Prelude.{◌≡◌, ◌⊎◌, ℕ, ◌+◌, ◌-◌, ◌<◌, ◌≤◌, ◌&&◌, ◌||◌, Bool, true, false, nat_eq, nat_lt, replicate, Some, None, if◌then◌else◌}
+use Rattle.std.specs.Prelude.{◌≡◌, ◌⊎◌, ℕ, ◌+◌, ◌-◌, ◌<◌, ◌≤◌, ◌&&◌, ◌||◌, Bool, true, false, nat_eq, nat_lt, replicate, None, if◌then◌else◌}
 use Rattle.age_kdf.specs.Bytes.{Bytes}
 use Rattle.age_file.specs.declared.fault.Fault.TheVariants.{TooManyChunks}
 use Rattle.agefile.specs.declared.part.Part.{Part}
 use Rattle.agefile.specs.declared.payload.Payload.{Payload}
 use Rattle.agefile.specs.declared.report.Report.{Report}
-use Rattle.agefile.specs.Codes.{ok, out_of_order, too_many_chunks}
+use Rattle.agefile.specs.Codes.{ok, out_of_order}
 use Rattle.agefile.specs.Limits.{limits}
 use Rattle.agefile.specs.Payload as payload
 use Rattle.agefile.specs.Phase.{phase_closed, phase_reading, phase_writing, phase_ended}
-use Rattle.agefile.specs.Report.{report_of}
+use Rattle.agefile.specs.Report.{Refuses, Returns, report_of}
 use Rattle.agefile.specs.Steps.{Steps}
 
 -- nothing is open
@@ -35,20 +35,16 @@ pub record IsTaken (old new : Payload) (count : ℕ) (part : Part) (report : Rep
   pub payload : new ≡ record old { number = old.number + count }
   pub given : part ≡ next_of old count
 
--- there is no part, and the payload is as it was
-pub record IsRefused (old new : Payload) (part : Part) : Type 0 where
-  pub payload : new ≡ old
-  pub none : part ≡ closed
-
--- one call: the next chunks are taken out of a payload as a part
+-- one call: the next chunks are taken out of a payload as a part; or there is no part, and the
+-- payload is as it was
 abbrev pub TakesPart : (old new : Payload) (count : ℕ) (part : Part) (report : Report) (code : ℕ)
     → Type 0
 TakesPart old new count part report code =
-    ((may_take old count ≡ false) × (code ≡ out_of_order) × (report ≡ report_of 0 None)
-    × IsRefused old new part)
+    ((may_take old count ≡ false) × Returns out_of_order None old new report code
+    × (part ≡ closed))
     ⊎ ((may_take old count ≡ true)
-    × (((limits.max_chunks < old.number + count) × (code ≡ too_many_chunks)
-    × (report ≡ report_of 0 (Some TooManyChunks)) × IsRefused old new part)
+    × (((limits.max_chunks < old.number + count) × Refuses TooManyChunks old new report code
+    × (part ≡ closed))
     ⊎ IsTaken old new count part report code))
 
 -- a part is a payload with a count

@@ -11,7 +11,7 @@ use Rattle.agefile.specs.declared.report.Report.{Report}
 use Rattle.agefile.specs.declared.start.Start.{Start}
 use Rattle.agefile.specs.Codes.{fault_code, ok, out_of_order}
 use Rattle.agefile.specs.Limits.{limits}
-use Rattle.agefile.specs.Report.{report_of}
+use Rattle.agefile.specs.Report.{Returns, report_of}
 use Rattle.agefile.specs.Start.{FindsStart}
 use Rattle.age_stream.specs.Sizes.{tag_size, chunk_size, sealed_chunk_size}
 
@@ -58,18 +58,12 @@ abbrev pub piece_report : (r : Ranges) (i : ℕ) → Report
 piece_report r i =
     record { len = piece_len r.sealed_len i; place = r.first + sealed_chunk_size * i; detail = 0 }
 
--- the call is out of order, and no payload is open
-pub record StaysClosed (new : Ranges) (report : Report) (code : ℕ) : Type 0 where
-  pub returned : code ≡ out_of_order
-  pub reported : report ≡ report_of 0 None
-  pub ranges : new ≡ closed
-
 -- the payload is open, and its last piece is reported; or the fault is returned; or the file ends
 -- before its first piece
 abbrev pub OpensAt : (file_len : ℕ) (start : Result Start Fault) (new : Ranges) (report : Report)
     (code : ℕ) → Type 0
 OpensAt file_len (Ok start) new report code =
-    ((file_len < start.first) × StaysClosed new report code)
+    ((file_len < start.first) × Returns out_of_order None closed new report code)
     ⊎ ((start.first ≤ file_len) × (code ≡ ok) × (new ≡ opened start file_len)
     × (report ≡ piece_report (opened start file_len) (last_index (file_len - start.first))))
 OpensAt file_len (Err fault) new report code =
@@ -96,24 +90,12 @@ abbrev pub Verified : (old new : Ranges) (chunk after : Bytes) (report : Report)
     (piece_outcome : Result Bytes StreamFault) → Type 0
 Verified old new chunk after report code (Ok text) =
     (code ≡ ok)
-    × (new
-    ≡ record {
-      key = old.key;
-      first = old.first;
-      sealed_len = old.sealed_len;
-      state = state_verified;
-    })
+    × (new ≡ record old { state = state_verified })
     × (after ≡ text ++ drop (length text) chunk)
     × (report ≡ report_of (plain_of old.sealed_len) None)
 Verified old new chunk after report code (Err fault) =
     (code ≡ fault_code (stream_fault fault))
-    × (new
-    ≡ record {
-      key = old.key;
-      first = old.first;
-      sealed_len = old.sealed_len;
-      state = state_open;
-    })
+    × (new ≡ record old { state = state_open })
     × (after ≡ chunk) × (report ≡ report_of 0 (Some (stream_fault fault)))
 
 -- the payload was opened, and these are as many bytes as the last piece has

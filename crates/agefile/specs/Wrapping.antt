@@ -8,13 +8,14 @@ use Rattle.age_header.specs.declared.stanza.StanzaError.TheVariants.{Memory}
 use Rattle.age_header.specs.Header.{AreArguments, IsStanza, StanzaParts}
 use Rattle.agefile.specs.declared.report.Report.{Report}
 use Rattle.agefile.specs.Codes.{bad_arguments, out_of_memory}
-use Rattle.agefile.specs.Giving.{Gives, GivesUp}
+use Rattle.agefile.specs.Giving.{Gives}
+use Rattle.agefile.specs.Report.{Returns}
 
 -- the stanza's text is given, if it fits the buffer; or out of memory
 abbrev pub GivesText : (stanza : StanzaParts) (old new : Bytes) (report : Report) (code : ℕ)
     → Type 0
 GivesText stanza old new report code =
-    GivesUp out_of_memory old new report code
+    Returns out_of_memory None old new report code
     ⊎ ((text : Bytes) × IsStanza stanza text × Gives text None old new report code)
 
 -- what stands between spaces
@@ -33,6 +34,6 @@ AreWords args = IsUtf8 args × AreArguments (words args)
 -- the same of a stanza whose arguments are joined by single spaces; or these are no arguments
 abbrev pub GivesOwn : (args body old new : Bytes) (report : Report) (code : ℕ) → Type 0
 GivesOwn args body old new report code =
-    GivesUp out_of_memory old new report code
-    ⊎ (((AreWords args → ⊥) × GivesUp bad_arguments old new report code)
+    Returns out_of_memory None old new report code
+    ⊎ (((AreWords args → ⊥) × Returns bad_arguments None old new report code)
     ⊎ (AreWords args × GivesText (record { args = words args; body = body }) old new report code))

@@ -1,14 +1,15 @@
 //! Copying a call's output to the caller's buffer.
 
 ghost use Rattle.std.specs.Prelude.{None};
-ghost use Rattle.agefile.specs.Giving.{Gives, GivesUp};
+ghost use Rattle.agefile.specs.Giving.{Gives};
+ghost use Rattle.agefile.specs.Report.{Returns};
 
 use crate::code::{OK, TOO_SMALL};
 use crate::report::Report;
 
 /// Returns a code, and sets all else of the report to 0.
 pub(crate) fn give_up(code: u32, out: &mut [u8], report: &mut Report) -> u32
-    ensures { GivesUp code out.old out.new report.new result }
+    ensures { Returns code None out.old out.new report.new result }
 {
     // The proof reads from this that the buffer is unchanged.
     let _ = out;

@@ -4,7 +4,9 @@ ghost use Rattle.std.specs.Prelude.{◌≡◌, ◌⊎◌, ◌++◌, map, take, I
 ghost use Rattle.age_kdf.specs.Bytes.{Bytes};
 ghost use Rattle.agefile.specs.Inspect.{joined, stanza_summary};
 ghost use Rattle.agefile.specs.Limits.{front_size};
-ghost use Rattle.agefile.specs.Listing.{GivesList, GivesStanzas, InspectsStanzas, ListRefused, listed};
+ghost use Rattle.agefile.specs.Codes.{out_of_memory};
+ghost use Rattle.agefile.specs.Listing.{GivesList, GivesStanzas, InspectsStanzas, listed};
+ghost use Rattle.agefile.specs.Report.{Returns};
 
 use crate::code::{OK, OUT_OF_MEMORY, TOO_SMALL, fault_code};
 use crate::inspecting::{StanzaSummary, header_of, joined, stanza_summary};
@@ -55,7 +57,8 @@ fn list(
     text: &mut [u8],
     report: &mut Report,
 ) -> u32
-    ensures { ListRefused stanzas.old stanzas.new text.old text.new report.new result
+    ensures { (Returns out_of_memory None stanzas.old stanzas.new report.new result
+        × (text.new ≡ text.old))
         ⊎ GivesStanzas found.now stanzas.old stanzas.new text.old text.new report.new result }
 {
     let Ok((sizes, all)) = listing_of(alloc, found) else {

@@ -5,8 +5,8 @@ ghost use Rattle.std.specs.Bool.{OnFalse, OnTrue};
 ghost use Rattle.age_stream.specs.Reading.{outcome};
 ghost use Rattle.agefile.specs.Limits.{limits};
 ghost use Rattle.agefile.specs.Opening.{by_file_key};
-ghost use Rattle.agefile.specs.Ranges.{GivesFrom, OpensAt, OpensRanges, StaysClosed, Verified, closed, gives, has_byte, last_index, may_open, may_verify, piece_len, piece_report, plain_of};
-ghost use Rattle.agefile.specs.Report.{report_of};
+ghost use Rattle.agefile.specs.Ranges.{GivesFrom, OpensAt, OpensRanges, Verified, closed, gives, has_byte, last_index, may_open, may_verify, piece_len, piece_report, plain_of};
+ghost use Rattle.agefile.specs.Report.{Returns, report_of};
 ghost use Rattle.age_stream.specs.Sizes.{chunk_size};
 ghost use Rattle.agefile.specs.Codes.{ok, out_of_order};
 
@@ -58,7 +58,7 @@ impl Ranges {
 
 /// No payload.
 fn stay_closed(ranges: &mut Ranges, report: &mut Report) -> u32
-    ensures { StaysClosed ranges.new report.new result }
+    ensures { Returns out_of_order None closed ranges.new report.new result }
 {
     *ranges = Ranges::closed();
     *report = Report::default();

@@ -5,8 +5,9 @@ ghost use Rattle.age_kdf.specs.Bytes.{Bytes};
 ghost use Rattle.age_recipient.specs.KeyedHolders.{key_unwraps};
 ghost use Rattle.age_recipient.specs.PassphraseHolders.{WorkFits, pass_unwraps};
 ghost use Rattle.agefile.specs.Codes.{bad_work_factor};
-ghost use Rattle.agefile.specs.Giving.{GivesUp, alone};
+ghost use Rattle.agefile.specs.Giving.{alone};
 ghost use Rattle.agefile.specs.Limits.{front_size};
+ghost use Rattle.agefile.specs.Report.{Returns};
 ghost use Rattle.agefile.specs.Unlock.{FindsKey, GivesKey, Unlocks};
 
 use crate::code::{OK, WORK_FACTOR, fault_code};
@@ -55,7 +56,7 @@ pub extern "C" fn agefile_unlock_passphrase(
         file_key.old file_key.new report.new result }
     // A maximum that is not 1 to 30 returns 22, and no other one does.
     ensures unfit { (WorkFits max_work → ⊥)
-        → GivesUp bad_work_factor file_key.old file_key.new report.new result }
+        → Returns bad_work_factor None file_key.old file_key.new report.new result }
 {
     match key_for_passphrase(alloc, front, pass, max_work) {
         Some(key) => give_key(key, file_key, report),

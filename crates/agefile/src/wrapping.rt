@@ -6,7 +6,7 @@ ghost use Rattle.age_recipient.specs.KeyedStanza.{keyed_stanza};
 ghost use Rattle.age_recipient.specs.PassphraseHolders.{WorkFits};
 ghost use Rattle.age_recipient.specs.PassphraseStanza.{pass_stanza};
 ghost use Rattle.agefile.specs.Codes.{bad_work_factor, empty_passphrase};
-ghost use Rattle.agefile.specs.Giving.{GivesUp};
+ghost use Rattle.agefile.specs.Report.{Returns};
 ghost use Rattle.agefile.specs.Wrapping.{GivesOwn, GivesText, refusal_code};
 
 use crate::code::{BAD_ARGUMENTS, EMPTY_PASSPHRASE, OUT_OF_MEMORY, WORK_FACTOR};
@@ -37,14 +37,14 @@ pub extern "C" fn agefile_wrap_passphrase(
     // An empty passphrase returns 26 before any other code, and no other one does; `out` is
     // unchanged.
     ensures empty { pass.now ≡ []
-        → GivesUp empty_passphrase out.old out.new report.new result }
+        → Returns empty_passphrase None out.old out.new report.new result }
     // The text of the stanza of this passphrase, under the salt; 21 or 17 with `out` unchanged.
     ensures fit { (pass.now ≡ [] → ⊥) → WorkFits work
         → GivesText (pass_stanza pass.now work salt.now (record { 0 = file_key.now })) out.old
         out.new report.new result }
     // Otherwise a work factor that is not 1 to 30 returns 22, and no other one does.
     ensures unfit { (pass.now ≡ [] → ⊥) → (WorkFits work → ⊥)
-        → GivesUp bad_work_factor out.old out.new report.new result }
+        → Returns bad_work_factor None out.old out.new report.new result }
 {
     if pass.is_empty() {
         return give_up(EMPTY_PASSPHRASE, out, report);
