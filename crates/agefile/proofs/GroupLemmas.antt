@@ -28,7 +28,7 @@ payload_step : (p new : Payload) (text room after : Bytes) (last : Bool) (report
 payload_step p new text room after last report len step =
     let (seals, is) = fitting (may_seal p (length (text ++ room)) last) step in
     elim seals [
-      | inr (many, bad, reported, kept) ↦ absurd (omega (arith, bad))
+      | inr (many, refused) ↦ absurd (omega (arith, refused.returned))
       | inl (few, zero_is, reported, gives) ↦ (
         gives ∙ ap (sealed p.key (chunk_nonce p.number last) []) (text_of text room len),
         (ap (λ (q : Payload). q.key) is, ap (λ (q : Payload). q.number) is),

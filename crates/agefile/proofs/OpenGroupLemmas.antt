@@ -41,7 +41,7 @@ opened_ok chunk after report (Ok text) (zero_is, reported, buffer) =
       front = ap (λ (x : Report). take x.len after) reported
           ∙ ap (take (length text)) buffer ∙ take-append_seam text _;
     }
-opened_ok chunk after report (Err fault) (is, reported, buffer) = absurd (some-code (stream_fault fault) (sym is))
+opened_ok chunk after report (Err fault) refused = absurd (some-code (stream_fault fault) (sym refused.returned))
 
 payload_step : (p new : Payload) (piece after : Bytes) (last : Bool) (report : Report)
     → OpensNext p new piece after last report 0

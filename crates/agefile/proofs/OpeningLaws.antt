@@ -67,7 +67,7 @@ pub opens_unlocked : (answers : Answering) (b old new : Bytes) (report : Report)
     → IsVerdict limits (by_file_key new) b v
 opens_unlocked answers b old new report v (key, inl memory, gives) h =
     let refused : GivesKey (Err OutOfMemory) old new report 0 = subst (λ k. GivesKey k old new report 0) memory gives in
-    absurd (some-code OutOfMemory (sym refused.0))
-opens_unlocked answers b old new report v (Err fault, inr is, gives) h = absurd (some-code fault (sym gives.0))
+    absurd (some-code OutOfMemory (sym refused.returned))
+opens_unlocked answers b old new report v (Err fault, inr is, gives) h = absurd (some-code fault (sym gives.returned))
 opens_unlocked answers b old new report v (Ok found, inr (header, verdict, is), gives) h =
     opens_header answers b new found v header verdict is gives.2 h

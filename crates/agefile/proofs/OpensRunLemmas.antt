@@ -52,11 +52,11 @@ open-by p new chunk after text more last report step_code code place (Ok t) (is,
     )
 open-by p new chunk after text more last report step_code code place (Ok t) (is, reported, buffer) state
     (inr (nonzero, h)) = absurd (nonzero is)
-open-by p new chunk after text more last report step_code code place (Err f) (is, reported, buffer) state
-    (inl (zero, h)) = absurd (some-code (stream_fault f) (sym is ∙ zero))
-open-by p new chunk after text more last report step_code code place (Err f) (is, reported, buffer) state
+open-by p new chunk after text more last report step_code code place (Err f) refused state
+    (inl (zero, h)) = absurd (some-code (stream_fault f) (sym refused.returned ∙ zero))
+open-by p new chunk after text more last report step_code code place (Err f) refused state
     (inr (nonzero, (none, (codes, places)))) =
-    (none, (codes ∙ is, places ∙ ap (λ (x : Report). x.place) reported))
+    (none, (codes ∙ refused.returned, places ∙ ap (λ (x : Report). x.place) refused.reported))
 
 run-first : (key : Bytes) (i : ℕ) (chunk text : Bytes) (more : List Bytes) (code place : ℕ)
     → may_open (reading_at key i) (length chunk) (is_end more) ≡ true

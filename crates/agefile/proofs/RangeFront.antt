@@ -22,7 +22,7 @@ use Rattle.agefile.proofs.StepsReadLemmas.{IsVerdictFrom, verdict-from}
 opened-by : (answers : Answering) (b : Bytes) (r : Ranges) (report : Report) (start : Result Start Fault)
     → IsStart answers (take 65552 b) start → OpensAt (length b) start r report 0
     → IsStart answers b (Ok (record { first = r.first; key = r.key })) × (length b ≡ r.first + r.sealed_len)
-opened-by answers b r report (Err fault) is opens = absurd (some-code fault (sym opens.0))
+opened-by answers b r report (Err fault) is opens = absurd (some-code fault (sym opens.returned))
 opened-by answers b r report (Ok start) is (inl (lt, closed)) = absurd (cc (closed.returned))
 opened-by answers b r report (Ok start) is (inr (le, returned, new, place)) =
     let first : r.first ≡ start.first = ap (λ (x : Ranges). x.first) new in
@@ -38,7 +38,7 @@ pub opened-range : (answers : Answering) (b : Bytes) (r : Ranges) (report : Repo
 opened-range answers b r report (start, inl memory, opens) =
     let refused : OpensAt (length b) (Err OutOfMemory) r report 0 =
     subst (λ s. OpensAt (length b) s r report 0) memory opens in
-    absurd (some-code OutOfMemory (sym refused.0))
+    absurd (some-code OutOfMemory (sym refused.returned))
 opened-range answers b r report (start, inr is, opens) = opened-by answers b r report start is opens
 
 -- a fault of the opening is the verdict's
@@ -49,8 +49,8 @@ refused-by : (answers : Answering) (b : Bytes) (r : Ranges) (report : Report) (c
 refused-by answers b r report code v (Err fault) is opens h some =
     let from : IsVerdictFrom b v (Err fault) = verdict-from answers b (Err fault) v is h in (
       ap (λ (x : Reading Fault). x.front) from,
-      ap (λ (x : Reading Fault). code_of x.fault) from ∙ sym opens.0,
-      opens.1 ∙ sym (ap (λ (x : Reading Fault). report_of 0 x.fault) from),
+      ap (λ (x : Reading Fault). code_of x.fault) from ∙ sym opens.returned,
+      opens.reported ∙ sym (ap (λ (x : Reading Fault). report_of 0 x.fault) from),
     )
 refused-by answers b r report code v (Ok start) is (inl (lt, closed)) h some =
     absurd (omega (arith, lt, start_within answers b start (inr is)))
@@ -63,6 +63,6 @@ pub refused-range : (answers : Answering) (b : Bytes) (r : Ranges) (report : Rep
 refused-range answers b r report code v (start, inl memory, opens) h some other =
     let refused : OpensAt (length b) (Err OutOfMemory) r report code =
     subst (λ s. OpensAt (length b) s r report code) memory opens in
-    absurd (other refused.0)
+    absurd (other refused.returned)
 refused-range answers b r report code v (start, inr is, opens) h some other =
     refused-by answers b r report code v start (whole-start answers b start is) opens h some

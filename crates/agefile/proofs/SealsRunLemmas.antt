@@ -83,10 +83,10 @@ write-by : (key : Bytes) (i : ℕ) (last : Bool) (c room : Bytes) (more : List B
     → ((step_code ≡ 0) × ((rest : Bytes) × (out ≡ after ++ rest) × SealsRun new more rest code))
     ⊎ ((step_code ≢ 0) × ((out ≡ []) × (code ≡ step_code)))
     → WritesBy key i last c more out code
-write-by key i last c room more out code new after report step_code size (inr (many, too_many, reported, kept)) state
-    (inl (zero, _)) = absurd (omega (arith, too_many, zero))
-write-by key i last c room more out code new after report step_code size (inr (many, too_many, reported, kept)) state
-    (inr (_, (none, is))) = inr (many, is ∙ too_many)
+write-by key i last c room more out code new after report step_code size (inr (many, refused)) state
+    (inl (zero, _)) = absurd (omega (arith, refused.returned, zero))
+write-by key i last c room more out code new after report step_code size (inr (many, refused)) state
+    (inr (_, (none, is))) = inr (many, is ∙ refused.returned)
 write-by key i last c room more out code new after report step_code size (inl (few, returned, reported, buffer)) state
     (inl (zero, (rest, joined, run))) =
     inl (

@@ -191,11 +191,11 @@ gave_short : (answers : Answering) (p : Bytes) (q : Payload) (r : Report) (code 
 gave_short answers p q r code start there second (inl header) =
     let h : StartsAt (Err HeaderTruncated) q r code =
     subst (λ x. StartsAt x q r code) (one_start answers p start (Err HeaderTruncated) there header) second in
-    inl h.0
+    inl h.returned
 gave_short answers p q r code start there second (inr nonce) =
     let h : StartsAt (Err NonceTruncated) q r code =
     subst (λ x. StartsAt x q r code) (one_start answers p start (Err NonceTruncated) there nonce) second in
-    inr h.0
+    inr h.returned
 
 pub short_fronts : (answers : Answering) (n : ℕ) (b : Bytes) (p q : Payload) (report r : Report) (code : ℕ)
     → Opens answers b p report 0 → n < report.len

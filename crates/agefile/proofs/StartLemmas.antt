@@ -125,7 +125,7 @@ start_within answers b start (inr (Ok found, verdict, is)) =
 -- a payload was opened: there is a start
 pub opened_start : (answers : Answering) (b : Bytes) (p : Payload) (report : Report) → Opens answers b p report 0
     → (s : Start) × IsStart answers b (Ok s) × StartsAt (Ok s) p report 0
-opened_start answers b p report (Err fault, is, opens) = absurd (some-code fault (sym opens.0))
+opened_start answers b p report (Err fault, is, opens) = absurd (some-code fault (sym opens.returned))
 opened_start answers b p report (Ok s, inl memory, opens) = absurd (cc)
 opened_start answers b p report (Ok s, inr is, opens) = (s, is, opens)
 
@@ -135,5 +135,5 @@ pub found_start : (answers : Answering) (b : Bytes) (p : Payload) (report : Repo
     → (start : Result Start Fault) × IsStart answers b start × StartsAt start p report code
 found_start answers b p report code (start, inl memory, opens) other =
     let refused : StartsAt (Err OutOfMemory) p report code = subst (λ s. StartsAt s p report code) memory opens in
-    absurd (other refused.0)
+    absurd (other refused.returned)
 found_start answers b p report code (start, inr is, opens) other = (start, is, opens)

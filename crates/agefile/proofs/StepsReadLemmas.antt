@@ -67,8 +67,8 @@ refused-by : (b : Bytes) (p : Payload) (report : Report) (code : ℕ) (v : Readi
 refused-by b p report code v (Ok start) opens from some = absurd (some opens.0)
 refused-by b p report code v (Err fault) opens from some = (
   ap (λ (r : Reading Fault). r.front) from,
-  ap (λ (r : Reading Fault). code_of r.fault) from ∙ sym opens.0,
-  opens.1 ∙ sym (ap (λ (r : Reading Fault). report_of 0 r.fault) from),
+  ap (λ (r : Reading Fault). code_of r.fault) from ∙ sym opens.returned,
+  opens.reported ∙ sym (ap (λ (r : Reading Fault). report_of 0 r.fault) from),
 )
 
 pub opening_refused : (answers : Answering) (b : Bytes) (p : Payload) (report : Report) (code : ℕ) (v : Reading Fault)

@@ -146,8 +146,8 @@ refused-by : (b old new : Bytes) (report : Report) (code : ℕ) (v : Reading Fau
 refused-by b old new report code v (Ok found) gives under some = absurd (some gives.0)
 refused-by b old new report code v (Err fault) gives under some = (
   ap (λ (r : Reading Fault). r.front) under,
-  ap (λ (r : Reading Fault). code_of r.fault) under ∙ sym gives.0,
-  gives.1 ∙ sym (ap (λ (r : Reading Fault). report_of 0 r.fault) under),
+  ap (λ (r : Reading Fault). code_of r.fault) under ∙ sym gives.returned,
+  gives.reported ∙ sym (ap (λ (r : Reading Fault). report_of 0 r.fault) under),
 )
 
 pub unlocking_refused : (answers : Answering) (b old new : Bytes) (report : Report) (code : ℕ) (v : Reading Fault)
@@ -157,6 +157,6 @@ pub unlocking_refused : (answers : Answering) (b old new : Bytes) (report : Repo
 unlocking_refused answers b old new report code v (key, inl memory, gives) h some other =
     let refused : GivesKey (Err OutOfMemory) old new report code =
     subst (λ k. GivesKey k old new report code) memory gives in
-    absurd (other refused.0)
+    absurd (other refused.returned)
 unlocking_refused answers b old new report code v (key, inr is, gives) h some other =
     refused-by b old new report code v key gives (verdict-under answers b key v is h) some

@@ -1,5 +1,5 @@
 -- What one chunk gives, by its number.
-use Rattle.std.specs.Prelude.{◌≡◌, ◌⊎◌, ℕ, ◌-◌, ◌<◌, ◌≤◌, ◌++◌, ◌||◌, ◌&&◌, Bool, [], length, take, drop, nat_eq, nat_le, nat_lt, Some, None, Result, Ok, Err, if◌then◌else◌}
+use Rattle.std.specs.Prelude.{◌≡◌, ◌⊎◌, ℕ, ◌-◌, ◌<◌, ◌≤◌, ◌++◌, ◌||◌, ◌&&◌, Bool, [], length, take, drop, nat_eq, nat_le, nat_lt, None, Result, Ok, Err, if◌then◌else◌}
 use Rattle.age_kdf.specs.Bytes.{Bytes}
 use Rattle.age_cipher.specs.Sealing.{sealed}
 use Rattle.age_stream.specs.declared.fault.StreamFault.{StreamFault}
@@ -9,9 +9,9 @@ use Rattle.age_stream.specs.Sizes.{tag_size, sealed_chunk_size}
 use Rattle.age_file.specs.declared.fault.Fault.TheVariants.{TooManyChunks}
 use Rattle.age_file.specs.Verdict.{stream_fault}
 use Rattle.agefile.specs.declared.report.Report.{Report}
-use Rattle.agefile.specs.Codes.{fault_code, ok, too_many_chunks}
+use Rattle.agefile.specs.Codes.{ok}
 use Rattle.agefile.specs.Limits.{limits}
-use Rattle.agefile.specs.Report.{report_of}
+use Rattle.agefile.specs.Report.{Refuses, report_of}
 
 -- the chunk's buffer begins with the text, and its rest is as it was; or its fault is returned, and
 -- all of it is as it was
@@ -21,8 +21,7 @@ Opened chunk after report code (Ok text) =
     (code ≡ ok) × (report ≡ report_of (length text) None)
     × (after ≡ text ++ drop (length text) chunk)
 Opened chunk after report code (Err fault) =
-    (code ≡ fault_code (stream_fault fault)) × (report ≡ report_of 0 (Some (stream_fault fault)))
-    × (after ≡ chunk)
+    Refuses (stream_fault fault) chunk after report code
 
 -- a chunk is opened under its number
 abbrev pub OpensAs : (key : Bytes) (number : ℕ) (last : Bool) (chunk after : Bytes)
@@ -37,8 +36,7 @@ abbrev pub SealsAs : (key : Bytes) (number : ℕ) (last : Bool) (chunk after : B
 SealsAs key number last chunk after report code =
     ((number < limits.max_chunks) × (code ≡ ok) × (report ≡ report_of (length chunk) None)
     × (after ≡ sealed key (chunk_nonce number last) [] (take (length chunk - tag_size) chunk)))
-    ⊎ ((limits.max_chunks ≤ number) × (code ≡ too_many_chunks)
-    × (report ≡ report_of 0 (Some TooManyChunks)) × (after ≡ chunk))
+    ⊎ ((limits.max_chunks ≤ number) × Refuses TooManyChunks chunk after report code)
 
 -- a full chunk, or the last and no longer
 abbrev pub is_chunk_len : (len : ℕ) (last : Bool) → Bool

@@ -1,5 +1,5 @@
 -- What opening a file by its file key gives.
-use Rattle.std.specs.Prelude.{◌≡◌, ℕ, List, Some, None, Result, Ok, Err}
+use Rattle.std.specs.Prelude.{◌≡◌, ℕ, List, None, Result, Ok, Err}
 use Rattle.age_kdf.specs.Bytes.{Bytes}
 use Rattle.age_header.specs.Header.{StanzaParts}
 use Rattle.age_recipient.specs.declared.unwrapped.Unwrapped.{Unwrapped}
@@ -9,11 +9,11 @@ use Rattle.age_file.specs.Verdict.{Answering}
 use Rattle.agefile.specs.declared.payload.Payload.{Payload}
 use Rattle.agefile.specs.declared.report.Report.{Report}
 use Rattle.agefile.specs.declared.start.Start.{Start}
-use Rattle.agefile.specs.Codes.{fault_code, ok}
+use Rattle.agefile.specs.Codes.{ok}
 use Rattle.agefile.specs.Giving.{alone}
 use Rattle.agefile.specs.Payload.{before_first, closed}
 use Rattle.agefile.specs.Phase.{phase_reading}
-use Rattle.agefile.specs.Report.{report_of}
+use Rattle.agefile.specs.Report.{Refuses, report_of}
 use Rattle.agefile.specs.Start.{FindsStart}
 
 -- an identity that gives this file key for any stanzas
@@ -31,7 +31,7 @@ StartsAt (Ok start) new report code =
     (code ≡ ok) × (report ≡ report_of start.first None)
     × (new ≡ before_first start.key phase_reading)
 StartsAt (Err fault) new report code =
-    (code ≡ fault_code fault) × (report ≡ report_of 0 (Some fault)) × (new ≡ closed)
+    Refuses fault closed new report code
 
 -- what opening the file with this front gives
 abbrev pub Opens : (answers : Answering) (front : Bytes) (new : Payload) (report : Report)

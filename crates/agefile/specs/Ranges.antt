@@ -1,6 +1,6 @@
 -- Ranges of a plaintext in steps: the caller reads one sealed chunk of the file at a time (C2SP
 -- age.md, "Payload").
-use Rattle.std.specs.Prelude.{ℕ, ◌≡◌, ◌⊎◌, ◌<◌, ◌≤◌, ◌+◌, ◌-◌, ◌*◌, ◌/◌, ◌%◌, ◌^◌, ◌++◌, ◌&&◌, ◌||◌, Bool, length, take, drop, min, nat_eq, nat_le, nat_lt, replicate, None, Some, Result, Ok, Err}
+use Rattle.std.specs.Prelude.{ℕ, ◌≡◌, ◌⊎◌, ◌<◌, ◌≤◌, ◌+◌, ◌-◌, ◌*◌, ◌/◌, ◌%◌, ◌^◌, ◌++◌, ◌&&◌, ◌||◌, Bool, length, take, drop, min, nat_eq, nat_le, nat_lt, replicate, None, Result, Ok, Err}
 use Rattle.age_kdf.specs.Bytes.{Bytes}
 use Rattle.age_stream.specs.declared.fault.StreamFault.{StreamFault}
 use Rattle.age_stream.specs.Reading.{outcome}
@@ -9,9 +9,9 @@ use Rattle.age_file.specs.Verdict.{Answering, stream_fault}
 use Rattle.agefile.specs.declared.ranges.Ranges.{Ranges}
 use Rattle.agefile.specs.declared.report.Report.{Report}
 use Rattle.agefile.specs.declared.start.Start.{Start}
-use Rattle.agefile.specs.Codes.{fault_code, ok, out_of_order}
+use Rattle.agefile.specs.Codes.{ok, out_of_order}
 use Rattle.agefile.specs.Limits.{limits}
-use Rattle.agefile.specs.Report.{Returns, report_of}
+use Rattle.agefile.specs.Report.{Refuses, Returns, report_of}
 use Rattle.agefile.specs.Start.{FindsStart}
 use Rattle.age_stream.specs.Sizes.{tag_size, chunk_size, sealed_chunk_size}
 
@@ -67,7 +67,7 @@ OpensAt file_len (Ok start) new report code =
     ⊎ ((start.first ≤ file_len) × (code ≡ ok) × (new ≡ opened start file_len)
     × (report ≡ piece_report (opened start file_len) (last_index (file_len - start.first))))
 OpensAt file_len (Err fault) new report code =
-    (code ≡ fault_code fault) × (report ≡ report_of 0 (Some fault)) × (new ≡ closed)
+    Refuses fault closed new report code
 
 -- what opening a file of `file_len` bytes with this front gives
 abbrev pub OpensRanges : (answers : Answering) (front : Bytes) (file_len : ℕ) (new : Ranges)
@@ -94,9 +94,8 @@ Verified old new chunk after report code (Ok text) =
     × (after ≡ text ++ drop (length text) chunk)
     × (report ≡ report_of (plain_of old.sealed_len) None)
 Verified old new chunk after report code (Err fault) =
-    (code ≡ fault_code (stream_fault fault))
+    Refuses (stream_fault fault) chunk after report code
     × (new ≡ record old { state = state_open })
-    × (after ≡ chunk) × (report ≡ report_of 0 (Some (stream_fault fault)))
 
 -- the payload was opened, and these are as many bytes as the last piece has
 abbrev pub may_verify : (r : Ranges) (chunk : Bytes) → Bool
@@ -124,5 +123,4 @@ GivesFrom at chunk after report code (Ok text) =
     (code ≡ ok) × (after ≡ text ++ drop (length text) chunk)
     × (report ≡ record { len = length text - at % chunk_size; place = at % chunk_size; detail = 0 })
 GivesFrom at chunk after report code (Err fault) =
-    (code ≡ fault_code (stream_fault fault)) × (after ≡ chunk)
-    × (report ≡ report_of 0 (Some (stream_fault fault)))
+    Refuses (stream_fault fault) chunk after report code

@@ -1,5 +1,5 @@
 -- What unlocking a header gives: its length, and its file key.
-use Rattle.std.specs.Prelude.{◌≡◌, ◌⊎◌, ℕ, length, Some, None, Result, Ok, Err}
+use Rattle.std.specs.Prelude.{◌≡◌, ◌⊎◌, ℕ, length, None, Result, Ok, Err}
 use Rattle.age_kdf.specs.Bytes.{Bytes}
 use Rattle.age_header.specs.declared.fault.HeaderFault.{HeaderFault}
 use Rattle.age_header.specs.Verdict.{Found, HeaderVerdict}
@@ -9,9 +9,9 @@ use Rattle.age_file.specs.declared.fault.Fault.TheVariants.{OutOfMemory}
 use Rattle.age_file.specs.Verdict.{Answering, header_fault, parts_of, unlocked}
 use Rattle.agefile.specs.declared.report.Report.{Report}
 use Rattle.agefile.specs.declared.unlocking.Unlocked.{Unlocked}
-use Rattle.agefile.specs.Codes.{fault_code, ok}
+use Rattle.agefile.specs.Codes.{ok}
 use Rattle.agefile.specs.Limits.{limits}
-use Rattle.agefile.specs.Report.{report_of}
+use Rattle.agefile.specs.Report.{Refuses, report_of}
 
 -- a file key with the length of its header
 abbrev pub with_len : (len : ℕ) (key : Result FileKey Fault) → Result Unlocked Fault
@@ -41,7 +41,7 @@ abbrev pub GivesKey : (key : Result Unlocked Fault) (old new : Bytes) (report : 
 GivesKey (Ok found) old new report code =
     (code ≡ ok) × (report ≡ report_of found.header_len None) × (new ≡ found.key.0)
 GivesKey (Err fault) old new report code =
-    (code ≡ fault_code fault) × (report ≡ report_of 0 (Some fault)) × (new ≡ old)
+    Refuses fault old new report code
 
 -- what unlocking b's header gives
 abbrev pub Unlocks : (answers : Answering) (b old new : Bytes) (report : Report) (code : ℕ)
