@@ -13,7 +13,7 @@ use Rattle.agefile.specs.Part as part
 use Rattle.agefile.specs.Payload.{SealsNext, may_seal}
 use Rattle.agefile.specs.Steps.{Steps}
 
-text_of : (text room : Bytes) → length room ≡ 16 → take (length (text ++ room) - 16) (text ++ room) ≡ text
+pub text_of : (text room : Bytes) → length room ≡ 16 → take (length (text ++ room) - 16) (text ++ room) ≡ text
 text_of text room len = take_at text room (length (text ++ room) - 16) (omega (arith, len, length-append text room))
 
 -- a call that returned 0 fits the state

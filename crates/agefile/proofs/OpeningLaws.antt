@@ -11,7 +11,7 @@ use Rattle.age_header.specs.declared.file_key.FileKey.{FileKey}
 use Rattle.age_recipient.specs.Choice.{choice}
 use Rattle.age_stream.specs.Reading.{Reading}
 use Rattle.age_file.specs.declared.fault.Fault.{Fault}
-use Rattle.age_file.specs.declared.fault.Fault.TheVariants.{BadMac, MixedPassphrase, OutOfMemory}
+use Rattle.age_file.specs.declared.fault.Fault.TheVariants.{BadMac, MixedPassphrase}
 use Rattle.age_file.specs.AgeFile.{is_mixed}
 use Rattle.age_file.specs.Verdict.{Answering, IsVerdict, checked, judged, parts_of, read_under, unlocked}
 use Rattle.age_file.proofs.FileLemmas.{one_verdict}
@@ -19,7 +19,7 @@ use Rattle.agefile.specs.declared.report.Report.{Report}
 use Rattle.agefile.specs.declared.unlocking.Unlocked.{Unlocked}
 use Rattle.agefile.specs.Limits.{limits}
 use Rattle.agefile.specs.Opening.{by_file_key}
-use Rattle.agefile.specs.Unlock.{GivesKey, Unlocks, key_of}
+use Rattle.agefile.specs.Unlock.{Unlocks, key_of}
 use Rattle.agefile.proofs.OpensRunLemmas.{some-code}
 use Rattle.agefile.proofs.UnlockLemmas.{key_within, ok-ok}
 
@@ -65,9 +65,7 @@ opens_header answers b new found v (Ok head) verdict is same h =
 pub opens_unlocked : (answers : Answering) (b old new : Bytes) (report : Report) (v : Reading Fault)
     → Unlocks answers b old new report 0 → IsVerdict limits answers b v
     → IsVerdict limits (by_file_key new) b v
-opens_unlocked answers b old new report v (key, inl memory, gives) h =
-    let refused : GivesKey (Err OutOfMemory) old new report 0 = subst (λ k. GivesKey k old new report 0) memory gives in
-    absurd (some-code OutOfMemory (sym refused.returned))
-opens_unlocked answers b old new report v (Err fault, inr is, gives) h = absurd (some-code fault (sym gives.returned))
+opens_unlocked answers b old new report v (Err fault, is, gives) h = absurd (some-code fault (sym gives.returned))
+opens_unlocked answers b old new report v (Ok found, inl memory, gives) h = absurd (cc)
 opens_unlocked answers b old new report v (Ok found, inr (header, verdict, is), gives) h =
     opens_header answers b new found v header verdict is gives.2 h

@@ -1,5 +1,5 @@
 -- Sealing the chunks of a plaintext into a buffer.
-use Rattle.std.proofs.Common.{◌≡◌, ◌⊎◌, ℕ, ◌+◌, ◌-◌, ◌*◌, ◌<◌, ◌≤◌, [], ◌++◌, length, take, drop, min, nat_le, true, false, sym, ◌∙◌, ap, refl, arith, inl, inr, append_assoc, length-append, length-drop, ◌^◌, Vec, None, Ok}
+use Rattle.std.proofs.Common.{◌≡◌, ◌⊎◌, ℕ, ◌+◌, ◌-◌, ◌*◌, ◌<◌, ◌≤◌, [], ◌++◌, length, take, drop, min, nat_le, true, false, sym, ◌∙◌, ap, refl, subst, arith, inl, inr, append_assoc, length-append, length-drop, ◌^◌, Vec, None, Ok}
 use Rattle.std.specs.Global.{Global}
 use Rattle.std.specs.List.{concat}
 use Rattle.std.proofs.lemmas.Bool.{cases_lt, le-leb, lt-leb}
@@ -29,12 +29,17 @@ first_text size left sized = elim (cases_lt 65536 (length left)) [
   | inr le ↦ take_all size left (omega (arith, sized, le)) ∙ sym (take_all 65536 left le)
 ]
 
+-- the first chunk is sealed at the start of the room
+abbrev pub SealsFirst : (key : Bytes) (number : ℕ) (left room new : Bytes) → Type 0
+SealsFirst key number left room new =
+    new ≡ sealed key (chunk_nonce number (nat_le (length left) 65536)) [] (take 65536 left)
+    ++ drop (min (length left) 65536 + 16) room
+
 pub first_sealed : (key : Bytes) (number size : ℕ) (left text front back chunk rest room : Bytes)
     → size ≡ min (length left) 65536 → text ≡ take size left → front ≡ text → length back ≡ 16
     → chunk ≡ sealed key (chunk_nonce number (nat_le (length left) 65536)) []
     (take (length (front ++ back) - 16) (front ++ back)) → rest ≡ drop (size + 16) room
-    → chunk ++ rest ≡ sealed key (chunk_nonce number (nat_le (length left) 65536)) [] (take 65536 left)
-    ++ drop (min (length left) 65536 + 16) room
+    → SealsFirst key number left room (chunk ++ rest)
 first_sealed key number size left text front back chunk rest room sized is copied tag sealed_so behind =
     let same : take (length (front ++ back) - 16) (front ++ back) ≡ take 65536 left =
     take_at front back (length (front ++ back) - 16) (omega (arith, tag, length-append front back)) ∙ copied ∙ is
@@ -47,16 +52,11 @@ first_sealed key number size left text front back chunk rest room sized is copie
 
 -- the same of what is left, and of the room
 pub sealed_there : (key plain out left room mid : Bytes) (at done number : ℕ) → left ≡ drop at plain
-    → room ≡ drop done out
-    → mid ≡ sealed key (chunk_nonce number (nat_le (length left) 65536)) [] (take 65536 left)
-    ++ drop (min (length left) 65536 + 16) room
-    → mid ≡ sealed key (chunk_nonce number (nat_le (length (drop at plain)) 65536)) [] (take 65536 (drop at plain))
-    ++ drop (min (length (drop at plain)) 65536 + 16) (drop done out)
+    → room ≡ drop done out → SealsFirst key number left room mid
+    → SealsFirst key number (drop at plain) (drop done out) mid
 sealed_there key plain out left room mid at done number left_is room_is is =
-    is ∙ ap (λ l. sealed key (chunk_nonce number (nat_le (length l) 65536)) [] (take 65536 l)
-    ++ drop (min (length l) 65536 + 16) room) left_is
-    ∙ ap (λ r. sealed key (chunk_nonce number (nat_le (length (drop at plain)) 65536)) [] (take 65536 (drop at plain))
-    ++ drop (min (length (drop at plain)) 65536 + 16) r) room_is
+    subst (λ r. SealsFirst key number (drop at plain) r mid) room_is
+    (subst (λ l. SealsFirst key number l room mid) left_is is)
 
 -- so many chunks were sealed, and are at the start of the buffer
 pub record IsSealedTo (key plain out : Bytes) (at done number : ℕ) : Type 0 where
@@ -100,9 +100,7 @@ last_fills key plain out at done number r last =
 
 pub seals_end : (key plain out mid new : Bytes) (at done number : ℕ) → IsSealedTo key plain out at done number
     → length (drop at plain) ≤ 65536
-    → mid ≡ sealed key (chunk_nonce number (nat_le (length (drop at plain)) 65536)) [] (take 65536 (drop at plain))
-    ++ drop (min (length (drop at plain)) 65536 + 16) (drop done out)
-    → new ≡ take done out ++ mid → new ≡ concat (sealed_from key 0 (chunks plain))
+    → SealsFirst key number (drop at plain) (drop done out) mid → new ≡ take done out ++ mid → new ≡ concat (sealed_from key 0 (chunks plain))
 seals_end key plain out mid new at done number r last is joined =
     let left : Bytes = drop at plain in
     let fills = last_fills key plain out at done number r last in
@@ -124,9 +122,7 @@ seals_end key plain out mid new at done number r last is joined =
 
 pub seals_more : (key plain out mid new : Bytes) (at done number : ℕ) → IsSealedTo key plain out at done number
     → 65536 < length (drop at plain)
-    → mid ≡ sealed key (chunk_nonce number (nat_le (length (drop at plain)) 65536)) [] (take 65536 (drop at plain))
-    ++ drop (min (length (drop at plain)) 65536 + 16) (drop done out)
-    → new ≡ take done out ++ mid → IsSealedTo key plain new (at + 65536) (done + 65552) (number + 1)
+    → SealsFirst key number (drop at plain) (drop done out) mid → new ≡ take done out ++ mid → IsSealedTo key plain new (at + 65536) (done + 65552) (number + 1)
 seals_more key plain out mid new at done number r more is joined =
     let left : Bytes = drop at plain in
     let text : Bytes = take 65536 left in

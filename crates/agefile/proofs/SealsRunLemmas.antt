@@ -19,6 +19,7 @@ use Rattle.agefile.specs.Heading.{BeginsFile}
 use Rattle.agefile.specs.Limits.{limits}
 use Rattle.agefile.specs.Payload.{after_chunk, may_seal}
 use Rattle.agefile.specs.Runs.{SealsRun}
+use Rattle.agefile.proofs.GroupLemmas.{text_of}
 use Rattle.agefile.proofs.OpensRunLemmas.{some-code}
 
 -- a payload for writing before chunk i
@@ -71,11 +72,6 @@ WritesBy key i last c more out code =
     × SealsRun (after_chunk (writing_at key i) last 0) more rest code))
     ⊎ ((limits.max_chunks ≤ i) × (code ≡ 14))
 
-text-of : (c room : Bytes) → length room ≡ 16 → take (length (c ++ room) - 16) (c ++ room) ≡ c
-text-of c room size =
-    let n : length (c ++ room) - 16 ≡ length c = omega (arith, length-append c room) in
-    ap (λ k. take k (c ++ room)) n ∙ take-append_seam c room
-
 write-by : (key : Bytes) (i : ℕ) (last : Bool) (c room : Bytes) (more : List Bytes) (out : Bytes) (code : ℕ)
     (new : Payload) (after : Bytes) (report : Report) (step_code : ℕ) → length room ≡ 16
     → SealsAs key i last (c ++ room) after report step_code
@@ -93,7 +89,7 @@ write-by key i last c room more out code new after report step_code size (inl (f
       few,
       (
         rest,
-        joined ∙ ap (λ b. b ++ rest) (buffer ∙ ap (sealed key (chunk_nonce i last) []) (text-of c room size)),
+        joined ∙ ap (λ b. b ++ rest) (buffer ∙ ap (sealed key (chunk_nonce i last) []) (text_of c room size)),
         subst (λ w. SealsRun w more rest code) (state ∙ ap (after_chunk (writing_at key i) last) returned) run,
       ),
     )

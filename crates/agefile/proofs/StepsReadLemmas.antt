@@ -24,6 +24,7 @@ use Rattle.agefile.specs.Start.{IsStart, start_under}
 use Rattle.agefile.proofs.FrontLemmas.{whole-start}
 use Rattle.agefile.proofs.OpensRunLemmas.{payload_reads}
 use Rattle.agefile.proofs.StartLemmas.{found_start, opened_start}
+use Rattle.agefile.proofs.UnlockLemmas.{refusal}
 
 -- ---- the verdict, by the start
 
@@ -65,11 +66,7 @@ refused-by : (b : Bytes) (p : Payload) (report : Report) (code : ℕ) (v : Readi
     → StartsAt start p report code → IsVerdictFrom b v start → code ≢ 0
     → (v.front ≡ []) × (code_of v.fault ≡ code) × (report ≡ report_of 0 v.fault)
 refused-by b p report code v (Ok start) opens from some = absurd (some opens.0)
-refused-by b p report code v (Err fault) opens from some = (
-  ap (λ (r : Reading Fault). r.front) from,
-  ap (λ (r : Reading Fault). code_of r.fault) from ∙ sym opens.returned,
-  opens.reported ∙ sym (ap (λ (r : Reading Fault). report_of 0 r.fault) from),
-)
+refused-by b p report code v (Err fault) opens from some = refusal fault v opens from
 
 pub opening_refused : (answers : Answering) (b : Bytes) (p : Payload) (report : Report) (code : ℕ) (v : Reading Fault)
     → Opens answers (take 65552 b) p report code

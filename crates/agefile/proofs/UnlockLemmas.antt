@@ -23,7 +23,7 @@ use Rattle.agefile.specs.declared.unlocking.Unlocked.{Unlocked}
 use Rattle.agefile.specs.Codes.{code_of}
 use Rattle.agefile.specs.Giving.{alone}
 use Rattle.agefile.specs.Limits.{limits}
-use Rattle.agefile.specs.Report.{report_of}
+use Rattle.agefile.specs.Report.{Refuses, report_of}
 use Rattle.agefile.specs.Unlock.{FindsKey, GivesKey, IsKey, Unlocks, with_len}
 use Rattle.agefile.proofs.FrontLemmas.{whole_verdict}
 
@@ -140,15 +140,22 @@ verdict-under answers b key v (Ok found, verdict, is) h =
     subst (IsVerdictUnder b v) (sym is) (under-key b (length found.text) v (unlocked answers (parts_of found))
     (one_verdict limits answers b v w h (record { header = Ok found; header_verdict = verdict; is = refl })))
 
+-- a fault before any plaintext is the verdict's
+pub refusal : {S : Type 0} {old new : S} {report : Report} {code : ℕ} (fault : Fault) (v : Reading Fault)
+    → Refuses fault old new report code → v ≡ stops fault
+    → (v.front ≡ []) × (code_of v.fault ≡ code) × (report ≡ report_of 0 v.fault)
+refusal fault v refuses is = (
+  ap (λ (r : Reading Fault). r.front) is,
+  ap (λ (r : Reading Fault). code_of r.fault) is ∙ sym refuses.returned,
+  refuses.reported ∙ sym (ap (λ (r : Reading Fault). report_of 0 r.fault) is),
+)
+
 refused-by : (b old new : Bytes) (report : Report) (code : ℕ) (v : Reading Fault) (key : Result Unlocked Fault)
     → GivesKey key old new report code → IsVerdictUnder b v key → code ≢ 0
     → (v.front ≡ []) × (code_of v.fault ≡ code) × (report ≡ report_of 0 v.fault)
 refused-by b old new report code v (Ok found) gives under some = absurd (some gives.0)
-refused-by b old new report code v (Err fault) gives under some = (
-  ap (λ (r : Reading Fault). r.front) under,
-  ap (λ (r : Reading Fault). code_of r.fault) under ∙ sym gives.returned,
-  gives.reported ∙ sym (ap (λ (r : Reading Fault). report_of 0 r.fault) under),
-)
+refused-by b old new report code v (Err fault) gives under some =
+    refusal fault v gives under
 
 pub unlocking_refused : (answers : Answering) (b old new : Bytes) (report : Report) (code : ℕ) (v : Reading Fault)
     → Unlocks answers b old new report code
