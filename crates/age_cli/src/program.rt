@@ -32,7 +32,8 @@ const REFUSED: u8 = 2;
 /// `input` is read if the arguments name no file. For the checks of which files are the same,
 /// `input` and `out` are taken to be `/proc/self/fd/0` and `/proc/self/fd/1`. `out` receives the
 /// output of the command, and the texts of help and version. `err` receives one line for a fault,
-/// with `--verbose` a second one that says more, and the text for a refused command line.
+/// with `--verbose` a second one that says more, lines on what `salvage` misses, and the text for a
+/// refused command line.
 pub fn run<F: Files + AllocGlobal, R: Read, W: Write + IsTerminal, E: Write>(
     rt: &F,
     words: &[&str],
