@@ -100,7 +100,8 @@ last_fills key plain out at done number r last =
 
 pub seals_end : (key plain out mid new : Bytes) (at done number : ℕ) → IsSealedTo key plain out at done number
     → length (drop at plain) ≤ 65536
-    → SealsFirst key number (drop at plain) (drop done out) mid → new ≡ take done out ++ mid → new ≡ concat (sealed_from key 0 (chunks plain))
+    → SealsFirst key number (drop at plain) (drop done out) mid → new ≡ take done out ++ mid
+    → new ≡ concat (sealed_from key 0 (chunks plain))
 seals_end key plain out mid new at done number r last is joined =
     let left : Bytes = drop at plain in
     let fills = last_fills key plain out at done number r last in
@@ -122,7 +123,8 @@ seals_end key plain out mid new at done number r last is joined =
 
 pub seals_more : (key plain out mid new : Bytes) (at done number : ℕ) → IsSealedTo key plain out at done number
     → 65536 < length (drop at plain)
-    → SealsFirst key number (drop at plain) (drop done out) mid → new ≡ take done out ++ mid → IsSealedTo key plain new (at + 65536) (done + 65552) (number + 1)
+    → SealsFirst key number (drop at plain) (drop done out) mid → new ≡ take done out ++ mid
+    → IsSealedTo key plain new (at + 65536) (done + 65552) (number + 1)
 seals_more key plain out mid new at done number r more is joined =
     let left : Bytes = drop at plain in
     let text : Bytes = take 65536 left in

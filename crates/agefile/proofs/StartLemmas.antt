@@ -69,7 +69,8 @@ start_cut answers b rest found finds back short =
     ∙ ap (λ r. start_under found.header_len r (Ok found.key)) back)
 
 pub start_found : (answers : Answering) (b rest nonce key : Bytes) (found : Unlocked)
-    → FindsKey answers b (Ok found) → rest ≡ drop found.header_len b → 16 ≤ length rest → nonce ≡ take 16 rest → key ≡ payload_key found.key nonce
+    → FindsKey answers b (Ok found) → rest ≡ drop found.header_len b → 16 ≤ length rest → nonce ≡ take 16 rest
+    → key ≡ payload_key found.key nonce
     → FindsStart answers b (Ok (record { first = length b - length rest + 16; key = key }))
 start_found answers b rest nonce key found finds back long nonce_is key_is =
     let low = key_in_front answers b found finds in

@@ -4,21 +4,21 @@ use Rattle.agefile.proofs.start.start_for.Goals as goal
 
 pub returns-in-Err : goal.returns-in-Err
 returns-in-Err g c =
-    start_failed (alone ((goal.Identity-dyn g (c.args.identity.vtable, c.args.identity.value)).meaning c.args.identity.value))
-    _ c.in-Err.fault c.in-Err.ensures
+    let of = (goal.Identity-dyn g (c.args.identity.vtable, c.args.identity.value)).meaning c.args.identity.value in
+    start_failed (alone of) _ c.in-Err.fault c.in-Err.ensures
 
 pub split_at-requires : goal.split_at-requires
 split_at-requires g c =
-    key_in_front (alone ((goal.Identity-dyn g (c.args.identity.vtable, c.args.identity.value)).meaning c.args.identity.value))
-    _ c.in-Ok.found c.in-Ok.ensures
+    let of = (goal.Identity-dyn g (c.args.identity.vtable, c.args.identity.value)).meaning c.args.identity.value in
+    key_in_front (alone of) _ c.in-Ok.found c.in-Ok.ensures
 
 pub returns-then-rest-lt-NONCE_SIZE : goal.returns-then-rest-lt-NONCE_SIZE
 returns-then-rest-lt-NONCE_SIZE g c =
-    start_cut (alone ((goal.Identity-dyn g (c.args.identity.vtable, c.args.identity.value)).meaning c.args.identity.value))
-    _ _ c.in-Ok.found c.in-Ok.ensures c.split_at.ensures.back c.if-rest-lt-NONCE_SIZE.true
+    let of = (goal.Identity-dyn g (c.args.identity.vtable, c.args.identity.value)).meaning c.args.identity.value in
+    start_cut (alone of) _ _ c.in-Ok.found c.in-Ok.ensures c.split_at.ensures.back c.if-rest-lt-NONCE_SIZE.true
 
 pub returns : goal.returns
 returns g c =
-    start_found (alone ((goal.Identity-dyn g (c.args.identity.vtable, c.args.identity.value)).meaning c.args.identity.value))
-    _ _ c.copy_from_slice.new.self _ c.in-Ok.found c.in-Ok.ensures c.split_at.ensures.back
+    let of = (goal.Identity-dyn g (c.args.identity.vtable, c.args.identity.value)).meaning c.args.identity.value in
+    start_found (alone of) _ _ c.copy_from_slice.new.self _ c.in-Ok.found c.in-Ok.ensures c.split_at.ensures.back
     c.if-rest-lt-NONCE_SIZE.false c.copy_from_slice.ensures.after c.payload_key.ensures
