@@ -197,7 +197,7 @@ class Completions(unittest.TestCase):
         """zsh takes words joined to their options, and -k and -K more than once; it reads its file."""
         with self.subTest("joined"):
             self.assertNotRegex(self.zsh(), r"\{-[a-zA-Z],--[a-z-]+\}.*\]:")
-            self.assertEqual(len(re.findall(r"\)\*'\{-[kK]\+,--(?:new-)?key=\}", self.zsh())), 5)
+            self.assertEqual(len(re.findall(r"\)\*'\{-[kK]\+,--(?:new-)?key=\}", self.zsh())), 6)
         with self.subTest("read"):
             if not shutil.which("zsh"):
                 self.skipTest("zsh is missing")
