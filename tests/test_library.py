@@ -277,7 +277,7 @@ class Declarations(unittest.TestCase):
         """Each difference is found, and shown as one of its file."""
         header, python, rust = "bindings/c/agefile.h", "bindings/python/agefile/_library.py", "bindings/rust/src/ffi.rs"
         rows = [
-            ("a parameter of an export", "crates/agefile/src/opening.rt", "file_len: u64", "file_len: u32", header),
+            ("a parameter of an export", "crates/agefile/src/ranges.rt", "file_len: u64", "file_len: u32", header),
             ("a field of an export", "crates/agefile/src/report.rt", "pub detail: u64", "pub detail: u32", header),
             ("a slice of an export", "crates/agefile/src/listing.rt", "stanzas: &mut [StanzaSummary]", "stanzas: &mut [u8]", header),
             ("a type in the header", header, "uint64_t count", "uint32_t count", header),
