@@ -1,14 +1,18 @@
 """A program that works chunk by chunk: what comes out while the input is still fed, and its memory."""
 
+import fcntl
 import os
+import re
 import subprocess
 import sys
+import termios
+import time
 
 import fixture
 import reference
 from fixture import KEY, NEW_KEY, SALT, SEED
 from messages import message
-from program import AGEP, TESTS, ProgramCase, fault, write
+from program import AGEP, TESTS, ProgramCase, fault, read, write
 from test_options import skip_unless_holes
 
 # A key's header with the nonce, and without it.
@@ -60,6 +64,39 @@ class Lockstep(FeedCase):
             with self.subTest(words):
                 done = self.feed("leave", 100000, name, AGEP, *words.split())
                 self.assertEqual((done.returncode, done.stderr), (1, fault(message("Write")).encode()))
+
+
+class NonBlocking(ProgramCase):
+    """Standard output is a pipe that another program made non-blocking."""
+
+    def run_full(self, command, ends):
+        """Runs a command of the shell, and reads what it wrote once it ends, or the pipe is full."""
+        reading, writing = os.pipe()
+        os.set_blocking(writing, False)
+        environment = dict(os.environ, PATH=os.path.dirname(AGEP) + ":" + os.environ["PATH"])
+        done = subprocess.Popen(["sh", "-c", command], stdout=writing, stderr=subprocess.PIPE, env=environment)
+        os.close(writing)
+        while int.from_bytes(fcntl.ioctl(reading, termios.FIONREAD, bytes(4)), sys.byteorder) < CHUNK:
+            time.sleep(0.01)
+        if ends:
+            done.wait(timeout=60)
+        with open(reading, "rb") as pipe:
+            out = pipe.read()
+        err = done.communicate(timeout=60)[1]
+        return done.returncode, err, out
+
+    def test_full(self):
+        """A write that would have to wait fails, of agep as of cat."""
+        write("many.age", fixture.for_keys(MANY, KEY))
+        expected = (1, fault(message("Write")).encode(), MANY[:CHUNK])
+        self.assertEqual(self.run_full("agep decrypt -k key many.age", True), expected)
+
+    def test_helped(self):
+        """The command in docs/USE.md makes them wait again."""
+        write("many.age", fixture.for_keys(MANY, KEY))
+        use = read(os.path.join(TESTS, "../docs/USE.md")).decode()
+        (helps,) = re.findall(r"`(python3 -c 'import os; [^`]*)`", use)
+        self.assertEqual(self.run_full(f"{helps}; agep decrypt -k key many.age", False), (0, b"", MANY))
 
 
 class Memory(FeedCase):
