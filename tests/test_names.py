@@ -82,7 +82,7 @@ class Names(ProgramCase):
         rows = [
             (b"", "key", message("HeaderTruncated"), f"{SHOWN}: the file is empty"),
             (fixture.changed(read("key.age"), -1), "key", message("BadChunk", 0), f"{SHOWN}: {end}"),
-            (read("key.age"), "other.key", message("WrongKey"), f"reading {SHOWN}"),
+            (read("key.age"), "other.key", message("WrongKey"), f"{SHOWN}: not opened by key file other.key (32 bytes)"),
         ]
         for text, key, line, more in rows:
             with self.subTest(line):

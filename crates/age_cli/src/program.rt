@@ -105,16 +105,17 @@ pub fn run_job<F: Files + AllocGlobal, R: Read, W: Write + IsTerminal, E: Write>
         err,
         run: None,
     };
-    match perform(rt, job, input, out, &mut lines) {
+    let mut read = ReadFiles::new(rt, job);
+    match perform(rt, job, &mut read, input, out, &mut lines) {
         Ok(()) => DONE,
         Err(failure) => {
             lines.end();
             let LossLines { alloc, err, run: _ } = lines;
             if is_told(job, &failure) {
-                FAILED
-            } else {
-                report(alloc, &failure, job.verbose, err)
+                return FAILED;
             }
+            let more = if job.verbose { Some(&read) } else { None };
+            report(alloc, &failure, more, err)
         }
     }
 }
@@ -132,6 +133,7 @@ fn is_told(job: &Job, failure: &Failure<'_>) -> bool {
 fn perform<'a, F: Files + AllocGlobal, R: Read, W: Write + IsTerminal, L: Report>(
     rt: &F,
     job: &'a Job,
+    read: &mut ReadFiles<'a>,
     input: &mut R,
     out: &mut W,
     lines: &mut L,
@@ -144,16 +146,15 @@ fn perform<'a, F: Files + AllocGlobal, R: Read, W: Write + IsTerminal, L: Report
     ensures input { job.now.input ≢ None → input.new ≡ input.old }
     ensures output { job.now.output ≢ None → out.new ≡ out.old }
 {
-    let mut read = ReadFiles::new(rt, job);
-    let task = task_of(rt, job, &mut read, out)?;
+    let task = task_of(rt, job, read, out)?;
     match &job.input {
         Some(name) => {
             let file = read.open_input(rt, job.command, name.as_str())?;
-            perform_on(rt, job, &read, task, file, out, lines)
+            perform_on(rt, job, read, task, file, out, lines)
         }
         None => {
             read.add_standard_input()?;
-            perform_on(rt, job, &read, task, Pipe(input), out, lines)
+            perform_on(rt, job, read, task, Pipe(input), out, lines)
         }
     }
 }
@@ -231,15 +232,24 @@ pub(crate) fn say<D: Display, E: Write>(alloc: Global, text: &D, err: &mut E) {
     };
 }
 
-/// Prints the fault, with what more is known of it if that is wanted.
-fn report<E: Write>(alloc: Global, failure: &Failure<'_>, verbose: bool, err: &mut E) -> u8
+/// Prints the fault, and where the files that were read are given, what more is known of it.
+fn report<E: Write>(
+    alloc: Global,
+    failure: &Failure<'_>,
+    more: Option<&ReadFiles<'_>>,
+    err: &mut E,
+) -> u8
     ensures { result ≡ 1 }
 {
     let fault = failure.fault;
     say(alloc, &format_args!("agep: {fault}\n"), err);
-    match &failure.detail {
-        Some(detail) if verbose => say(alloc, &format_args!("agep: {detail}\n"), err),
-        _ => {}
+    if let (Some(read), Some(detail)) = (more, &failure.detail) {
+        if fault == Fault::AgeFile(age_file::Fault::WrongKey) {
+            let tried = read.tried();
+            say(alloc, &format_args!("agep: {detail}{tried}\n"), err);
+        } else {
+            say(alloc, &format_args!("agep: {detail}\n"), err);
+        }
     }
     FAILED
 }
@@ -269,14 +279,14 @@ fn answer_refusal<W: Write, E: Write>(
             }
             match write!(out, "{error}").and_then(|()| out.flush()) {
                 Ok(()) => DONE,
-                Err(_) => report(alloc, &Failure::from(age_file::Fault::Write), false, err),
+                Err(_) => report(alloc, &Failure::from(age_file::Fault::Write), None, err),
             }
         }
         WordsFault::Memory => {
             report(
                 alloc,
                 &Failure::from(age_file::Fault::OutOfMemory),
-                false,
+                None,
                 err,
             )
         }

@@ -12,7 +12,7 @@ use age_file::{
     CHUNK_SIZE, Fault, Header, MemSource, NONCE_SIZE, SEALED_CHUNK_SIZE, Stanza, StanzaFault,
     TAG_SIZE, inspect,
 };
-use age_job::{Command, Job, MOST_HEADER, MOST_WORK, Watched};
+use age_job::{Bytes, Command, Job, MOST_HEADER, MOST_WORK, Watched};
 use std::alloc::Global;
 use std::fmt;
 use std::fmt::Write;
@@ -33,6 +33,8 @@ pub enum Hint {
     NoVersionLine,
     /// The maximum size of a header in bytes.
     HeaderLimit(usize),
+    /// No secret opens the stanzas that are for it. The secrets' files are to be named after it.
+    WrongKey,
     /// No identity fits the stanzas of this header.
     Stanzas(Header),
     /// The work factor of this header is too high.
@@ -64,6 +66,7 @@ pub fn hint_at<R>(alloc: Global, job: &Job, fault: Fault, input: &Watched<R>) ->
         Fault::HeaderTruncated => Hint::EndsInHeader(input.at()),
         Fault::NotAge => first_bytes(input.prefix()),
         Fault::HeaderTooLarge => Hint::HeaderLimit(job.max_header),
+        Fault::WrongKey => Hint::WrongKey,
         Fault::NoMatch => match header_of(alloc, job, input) {
             Some(header) => Hint::Stanzas(header),
             None => Hint::None,
@@ -134,6 +137,7 @@ impl Hint {
             Hint::Armor => "ASCII armor stands at its start; age decrypts such a file",
             Hint::ByteOrderMark => "a byte-order mark stands at its start",
             Hint::NoVersionLine => "the first line of an age file is age-encryption.org/v1",
+            Hint::WrongKey => "not opened by",
             Hint::Stanza => {
                 "the file is damaged, or another program made it: a stanza for -p or -k is not valid"
             }
@@ -206,19 +210,6 @@ fn last_byte(index: u128) -> u128
     ensures { index < most_chunks → result + 1 ≡ chunk_size * (index + 1) }
 {
     first_byte(index).saturating_add(CHUNK_SIZE as u128 - 1)
-}
-
-/// A number of bytes, in words.
-#[derive(Clone, Copy)]
-struct Bytes(u128);
-
-impl fmt::Display for Bytes {
-    fn fmt<W: fmt::Write>(&self, f: &mut fmt::Formatter<W>) -> fmt::Result {
-        match self.0 {
-            1 => f.write_str("1 byte"),
-            n => write!(f, "{n} bytes"),
-        }
-    }
 }
 
 /// The type of a stanza, which is its first argument.

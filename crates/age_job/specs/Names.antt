@@ -1,19 +1,42 @@
 -- How messages write the names of files.
-use Rattle.std.specs.Prelude.{◌++◌, ℕ, List, ◌==◌, false, chars, codes, encode_utf8, flat_map, if◌then◌else◌, nat_lt}
+use Rattle.std.specs.Prelude.{◌++◌, ◌||◌, ◌&&◌, ℕ, List, Bool, ◌==◌, false, true, chars, codes, encode_utf8, flat_map, if◌then◌else◌, length, nat_eq, nat_lt, not}
+use Rattle.std.specs.List.{ends_with, starts_with}
 use Rattle.std.specs.Char.{is_control}
 use Rattle.std.specs.Fmt.{digits}
 
+-- The characters that set the direction of the text after them (Unicode Standard Annex 9, section
+-- 2): 61c, 200e, 200f, 202a to 202e and 2066 to 2069, in hexadecimal digits.
+abbrev pub directs_writing : (c : ℕ) → Bool
+directs_writing c =
+    (c == 1564) || (c == 8206) || (c == 8207) || (nat_lt 8233 c && nat_lt c 8239)
+    || (nat_lt 8293 c && nat_lt c 8298)
+
 -- A character on a line of its own: a control character is a backslash with its letter, or with x
--- and its code in two hexadecimal digits.
-abbrev pub escaped_char : (c : ℕ) → List ℕ
-escaped_char c =
+-- and its code in two hexadecimal digits. In an exact text, which no other gives, a backslash and a
+-- quotation mark stand after a backslash, and a character that sets the direction is its code.
+abbrev pub escaped_char : (exact : Bool) → (c : ℕ) → List ℕ
+escaped_char exact c =
     if c == 10 then codes "\\n"
     else if c == 13 then codes "\\r"
     else if c == 9 then codes "\\t"
     else if nat_lt c 16 then codes "\\x0" ++ digits 16 false c
     else if is_control c then codes "\\x" ++ digits 16 false c
+    else if not exact then encode_utf8 c
+    else if c == 92 then codes "\\\\"
+    else if c == 34 then codes "\\\""
+    else if directs_writing c then codes "\\u{" ++ digits 16 false c ++ codes "}"
     else encode_utf8 c
 
 -- a name in a message
-abbrev pub escaped : (name : List ℕ) → List ℕ
-escaped name = flat_map escaped_char (chars name)
+abbrev pub escaped : (exact : Bool) → (name : List ℕ) → List ℕ
+escaped exact name = flat_map (escaped_char exact) (chars name)
+
+-- whether a name is empty, or begins or ends with a space
+abbrev pub needs_quotes : (name : List ℕ) → Bool
+needs_quotes name =
+    (length name == 0) || starts_with nat_eq name (codes " ") || ends_with nat_eq name (codes " ")
+
+-- a name on the second line, which no other name gives
+abbrev pub quoted : (name : List ℕ) → List ℕ
+quoted name =
+    if needs_quotes name then codes "\"" ++ escaped true name ++ codes "\"" else escaped true name

@@ -1,8 +1,8 @@
 //! A fault of a job's files, and what `--verbose` prints after it.
 
 use crate::fault::Fault;
-use crate::file_names::{Name, Role};
-use crate::files::MOST_SMALL;
+use crate::file_names::{Bytes, Name, Quoted, Role};
+use crate::files::{MOST_SMALL, NamedFile, ReadFile};
 use std::alloc::{AllocError, AllocFailed};
 use std::fmt::Write;
 use std::{fmt, io};
@@ -100,17 +100,18 @@ impl fmt::Display for Detail<'_> {
     fn fmt<W: fmt::Write>(&self, f: &mut fmt::Formatter<W>) -> fmt::Result {
         match self {
             Detail::System(doing, name, reason) => {
+                let name = Quoted(*name);
                 write!(f, "{doing} {name}: ")?;
                 let mut text = BeforeCode { f, ended: false };
                 write!(text, "{reason}")
             }
             Detail::Size(role, name, len) => write_size(*role, *name, *len, f),
             Detail::NoPassphrase(role, name) => {
-                let words = role.words();
+                let (words, name) = (role.words(), Quoted(*name));
                 write!(f, "{words} {name}: no byte, or one LF alone")
             }
             Detail::NoDevice(role, name) => {
-                let words = role.words();
+                let (words, name) = (role.words(), Quoted(*name));
                 write!(
                     f,
                     "{words} {name}: no device, so its bytes may be the same again"
@@ -127,12 +128,13 @@ fn write_size<W: fmt::Write>(
     len: usize,
     f: &mut fmt::Formatter<W>,
 ) -> fmt::Result {
-    let words = role.words();
+    let (words, name) = (role.words(), Quoted(name));
     write!(f, "{words} {name}: ")?;
     if len > MOST_SMALL {
         write!(f, "more than {MOST_SMALL} bytes")?;
     } else {
-        write!(f, "{len} bytes")?;
+        let len = Bytes(len as u128);
+        write!(f, "{len}")?;
     }
     match role {
         Role::Key | Role::NewKey => {
@@ -141,6 +143,34 @@ fn write_size<W: fmt::Write>(
         Role::FileKey => f.write_str("; a file key file holds 16 raw bytes, no hexadecimal"),
         Role::Seed => f.write_str("; a seed file holds at least 48 bytes"),
         Role::Input | Role::Passphrase | Role::NewPassphrase => Ok(()),
+    }
+}
+
+/// The files of the secrets that were tried on IN. Its text ends the one on IN.
+#[derive(Clone, Copy)]
+pub struct Tried<'r, 'a>(pub(crate) &'r [ReadFile<'a>]);
+
+impl fmt::Display for Tried<'_, '_> {
+    fn fmt<W: fmt::Write>(&self, f: &mut fmt::Formatter<W>) -> fmt::Result {
+        let mut before = " ";
+        for file in self.0 {
+            let NamedFile { role, name } = file.named;
+            match file.held {
+                Some(held) if matches!(role, Role::Passphrase | Role::Key) => {
+                    let (words, name) = (role.words(), Quoted(Name(name)));
+                    let len = Bytes(u128::from(held.len));
+                    write!(f, "{before}{words} {name} ({len}")?;
+                    f.write_str(match held.last {
+                        Some(b'\r') => "; the passphrase ends in CR)",
+                        Some(b'\n') => "; the passphrase ends in LF)",
+                        _ => ")",
+                    })?;
+                    before = ", ";
+                }
+                _ => {}
+            }
+        }
+        Ok(())
     }
 }
 

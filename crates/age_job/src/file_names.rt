@@ -1,8 +1,8 @@
 //! How messages name the files of a job.
 
-ghost use Rattle.std.specs.Prelude.{Some};
+ghost use Rattle.std.specs.Prelude.{◌≡◌, Some, false};
 ghost use Rattle.std.specs.Fmt.{WritesOnOk};
-ghost use Rattle.age_job.specs.Names.{escaped, escaped_char};
+ghost use Rattle.age_job.specs.Names.{directs_writing, escaped, escaped_char, needs_quotes, quoted};
 
 use std::fmt;
 use std::fmt::Write;
@@ -49,25 +49,67 @@ impl fmt::Display for Role {
 pub struct Name<'a>(pub &'a str);
 
 impl fmt::Display for Name<'_> {
-    ghost output = { λ name. Some (escaped name.0.now) };
+    ghost output = { λ name. Some (escaped false name.0.now) };
 
     fn fmt<W: fmt::Write>(&self, f: &mut fmt::Formatter<W>) -> fmt::Result {
-        write_escaped(self.0, f)
+        write_escaped(self.0, false, f)
     }
 }
 
-fn write_escaped<W: fmt::Write>(text: &str, f: &mut fmt::Formatter<W>) -> fmt::Result
-    ensures { WritesOnOk W.write_str_gives f.old result (escaped text.now) f.new }
+/// A file's name, printed so that no other name has the same text. A character that sets the
+/// direction of writing is printed as an escape too, and a backslash and a quotation mark after a
+/// backslash. A name stands in quotation marks if it is empty, or begins or ends with a blank.
+#[derive(Clone, Copy, Debug, PartialEq, Eq)]
+pub struct Quoted<'a>(pub Name<'a>);
+
+impl fmt::Display for Quoted<'_> {
+    ghost output = { λ name. Some (quoted name.0.0.now) };
+
+    fn fmt<W: fmt::Write>(&self, f: &mut fmt::Formatter<W>) -> fmt::Result {
+        let name = self.0.0;
+        if needs_quotes(name) {
+            f.write_str("\"")?;
+            write_escaped(name, true, f)?;
+            f.write_str("\"")
+        } else {
+            write_escaped(name, true, f)
+        }
+    }
+}
+
+/// Whether a name is empty, or begins or ends with a blank.
+fn needs_quotes(name: &str) -> bool
+    ensures { result ≡ needs_quotes name.now }
+{
+    let bytes = name.as_bytes();
+    bytes.is_empty() || bytes.starts_with(b" ") || bytes.ends_with(b" ")
+}
+
+/// A number of bytes, in words.
+#[derive(Clone, Copy)]
+pub struct Bytes(pub u128);
+
+impl fmt::Display for Bytes {
+    fn fmt<W: fmt::Write>(&self, f: &mut fmt::Formatter<W>) -> fmt::Result {
+        match self.0 {
+            1 => f.write_str("1 byte"),
+            n => write!(f, "{n} bytes"),
+        }
+    }
+}
+
+fn write_escaped<W: fmt::Write>(text: &str, exact: bool, f: &mut fmt::Formatter<W>) -> fmt::Result
+    ensures { WritesOnOk W.write_str_gives f.old result (escaped exact text.now) f.new }
 {
     for c in text.chars() {
-        write_char(c, f)?;
+        write_char(c, exact, f)?;
     }
     Ok(())
 }
 
-/// Writes a character, or the escape of a control character.
-fn write_char<W: fmt::Write>(c: char, f: &mut fmt::Formatter<W>) -> fmt::Result
-    ensures { WritesOnOk W.write_str_gives f.old result (escaped_char c) f.new }
+/// Writes a character, or its escape.
+fn write_char<W: fmt::Write>(c: char, exact: bool, f: &mut fmt::Formatter<W>) -> fmt::Result
+    ensures { WritesOnOk W.write_str_gives f.old result (escaped_char exact c) f.new }
 {
     let code = c as u32;
     match c {
@@ -76,8 +118,19 @@ fn write_char<W: fmt::Write>(c: char, f: &mut fmt::Formatter<W>) -> fmt::Result
         '\t' => f.write_str("\\t"),
         _ if code < 16 => write!(f, "\\x0{code:x}"),
         _ if c.is_control() => write!(f, "\\x{code:x}"),
+        _ if !exact => f.write_char(c),
+        '\\' => f.write_str("\\\\"),
+        '"' => f.write_str("\\\""),
+        _ if directs_writing(code) => write!(f, "\\u{{{code:x}}}"),
         _ => f.write_char(c),
     }
+}
+
+/// Whether this is the code of a character that sets the direction of the text after it.
+fn directs_writing(code: u32) -> bool
+    ensures { result ≡ directs_writing code }
+{
+    matches!(code, 0x61c | 0x200e | 0x200f | 0x202a..=0x202e | 0x2066..=0x2069)
 }
 
 /// A text of several lines that quotes the command line. Its control characters but LF are printed
@@ -103,10 +156,10 @@ impl<W: fmt::Write> fmt::Write for Escaping<'_, W> {
         for line in text.split_inclusive('\n') {
             match line.strip_suffix('\n') {
                 Some(line) => {
-                    write_escaped(line, self.f)?;
+                    write_escaped(line, false, self.f)?;
                     self.f.write_str("\n")?;
                 }
-                None => write_escaped(line, self.f)?,
+                None => write_escaped(line, false, self.f)?,
             }
         }
         Ok(())

@@ -2,7 +2,7 @@
 
 ghost use Rattle.std.specs.Prelude.{◌≡◌, take, IfOk, IfSome};
 
-use crate::failure::{Doing, Failure};
+use crate::failure::{Doing, Failure, Tried};
 use crate::fault::Fault;
 use crate::file_names::{Name, Role};
 use crate::inode::{Inode, STANDARD_INPUT, STANDARD_OUTPUT};
@@ -23,11 +23,30 @@ pub(crate) struct NamedFile<'a> {
     pub(crate) name: &'a str,
 }
 
+/// A file that a job has opened to read.
+#[derive(Drop)]
+pub(crate) struct ReadFile<'a> {
+    pub(crate) named: NamedFile<'a>,
+    /// Which file it is, if the system says so.
+    inode: Option<Inode>,
+    /// What a file of a secret held.
+    pub(crate) held: Option<Held>,
+}
+
+/// What is known of a file that holds a secret.
+#[derive(Clone, Copy)]
+pub(crate) struct Held {
+    /// The number of its bytes.
+    pub(crate) len: u64,
+    /// The last byte of a passphrase.
+    pub(crate) last: Option<u8>,
+}
+
 /// The files that a job has opened to read. What is to be written is compared with them.
 #[derive(Drop)]
 pub struct ReadFiles<'a> {
-    /// Each file, and which one it is, if the system says so. IN is the first.
-    files: Vec<(NamedFile<'a>, Option<Inode>)>,
+    /// IN is the first.
+    files: Vec<ReadFile<'a>>,
     /// Which files standard input and output were at first, if the system says so: not of one that
     /// is closed, or where /proc is missing.
     standard: Option<Inode>,
@@ -97,7 +116,15 @@ impl<'a> ReadFiles<'a> {
 
     fn add_input(&mut self, name: &'a str, inode: Option<Inode>) -> Result<(), AllocError> {
         let role = Role::Input;
-        self.files.insert(0, (NamedFile { role, name }, inode))?;
+        let named = NamedFile { role, name };
+        self.files.insert(
+            0,
+            ReadFile {
+                named,
+                inode,
+                held: None,
+            },
+        )?;
         Ok(())
     }
 
@@ -125,8 +152,24 @@ impl<'a> ReadFiles<'a> {
             }
             self.standard_role = Some(role);
         }
-        self.files.push((named, Some(inode)))?;
+        self.files.push(ReadFile {
+            named,
+            inode: Some(inode),
+            held: None,
+        })?;
         Ok(file)
+    }
+
+    /// The small file that was opened last held this.
+    pub(crate) fn note(&mut self, held: Held) {
+        if let Some(file) = self.files.last_mut() {
+            file.held = Some(held);
+        }
+    }
+
+    /// The files of the secrets that were tried on IN.
+    pub fn tried(&self) -> Tried<'_, 'a> {
+        Tried(self.files.as_slice())
     }
 
     /// Whether a read of this file consumes standard input. A character device, such as
@@ -169,19 +212,19 @@ impl<'a> ReadFiles<'a> {
 
     /// Refuses to write this file if it is regular and the job reads it, or may read it.
     pub(crate) fn refuse(&self, out: &Inode, name: &'a str) -> Result<(), Fault<'a>> {
-        for (file, inode) in self.files.as_slice() {
-            if out.is_regular && inode.is_none() {
-                return Err(Fault::Unidentified(Name(file.name)));
+        for file in self.files.as_slice() {
+            if out.is_regular && file.inode.is_none() {
+                return Err(Fault::Unidentified(Name(file.named.name)));
             }
         }
         self.refuse_same(out, name)
     }
 
     fn refuse_same(&self, out: &Inode, name: &'a str) -> Result<(), Fault<'a>> {
-        for (file, inode) in self.files.as_slice() {
-            match inode {
+        for file in self.files.as_slice() {
+            match &file.inode {
                 Some(inode) if out.is_regular && inode.is(out) => {
-                    return Err(Fault::OutputIsRead(file.role, Name(name)));
+                    return Err(Fault::OutputIsRead(file.named.role, Name(name)));
                 }
                 _ => {}
             }

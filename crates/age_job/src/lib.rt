@@ -34,9 +34,9 @@ mod secret;
 mod small_files;
 mod watched;
 
-pub use failure::{Detail, Doing, Failure};
+pub use failure::{Detail, Doing, Failure, Tried};
 pub use fault::Fault;
-pub use file_names::{Lines, Name, Role};
+pub use file_names::{Bytes, Lines, Name, Quoted, Role};
 pub use files::ReadFiles;
 pub use job::{Command, Job};
 pub use output::{Output, create};

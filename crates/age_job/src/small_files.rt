@@ -6,7 +6,7 @@ ghost use Rattle.age_job.specs.Secret.{IsChoice, IsFileKeyOf, IsNewSecret, IsRea
 use crate::failure::{Detail, Failure};
 use crate::fault::Fault;
 use crate::file_names::{Name, Role};
-use crate::files::{MOST_SMALL, NamedFile, ReadFiles, read_prefix};
+use crate::files::{Held, MOST_SMALL, NamedFile, ReadFiles, read_prefix};
 use crate::job::Job;
 use crate::output::refuse_terminal;
 use crate::ranges::DEFAULT_SEED;
@@ -197,7 +197,13 @@ fn read_passphrase<'a, F: Files + AllocGlobal>(
     if len > MOST_SMALL {
         return Err(Failure::with(Fault::PassphraseLength, Detail::Size(role, Name(name), len)));
     }
-    Ok(without_line_end(bytes))
+    let passphrase = without_line_end(bytes);
+    let last = passphrase.last().copied();
+    read.note(Held {
+        len: len as u64,
+        last,
+    });
+    Ok(passphrase)
 }
 
 /// The keys of these files, in order, each once.
@@ -267,8 +273,13 @@ fn read_just<'a, F: Files + AllocGlobal, const N: usize>(
     let NamedFile { role, name } = named;
     let file = read.open_small(rt, named)?;
     let bytes = read_prefix(rt.alloc(), named, file, MOST_SMALL + 1)?;
+    let len = bytes.len();
+    read.note(Held {
+        len: len as u64,
+        last: None,
+    });
     match exactly(bytes.as_slice()) {
         Some(bytes) => Ok(bytes),
-        None => Err(Failure::with(length, Detail::Size(role, Name(name), bytes.len()))),
+        None => Err(Failure::with(length, Detail::Size(role, Name(name), len))),
     }
 }
