@@ -76,8 +76,9 @@ library() {
 }
 
 # Proves and builds the libraries up to age_file, or with the word age_cli up to that, lowest first.
-# age_cipher, and age_job with age_words above it, depend on none of the others: they are proved in
-# parallel with them, and age_recipient in parallel with age_stream.
+# A run of `rt` waits for another one that uses a library below both. So only what depends on none
+# of the others is proved in parallel with them: age_cipher, and age_job with age_words above it.
+# The latter is to end before age_commands, which depends on age_job.
 libraries() {
     finished=$(mktemp)
     all=6
@@ -86,18 +87,14 @@ libraries() {
     library age_cipher --jobs 1 &
     cipher=$!
     if [ "$1" = age_cli ]; then
-        { library age_job --jobs 1 && library age_words --jobs 1; } &
+        { library age_job --jobs 2 && library age_words --jobs 2; } &
         words=$!
     fi
-    recipient=
     # shellcheck disable=SC2086
-    trap 'kill "$cipher" $words $recipient 2>/dev/null; rm -f "$finished"; exit 130' INT TERM
-    if library age_kdf && library age_header && wait "$cipher"; then
-        library age_recipient --jobs 2 &
-        recipient=$!
-        if library age_stream && wait "$recipient" && library age_file && [ -n "$words" ]; then
-            library age_commands && wait "$words" && library age_cli || :
-        fi
+    trap 'kill "$cipher" $words 2>/dev/null; rm -f "$finished"; exit 130' INT TERM
+    if library age_kdf && library age_header && wait "$cipher" && library age_recipient &&
+        library age_stream && library age_file && [ -n "$words" ] && wait "$words"; then
+        library age_commands && library age_cli || :
     fi
     wait
     rm -f "$finished"
