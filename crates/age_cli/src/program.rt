@@ -10,7 +10,7 @@ use crate::lines::LossLines;
 use crate::work::{kept_prefix, perform_to};
 use age_commands::{Report, Seed, Task, seed_of};
 use age_job::{
-    Command, Job, Lines, Pipe, ReadFiles, SEED_LEN, Watched, create, read_encrypt_secrets,
+    Command, Job, Lines, Pipe, ReadFiles, SEED_LEN, Shown, Watched, create, read_encrypt_secrets,
     read_file_key, read_rewrap_secrets, read_secret,
 };
 use age_words::{WordsFault, read_words};
@@ -18,6 +18,7 @@ use std::alloc::Global;
 use std::fmt::Display;
 use std::io::{IsTerminal, Read, Seek, Write};
 use std::rt::Files;
+use std::time::Clock;
 
 /// Success.
 const DONE: u8 = 0;
@@ -33,8 +34,9 @@ const REFUSED: u8 = 2;
 /// `input` and `out` are taken to be `/proc/self/fd/0` and `/proc/self/fd/1`. `out` receives the
 /// output of the command, and the texts of help and version. `err` receives one line for a fault,
 /// with `--verbose` a second one that says more, lines on what `salvage` misses, and the text for a
-/// refused command line.
-pub fn run<F: Files + AllocGlobal, R: Read, W: Write + IsTerminal, E: Write>(
+/// refused command line. Where `err` is a terminal, `--verbose` also shows how much was read, on a
+/// line of `/dev/stderr` that is gone in the end.
+pub fn run<F: Files + Clock + AllocGlobal, R: Read, W: Write + IsTerminal, E: Write + IsTerminal>(
     rt: &F,
     words: &[&str],
     input: &mut R,
@@ -70,13 +72,12 @@ pub fn run<F: Files + AllocGlobal, R: Read, W: Write + IsTerminal, E: Write>(
 }
 
 /// Does this job, and returns the exit status as `run` does: 0 for success, 1 after a fault.
-pub fn run_job<F: Files + AllocGlobal, R: Read, W: Write + IsTerminal, E: Write>(
-    rt: &F,
-    job: &Job,
-    input: &mut R,
-    out: &mut W,
-    err: &mut E,
-) -> u8
+pub fn run_job<
+    F: Files + Clock + AllocGlobal,
+    R: Read,
+    W: Write + IsTerminal,
+    E: Write + IsTerminal,
+>(rt: &F, job: &Job, input: &mut R, out: &mut W, err: &mut E) -> u8
     requires { IsInRange job.now }
     // 0 or 1.
     ensures status { result ≤ 1 }
@@ -100,13 +101,14 @@ pub fn run_job<F: Files + AllocGlobal, R: Read, W: Write + IsTerminal, E: Write>
         → Begins F.File ⟦<F::File as Read>⟧.remaining job.now (R.remaining input.old)
         (moved_by W.contents out.old out.new) }
 {
+    let is_shown = shows_progress(job, out, err);
     let mut lines = LossLines {
         alloc: rt.alloc(),
         err,
         run: None,
     };
     let mut read = ReadFiles::new(rt, job);
-    match perform(rt, job, &mut read, input, out, &mut lines) {
+    match perform(rt, job, &mut read, is_shown, input, out, &mut lines) {
         Ok(()) => DONE,
         Err(failure) => {
             lines.end();
@@ -120,6 +122,12 @@ pub fn run_job<F: Files + AllocGlobal, R: Read, W: Write + IsTerminal, E: Write>
     }
 }
 
+/// Whether a line shows how much was read: at a terminal that gets nothing else meanwhile.
+fn shows_progress<W: IsTerminal, E: IsTerminal>(job: &Job, out: &W, err: &E) -> bool {
+    let is_alone = job.output.is_some() || !out.is_terminal();
+    job.verbose && job.command != Command::Salvage && is_alone && err.is_terminal()
+}
+
 /// Whether lines on what is lost were printed in place of the fault.
 fn is_told(job: &Job, failure: &Failure<'_>) -> bool {
     match failure.fault {
@@ -130,10 +138,11 @@ fn is_told(job: &Job, failure: &Failure<'_>) -> bool {
 
 /// Reads the small files, opens the input, creates the output, and does the work, in this order.
 #[tactic(auto, using(crate::proofs::ProgramLemmas::completes))]
-fn perform<'a, F: Files + AllocGlobal, R: Read, W: Write + IsTerminal, L: Report>(
+fn perform<'a, F: Files + Clock + AllocGlobal, R: Read, W: Write + IsTerminal, L: Report>(
     rt: &F,
     job: &'a Job,
     read: &mut ReadFiles<'a>,
+    is_shown: bool,
     input: &mut R,
     out: &mut W,
     lines: &mut L,
@@ -150,11 +159,14 @@ fn perform<'a, F: Files + AllocGlobal, R: Read, W: Write + IsTerminal, L: Report
     match &job.input {
         Some(name) => {
             let file = read.open_input(rt, job.command, name.as_str())?;
-            perform_on(rt, job, read, task, file, out, lines)
+            let input = Shown::over(rt, file, read.input_size(job.command), is_shown);
+            perform_on(rt, job, read, task, input, out, lines)
         }
         None => {
             read.add_standard_input()?;
-            perform_on(rt, job, read, task, Pipe(input), out, lines)
+            let size = read.input_size(job.command);
+            let input = Shown::over(rt, Pipe(input), size, is_shown);
+            perform_on(rt, job, read, task, input, out, lines)
         }
     }
 }

@@ -167,6 +167,14 @@ impl<'a> ReadFiles<'a> {
         }
     }
 
+    /// The number of bytes that this command reads of IN, which was added, if it is known.
+    pub fn input_size(&self, command: Command) -> Option<u64> {
+        match self.files.first()?.inode {
+            Some(inode) if inode.is_regular && command != Command::Range => Some(inode.len),
+            _ => None,
+        }
+    }
+
     /// The files of the secrets that were tried on IN.
     pub fn tried(&self) -> Tried<'_, 'a> {
         Tried(self.files.as_slice())

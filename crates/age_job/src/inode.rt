@@ -20,6 +20,8 @@ pub(crate) struct Inode {
     ino: u64,
     pub(crate) is_regular: bool,
     pub(crate) is_char_device: bool,
+    /// The number of its bytes, if it is regular.
+    pub(crate) len: u64,
 }
 
 impl Inode {
@@ -29,6 +31,7 @@ impl Inode {
             ino: found.ino(),
             is_regular: found.is_file(),
             is_char_device: found.file_type().is_char_device(),
+            len: found.len(),
         }
     }
 

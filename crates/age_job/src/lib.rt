@@ -10,8 +10,9 @@
 //!
 //! `job` has the job, and `ranges` the ranges of its numbers. `files` opens the files that a job
 //! names for reading, `inode` tells which file each is, and `small_files` reads its secrets, each a
-//! `secret`. `output` is the file to write, and `watched` keeps what a failed read told. `fault`
-//! and `file_names` have the texts of errors, `failure` those of `--verbose`.
+//! `secret`. `output` is the file to write, `watched` keeps what a failed read told, and `progress`
+//! shows at a terminal how much was read. `fault` and `file_names` have the texts of errors,
+//! `failure` those of `--verbose`.
 //!
 //! *What a contract sees.* A `Job` is the record of its fields, and a secret a passphrase's bytes
 //! or a list of keys. A file is what its reader gives and its writer has taken (`remaining`,
@@ -29,6 +30,7 @@ mod files;
 mod inode;
 mod job;
 mod output;
+mod progress;
 mod ranges;
 mod secret;
 mod small_files;
@@ -40,6 +42,7 @@ pub use file_names::{Bytes, Lines, Name, Quoted, Role};
 pub use files::ReadFiles;
 pub use job::{Command, Job};
 pub use output::{Output, create};
+pub use progress::Shown;
 pub use ranges::{DEFAULT_SEED, LEAST_HEADER, LEAST_WORK, MOST_HEADER, MOST_OFFSET, MOST_WORK};
 pub use secret::{SEED_LEN, Secret, exactly};
 pub use small_files::{read_encrypt_secrets, read_file_key, read_rewrap_secrets, read_secret};

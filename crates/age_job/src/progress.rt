@@ -1,0 +1,186 @@
+//! The line at a terminal that shows how much of IN was read.
+ghost use Rattle.std.specs.Prelude.{◌≡◌};
+
+use std::fs::OpenOptions;
+use std::io::{Read, Seek, SeekFrom, Write};
+use std::rt::Files;
+use std::time::Clock;
+use std::{fmt, io};
+
+/// The clock is read again after so many bytes.
+const STRIDE: u64 = 65_536;
+
+/// The line is drawn again after so many milliseconds at the earliest.
+const PAUSE: u128 = 500;
+
+/// Moves to the start of the line, and erases it.
+const ERASE: &[u8] = b"\r\x1b[K";
+
+/// A reader, and the line that shows how much it gave.
+#[derive(Drop)]
+pub struct Shown<'a, R, C: Clock, T: Write + Drop> {
+    pub reader: R,
+    line: Option<Line<'a, C, T>>,
+}
+
+/// A line at a terminal. It is erased when it is dropped.
+struct Line<'a, C: Clock, T: Write + Drop> {
+    clock: &'a C,
+    terminal: T,
+    portion: Portion,
+    /// When the first byte was read, and when the line was drawn, in milliseconds.
+    started: u128,
+    drawn: u128,
+    /// After how many bytes the clock is read.
+    next: u64,
+}
+
+/// How much was read, in bytes, of how much if that is known, in so many milliseconds.
+#[derive(Clone, Copy)]
+struct Portion {
+    done: u64,
+    size: Option<u64>,
+    took: u128,
+}
+
+impl<'a, R, F: Files + Clock> Shown<'a, R, F, F::File> {
+    /// This reader, which gives so many bytes if that is known. If it `is_shown`, standard error is
+    /// the terminal.
+    pub fn over(rt: &'a F, reader: R, size: Option<u64>, is_shown: bool) -> Shown<'a, R, F, F::File>
+        // What it reads is what the reader gives.
+        ensures { result.reader ≡ reader }
+    {
+        let line = if is_shown {
+            Line::at_terminal(rt, size)
+        } else {
+            None
+        };
+        Shown { reader, line }
+    }
+}
+
+impl<'a, F: Files + Clock> Line<'a, F, F::File> {
+    fn at_terminal(rt: &'a F, size: Option<u64>) -> Option<Line<'a, F, F::File>> {
+        let started = rt.monotonic().ok()?.as_millis();
+        let mut options = OpenOptions::new();
+        options.write(true);
+        Some(Line {
+            clock: rt,
+            terminal: options.open(rt, "/dev/stderr").ok()?,
+            portion: Portion {
+                done: 0,
+                size,
+                took: 0,
+            },
+            started,
+            drawn: started,
+            next: STRIDE,
+        })
+    }
+}
+
+impl<C: Clock, T: Write + Drop> Line<'_, C, T> {
+    /// So many bytes more were read.
+    fn add(&mut self, len: usize) {
+        self.portion.done = self.portion.done.saturating_add(len as u64);
+        if self.portion.done < self.next {
+            return;
+        }
+        self.next = self.portion.done.saturating_add(STRIDE);
+        if let Ok(now) = self.clock.monotonic() {
+            let now = now.as_millis();
+            if now.saturating_sub(self.drawn) >= PAUSE {
+                self.drawn = now;
+                self.portion.took = now.saturating_sub(self.started);
+                self.draw();
+            }
+        }
+    }
+
+    /// Draws the line. A failed write changes nothing.
+    fn draw(&mut self) {
+        let portion = self.portion;
+        let _ = self.terminal.write_all(ERASE);
+        let _ = write!(self.terminal, "{portion}");
+    }
+}
+
+impl<C: Clock, T: Write + Drop> Drop for Line<'_, C, T> {
+    fn drop(mut self) {
+        if self.drawn > self.started {
+            let _ = self.terminal.write_all(ERASE);
+        }
+        let Line {
+            clock: _,
+            terminal: _,
+            portion: _,
+            started: _,
+            drawn: _,
+            next: _,
+        } = self;
+    }
+}
+
+// What it reads is what the reader gives.
+impl<R: Read, C: Clock, T: Write + Drop> Read for Shown<'_, R, C, T> {
+    ghost remaining = { λ shown. R.remaining shown.reader };
+
+    fn read(&mut self, buf: &mut [u8]) -> io::Result<usize> {
+        match self.reader.read(buf) {
+            Ok(n) => {
+                if let Some(line) = &mut self.line {
+                    line.add(n);
+                }
+                Ok(n)
+            }
+            Err(reason) => Err(reason),
+        }
+    }
+}
+
+impl<R: Seek, C: Clock, T: Write + Drop> Seek for Shown<'_, R, C, T> {
+    fn seek(&mut self, pos: SeekFrom) -> io::Result<u64> {
+        self.reader.seek(pos)
+    }
+}
+
+impl fmt::Display for Portion {
+    fn fmt<W: fmt::Write>(&self, f: &mut fmt::Formatter<W>) -> fmt::Result {
+        let done = Amount(self.done as u128);
+        write!(f, "agep: {done}")?;
+        if let Some(size) = self.size {
+            let size = Amount(size as u128);
+            write!(f, " of {size}")?;
+        }
+        let Some(rate) = (self.done as u128)
+            .saturating_mul(1000)
+            .checked_div(self.took)
+        else {
+            return Ok(());
+        };
+        let amount = Amount(rate);
+        write!(f, ", {amount}/s")?;
+        if let Some(size) = self.size
+            && let Some(left) = (size.saturating_sub(self.done) as u128).checked_div(rate)
+        {
+            write!(f, ", {left} s left")?;
+        }
+        Ok(())
+    }
+}
+
+/// A number of bytes, in KiB or MiB.
+#[derive(Clone, Copy)]
+struct Amount(u128);
+
+impl fmt::Display for Amount {
+    fn fmt<W: fmt::Write>(&self, f: &mut fmt::Formatter<W>) -> fmt::Result {
+        let amount = self.0 >> 10;
+        if amount < 10_240 {
+            write!(f, "{amount} KiB")
+        } else {
+            let amount = amount >> 10;
+            write!(f, "{amount} MiB")
+        }
+    }
+}

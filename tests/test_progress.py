@@ -1,0 +1,102 @@
+"""The line of -v that shows at a terminal how much was read."""
+
+import os
+import pty
+import re
+import subprocess
+import time
+
+import fixture
+from fixture import HELLO, KEY
+from messages import message
+from program import AGEP, ProgramCase, fault, read, write
+
+ERASE = "\r\x1b[K"
+MANY = b"".join(b"%d\n" % i for i in range(1, 100001))[:450000]
+AMOUNT = r"\d+ [KM]iB"
+
+
+class Progress(ProgramCase):
+    def setUp(self):
+        super().setUp()
+        write("many", MANY)
+        write("many.age", fixture.for_keys(MANY, KEY))
+
+    def at_terminal(self, *words, pieces=()):
+        """Runs the program, whose standard error is a terminal, and gives these bytes slowly, or takes
+        the output slowly. Returns its status, output, what the terminal got, and the seconds."""
+        controller, terminal = pty.openpty()
+        start = time.monotonic()
+        with open("out", "wb") as file:
+            stdout = file if pieces else subprocess.PIPE
+            done = subprocess.Popen([AGEP, *words], stdin=subprocess.PIPE, stdout=stdout, stderr=terminal)
+        os.close(terminal)
+        for piece in pieces:
+            done.stdin.write(piece)
+            done.stdin.flush()
+            time.sleep(0.6)
+        done.stdin.close()
+        out = b""
+        while not pieces and (more := done.stdout.read1(65536)):
+            out += more
+            time.sleep(0.6)
+        status, said = done.wait(timeout=60), b""
+        took = time.monotonic() - start
+        if not pieces:
+            done.stdout.close()
+        try:
+            while more := os.read(controller, 65536):
+                said += more
+        except OSError:
+            pass
+        os.close(controller)
+        return status, out, said.decode(), took
+
+    def assert_drawn(self, said, line, took, last=""):
+        """Whether the line was drawn, at most twice a second, and erased before what came last."""
+        self.assertEqual(said[len(said) - len(ERASE + last) :], ERASE + last)
+        drawn = said[: len(said) - len(ERASE + last)].split(ERASE)
+        self.assertEqual(drawn[0], "")
+        self.assertTrue(1 < len(drawn) <= 2 * took + 1, (drawn, took))
+        for each in drawn[1:]:
+            self.assertIsNotNone(re.fullmatch(line, each), each)
+
+    def test_pipe(self):
+        """Of a pipe it shows how much was read, and how fast."""
+        pieces = [MANY[:131072], MANY[131072:262144], MANY[262144:393216], MANY[393216:]]
+        status, _, said, took = self.at_terminal("encrypt", "-v", "-k", "key", "-s", "seed", pieces=pieces)
+        self.assertEqual((status, read("out")), (0, read("many.age")))
+        self.assert_drawn(said, f"agep: {AMOUNT}, {AMOUNT}/s", took)
+
+    def test_file(self):
+        """Of a file it shows the size, too, and the time that is left."""
+        status, out, said, took = self.at_terminal("decrypt", "-v", "-k", "key", "many.age")
+        self.assertEqual((status, out), (0, MANY))
+        self.assert_drawn(said, f"agep: {AMOUNT} of 439 KiB, {AMOUNT}/s, \\d+ s left", took)
+
+    def test_fault(self):
+        """It is gone before the message on a fault."""
+        write("damaged", fixture.changed(read("many.age"), -1))
+        status, out, said, took = self.at_terminal("decrypt", "-v", "-k", "key", "damaged")
+        more = "damaged: chunk 6, from byte 393216 of the plaintext on, is the last: the file may be cut short, or have bytes behind its end"
+        last = fault(message("BadChunk", 6), more).replace("\n", "\r\n")
+        self.assertEqual((status, out), (1, MANY[:393216]))
+        self.assert_drawn(said, f"agep: {AMOUNT} of 439 KiB, {AMOUNT}/s, \\d+ s left", took, last)
+
+    def test_none(self):
+        """Nothing is shown without -v, of a small file, or of salvage, which prints lines of its own."""
+        for words, plain in (("decrypt -k key many.age", MANY), ("decrypt -v -k key key.age", HELLO), ("salvage -v -k key many.age", MANY)):
+            with self.subTest(words):
+                status, out, said, _ = self.at_terminal(*words.split())
+                self.assertEqual((status, out, said), (0, plain, ""))
+
+    def test_no_terminal(self):
+        """Nothing is shown where standard error is no terminal."""
+        with open("out", "wb") as out:
+            words = [AGEP, "encrypt", "-v", "-k", "key", "-s", "seed"]
+            done = subprocess.Popen(words, stdin=subprocess.PIPE, stdout=out, stderr=subprocess.PIPE)
+        done.stdin.write(MANY[:131072])
+        done.stdin.flush()
+        time.sleep(0.6)
+        err = done.communicate(MANY[131072:], timeout=60)[1]
+        self.assertEqual((done.returncode, read("out"), err), (0, read("many.age"), b""))
