@@ -12,15 +12,17 @@ use Rattle.age_header.proofs.DeviceLemmas.{gave-some, of-any, of-map, of-more, o
 use Rattle.age_stream.specs.declared.fault.StreamFault.{StreamFault}
 use Rattle.age_stream.specs.declared.fault.StreamFault.TheVariants as stream
 use Rattle.age_stream.specs.declared.salvaged.Salvaged.{Salvaged}
-use Rattle.age_stream.specs.Salvage.{KnownLosses, Salvages, SavesPayload, told}
+use Rattle.age_stream.specs.Opening.{EndsAt}
+use Rattle.age_stream.specs.Salvage.{EndsSaving, KnownLosses, Salvages, SavesPayload, told}
 use Rattle.age_stream.proofs.SalvageLemmas.{reports-none}
 use Rattle.age_file.specs.declared.fault.Fault.{Fault}
 use Rattle.age_file.specs.declared.fault.Fault.TheVariants.{Read, OutOfMemory}
 use Rattle.age_file.specs.AgeFile.{Bounds}
+use Rattle.age_file.specs.Decrypt.{TookUpTo}
 use Rattle.age_file.specs.Inspect.{Inspects}
 use Rattle.age_file.specs.Salvage.{SalvagesFile, SalvagesText, SavesFile, SavesNone, SavesUnder, salvage_result}
-use Rattle.age_file.specs.Verdict.{Answering, found_in, header_fault, unlocked}
-use Rattle.age_file.proofs.DecryptLemmas.{IsHeaded, err-err, headed}
+use Rattle.age_file.specs.Verdict.{Answering, found_in, header_fault, stream_fault, unlocked}
+use Rattle.age_file.proofs.DecryptLemmas.{IsHeaded, err-err, headed, payload-takes}
 
 saves-none : (old : Known) (lost : KnownLosses) → SavesNone (moved old old) (told lost lost)
 saves-none old lost = (Appends-nil old, reports-none lost)
@@ -141,3 +143,15 @@ payload-salvages limits answers come mid to old new before after h k max r i (in
     of-then come mid to is.text _ _ is.took w (λ c x.
     payload-text limits answers come mid h is k c old new before after r key
     (subst (λ m. SavesPayload k m c (moved old new) (told before after) r) same x))
+
+-- how much was read
+pub salvage-takes : (limits : Bounds) (come mid to : Seen) (old new : Known) (h : HeaderParts) (max : ℕ)
+    (fault : StreamFault) → Inspects limits (flow come mid) (Ok h) → max ≡ limits.max_chunks
+    → EndsSaving max (flow mid to) (moved old new) fault
+    → TookUpTo limits (flow come to) (moved old new) (stream_fault fault)
+salvage-takes limits come mid to old new h max stream.Read i same e = tt
+salvage-takes limits come mid to old new h max stream.NonceTruncated i same e = tt
+salvage-takes limits come mid to old new h max stream.Memory i same e = tt
+salvage-takes limits come mid to old new h max fault i same e =
+    payload-takes limits come mid to old new h fault i
+    (inr (subst (λ m. EndsAt m 16 (flow mid to) (moved old new) fault) same e))

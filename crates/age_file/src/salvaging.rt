@@ -1,8 +1,9 @@
 //! Saving what can be saved of a damaged file.
 
-ghost use Rattle.std.specs.Prelude.{◌≡◌, IfOk};
+ghost use Rattle.std.specs.Prelude.{◌≡◌, IfErr, IfOk};
 ghost use Rattle.age_header.specs.Device.{CountsIf, flow_by, moved_by};
 ghost use Rattle.age_stream.specs.Salvage.{told_by};
+ghost use Rattle.age_file.specs.Decrypt.{TookUpTo};
 ghost use Rattle.age_file.specs.Device.{IsQuiet, is_read, is_write};
 ghost use Rattle.age_file.specs.Salvage.{SalvagesFile};
 ghost use Rattle.age_file.specs.Verdict.{answers_by};
@@ -47,6 +48,10 @@ pub fn salvage<S: Source, W: Sink, L: Losses>(
     ensures quiet { IsQuiet out.old out.new result }
     ensures reads { CountsIf is_read (S.failed input.old) (S.failed input.new) result }
     ensures writes { CountsIf is_write (W.failed out.old) (W.failed out.new) result }
+    // If it ended at piece i, or at a write after 65,536 i bytes: at most the header, the nonce,
+    // the pieces up to and including piece i and one byte were read.
+    ensures took { IfErr result (TookUpTo limits.now (flow_by S.to_come S.gave input.old input.new)
+        (moved_by W.taken out.old out.new)) }
 {
     let header = match inspect(alloc, input, limits) {
         Ok(header) => header,

@@ -1,15 +1,15 @@
 -- The parts of pieces that are saved one after another.
 use Rattle.std.proofs.Common.{◌≡◌, ◌⊎◌, ◌∙◌, ◌++◌, ◌∷◌, ◌+◌, ◌-◌, ◌*◌, ◌<◌, ◌≤◌, ℕ, List, [], length, take, drop, ap, sym, subst, arith, append_assoc, append-nil, length-append, refl, Bool, true, false, not, inl, inr, None, Some, Result, Ok, Err, nat_le, cond, replicate, suc}
-use Rattle.std.specs.Prelude.{IfOk, IfSome}
+use Rattle.std.specs.Prelude.{IfErr, IfOk, IfSome}
 use Rattle.std.specs.Io.KnownBytes.{Appends, IsAtEnd}
 use Rattle.std.proofs.KnownBytes.{Appends-trans, Appends-nil}
 use Rattle.std.proofs.lemmas.Bool.{le-leb, lt-leb, cases_lt}
-use Rattle.std.proofs.lemmas.List.{drop-append-le, take_all, take_at, drop_at, take-append-le, length-take-le}
+use Rattle.std.proofs.lemmas.List.{drop-append-le, take_all, take_at, drop_at, take-append-le, length-take-le, length-drop}
 use Rattle.age_kdf.specs.Bytes.{Bytes}
 use Rattle.age_header.specs.Device.{Gave, GaveSome, Known, OfGiven, Seen, WritesPart, flow, moved}
 use Rattle.age_header.specs.declared.file_key.FileKey.{FileKey}
 use Rattle.age_header.specs.Filling.{Filled}
-use Rattle.age_header.proofs.DeviceLemmas.{done_part, gave-none, gave-then, of-any, of-ended, of-map, of-more, of-then}
+use Rattle.age_header.proofs.DeviceLemmas.{done_part, gave-more, gave-none, gave-then, of-any, of-ended, of-map, of-more, of-then}
 use Rattle.age_stream.specs.declared.fault.StreamFault.{StreamFault}
 use Rattle.age_stream.specs.declared.fault.StreamFault.TheVariants.{NonceTruncated, ChunkShort, EmptyFinal, BadChunk, TooManyChunks, Read, Write, Memory}
 use Rattle.age_stream.specs.declared.salvaged.Lost.{Lost}
@@ -18,10 +18,10 @@ use Rattle.age_stream.specs.declared.salvaged.Saved.{Saved}
 use Rattle.age_stream.specs.declared.salvaged.Saved.TheVariants.{Nothing, Zeros, Chunk, LastChunk}
 use Rattle.age_cipher.specs.Sealing.{opened}
 use Rattle.age_cipher.proofs.OpeningLemmas.{length-sealed, opened_is}
-use Rattle.age_stream.specs.Opening.{GivesNonce}
+use Rattle.age_stream.specs.Opening.{EndsAt, GivesNonce}
 use Rattle.age_stream.specs.Payload.{chunk_nonce, payload_key, pieces}
 use Rattle.age_stream.specs.Reading.{opened_at}
-use Rattle.age_stream.specs.Salvage.{KnownLosses, Part, ReadsAhead, Reports, Salvages, SavesParts, SavesPayload, first_part, last_saved, loss, losses, lost_part, opening_or, part, parts, payload_parts, salvaged, summary, told, with_part}
+use Rattle.age_stream.specs.Salvage.{EndsSaving, KnownLosses, Part, ReadsAhead, Reports, Salvages, SavesParts, SavesPayload, first_part, last_saved, loss, losses, lost_part, opening_or, part, parts, payload_parts, salvaged, summary, told, with_part}
 use Rattle.age_stream.proofs.CuttingLemmas.{cut-last}
 use Rattle.age_stream.proofs.ReadingLemmas.{cut-some, cut-step, is_end-cut}
 
@@ -248,8 +248,10 @@ pub record Salvaging (key : Bytes) (s : Salvaged) (ahead : Bytes) (from now : Se
   pub bytes : s.bytes ≡ length (salvaged front)
   pub chunks : s.chunks ≡ length front
   pub lost : s.lost ≡ length (losses 0 0 front)
-  pub bound : s.bytes ≤ 65536 * s.chunks
+  pub full : s.bytes ≡ 65536 * s.chunks
   pub lost_bound : s.lost ≤ s.chunks
+  pub read : length given ≡ 65552 * s.chunks + length ahead
+  pub short : length ahead ≤ 1
 
 pub salvaging-none : (key : Bytes) (s : Salvaged) (ahead : Bytes) (from : Seen) (old : Known) (before : KnownLosses)
     → s.bytes ≡ 0 → s.chunks ≡ 0 → s.lost ≡ 0 → ahead ≡ [] → Salvaging key s ahead from from old old before before
@@ -264,8 +266,10 @@ salvaging-none key s ahead from old before bytes chunks lost none = record {
   bytes = bytes;
   chunks = chunks;
   lost = lost;
-  bound = omega arith;
+  full = omega arith;
   lost_bound = omega arith;
+  read = omega (arith, ap length none);
+  short = omega (arith, ap length none);
 }
 
 loss-len : (s : Saved) (lost : Lost) → length (loss s lost) ≤ 1
@@ -353,6 +357,38 @@ saves-read key max s ahead from now next old new before after o some =
             subst (λ x. Reports (told before after) (losses 0 0 x)) (sym first) o.reported,
           ),
         )
+
+-- there the pieces that are allowed were read, and one byte
+pub ends-many : (key : Bytes) (max : ℕ) (s : Salvaged) (ahead : Bytes) (from now : Seen) (old new : Known)
+    (before after : KnownLosses) → Salvaging key s ahead from now old new before after → s.chunks ≡ max
+    → EndsAt max 0 (flow from now) (moved old new) TooManyChunks
+ends-many key max s ahead from now old new before after o full = record {
+  piece = s.chunks;
+  text = salvaged o.front;
+  written = o.written;
+  at = inr full;
+  gave = (o.given, o.gave, omega (arith, o.read, o.short));
+}
+
+-- where a write failed, its piece too
+pub ends-write : (key : Bytes) (max : ℕ) (s : Salvaged) (held : Bytes) (n : ℕ) (buf text : Bytes)
+    (from now next : Seen) (old mid new : Known) (before after : KnownLosses)
+    → Salvaging key s held from now old mid before after → (r : ReadsAhead held n buf (flow now next))
+    → length buf ≡ 65553 → WritesPart (moved mid new) text → EndsAt max 0 (flow from next) (moved old new) Write
+ends-write key max s held n buf text from now next old mid new before after o r size part =
+    let l : length (held ++ r.given) ≡ n = ap length (sym r.is) ∙ length-take-le n buf (omega (arith, r.room)) in
+    record {
+      piece = s.chunks;
+      text = salvaged o.front ++ take part.0 text;
+      written = Appends-trans old mid new (salvaged o.front) (take part.0 text) o.written part.1;
+      at = inl
+          (refl, omega (arith, o.full, o.bytes, length-append (salvaged o.front) (take part.0 text)));
+      gave = (
+        o.given ++ r.given,
+        gave-then from now next o.given r.given o.gave r.gave,
+        omega (arith, o.read, r.room, length-append held r.given, length-append o.given r.given),
+      );
+    }
 
 -- the piece that was read is whole, whatever comes
 whole-piece : (held : Bytes) (n : ℕ) (buf : Bytes) (now next : Seen) (r : ReadsAhead held n buf (flow now next))
@@ -449,12 +485,12 @@ saves-last key max s t held n buf y from now next old mid new before said after 
 pub salvaging-more : (key : Bytes) (s t : Salvaged) (held ahead : Bytes) (n : ℕ) (buf : Bytes) (y : Part)
     (from now next : Seen) (old mid new : Known) (before said after : KnownLosses) (len : ℕ)
     → Salvaging key s held from now old mid before said → (r : ReadsAhead held n buf (flow now next))
-    → length buf ≡ 65553 → 65552 < n → len ≤ 65536 → length y.text ≡ len
+    → length buf ≡ 65553 → 65552 < n → len ≡ 65536 → length y.text ≡ len
     → first_part key s.chunks (take n buf) ≡ y → Appends mid new y.text
     → Reports (told said after) (loss y.saved (record { chunk = s.chunks; start = s.bytes; len = len }))
     → t ≡ with_part s len y.saved → ahead ≡ drop 65552 buf
     → Salvaging key t ahead from next old new before after
-salvaging-more key s t held ahead n buf y from now next old mid new before said after len o r size high short wide is
+salvaging-more key s t held ahead n buf y from now next old mid new before said after len o r size high whole wide is
     put loses counts rest =
     let one : Reports (told said after)
     (loss y.saved (record { chunk = s.chunks; start = s.bytes; len = length y.text })) = subst
@@ -465,6 +501,9 @@ salvaging-more key s t held ahead n buf y from now next old mid new before said 
     let l : length c ≡ n = ap length (sym r.is) ∙ length-take-le n buf (omega (arith, r.room)) in
     let full : buf ≡ c = sym (take_all n buf (omega arith)) ∙ r.is in
     let tail : drop 65552 c ≡ ahead = ap (drop 65552) (sym full) ∙ sym rest in
+    let one_ahead : length ahead ≡ length c - 65552 = ap length (sym tail) ∙ length-drop 65552 c in
+    let both : length c ≡ length held + length r.given = length-append held r.given in
+    let given : length (o.given ++ r.given) ≡ length o.given + length r.given = length-append o.given r.given in
     let p : first_part key s.chunks c ≡ y = ap (first_part key s.chunks) (sym r.is) ∙ is in
     let w = after-part o.front y s old mid new before said after o.bytes o.chunks o.written put o.reported one in
     let all : with_part s (length y.text) y.saved ≡ summary (o.front ++ y ∷ []) =
@@ -488,13 +527,15 @@ salvaging-more key s t held ahead n buf y from now next old mid new before said 
       bytes = ap (λ (x : Salvaged). x.bytes) (sum ∙ all);
       chunks = ap (λ (x : Salvaged). x.chunks) (sum ∙ all);
       lost = ap (λ (x : Salvaged). x.lost) (sum ∙ all);
-      bound = omega (arith, o.bound, short);
+      full = omega (arith, o.full, whole);
       lost_bound = omega (
         arith,
         o.lost_bound,
         loss-len y.saved
             (record { chunk = s.chunks; start = s.bytes; len = length y.text }),
       );
+      read = omega (arith, o.read, r.room);
+      short = omega (arith, r.room);
     }
 
 -- ---- a payload
@@ -513,6 +554,48 @@ nonce-salvages k max from mid old lost (BadChunk i) h = absurd (cc)
 nonce-salvages k max from mid old lost TooManyChunks h = absurd (cc)
 nonce-salvages k max from mid old lost Write h = absurd (cc)
 nonce-salvages k max from mid old lost Memory h = absurd (cc)
+
+-- what was read with the nonce
+with-nonce : (max : ℕ) (nonce : Bytes) (from mid to : Seen) (old new : Known) (fault : StreamFault)
+    → Gave (flow from mid) nonce → length nonce ≡ 16 → EndsAt max 0 (flow mid to) (moved old new) fault
+    → EndsAt max 16 (flow from to) (moved old new) fault
+with-nonce max nonce from mid to old new fault gave size e =
+    let all = gave-more from mid to 16 (0 + (65552 * (e.piece + 1) + 1)) (nonce, gave, omega (arith, size)) e.gave in
+    record {
+      piece = e.piece;
+      text = e.text;
+      written = e.written;
+      at = e.at;
+      gave = (all.0, all.1, omega (arith, all.2));
+    }
+
+pub payload-ends : (max : ℕ) (nonce : Bytes) (from mid to : Seen) (old new : Known) (r : Result Salvaged StreamFault)
+    → Gave (flow from mid) nonce → length nonce ≡ 16
+    → IfErr r (λ f. (f ≡ Read) ⊎ EndsAt max 0 (flow mid to) (moved old new) f)
+    → IfErr r (EndsSaving max (flow from to) (moved old new))
+payload-ends max nonce from mid to old new (Ok s) gave size h = tt
+payload-ends max nonce from mid to old new (Err fault) gave size (inl e) =
+    subst (EndsSaving max (flow from to) (moved old new)) (sym e) tt
+payload-ends max nonce from mid to old new (Err fault) gave size (inr e) =
+    saving fault (with-nonce max nonce from mid to old new fault gave size e)
+  where
+    saving : (f : StreamFault) → EndsAt max 16 (flow from to) (moved old new) f
+        → EndsSaving max (flow from to) (moved old new) f
+    saving Read h = tt
+    saving NonceTruncated h = tt
+    saving Memory h = tt
+    saving _ h = h
+
+pub nonce-ends : (max : ℕ) (from mid : Seen) (old : Known) (fault : StreamFault)
+    → GivesNonce (flow from mid) (Err fault) → EndsSaving max (flow from mid) (moved old old) fault
+nonce-ends max from mid old Read h = tt
+nonce-ends max from mid old NonceTruncated h = tt
+nonce-ends max from mid old Memory h = tt
+nonce-ends max from mid old (ChunkShort i) h = absurd (cc)
+nonce-ends max from mid old (EmptyFinal i) h = absurd (cc)
+nonce-ends max from mid old (BadChunk i) h = absurd (cc)
+nonce-ends max from mid old TooManyChunks h = absurd (cc)
+nonce-ends max from mid old Write h = absurd (cc)
 
 -- the nonce, then the pieces
 pub payload-salvages : (k : FileKey) (max : ℕ) (nonce key : Bytes) (from mid to : Seen) (old new : Known)

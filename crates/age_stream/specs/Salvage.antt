@@ -12,6 +12,7 @@ use Rattle.age_stream.specs.declared.salvaged.Lost.{Lost}
 use Rattle.age_stream.specs.declared.salvaged.Salvaged.{Salvaged}
 use Rattle.age_stream.specs.declared.salvaged.Saved.{Saved}
 use Rattle.age_stream.specs.declared.salvaged.Saved.TheVariants.{Chunk, LastChunk, Zeros, Nothing}
+use Rattle.age_stream.specs.Opening.{EndsAt}
 use Rattle.age_stream.specs.Payload.{is_end, payload_key, pieces}
 use Rattle.age_stream.specs.Reading.{opened_at}
 use Rattle.age_stream.specs.Sizes.{chunk_buf_size, nonce_size, sealed_chunk_size, tag_size}
@@ -148,6 +149,14 @@ abbrev pub Salvages : (file_key : FileKey) (max : ℕ) (source : Flow) (sink : M
     (r : Result Salvaged StreamFault) → Type 0
 Salvages file_key max source sink lost r =
     OfGiven source (λ text. SavesPayload file_key max text sink lost r)
+
+-- At which piece or write saving ended, and how much of the source had been read. Where a read
+-- failed, and where there is no whole nonce or no memory, nothing is said.
+abbrev pub EndsSaving : (max : ℕ) (source : Flow) (sink : Moved) (fault : StreamFault) → Type 0
+EndsSaving max source sink Read = ⊤
+EndsSaving max source sink NonceTruncated = ⊤
+EndsSaving max source sink Memory = ⊤
+EndsSaving max source sink fault = EndsAt max nonce_size source sink fault
 
 -- a fault before which something may have been written
 abbrev pub IsOfPieces : StreamFault → Type 0

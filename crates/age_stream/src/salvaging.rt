@@ -4,8 +4,9 @@ ghost use Rattle.std.specs.Io.KnownBytes.{IsAtEnd};
 ghost use Rattle.age_header.specs.Device.{Counts, CountsIf, GaveSome, OfGiven, flow_by, moved_by};
 ghost use Rattle.age_header.specs.Filling.{Filled};
 ghost use Rattle.age_stream.specs.Counts.{is_read, is_write};
+ghost use Rattle.age_stream.specs.Opening.{EndsAt};
 ghost use Rattle.age_stream.specs.Payload.{pieces};
-ghost use Rattle.age_stream.specs.Salvage.{IsOfPieces, ReadsAhead, Reports, Salvages, SavesParts, first_part, loss, part, parts, told_by, with_part};
+ghost use Rattle.age_stream.specs.Salvage.{EndsSaving, IsOfPieces, ReadsAhead, Reports, Salvages, SavesParts, first_part, loss, part, parts, told_by, with_part};
 ghost use Rattle.age_stream.specs.Sizes.{chunk_size, sealed_chunk_size, most_chunks, tag_size, chunk_buf_size};
 
 use crate::buffer::ChunkBuf;
@@ -50,6 +51,10 @@ pub fn salvage_payload<S: Source, W: Sink, L: Losses>(
         (λ fault. IsOfPieces fault ⊎ ((out.new ≡ out.old) × (losses.new ≡ losses.old))) }
     ensures reads { CountsIf is_read (S.failed source.old) (S.failed source.new) result }
     ensures writes { CountsIf is_write (W.failed out.old) (W.failed out.new) result }
+    // If it ended at a piece, or at a write after 65,536 i bytes: at most the nonce, the pieces up
+    // to and including piece i and one byte were read.
+    ensures took { IfErr result (EndsSaving max_chunks
+        (flow_by S.to_come S.gave source.old source.new) (moved_by W.taken out.old out.new)) }
 {
     let Ok(buf) = ChunkBuf::new(alloc) else {
         return Err(StreamFault::Memory);
@@ -79,6 +84,8 @@ fn save_pieces<S: Source, W: Sink, L: Losses>(
         (told_by L.lost losses.old losses.new) result) }
     ensures silent { IfOk result (λ s. s.lost ≡ 0 → losses.new ≡ losses.old) }
     ensures pieces { IfErr result IsOfPieces }
+    ensures ends { IfErr result (λ f. (f ≡ StreamFault.Read) ⊎ EndsAt max 0
+        (flow_by S.to_come S.gave source.old source.new) (moved_by W.taken out.old out.new) f) }
     ensures reads { CountsIf is_read (S.failed source.old) (S.failed source.new) result }
     ensures writes { CountsIf is_write (W.failed out.old) (W.failed out.new) result }
 {
@@ -138,6 +145,7 @@ fn save_first(key: &[u8; 32], i: u128, bytes: &mut [u8], n: usize) -> (usize, Sa
         ≡ record { text = take result.0 bytes.new; saved = result.1 } }
     ensures rest { drop sealed_chunk_size bytes.new ≡ drop sealed_chunk_size bytes.old }
     ensures text { result.0 ≤ chunk_size }
+    ensures full { sealed_chunk_size < n → result.0 ≡ chunk_size }
 {
     let (piece, _) = bytes.split_at_mut(SEALED_CHUNK_SIZE);
     if n <= SEALED_CHUNK_SIZE {

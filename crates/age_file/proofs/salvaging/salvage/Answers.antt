@@ -2,7 +2,7 @@ use Rattle.std.proofs.Common.{Ok, Err}
 use Rattle.age_header.specs.Device.{seen_by}
 use Rattle.age_file.proofs.DecryptLemmas.{reads-file}
 use Rattle.age_file.proofs.SalvageLaws.{quiet-pieces}
-use Rattle.age_file.proofs.SalvageLemmas.{inspect-salvages, locked-salvages, payload-salvages}
+use Rattle.age_file.proofs.SalvageLemmas.{inspect-salvages, locked-salvages, payload-salvages, salvage-takes}
 use Rattle.age_file.proofs.salvaging.salvage.Goals as goal
 
 pub returns-in-Err-clause-salvages : goal.returns-in-Err-clause-salvages
@@ -30,6 +30,13 @@ returns-clause-salvages g c =
     c.in-Ok-unlock_header.key _
     (Err c.in-Err-salvage_payload.fault) c.in-Ok.ensures.verdict c.in-Ok-unlock_header.ensures.key
     c.max_chunks.ensures.value c.in-Err-salvage_payload.ensures.salvages)
+
+pub returns-clause-took : goal.returns-clause-took
+returns-clause-took g c =
+    rw c.stream_fault.ensures
+    (salvage-takes _ _ (seen_by g.S.Source.to_come g.S.Source.gave c.inspect.new.input) _ _ _ _ _
+    c.in-Err-salvage_payload.fault c.in-Ok.ensures.verdict c.max_chunks.ensures.value
+    c.in-Err-salvage_payload.ensures.took)
 
 pub returns-clause-quiet : goal.returns-clause-quiet
 returns-clause-quiet g c =

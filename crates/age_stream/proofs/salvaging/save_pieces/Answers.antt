@@ -1,7 +1,7 @@
-use Rattle.std.proofs.Common.{rules, arith, ◌∙◌, refl, []}
+use Rattle.std.proofs.Common.{rules, arith, ◌∙◌, refl, [], inr}
 use Rattle.std.proofs.lemmas.List.{length-take-le}
 use Rattle.age_stream.proofs.OpeningLemmas.{ahead-one}
-use Rattle.age_stream.proofs.SalvageLemmas.{counted, salvaging-more, salvaging-none, saves-last, saves-many, saves-read, saves-write}
+use Rattle.age_stream.proofs.SalvageLemmas.{counted, ends-many, ends-write, salvaging-more, salvaging-none, saves-last, saves-many, saves-read, saves-write}
 use Rattle.age_stream.proofs.salvaging.save_pieces.Goals as goal
 
 pub loop-done-init : goal.loop-done-init
@@ -20,6 +20,11 @@ returns-then-done-max-clause-saves g c =
     saves-many _ _ c.loop-done.done _ _ _ _ _ _ _ c.loop-done.invariant.saved
     (omega (arith, c.loop-done.invariant.within))
 
+pub returns-then-done-max-clause-ends : goal.returns-then-done-max-clause-ends
+returns-then-done-max-clause-ends g c =
+    inr (ends-many _ _ c.loop-done.done _ _ _ _ _ _ _ c.loop-done.invariant.saved
+    (omega (arith, c.loop-done.invariant.within)))
+
 pub returns-in_default-clause-saves : goal.returns-in_default-clause-saves
 returns-in_default-clause-saves g c =
     saves-read _ c.args.max c.loop-done.done _ _ _ _ _ _ _ _ c.loop-done.invariant.saved c.in_default.ensures.lost
@@ -29,6 +34,11 @@ returns-in-Err-clause-saves g c =
     let saved = c.save_first-len.ensures in
     saves-write _ c.args.max c.loop-done.done _ c.in-Ok.n c.read_piece.new.bytes _ _ _ _ _ _ _ _ _
     c.loop-done.invariant.saved c.in-Ok.ensures.reads c.read_piece.ensures.len saved.part c.in-Err.ensures.text
+
+pub returns-in-Err-clause-ends : goal.returns-in-Err-clause-ends
+returns-in-Err-clause-ends g c =
+    inr (ends-write _ c.args.max c.loop-done.done _ c.in-Ok.n c.read_piece.new.bytes _ _ _ _ _ _ _ _ _
+    c.loop-done.invariant.saved c.in-Ok.ensures.reads c.read_piece.ensures.len c.in-Err.ensures.text)
 
 pub returns-then-n-le-SEALED_CHUNK_SIZE-clause-saves : goal.returns-then-n-le-SEALED_CHUNK_SIZE-clause-saves
 returns-then-n-le-SEALED_CHUNK_SIZE-clause-saves g c =
@@ -52,7 +62,7 @@ loop-done-preserved g c =
       within = omega (arith, more.0);
       saved = salvaging-more _ c.loop-done.done c.note.new.done _ _ c.in-Ok.n c.read_piece.new.bytes _ _ _ _ _ _ _ _ _ _
           c.save_first-len.result.0 c.loop-done.invariant.saved
-          c.in-Ok.ensures.reads c.read_piece.ensures.len (omega arith) c.save_first-len.ensures.text
+          c.in-Ok.ensures.reads c.read_piece.ensures.len (omega arith) (c.save_first-len.ensures.full (omega arith))
           (length-take-le c.save_first-len.result.0 c.save_first-len.new.bytes (omega (
             arith,
             c.save_first-len.ensures.len,
