@@ -97,9 +97,15 @@ SCRYPT, KEYED, X = scrypt_lines(), key_lines(), x25519_lines()
 GREASE = stanza_text([b"fZ%-grease", b"?", b"~!"], bytes(range(100)))
 
 
+# The text of each chunk that was made, and whether it is the last, by its number and its bytes.
+MADE = {}
+
+
 @functools.lru_cache
 def chunk(number, is_last, text):
-    return sealed_chunk(PAYLOAD_KEY, number, is_last, text)
+    sealed = sealed_chunk(PAYLOAD_KEY, number, is_last, text)
+    MADE[number, sealed] = (text, is_last)
+    return sealed
 
 
 @functools.lru_cache

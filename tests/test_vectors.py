@@ -11,7 +11,7 @@ import unittest
 import make_vectors
 import testkit
 from messages import TEXTS, message
-from program import TESTS, ProgramCase, read, scratch, write
+from program import TESTS, ProgramCase, fault, read, scratch, write
 from test_headers import header_in
 
 GO = "/usr/share/gocode"
@@ -67,6 +67,26 @@ def differences(way):
     return found
 
 
+def saved(payload):
+    """What salvage writes and says of a payload: a piece opens exactly if it was made as a chunk of its number."""
+    pieces = [payload[at : at + testkit.SEALED] for at in range(16, len(payload), testkit.SEALED)] or [b""]
+    made = make_vectors.MADE if payload[:16] == make_vectors.NONCE else {}
+    text, runs = b"", []
+    for i, piece in enumerate(pieces):
+        opened, is_last = made.get((i, piece), (None, None))
+        start, text = len(text), text + (bytes(max(len(piece) - 16, 0)) if opened is None else opened)
+        if opened is None and len(text) > start:
+            before = runs.pop() if runs and runs[-1][1] == i - 1 else (i, i, start, start)
+            runs.append((before[0], i, before[2], len(text)))
+    lines = [
+        f"chunk{f's {first} to {last} are' if first < last else f' {first} is'} lost: bytes {start} to {end - 1} of the plaintext"
+        for first, last, start, end in runs
+    ]
+    if is_last is False or (is_last is None and len(piece) <= 16):
+        lines.append(f"the file is cut short after byte {len(text)}")
+    return text, lines
+
+
 class Stored(unittest.TestCase):
     def test_made(self):
         """tests/make_vectors.py makes what is stored. Another zlib may compress it to other bytes."""
@@ -90,6 +110,20 @@ class Program(ProgramCase):
     def test_decrypt(self):
         """agep ends in the fault of each vector, and releases what comes before it."""
         self.assertEqual(differences(testkit.Agep()), {})
+
+    def test_salvage(self):
+        """salvage writes the chunks that open and zeros for the others, and says what is missing."""
+        for case in make_vectors.cases():
+            (kind, secret), *others = case.secrets
+            if others or case.is_armored or case.secrets == make_vectors.BY_X25519:
+                continue
+            if testkit.EXPECT[case.fault[0]] not in ("success", "payload failure"):
+                continue
+            with self.subTest(case.name):
+                text, lines = saved(case.file[len(header_in(case.file)) :])
+                option, value = ("-p", secret.encode()) if kind == "passphrase" else ("-k", bytes.fromhex(secret.split()[1]))
+                ran = self.run_agep("salvage", option, testkit.secret_file(value), input=case.file)
+                self.assert_ended(ran, 1 if lines else 0, "".join(map(fault, lines)), text)
 
     def test_inspect(self):
         """inspect ends in the fault of each malformed header, and writes each other one as it is."""
