@@ -48,6 +48,7 @@ def jobs():
         Job("range -k key 65530 65550", "key.age", PART, 5, 2),
         Job("inspect -f file.key", "key.age", table(header, True), 3, 1),
         Job("inspect -r", "key.age", header, 1, 1),
+        Job("salvage -k key", "key.age", LONG_PLAIN, 5, 3),
     ]
 
 
@@ -366,7 +367,7 @@ class Syncs(ProgramCase):
         """OUT is synced once before status 0; a device and standard output are not."""
         for words in (
             "encrypt -k key hello", "decrypt -k key key.age", "decrypt -k key empty.age", "range -k key 0 5 key.age",
-            "rewrap -p pass -K new.key pass.age",
+            "rewrap -p pass -K new.key pass.age", "salvage -k key key.age",
         ):
             with self.subTest(words):
                 ran, count = self.counted(*words.split(), "-o", "made")

@@ -56,7 +56,7 @@ class ClosedPipes(ProgramCase):
         """A pipe whose reader is gone before the program begins."""
         for words in (
             "encrypt -k key two_chunks", "decrypt -k key two.age", "rewrap -p pass -K new.key two_pass.age", "range -k key 0 140000 plain.age",
-            "inspect data/three_recipients.age", "inspect -r data/three_recipients.age",
+            "salvage -k key two.age", "inspect data/three_recipients.age", "inspect -r data/three_recipients.age",
         ):
             command, *rest = words.split()
             for options, more in ((), None), (("-v",), "writing standard output: Broken pipe"):

@@ -49,6 +49,10 @@ class Lockstep(FeedCase):
         """decrypt: chunk i is out before chunk i + 2 is fed."""
         self.assert_lockstep(KEY_FRONT, SEALED, 0, CHUNK, "many.age", "many", AGEP, "decrypt", "-k", "key")
 
+    def test_salvage(self):
+        """salvage: chunk i is out before chunk i + 2 is fed."""
+        self.assert_lockstep(KEY_FRONT, SEALED, 0, CHUNK, "many.age", "many", AGEP, "salvage", "-k", "key")
+
     def test_encrypt(self):
         """encrypt: sealed chunk i is out before chunk i + 2 is fed."""
         self.assert_lockstep(0, CHUNK, KEY_FRONT, SEALED, "many", "many.age", AGEP, "encrypt", "-k", "key", "-s", "seed")
@@ -128,6 +132,18 @@ class Memory(FeedCase):
                     cmp - <(tail -c +{KEY_HEADER + 1} great.age)"""
             done = subprocess.run(["bash", "-c", script], stdin=subprocess.DEVNULL, capture_output=True, timeout=600)
             self.assertEqual((done.returncode, done.stdout, done.stderr), (0, b"", b""))
+
+
+    def test_salvage(self):
+        """salvage: 256 MiB of lost chunks through pipes, with at most 4 MiB resident, make one line."""
+        with open("great.age", "wb") as out:
+            out.write(reference.header(SEED[:16], [reference.key_stanza(KEY, SALT)]))
+            reference.write_payload(out, SEED[:16], SEED[16:32], [b"hello\n"], 4096)
+        skip_unless_holes("great.age")
+        done = self.feed("peak-piped", "great.age", AGEP, "salvage", "-k", "key")
+        line = "chunks 0 to 4095 are lost: bytes 0 to 268435455 of the plaintext"
+        self.assertEqual((done.returncode, done.stderr), (1, fault(line).encode()))
+        self.assertTrue(0 < int(done.stdout) <= 4096, f"{int(done.stdout)} KiB resident")
 
 
 class DamagedFile(ProgramCase):
