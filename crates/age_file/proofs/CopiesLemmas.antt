@@ -6,19 +6,20 @@ use Rattle.age_header.specs.Device.{Bytes, Gave, GaveSome, WritesPart, Known, Se
 use Rattle.age_header.proofs.DeviceLemmas.{gave-none, gave-then, of-any, of-ended, of-more, of-then, done_part}
 use Rattle.age_file.specs.declared.fault.Fault.{Fault}
 use Rattle.age_file.specs.declared.fault.Fault.TheVariants.{TooManyChunks, Read, Write}
-use Rattle.age_file.specs.Copying.{Copies, CopiesPiece}
+use Rattle.age_file.specs.Copying.{Copies, CopiesPiece, buffer_size}
 
 -- k full pieces were copied
 pub record Copied (from now : Seen) (old new : Known) (k : ℕ) : Type 0 where
   pub bytes : Bytes
   pub took : Gave (flow from now) bytes
   pub put : Appends old new bytes
-  pub long : 65536 * k ≤ length bytes
+  pub long : buffer_size * k ≤ length bytes
 
 pub copied_none : (from : Seen) (old : Known) → Copied from from old old 0
 copied_none from old = record { bytes = []; took = gave-none from; put = Appends-nil old; long = omega arith }
 
-pub copied_more : (size : ℕ) (from a b : Seen) (old m n : Known) (k : ℕ) (more : Bool) → size ≡ 65536 → more ≡ true
+pub copied_more : (size : ℕ) (from a b : Seen) (old m n : Known) (k : ℕ) (more : Bool) → size ≡ buffer_size
+    → more ≡ true
     → Copied from a old m k
     → CopiesPiece size (flow a b) (moved m n) (Ok more) → Copied from b old n (k + 1)
 copied_more size from a b old m n k false full is c h = absurd (true≢false (sym is))

@@ -2,10 +2,11 @@ use Rattle.std.proofs.Common.{◌≡◌, ◌-◌, ◌^◌, length}
 use Rattle.age_header.specs.Device.{seen_by}
 use Rattle.age_file.proofs.CopiesLemmas.{Copied}
 use Rattle.age_file.proofs.copying.copy_pieces.Given as goal
+use Rattle.age_file.specs.Copying.{buffer_size}
 
 abbrev pub invariant-loop-copied : goal.invariant-loop-copied
 invariant-loop-copied g l = record {
-  size : length l.buf ≡ 65536;
+  size : length l.buf ≡ buffer_size;
   copied : Copied (seen_by g.S.Source.to_come g.S.Source.gave l.fn.input)
       (seen_by g.S.Source.to_come g.S.Source.gave l.input) (g.W.Sink.taken l.fn.out)
       (g.W.Sink.taken l.out) l.copied;
