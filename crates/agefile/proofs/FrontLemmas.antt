@@ -14,14 +14,14 @@ use Rattle.age_file.specs.declared.fault.Fault.TheVariants.{NonceTruncated}
 use Rattle.age_file.specs.Verdict.{parts_of}
 use Rattle.age_file.specs.Verdict.{Answering, unlocked}
 use Rattle.agefile.specs.declared.start.Start.{Start}
-use Rattle.agefile.specs.Limits.{limits}
+use Rattle.agefile.specs.Limits.{limits, front_size}
 use Rattle.agefile.specs.Start.{IsStart, start_under}
 
 -- the first 65,552 bytes of a file have its header verdict
-cut_front : (b : Bytes) → take 65536 (take 65552 b) ≡ take 65536 b
-cut_front b = take-take 65536 65552 b (omega arith)
+cut_front : (b : Bytes) → take limits.max_header (take front_size b) ≡ take limits.max_header b
+cut_front b = take-take limits.max_header front_size b (omega arith)
 
-pub whole_verdict : (b : Bytes) (r : Result Found HeaderFault) → HeaderVerdict (take 65552 b) limits.max_header r
+pub whole_verdict : (b : Bytes) (r : Result Found HeaderFault) → HeaderVerdict (take front_size b) limits.max_header r
     → HeaderVerdict b limits.max_header r
 whole_verdict b (Ok found) h = record {
   lines = h.lines;
@@ -34,47 +34,52 @@ whole_verdict b (Err header.NotAge) h = λ begins. h (subst BeginsAsAge (sym (cu
 whole_verdict b (Err (header.BadLine n)) h =
     (subst BeginsAsAge (cut_front b) h.0, (h.1.0, h.1.1, subst (Decides h.1.0) (cut_front b) h.1.2, h.1.3))
 whole_verdict b (Err header.Truncated) h =
-    let short : length (take 65552 b) < 65536 = h.2 in (
+    let short : length (take front_size b) < limits.max_header = h.2 in (
       subst BeginsAsAge (cut_front b) h.0,
       subst IsUndecided (cut_front b) h.1,
-      omega (arith, short, length-take 65552 b),
+      omega (arith, short, length-take front_size b),
     )
 whole_verdict b (Err header.TooLarge) h =
-    let long : 65536 ≤ length (take 65552 b) = h.2 in
-    (subst BeginsAsAge (cut_front b) h.0, subst IsUndecided (cut_front b) h.1, omega (arith, long, length-take 65552 b))
+    let long : limits.max_header ≤ length (take front_size b) = h.2 in (
+      subst BeginsAsAge (cut_front b) h.0,
+      subst IsUndecided (cut_front b) h.1,
+      omega (arith, long, length-take front_size b),
+    )
 whole_verdict b (Err header.Read) h = absurd h
 whole_verdict b (Err header.Memory) h = absurd h
 
 -- sixteen bytes after the header
-nonce-front : (b : Bytes) (n : ℕ) → n ≤ 65536 → take 16 (drop n (take 65552 b)) ≡ take 16 (drop n b)
+nonce-front : (b : Bytes) (n : ℕ) → n ≤ limits.max_header → take 16 (drop n (take front_size b)) ≡ take 16 (drop n b)
 nonce-front b n le =
-    let whole : n + (65552 - n) ≡ 65552 = omega arith in
-    ap (λ k. take 16 (drop n (take k b))) (sym whole) ∙ ap (take 16) (drop-take n (65552 - n) b)
-    ∙ take-take 16 (65552 - n) (drop n b) (omega arith)
+    let whole : n + (front_size - n) ≡ front_size = omega arith in
+    ap (λ k. take 16 (drop n (take k b))) (sym whole) ∙ ap (take 16) (drop-take n (front_size - n) b)
+    ∙ take-take 16 (front_size - n) (drop n b) (omega arith)
 
-nonce-there : (b : Bytes) (n : ℕ) → n ≤ 65536
-    → nat_lt (length (drop n (take 65552 b))) 16 ≡ nat_lt (length (drop n b)) 16
+nonce-there : (b : Bytes) (n : ℕ) → n ≤ limits.max_header
+    → nat_lt (length (drop n (take front_size b))) 16 ≡ nat_lt (length (drop n b)) 16
 nonce-there b n le =
-    let front : length (drop n (take 65552 b)) ≡ length (take 65552 b) - n = length-drop n (take 65552 b) in
+    let front : length (drop n (take front_size b)) ≡ length (take front_size b) - n =
+    length-drop n (take front_size b) in
     let all : length (drop n b) ≡ length b - n = length-drop n b in
     elim (cases_lt (length (drop n b)) 16) [
-      | inl lt ↦ lt-ltb _ 16 (omega (arith, lt, front, all, length-take 65552 b)) ∙ sym (lt-ltb _ 16 lt)
-      | inr ge ↦ le-ltb _ 16 (omega (arith, ge, front, all, length-take 65552 b)) ∙ sym (le-ltb _ 16 ge)
+      | inl lt ↦ lt-ltb _ 16 (omega (arith, lt, front, all, length-take front_size b)) ∙ sym (lt-ltb _ 16 lt)
+      | inr ge ↦ le-ltb _ 16 (omega (arith, ge, front, all, length-take front_size b)) ∙ sym (le-ltb _ 16 ge)
     ]
 
-start-under-front : (b : Bytes) (n : ℕ) (key : Result FileKey Fault) → n ≤ 65536
-    → start_under n (drop n (take 65552 b)) key ≡ start_under n (drop n b) key
+start-under-front : (b : Bytes) (n : ℕ) (key : Result FileKey Fault) → n ≤ limits.max_header
+    → start_under n (drop n (take front_size b)) key ≡ start_under n (drop n b) key
 start-under-front b n (Err fault) le = refl
 start-under-front b n (Ok k) le =
     ap (λ t. cond t (Err NonceTruncated)
-    (Ok (record { first = n + 16; key = payload_key k (take 16 (drop n (take 65552 b))) }))) (nonce-there b n le)
+    (Ok (record { first = n + 16; key = payload_key k (take 16 (drop n (take front_size b))) }))) (nonce-there b n le)
     ∙ ap (λ x. cond (nat_lt (length (drop n b)) 16) (Err NonceTruncated)
     (Ok (record { first = n + 16; key = payload_key k x }))) (nonce-front b n le)
 
-pub whole-start : (answers : Answering) (b : Bytes) (start : Result Start Fault) → IsStart answers (take 65552 b) start
+pub whole-start : (answers : Answering) (b : Bytes) (start : Result Start Fault)
+    → IsStart answers (take front_size b) start
     → IsStart answers b start
 whole-start answers b start (Err e, verdict, is) = (Err e, whole_verdict b (Err e) verdict, is)
 whole-start answers b start (Ok found, verdict, is) =
     let there = whole_verdict b (Ok found) verdict in
-    let fits : length found.text ≤ 65536 = (begins_found b 65536 found there).fits in
+    let fits : length found.text ≤ limits.max_header = (begins_found b limits.max_header found there).fits in
     (Ok found, there, is ∙ start-under-front b (length found.text) (unlocked answers (parts_of found)) fits)

@@ -23,7 +23,7 @@ use Rattle.agefile.specs.declared.report.Report.{Report}
 use Rattle.agefile.specs.Codes.{fault_code}
 use Rattle.agefile.specs.Report.{report_of}
 use Rattle.agefile.specs.Inspect.{HeaderOf, Inspected, joined}
-use Rattle.agefile.specs.Limits.{limits}
+use Rattle.agefile.specs.Limits.{limits, front_size}
 use Rattle.agefile.proofs.FrontLemmas.{whole_verdict}
 
 -- what a reader returned
@@ -45,7 +45,7 @@ header_found l b source r at come count h =
     (reads_known b source limits.max_header inspects.0 come inspects.2)
 
 -- the first 65,552 bytes of a file have its header
-whole_of : (b : Bytes) (r : Result HeaderParts Fault) → HeaderOf (take 65552 b) r → HeaderOf b r
+whole_of : (b : Bytes) (r : Result HeaderParts Fault) → HeaderOf (take front_size b) r → HeaderOf b r
 whole_of b (Ok h) (text, found) = (
   text,
   whole_verdict b (Ok (record { stanzas = h.stanzas; mac = h.mac; text = text })) found,
@@ -53,7 +53,7 @@ whole_of b (Ok h) (text, found) = (
 whole_of b (Err fault) (inl memory) = inl memory
 whole_of b (Err fault) (inr (reason, found, is)) = inr (reason, whole_verdict b (Err reason) found, is)
 
-pub found_whole : (b front : Bytes) (r : Result HeaderParts Fault) → front ≡ take 65552 b → HeaderOf front r
+pub found_whole : (b front : Bytes) (r : Result HeaderParts Fault) → front ≡ take front_size b → HeaderOf front r
     → HeaderOf b r
 found_whole b front r same h = whole_of b r (subst (λ f. HeaderOf f r) same h)
 
@@ -63,7 +63,7 @@ pub found_len : (b text h : Bytes) (ss : List StanzaParts) (mac : Bytes) (len : 
     → len ≡ min (length h) (2 ^ 64 - 1) → len ≡ length text
 found_len b text h ss mac len found head is =
     let front = begins_found b limits.max_header (record { stanzas = ss; mac = mac; text = text }) found in
-    let fits : length text ≤ 65536 = front.fits in
+    let fits : length text ≤ limits.max_header = front.fits in
     let same : length h ≡ length text = ap length (one_text ss mac h text head front.head) in
     omega arith
 

@@ -108,7 +108,7 @@ pub record Reads (text : Bytes) (ss : List StanzaParts) : Type 0 where
   pub alone : is_mixed ss ≡ false
   pub mac : Bytes
   pub head : Head ss mac (probe text)
-  pub fits : length (probe text) ≤ 65536
+  pub fits : length (probe text) ≤ limits.max_header
 
 read_whole : (text : Bytes) (found : Found) (ss : List StanzaParts)
     → HeaderVerdict (probe text) limits.max_header (Ok found) → length (probe text) ≤ length found.text
@@ -182,7 +182,7 @@ heading_of : (text mac characters : Bytes) (k : FileKey) (ss : List StanzaParts)
     → IsHeading limits k (given ss) ss (framed text characters)
 heading_of text mac characters k ss r is bytes len =
     let sized : length characters ≡ 43 = omega (arith, b64_size mac characters bytes, len) in
-    let fits : length (probe text) ≤ 65536 = r.fits in
+    let fits : length (probe text) ≤ limits.max_header = r.fits in
     record {
       gives = refl;
       unmixed = r.alone;

@@ -14,7 +14,7 @@ use Rattle.agefile.specs.declared.payload.Payload.{Payload}
 use Rattle.agefile.specs.declared.report.Report.{Report}
 use Rattle.agefile.specs.Chunk.{Opened}
 use Rattle.agefile.specs.Groups.{OpensGroups, OpensSome, PartOpens, all_of}
-use Rattle.agefile.specs.Limits.{limits}
+use Rattle.agefile.specs.Limits.{limits, front_size}
 use Rattle.agefile.specs.Opening.{Opens}
 use Rattle.agefile.specs.Part as part
 use Rattle.agefile.specs.Payload.{OpensNext, may_open}
@@ -160,13 +160,13 @@ goes_on key i (c ∷ cs) text d ds (t, rest, is, joined, on) =
 
 -- the verdict, where the payload was opened
 by_payload : (answers : Answering) (b : Bytes) (p : Payload) (report : Report) (v : Reading Fault)
-    → Opens answers (take 65552 b) p report 0 → IsVerdict limits answers b v
+    → Opens answers (take front_size b) p report 0 → IsVerdict limits answers b v
     → v ≡ record {
       front = (reading_from p.key limits.max_chunks p.number (drop report.len b)).front;
       fault = option_map stream_fault (reading_from p.key limits.max_chunks p.number (drop report.len b)).fault;
     }
 by_payload answers b p report v opens h =
-    let (start, is, at) = opened_start answers (take 65552 b) p report opens in
+    let (start, is, at) = opened_start answers (take front_size b) p report opens in
     let from : IsVerdictFrom b v (Ok start) =
     verdict-from answers b (Ok start) v (whole-start answers b (Ok start) is) h in
     let of : Payload → Report → Reading Fault = λ q r. record {
@@ -177,7 +177,7 @@ by_payload answers b p report v opens h =
 
 pub opened_so_far : (answers : Answering) (b : Bytes) (p new : Payload) (report : Report) (groups : List (List Bytes))
     (text next : Bytes) (more : List Bytes) (v : Reading Fault)
-    → Opens answers (take 65552 b) p report 0 → OpensGroups p new groups text
+    → Opens answers (take front_size b) p report 0 → OpensGroups p new groups text
     → pieces (drop report.len b) ≡ all_of groups ++ next ∷ more → IsVerdict limits answers b v
     → take (length text) v.front ≡ text
 opened_so_far answers b p new report groups text next more v opens run cut h =
@@ -191,7 +191,7 @@ opened_so_far answers b p new report groups text next more v opens run cut h =
 
 pub opened_whole : (answers : Answering) (b : Bytes) (p mid new : Payload) (report last_report : Report)
     (groups : List (List Bytes)) (text last after : Bytes) (v : Reading Fault)
-    → Opens answers (take 65552 b) p report 0 → OpensGroups p mid groups text
+    → Opens answers (take front_size b) p report 0 → OpensGroups p mid groups text
     → OpensNext mid new last after true last_report 0
     → pieces (drop report.len b) ≡ all_of groups ++ last ∷ [] → IsVerdict limits answers b v
     → v ≡ whole (text ++ take last_report.len after)

@@ -8,7 +8,7 @@ use Rattle.age_file.specs.Verdict.{Answering, IsVerdict}
 use Rattle.agefile.specs.declared.ranges.Ranges.{Ranges}
 use Rattle.agefile.specs.declared.report.Report.{Report}
 use Rattle.agefile.specs.Codes.{code_of}
-use Rattle.agefile.specs.Limits.{limits}
+use Rattle.agefile.specs.Limits.{limits, front_size}
 use Rattle.agefile.specs.Ranges.{OpensAt, OpensRanges}
 use Rattle.agefile.specs.Report.{report_of}
 use Rattle.agefile.specs.Start.{IsStart}
@@ -20,7 +20,7 @@ use Rattle.agefile.proofs.StepsReadLemmas.{verdict-from}
 
 -- what was opened is the file's own payload
 pub opened-range : (answers : Answering) (b : Bytes) (r : Ranges) (report : Report)
-    → OpensRanges answers (take 65552 b) (length b) r report 0
+    → OpensRanges answers (take front_size b) (length b) r report 0
     → IsStart answers b (Ok (record { first = r.first; key = r.key })) × (length b ≡ r.first + r.sealed_len)
 opened-range answers b r report (Err fault, is, opens) = absurd (some-code fault (sym opens.returned))
 opened-range answers b r report (Ok start, inl memory, opens) = absurd (cc)
@@ -35,7 +35,7 @@ opened-range answers b r report (Ok start, inr is, inr (le, returned, new, place
 
 -- a fault of the opening is the verdict's
 pub refused-range : (answers : Answering) (b : Bytes) (r : Ranges) (report : Report) (code : ℕ) (v : Reading Fault)
-    → OpensRanges answers (take 65552 b) (length b) r report code
+    → OpensRanges answers (take front_size b) (length b) r report code
     → IsVerdict limits answers b v → code ≢ 0 → code ≢ 17
     → (v.front ≡ []) × (code_of v.fault ≡ code) × (report ≡ report_of 0 v.fault)
 refused-range answers b r report code v (start, inl memory, opens) h some other =

@@ -15,7 +15,7 @@ use Rattle.agefile.specs.declared.payload.Payload.{Payload}
 use Rattle.agefile.specs.declared.report.Report.{Report}
 use Rattle.agefile.specs.declared.start.Start.{Start}
 use Rattle.agefile.specs.Codes.{code_of}
-use Rattle.agefile.specs.Limits.{limits}
+use Rattle.agefile.specs.Limits.{limits, front_size}
 use Rattle.agefile.specs.Opening.{Opens, StartsAt}
 use Rattle.agefile.specs.Payload.{before_first}
 use Rattle.agefile.specs.Report.{report_of}
@@ -69,19 +69,19 @@ refused-by b p report code v (Ok start) opens from some = absurd (some opens.0)
 refused-by b p report code v (Err fault) opens from some = refusal fault v opens from
 
 pub opening_refused : (answers : Answering) (b : Bytes) (p : Payload) (report : Report) (code : ℕ) (v : Reading Fault)
-    → Opens answers (take 65552 b) p report code
+    → Opens answers (take front_size b) p report code
     → IsVerdict limits answers b v → code ≢ 0 → code ≢ 17
     → (v.front ≡ []) × (code_of v.fault ≡ code) × (report ≡ report_of 0 v.fault)
 opening_refused answers b p report code v opens h some other =
-    let (start, is, gives) = found_start answers (take 65552 b) p report code opens other in
+    let (start, is, gives) = found_start answers (take front_size b) p report code opens other in
     refused-by b p report code v start gives (verdict-from answers b start v (whole-start answers b start is) h) some
 
 pub steps_read : (answers : Answering) (b : Bytes) (p : Payload) (report : Report) (text : Bytes) (code place : ℕ)
-    (v : Reading Fault) → Opens answers (take 65552 b) p report 0
+    (v : Reading Fault) → Opens answers (take front_size b) p report 0
     → OpensRun p (pieces (drop report.len b)) text code place → IsVerdict limits answers b v
     → (v.front ≡ text) × ((code_of v.fault ≡ code) × ((report_of 0 v.fault).place ≡ place))
 steps_read answers b p report text code place v opens run h =
-    let (start, is, at) = opened_start answers (take 65552 b) p report opens in
+    let (start, is, at) = opened_start answers (take front_size b) p report opens in
     let from : IsVerdictFrom b v (Ok start) =
     verdict-from answers b (Ok start) v (whole-start answers b (Ok start) is) h in
     let there : OpensRun (before_first start.key 1) (pieces (drop start.first b)) text code place =

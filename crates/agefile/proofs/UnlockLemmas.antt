@@ -22,7 +22,7 @@ use Rattle.agefile.specs.declared.report.Report.{Report}
 use Rattle.agefile.specs.declared.unlocking.Unlocked.{Unlocked}
 use Rattle.agefile.specs.Codes.{code_of}
 use Rattle.agefile.specs.Giving.{alone}
-use Rattle.agefile.specs.Limits.{limits}
+use Rattle.agefile.specs.Limits.{limits, front_size}
 use Rattle.agefile.specs.Report.{Refuses, report_of}
 use Rattle.agefile.specs.Unlock.{FindsKey, GivesKey, IsKey, Unlocks, with_len}
 use Rattle.agefile.proofs.FrontLemmas.{whole_verdict}
@@ -33,7 +33,7 @@ ok-ok x y e = cc
 -- a header that was read, and what follows it
 pub record Fronts (b rest : Bytes) (h : HeaderParts) : Type 0 where
   pub text : Bytes
-  pub verdict : HeaderVerdict b 65536 (Ok (record { stanzas = h.stanzas; mac = h.mac; text = text }))
+  pub verdict : HeaderVerdict b limits.max_header (Ok (record { stanzas = h.stanzas; mac = h.mac; text = text }))
   pub front : b ≡ text ++ rest
 
 pub fronts : (b rest : Bytes) (h : HeaderParts) → Inspects limits (flow (of_told b) (of_told rest)) (Ok h)
@@ -53,7 +53,7 @@ key_within n found (Ok k) e =
 
 -- no header was read
 faulty : (answers : Answering) (b : Bytes) (fault : Fault) (g : HeaderFault)
-    → ◌≡◌ {A = Result HeaderParts Fault} (Err fault) (Err (header_fault g)) → HeaderVerdict b 65536 (Err g)
+    → ◌≡◌ {A = Result HeaderParts Fault} (Err fault) (Err (header_fault g)) → HeaderVerdict b limits.max_header (Err g)
     → FindsKey answers b (Err fault)
 faulty answers b fault g is verdict = inr (Err g, verdict, ap Err (err-err {A = HeaderParts} fault (header_fault g) is))
 
@@ -106,13 +106,13 @@ pub key_meant : (f g : List StanzaParts → Unwrapped) (b : Bytes) (key : Result
 key_meant f g b key same h = subst (λ m. FindsKey (alone m) b key) same h
 
 -- the first 65,552 bytes of a file have its file key
-whole_key : (answers : Answering) (b : Bytes) (key : Result Unlocked Fault) → FindsKey answers (take 65552 b) key
+whole_key : (answers : Answering) (b : Bytes) (key : Result Unlocked Fault) → FindsKey answers (take front_size b) key
     → FindsKey answers b key
 whole_key answers b key (inl memory) = inl memory
 whole_key answers b key (inr (header, verdict, is)) = inr (header, whole_verdict b header verdict, is)
 
 pub whole_unlocks : (answers : Answering) (b front old new : Bytes) (report : Report) (code : ℕ)
-    (key : Result Unlocked Fault) → front ≡ take 65552 b
+    (key : Result Unlocked Fault) → front ≡ take front_size b
     → FindsKey answers front key → GivesKey key old new report code → Unlocks answers b old new report code
 whole_unlocks answers b front old new report code key same finds gives =
     (key, whole_key answers b key (subst (λ f. FindsKey answers f key) same finds), gives)
