@@ -12,6 +12,7 @@ use Rattle.age_stream.specs.declared.fault.StreamFault.{StreamFault}
 use Rattle.age_stream.specs.declared.layout.Layout.{Layout}
 use Rattle.age_stream.specs.Ranges.{HasPlain, IsSound, RangeState, Stops, bytes_from, opens_to, range_len}
 use Rattle.age_stream.specs.Slice.{opening}
+use Rattle.age_stream.specs.Sizes.{chunk_size}
 use Rattle.age_file.specs.declared.fault.Fault.{Fault}
 use Rattle.age_file.specs.AgeFile.{Bounds}
 use Rattle.age_file.specs.Ranges.{IsRangesOf, MissesRanges}
@@ -53,24 +54,25 @@ slices told layout at xs ys one more k lt =
           let value : slice_index (xs ++ ys) k ≡ slice_index ys j = ap (slice_index (xs ++ ys)) sum
           ∙ get_or-append-add xs ys j 0 in (
             byte.0,
-            ap (λ x. opening layout.key (bytes_from told layout.first) (x / 65536)) same ∙ byte.1,
-            ap (λ x. slice_get byte.0 (x % 65536)) same ∙ byte.2 ∙ ap Some (sym value),
+            ap (λ x. opening layout.key (bytes_from told layout.first) (x / chunk_size)) same ∙ byte.1,
+            ap (λ x. slice_get byte.0 (x % chunk_size)) same ∙ byte.2 ∙ ap Some (sym value),
           )
     ]
 
 -- a chunk of a range ends in the first piece
-within_one : (at n m i : ℕ) → 65536 * i < at + n → n ≤ m → m ≤ 65536 - at % 65536 → 65536 * i - at ≡ 0
+within_one : (at n m i : ℕ) → chunk_size * i < at + n → n ≤ m → m ≤ chunk_size - at % chunk_size
+    → chunk_size * i - at ≡ 0
 within_one at n m i to low within = omega arith
 
 -- what a range that stops has not written
 pub stopped : (told : Known) (s : RangeState) (at left most : ℕ) (was buf : Bytes) (opened : ℕ) (fault : StreamFault)
     (named : Fault) (old : Known)
-    → most ≤ left → most ≤ 65536 - at % 65536 → named ≡ stream_fault fault → IsSound told s
+    → most ≤ left → most ≤ chunk_size - at % chunk_size → named ≡ stream_fault fault → IsSound told s
     → Stops told s at (range_len s at most) was buf opened fault
     → WritesRange told s at left (moved old old) (Err named)
 stopped told s at left most was buf opened fault named old le within is sound stops =
     let some : 0 < range_len s at most = stops.some in
-    let to : 65536 * stops.chunk < at + range_len s at most = stops.to in
+    let to : chunk_size * stops.chunk < at + range_len s at most = stops.to in
     elim stops.lost [
       | inl failed ↦ inr (inl (is ∙ ap stream_fault failed), (0, omega arith, nothing told s.layout at 0 old refl))
       | inr lost ↦ inl (
@@ -79,7 +81,7 @@ stopped told s at left most was buf opened fault named old le within is sound st
         record {
           has = record { some = omega arith; from = stops.from; to = omega arith };
           lost = lost.1 sound;
-          writes = nothing told s.layout at (65536 * stops.chunk - at) old
+          writes = nothing told s.layout at (chunk_size * stops.chunk - at) old
               (within_one at (range_len s at most) most stops.chunk to (omega arith) within);
         },
       )
@@ -136,26 +138,26 @@ joined told again layout same at k from n m old mid new et el ef em one more =
 
 -- a range so far begins a chunk, unless it has just begun or is at its end
 abbrev pub IsWhole : (plain begin at left : ℕ) → Type 0
-IsWhole plain begin at left = (at ≡ begin) ⊎ ((at % 65536 ≡ 0) ⊎ ((plain ≤ at) ⊎ (left ≡ 0)))
+IsWhole plain begin at left = (at ≡ begin) ⊎ ((at % chunk_size ≡ 0) ⊎ ((plain ≤ at) ⊎ (left ≡ 0)))
 
-pub whole_on : (plain begin at left n : ℕ) → n ≡ min (min left (65536 - at % 65536)) (plain - at)
+pub whole_on : (plain begin at left n : ℕ) → n ≡ min (min left (chunk_size - at % chunk_size)) (plain - at)
     → IsWhole plain begin (at + n) (left - n)
 whole_on plain begin at left n is = elim (cases_lt n left) [
-  | inl lt ↦ elim (cases_lt n (65536 - at % 65536)) [
+  | inl lt ↦ elim (cases_lt n (chunk_size - at % chunk_size)) [
     | inl less ↦ inr (inr (inl (omega arith)))
     | inr ge ↦ inr (inl (omega arith))
   ]
   | inr ge ↦ inr (inr (inr (omega arith)))
 ]
 
-pub some_on : (plain begin len at left n : ℕ) → n ≡ min (min left (65536 - at % 65536)) (plain - at)
+pub some_on : (plain begin len at left n : ℕ) → n ≡ min (min left (chunk_size - at % chunk_size)) (plain - at)
     → at + left ≡ begin + len → begin ≤ at → at - begin ≤ min len (plain - begin)
     → at + n - begin ≤ min len (plain - begin)
 some_on plain begin len at left n is end low some = omega arith
 
 -- where the chunk begins that stops a range
 before_chunk : (plain begin at left i : ℕ) → IsWhole plain begin at left → begin ≤ at → 0 < min left (plain - at)
-    → at < 65536 * (i + 1) → 65536 * i - begin ≡ (at - begin) + (65536 * i - at)
+    → at < chunk_size * (i + 1) → chunk_size * i - begin ≡ (at - begin) + (chunk_size * i - at)
 before_chunk plain begin at left i (inl e) low some from = omega arith
 before_chunk plain begin at left i (inr (inl e)) low some from = omega arith
 before_chunk plain begin at left i (inr (inr (inl e))) low some from = absurd (omega arith)
@@ -171,8 +173,8 @@ pub failed_on : (told again : Known) (s t : RangeState) (begin len at left : ℕ
 failed_on told again s t begin len at left old mid new fault et el end low some whole one (inl (i, is, stops)) =
     let plain : t.layout.plain ≡ s.layout.plain = ap (λ (l : Layout). l.plain) el in
     let has : 0 < range_len t at left = stops.has.some in
-    let from : at < 65536 * (i + 1) = stops.has.from in
-    let to : 65536 * i < at + range_len t at left = stops.has.to in
+    let from : at < chunk_size * (i + 1) = stops.has.from in
+    let to : chunk_size * i < at + range_len t at left = stops.has.to in
     inl (
       i,
       is,
@@ -180,7 +182,8 @@ failed_on told again s t begin len at left old mid new fault et el end low some 
         has = record { some = omega arith; from = omega arith; to = omega arith };
         lost = subst (λ (l : Layout). opens_to told l i ≡ None) el
             (subst (λ (k : Known). opens_to k t.layout i ≡ None) et stops.lost);
-        writes = joined told again s.layout t.layout begin (at - begin) at (65536 * i - at) (65536 * i - begin) old mid
+        writes = joined told again s.layout t.layout begin (at - begin) at (chunk_size * i - at)
+            (chunk_size * i - begin) old mid
             new et el (omega arith)
             (before_chunk s.layout.plain begin at left i whole low (omega arith) from) one stops.writes;
       },

@@ -13,6 +13,7 @@ use Rattle.age_stream.specs.declared.fault.StreamFault.{StreamFault}
 use Rattle.age_stream.specs.declared.layout.Layout.{Layout}
 use Rattle.age_stream.specs.Offsets.{StaysGiven}
 use Rattle.age_stream.specs.Ranges.{IsVerifiedByte, RangeState, Stops, range_len}
+use Rattle.age_stream.specs.Sizes.{chunk_size}
 use Rattle.age_file.specs.declared.fault.Fault.{Fault}
 use Rattle.age_file.specs.AgeFile.{Bounds}
 use Rattle.age_file.specs.Ranges.{BeginsFile, IsOpenFault, IsOpenStage}
@@ -87,7 +88,7 @@ pub stopped : (gave : ℕ → ℕ → Type 0) (told : Known) (s : RangeState) (a
     → Stops told s at (range_len s at most) was buf opened fault → WritesAny gave s at left (moved old old) (Err named)
 stopped gave told s at left most was buf opened fault named old le is stops =
     let some : 0 < range_len s at most = stops.some in
-    let to : 65536 * stops.chunk < at + range_len s at most = stops.to in (
+    let to : chunk_size * stops.chunk < at + range_len s at most = stops.to in (
       elim stops.lost [
         | inl failed ↦ inr (inl (is ∙ ap stream_fault failed))
         | inr lost ↦ inl (
@@ -106,8 +107,8 @@ part_of_whole s t begin len at left fault el end low (inr failed) = inr failed
 part_of_whole s t begin len at left fault el end low (inl (i, is, has)) =
     let plain : t.layout.plain ≡ s.layout.plain = ap (λ (l : Layout). l.plain) el in
     let some : 0 < range_len t at left = has.some in
-    let from : at < 65536 * (i + 1) = has.from in
-    let to : 65536 * i < at + range_len t at left = has.to in
+    let from : at < chunk_size * (i + 1) = has.from in
+    let to : chunk_size * i < at + range_len t at left = has.to in
     inl (i, is, record { some = omega arith; from = omega arith; to = omega arith })
 
 -- two parts that follow one another are one

@@ -22,6 +22,7 @@ use Rattle.age_stream.specs.Opening.{EndsAt, IsAtPiece, WritesReading}
 use Rattle.age_stream.specs.Payload.{pieces}
 use Rattle.age_stream.specs.Reader.{MissesNonce}
 use Rattle.age_stream.specs.Reading.{Reading, payload_reading, stops}
+use Rattle.age_stream.specs.Sizes.{chunk_size, sealed_chunk_size}
 use Rattle.age_file.specs.declared.fault.Fault.{Fault}
 use Rattle.age_file.specs.declared.fault.Fault.TheVariants.{NotAge, BadLine, HeaderTruncated, HeaderTooLarge, Read, Write, OutOfMemory}
 use Rattle.age_file.specs.AgeFile.{Bounds}
@@ -251,7 +252,8 @@ took-piece : (limits : Bounds) (come mid to : Seen) (old new : Known) (h : Heade
     → TookThrough limits n (flow come to)
 took-piece limits come mid to old new h i fault n e le =
     let g : Bytes = e.gave.0 in
-    let all = gave-more come mid to (length i.text) (16 + (65552 * (e.piece + 1) + 1)) (i.text, i.took, omega arith)
+    let all =
+    gave-more come mid to (length i.text) (16 + (sealed_chunk_size * (e.piece + 1) + 1)) (i.text, i.took, omega arith)
     e.gave in
     record {
       found = found_in i.text h;
@@ -269,12 +271,12 @@ ends-takes limits come mid to old new h i stream.Write e = go e.at
     not-piece : IsAtPiece limits.max_chunks e.piece stream.Write → ⊥
     not-piece x = x
 
-    go : ((◌≡◌ {A = StreamFault} stream.Write stream.Write) × (65536 * e.piece ≤ length e.text))
+    go : ((◌≡◌ {A = StreamFault} stream.Write stream.Write) × (chunk_size * e.piece ≤ length e.text))
         ⊎ IsAtPiece limits.max_chunks e.piece stream.Write → TookUpTo limits (flow come to) (moved old new) Write
     go (inl (is, le)) = (
       e.text,
       e.written,
-      took-piece limits come mid to old new h i stream.Write (length e.text / 65536) e (omega arith),
+      took-piece limits come mid to old new h i stream.Write (length e.text / chunk_size) e (omega arith),
     )
     go (inr at) = absurd (not-piece at)
 ends-takes limits come mid to old new h i (stream.ChunkShort j) e = go e.at
@@ -282,7 +284,7 @@ ends-takes limits come mid to old new h i (stream.ChunkShort j) e = go e.at
     not-write : ◌≡◌ {A = StreamFault} (stream.ChunkShort j) stream.Write → ⊥
     not-write x = cc
 
-    go : ((◌≡◌ {A = StreamFault} (stream.ChunkShort j) stream.Write) × (65536 * e.piece ≤ length e.text))
+    go : ((◌≡◌ {A = StreamFault} (stream.ChunkShort j) stream.Write) × (chunk_size * e.piece ≤ length e.text))
         ⊎ IsAtPiece limits.max_chunks e.piece (stream.ChunkShort j) → TookThrough limits j (flow come to)
     go (inl (is, le)) = absurd (not-write is)
     go (inr at) = took-piece limits come mid to old new h i (stream.ChunkShort j) j e (omega (arith, at))
@@ -291,7 +293,7 @@ ends-takes limits come mid to old new h i (stream.EmptyFinal j) e = go e.at
     not-write : ◌≡◌ {A = StreamFault} (stream.EmptyFinal j) stream.Write → ⊥
     not-write x = cc
 
-    go : ((◌≡◌ {A = StreamFault} (stream.EmptyFinal j) stream.Write) × (65536 * e.piece ≤ length e.text))
+    go : ((◌≡◌ {A = StreamFault} (stream.EmptyFinal j) stream.Write) × (chunk_size * e.piece ≤ length e.text))
         ⊎ IsAtPiece limits.max_chunks e.piece (stream.EmptyFinal j) → TookThrough limits j (flow come to)
     go (inl (is, le)) = absurd (not-write is)
     go (inr at) = took-piece limits come mid to old new h i (stream.EmptyFinal j) j e (omega (arith, at))
@@ -300,7 +302,7 @@ ends-takes limits come mid to old new h i (stream.BadChunk j) e = go e.at
     not-write : ◌≡◌ {A = StreamFault} (stream.BadChunk j) stream.Write → ⊥
     not-write x = cc
 
-    go : ((◌≡◌ {A = StreamFault} (stream.BadChunk j) stream.Write) × (65536 * e.piece ≤ length e.text))
+    go : ((◌≡◌ {A = StreamFault} (stream.BadChunk j) stream.Write) × (chunk_size * e.piece ≤ length e.text))
         ⊎ IsAtPiece limits.max_chunks e.piece (stream.BadChunk j) → TookThrough limits j (flow come to)
     go (inl (is, le)) = absurd (not-write is)
     go (inr at) = took-piece limits come mid to old new h i (stream.BadChunk j) j e (omega (arith, at))
@@ -309,7 +311,7 @@ ends-takes limits come mid to old new h i stream.TooManyChunks e = go e.at
     not-write : ◌≡◌ {A = StreamFault} stream.TooManyChunks stream.Write → ⊥
     not-write x = cc
 
-    go : ((◌≡◌ {A = StreamFault} stream.TooManyChunks stream.Write) × (65536 * e.piece ≤ length e.text))
+    go : ((◌≡◌ {A = StreamFault} stream.TooManyChunks stream.Write) × (chunk_size * e.piece ≤ length e.text))
         ⊎ IsAtPiece limits.max_chunks e.piece stream.TooManyChunks
         → TookThrough limits limits.max_chunks (flow come to)
     go (inl (is, le)) = absurd (not-write is)

@@ -15,6 +15,7 @@ use Rattle.age_stream.specs.declared.fault.StreamFault.{StreamFault}
 use Rattle.age_stream.specs.declared.fault.StreamFault.TheVariants as stream
 use Rattle.age_stream.specs.Payload.{chunks, payload, payload_key, sealed_chunks}
 use Rattle.age_stream.specs.Sealing.{Fills, SealerState, SealsAll, Stopped, StopsIn, at_start}
+use Rattle.age_stream.specs.Sizes.{chunk_size}
 use Rattle.age_stream.proofs.SealingLemmas.{filled-finishes, filled-seals}
 use Rattle.age_file.specs.declared.fault.Fault.{Fault}
 use Rattle.age_file.specs.declared.fault.Fault.TheVariants.{TooManyChunks, Read, Write, OutOfMemory}
@@ -121,7 +122,7 @@ whole : (limits : Bounds) (fresh : Fresh) (gathered : Gathering) (text plain : B
     → Made limits fresh.file_key gathered text → Appends a b (text ++ fresh.nonce)
     → Appends b c (concat (sealed_chunks fresh.file_key fresh.nonce plain))
     → 0 + length (chunks plain) ≤ limits.max_chunks
-    → done.bytes ≡ 65536 * 0 + 0 + length plain → done.chunks ≡ 0 + length (chunks plain)
+    → done.bytes ≡ chunk_size * 0 + 0 + length plain → done.chunks ≡ 0 + length (chunks plain)
     → EncryptsText limits fresh gathered plain (moved a c) (Ok done)
 whole limits fresh gathered text plain a b c done sixteen m front rest fits bytes count = (
   text ++ payload fresh.file_key fresh.nonce plain,
@@ -229,7 +230,7 @@ pub read_late : (key : Bytes) (max : ℕ) (t : SealerState) (more : Bool) (from 
     → Fills (at_start key max) t (flow from mid) (Ok more) → SealsRest t more (flow mid to) (moved a c) (Err fault)
     → stream_fault fault ≡ Read → FillsChunk (flow from to)
 read_late key max t true from mid to a c fault (x, took, is, fits, full, ended) (chunk, seals) read =
-    let l : length x ≡ 65536 = subst (λ (u : SealerState). length u.held ≡ 65536) is (full refl) in
+    let l : length x ≡ chunk_size = subst (λ (u : SealerState). length u.held ≡ chunk_size) is (full refl) in
     of-then from mid to x _ _ took seals.stops (λ text h. omega (arith, length-append x text, l))
 read_late key max t false from mid to a c fault fills ((write, part), same) read =
     absurd (not-read (subst (λ f. stream_fault f ≡ Read) write read))
@@ -248,7 +249,7 @@ pub takes_begun : (limits : Bounds) (fresh : Fresh) (gathered : Gathering) (stan
 takes_begun limits fresh gathered stanzas mac key max t more from mid old new header (text, head, part)
     (x, gave, is, fits, full, ended) =
     let m = made limits fresh.file_key gathered stanzas mac text header head in
-    let le : length x ≤ 65536 = subst (λ (u : SealerState). length u.held ≤ 65536) is fits in
+    let le : length x ≤ chunk_size = subst (λ (u : SealerState). length u.held ≤ chunk_size) is fits in
     record {
       stanzas = m.stanzas;
       text = text;
@@ -265,7 +266,7 @@ took : (limits : Bounds) (fresh : Fresh) (gathered : Gathering) (text : Bytes) (
     (fault : StreamFault) → length fresh.nonce ≡ 16
     → Made limits fresh.file_key gathered text → Appends a b (text ++ fresh.nonce)
     → Stopped (payload_key fresh.file_key fresh.nonce) limits.max_chunks 0 chunk [] (flow from to) (moved b c) fault
-    → GaveAtMost (65536 * (chunk + 1 - 0) + 1 - 0) (flow from to)
+    → GaveAtMost (chunk_size * (chunk + 1 - 0) + 1 - 0) (flow from to)
     → TookChunks limits fresh gathered (flow from to) (moved a c)
 took limits fresh gathered text from to a b c chunk fault sixteen m front s gave =
     let l : length ((text ++ fresh.nonce) ++ s.wrote.0) ≡ length (text ++ fresh.nonce) + length s.wrote.0 =
@@ -293,7 +294,7 @@ takes_payload limits fresh gathered text from to a b c stream.Write sixteen m fr
     not-read : stream.Write ≡ stream.Read → ⊥
     not-read e = cc
 
-    go : (stream.Write ≡ stream.Read) ⊎ GaveAtMost (65536 * (chunk + 1 - 0) + 1 - 0) (flow from to)
+    go : (stream.Write ≡ stream.Read) ⊎ GaveAtMost (chunk_size * (chunk + 1 - 0) + 1 - 0) (flow from to)
         → TookChunks limits fresh gathered (flow from to) (moved a c)
     go (inl e) = absurd (not-read e)
     go (inr gave) = took limits fresh gathered text from to a b c chunk stream.Write sixteen m front s gave
@@ -302,7 +303,7 @@ takes_payload limits fresh gathered text from to a b c stream.TooManyChunks sixt
     not-read : stream.TooManyChunks ≡ stream.Read → ⊥
     not-read e = cc
 
-    go : (stream.TooManyChunks ≡ stream.Read) ⊎ GaveAtMost (65536 * (chunk + 1 - 0) + 1 - 0) (flow from to)
+    go : (stream.TooManyChunks ≡ stream.Read) ⊎ GaveAtMost (chunk_size * (chunk + 1 - 0) + 1 - 0) (flow from to)
         → TookChunks limits fresh gathered (flow from to) (moved a c)
     go (inl e) = absurd (not-read e)
     go (inr gave) = took limits fresh gathered text from to a b c chunk stream.TooManyChunks sixteen m front s gave

@@ -13,6 +13,7 @@ use Rattle.age_stream.specs.declared.fault.StreamFault.TheVariants.{NonceTruncat
 use Rattle.age_stream.specs.Opening.{EndsAt, OpenerState, Starts, WritesAll, WritesReading, at_start}
 use Rattle.age_stream.specs.Payload.{payload_key, pieces}
 use Rattle.age_stream.specs.Reading.{payload_reading, reading_from, stops}
+use Rattle.age_stream.specs.Sizes.{sealed_chunk_size}
 
 -- the reading of the payload that the source gave was written
 abbrev pub WritesPayload : FileKey → ℕ → Flow → Known → Known → Result Done StreamFault → Type 0
@@ -72,7 +73,7 @@ payload-ends k max s from mid to a b fault starts nonce h =
         ⊎ EndsAt max 16 (flow from to) (moved a b) fault
     go (inl e) = inl e
     go (inr e) =
-        let all = gave-more from mid to 16 (0 + (65552 * (e.piece + 1) + 1)) nonce e.gave in
+        let all = gave-more from mid to 16 (0 + (sealed_chunk_size * (e.piece + 1) + 1)) nonce e.gave in
         inr (record {
           piece = e.piece;
           text = e.text;

@@ -16,38 +16,43 @@ use Rattle.age_stream.specs.Offsets.{EndsBefore, HasAt, GaveAt}
 use Rattle.age_stream.specs.Reading.{opened_at, outcome}
 use Rattle.age_stream.specs.Ranges.{last_len, opens_to, IsOpenFault, IsVerified, JudgesLast, OpensRanges}
 use Rattle.age_stream.specs.Slice.{opening, plain_len, chunk_len, last_piece, last_outcome, range_outcome}
+use Rattle.age_stream.specs.Sizes.{chunk_size, sealed_chunk_size, chunk_buf_size}
 use Rattle.age_stream.proofs.ReadingLemmas.{cut-count}
 use Rattle.age_stream.proofs.OutcomeLemmas.{outcome-many}
 use Rattle.age_stream.proofs.PayloadLemmas.{outcome-opens}
 use Rattle.age_stream.proofs.LoadLemmas.{tight-at}
 use Rattle.age_stream.proofs.SliceLemmas.{cut-at, opening-at, plain-count}
 
-pub some-or-none : (last len : ℕ) → last ≡ (len - 1) / 65552 → (last ≡ 0) ⊎ (65552 * last < len)
+pub some-or-none : (last len : ℕ) → last ≡ (len - 1) / sealed_chunk_size → (last ≡ 0) ⊎ (sealed_chunk_size * last < len)
 some-or-none last len is = elim (cases_lt 0 len) [
   | inl long ↦ inr (omega arith)
   | inr none ↦ inl (omega arith)
 ]
 
-pub piece-count : (rest : Bytes) (last : ℕ) → last ≡ (length rest - 1) / 65552 → length (pieces rest) ≡ last + 1
-piece-count rest last is = cut-count 65552 last rest (omega arith) (some-or-none last (length rest) is) (omega arith)
+pub piece-count : (rest : Bytes) (last : ℕ) → last ≡ (length rest - 1) / sealed_chunk_size
+    → length (pieces rest) ≡ last + 1
+piece-count rest last is =
+    cut-count sealed_chunk_size last rest (omega arith) (some-or-none last (length rest) is) (omega arith)
 
-last-piece : (rest : Bytes) (last : ℕ) → last ≡ (length rest - 1) / 65552 → last_piece rest ≡ drop (65552 * last) rest
+last-piece : (rest : Bytes) (last : ℕ) → last ≡ (length rest - 1) / sealed_chunk_size
+    → last_piece rest ≡ drop (sealed_chunk_size * last) rest
 last-piece rest last is =
     let n : length (pieces rest) ≡ last + 1 = piece-count rest last is in
     let e : length (pieces rest) - 1 ≡ last = omega arith in
-    let d : length (drop (65552 * last) rest) ≡ length rest - 65552 * last = length-drop (65552 * last) rest in
-    ap (λ k. get_or (pieces rest) k []) e ∙ cut-at 65552 last rest (omega arith)
-    ∙ take_all 65552 (drop (65552 * last) rest) (omega arith)
+    let d : length (drop (sealed_chunk_size * last) rest) ≡ length rest - sealed_chunk_size * last =
+    length-drop (sealed_chunk_size * last) rest in
+    ap (λ k. get_or (pieces rest) k []) e ∙ cut-at sealed_chunk_size last rest (omega arith)
+    ∙ take_all sealed_chunk_size (drop (sealed_chunk_size * last) rest) (omega arith)
 
 -- how long the last piece is
 pub length-last : (rest : Bytes) → length (last_piece rest) ≡ last_len (length rest)
 length-last rest =
-    let last : ℕ = (length rest - 1) / 65552 in
-    ap length (last-piece rest last refl) ∙ length-drop (65552 * last) rest
+    let last : ℕ = (length rest - 1) / sealed_chunk_size in
+    ap length (last-piece rest last refl) ∙ length-drop (sealed_chunk_size * last) rest
 
 -- what the last piece gives, its number and its offset written out
-pub last-is : (key : Bytes) (max : ℕ) (rest : Bytes) (last : ℕ) → last ≡ (length rest - 1) / 65552
-    → last_outcome key max rest ≡ outcome key max last true (drop (65552 * last) rest)
+pub last-is : (key : Bytes) (max : ℕ) (rest : Bytes) (last : ℕ) → last ≡ (length rest - 1) / sealed_chunk_size
+    → last_outcome key max rest ≡ outcome key max last true (drop (sealed_chunk_size * last) rest)
 last-is key max rest last is =
     let n : length (pieces rest) ≡ last + 1 = piece-count rest last is in
     let e : length (pieces rest) - 1 ≡ last = omega arith in
@@ -57,44 +62,50 @@ behind-len : (at n : ℕ) (bytes : Bytes) → length bytes ≡ at + n → length
 behind-len at n bytes size = let d : length (drop at bytes) ≡ length bytes - at = length-drop at bytes in omega arith
 
 -- too many pieces
-pub last-many : (key : Bytes) (max first sealed last : ℕ) (told : Known) → last ≡ (sealed - 1) / 65552 → max ≤ last
+pub last-many : (key : Bytes) (max first sealed last : ℕ) (told : Known) → last ≡ (sealed - 1) / sealed_chunk_size
+    → max ≤ last
     → IfSome told (λ bytes. length bytes ≡ first + sealed → last_outcome key max (drop first bytes) ≡ Err TooManyChunks)
 last-many key max first sealed last None is le = tt
 last-many key max first sealed last (Some bytes) is le = λ size.
-    last-is key max (drop first bytes) last (is ∙ ap (λ n. (n - 1) / 65552) (sym (behind-len first sealed bytes size)))
-    ∙ outcome-many key max last true (drop (65552 * last) (drop first bytes)) le
+    last-is key max (drop first bytes) last
+    (is ∙ ap (λ n. (n - 1) / sealed_chunk_size) (sym (behind-len first sealed bytes size)))
+    ∙ outcome-many key max last true (drop (sealed_chunk_size * last) (drop first bytes)) le
 
 -- the last piece was not there to be read
 pub last-gone : (key : Bytes) (max first sealed last end : ℕ) (told : Known) (fault : StreamFault)
-    → last ≡ (sealed - 1) / 65552 → end ≡ sealed - 65552 * last
-    → EndsBefore told (first + 65552 * last + end)
+    → last ≡ (sealed - 1) / sealed_chunk_size → end ≡ sealed - sealed_chunk_size * last
+    → EndsBefore told (first + sealed_chunk_size * last + end)
     → IfSome told (λ bytes. length bytes ≡ first + sealed → last_outcome key max (drop first bytes) ≡ Err fault)
 last-gone key max first sealed last end None fault is len gone = tt
 last-gone key max first sealed last end (Some bytes) fault is len gone = λ size.
-    let short : length bytes < first + 65552 * last + end = gone in
+    let short : length bytes < first + sealed_chunk_size * last + end = gone in
     absurd (omega arith)
 
 -- what was read at the last piece's offset gives what the last piece does
 pub last-read : (key : Bytes) (max first sealed last end : ℕ) (told : Known) (buf : Bytes)
-    (r : Result Bytes StreamFault) → last ≡ (sealed - 1) / 65552
-    → end ≡ sealed - 65552 * last → length buf ≡ 65553 → HasAt told (first + 65552 * last) (take end buf)
+    (r : Result Bytes StreamFault) → last ≡ (sealed - 1) / sealed_chunk_size
+    → end ≡ sealed - sealed_chunk_size * last → length buf ≡ chunk_buf_size
+    → HasAt told (first + sealed_chunk_size * last) (take end buf)
     → outcome key max last true (take end buf) ≡ r
     → IfSome told (λ bytes. length bytes ≡ first + sealed → last_outcome key max (drop first bytes) ≡ r)
 last-read key max first sealed last end None buf r is len room has gives = tt
 last-read key max first sealed last end (Some bytes) buf r is len room has gives = λ size.
     let rest : Bytes = drop first bytes in
     let all : length rest ≡ sealed = behind-len first sealed bytes size in
-    let d : length (drop (65552 * last) rest) ≡ length rest - 65552 * last = length-drop (65552 * last) rest in
+    let d : length (drop (sealed_chunk_size * last) rest) ≡ length rest - sealed_chunk_size * last =
+    length-drop (sealed_chunk_size * last) rest in
     let l : length (take end buf) ≡ end = length-take-le end buf (omega arith) in
-    let same : take end buf ≡ drop (65552 * last) rest =
-    has ∙ ap (λ k. take k (drop (first + 65552 * last) bytes)) l
-    ∙ ap (take end) (sym (drop-drop (65552 * last) first bytes))
-    ∙ take_all end (drop (65552 * last) rest) (omega arith) in
-    last-is key max rest last (is ∙ ap (λ n. (n - 1) / 65552) (sym all)) ∙ ap (outcome key max last true) (sym same)
+    let same : take end buf ≡ drop (sealed_chunk_size * last) rest =
+    has ∙ ap (λ k. take k (drop (first + sealed_chunk_size * last) bytes)) l
+    ∙ ap (take end) (sym (drop-drop (sealed_chunk_size * last) first bytes))
+    ∙ take_all end (drop (sealed_chunk_size * last) rest) (omega arith) in
+    last-is key max rest last (is ∙ ap (λ n. (n - 1) / sealed_chunk_size) (sym all))
+    ∙ ap (outcome key max last true) (sym same)
     ∙ gives
 
 -- how long a last piece is that opens
-pub open-len : (key : Bytes) (max i end n : ℕ) (buf after : Bytes) → length buf ≡ 65553 → end ≤ 65552
+pub open-len : (key : Bytes) (max i end n : ℕ) (buf after : Bytes) → length buf ≡ chunk_buf_size
+    → end ≤ sealed_chunk_size
     → outcome key max i true (take end buf) ≡ Ok (take n after) → n ≤ length after
     → (n + 16 ≡ end) × (0 < i → 0 < n)
 open-len key max i end n buf after room le opens within =
@@ -108,7 +119,7 @@ open-len key max i end n buf after room le opens within =
 -- a last piece that was read, and opens
 pub last-verified : (gave : ℕ → ℕ → Type 0) (layout : Layout) (max last end n : ℕ) (buf after : Bytes)
     → layout.count ≡ last + 1
-    → GaveAt gave (layout.first + 65552 * last) (take end buf)
+    → GaveAt gave (layout.first + sealed_chunk_size * last) (take end buf)
     → outcome layout.key max last true (take end buf) ≡ Ok (take n after)
     → n ≡ chunk_len layout.plain last → IsVerified gave layout (layout.count - 1)
     (take (chunk_len layout.plain (layout.count - 1)) after)
@@ -125,16 +136,18 @@ last-verified gave layout max last end n buf after count read opens len =
     })
 
 -- a last piece that opens
-last-opens : (key : Bytes) (max : ℕ) (rest t : Bytes) (last : ℕ) → last ≡ (length rest - 1) / 65552
+last-opens : (key : Bytes) (max : ℕ) (rest t : Bytes) (last : ℕ) → last ≡ (length rest - 1) / sealed_chunk_size
     → last_outcome key max rest ≡ Ok t → opening key rest last ≡ Some t
 last-opens key max rest t last is h =
-    let piece : Bytes = drop (65552 * last) rest in
-    let d : length piece ≡ length rest - 65552 * last = length-drop (65552 * last) rest in
+    let piece : Bytes = drop (sealed_chunk_size * last) rest in
+    let d : length piece ≡ length rest - sealed_chunk_size * last = length-drop (sealed_chunk_size * last) rest in
     let n : length (pieces rest) ≡ last + 1 = piece-count rest last is in
     let o = outcome-opens key max last true piece t (sym (last-is key max rest last is) ∙ h) in
     opening-at key rest last (omega arith)
-    ∙ ap (λ b. opened_at key last b (take 65552 piece)) (le-leb (length rest) (65552 * (last + 1)) (omega arith))
-    ∙ ap (opened_at key last true) (take_all 65552 piece (omega arith)) ∙ ap (opened_at key last true) o.sealed_so
+    ∙ ap (λ b. opened_at key last b (take sealed_chunk_size piece))
+    (le-leb (length rest) (sealed_chunk_size * (last + 1)) (omega arith))
+    ∙ ap (opened_at key last true) (take_all sealed_chunk_size piece (omega arith))
+    ∙ ap (opened_at key last true) o.sealed_so
     ∙ opened-sealed key (chunk_nonce last true) [] t
 
 -- what is known of a nonce that was read, and of the n bytes after it
@@ -164,22 +177,24 @@ plain-there : (layout : Layout) (rest : Bytes) → length rest ≡ layout.plain 
     → plain_len rest ≡ layout.plain
 plain-there layout rest size =
     let some : 0 < layout.count = layout.some in
-    let covers : layout.plain ≤ 65536 * layout.count = layout.covers in
-    let low : 65536 * (layout.count - 1) ≤ layout.plain = tight-at layout (layout.count - 1) (omega arith) in
-    let more : (layout.count - 1 ≡ 0) ⊎ (65552 * (layout.count - 1) < length rest) = elim (cases_lt 1 layout.count) [
-      | inl lt ↦ inr (let tight : 65536 * (layout.count - 1) < layout.plain = layout.tight lt in omega arith)
+    let covers : layout.plain ≤ chunk_size * layout.count = layout.covers in
+    let low : chunk_size * (layout.count - 1) ≤ layout.plain = tight-at layout (layout.count - 1) (omega arith) in
+    let more : (layout.count - 1 ≡ 0) ⊎ (sealed_chunk_size * (layout.count - 1) < length rest) =
+    elim (cases_lt 1 layout.count) [
+      | inl lt ↦ inr (let tight : chunk_size * (layout.count - 1) < layout.plain = layout.tight lt in omega arith)
       | inr ge ↦ inl (omega arith)
     ] in
     let n : plain_len rest + 16 * (layout.count - 1 + 1) ≡ length rest =
     plain-count (layout.count - 1) rest more (omega arith) (omega arith) in
     omega arith
 
-count-there : (layout : Layout) (n : ℕ) → layout.plain + 16 * layout.count ≡ n → layout.count - 1 ≡ (n - 1) / 65552
+count-there : (layout : Layout) (n : ℕ) → layout.plain + 16 * layout.count ≡ n
+    → layout.count - 1 ≡ (n - 1) / sealed_chunk_size
 count-there layout n sealed =
     let some : 0 < layout.count = layout.some in
-    let covers : layout.plain ≤ 65536 * layout.count = layout.covers in
+    let covers : layout.plain ≤ chunk_size * layout.count = layout.covers in
     elim (cases_lt 1 layout.count) [
-      | inl lt ↦ let tight : 65536 * (layout.count - 1) < layout.plain = layout.tight lt in omega arith
+      | inl lt ↦ let tight : chunk_size * (layout.count - 1) < layout.plain = layout.tight lt in omega arith
       | inr ge ↦ omega arith
     ]
 
@@ -203,7 +218,7 @@ judged-ok k max at (Some bytes) nonce buf n layout h j =
     ap (λ x. opening x (drop layout.first bytes) (layout.count - 1)) j.0
     ∙ ap (λ f. opening (payload_key k nonce) (drop f bytes) (layout.count - 1)) j.1
     ∙ last-opens (payload_key k nonce) max (drop (at + 16) bytes) text (layout.count - 1)
-    (count-there layout n j.2 ∙ ap (λ m. (m - 1) / 65552) (sym size)) gives in (
+    (count-there layout n j.2 ∙ ap (λ m. (m - 1) / sealed_chunk_size) (sym size)) gives in (
       refl,
       refl,
       record {

@@ -12,6 +12,7 @@ use Rattle.age_stream.specs.declared.layout.Layout.{Layout}
 use Rattle.age_stream.specs.Offsets.{HasAt}
 use Rattle.age_stream.specs.Ranges.{bytes_from, opens_to, IsThere}
 use Rattle.age_stream.specs.Slice.{chunk_len}
+use Rattle.age_stream.specs.Sizes.{chunk_size, sealed_chunk_size, chunk_buf_size}
 use Rattle.age_stream.proofs.SliceLemmas.{opening-at}
 
 -- there are as many pieces as are counted
@@ -19,64 +20,69 @@ pub there-count : (layout : Layout) (rest : Bytes) → length rest ≡ layout.pl
     → length (pieces rest) ≡ layout.count
 there-count layout rest size =
     let some : 0 < layout.count = layout.some in
-    let covers : layout.plain ≤ 65536 * layout.count = layout.covers in
-    let more : (layout.count - 1 ≡ 0) ⊎ (65552 * (layout.count - 1) < length rest) = elim (cases_lt 1 layout.count) [
-      | inl lt ↦ inr (let tight : 65536 * (layout.count - 1) < layout.plain = layout.tight lt in omega arith)
+    let covers : layout.plain ≤ chunk_size * layout.count = layout.covers in
+    let more : (layout.count - 1 ≡ 0) ⊎ (sealed_chunk_size * (layout.count - 1) < length rest) =
+    elim (cases_lt 1 layout.count) [
+      | inl lt ↦ inr (let tight : chunk_size * (layout.count - 1) < layout.plain = layout.tight lt in omega arith)
       | inr ge ↦ inl (omega arith)
     ] in
     let n : length (pieces rest) ≡ layout.count - 1 + 1 =
-    cut-count 65552 (layout.count - 1) rest (omega arith) more (omega arith) in
+    cut-count sealed_chunk_size (layout.count - 1) rest (omega arith) more (omega arith) in
     omega arith
 
-pub tight-at : (layout : Layout) (i : ℕ) → i < layout.count → 65536 * i ≤ layout.plain
+pub tight-at : (layout : Layout) (i : ℕ) → i < layout.count → chunk_size * i ≤ layout.plain
 tight-at layout i lt = elim (cases_lt 1 layout.count) [
-  | inl more ↦ let tight : 65536 * (layout.count - 1) < layout.plain = layout.tight more in omega arith
+  | inl more ↦ let tight : chunk_size * (layout.count - 1) < layout.plain = layout.tight more in omega arith
   | inr one ↦ omega arith
 ]
 
-full-at : (layout : Layout) (i : ℕ) → i + 1 < layout.count → 65536 * (i + 1) < layout.plain
-full-at layout i lt = let tight : 65536 * (layout.count - 1) < layout.plain = layout.tight (omega arith) in omega arith
+full-at : (layout : Layout) (i : ℕ) → i + 1 < layout.count → chunk_size * (i + 1) < layout.plain
+full-at layout i lt =
+    let tight : chunk_size * (layout.count - 1) < layout.plain = layout.tight (omega arith) in omega arith
 
 there-last : (layout : Layout) (rest : Bytes) (i : ℕ) → length rest ≡ layout.plain + 16 * layout.count
     → i < layout.count
-    → nat_eq (i + 1) layout.count ≡ nat_le (length rest) (65552 * (i + 1))
+    → nat_eq (i + 1) layout.count ≡ nat_le (length rest) (sealed_chunk_size * (i + 1))
 there-last layout rest i size lt =
-    let covers : layout.plain ≤ 65536 * layout.count = layout.covers in
+    let covers : layout.plain ≤ chunk_size * layout.count = layout.covers in
     elim (cases_lt (i + 1) layout.count) [
       | inl more ↦
-          let full : 65536 * (i + 1) < layout.plain = full-at layout i more in
-          ne-eqb (i + 1) layout.count more ∙ sym (lt-leb (length rest) (65552 * (i + 1)) (omega arith))
-      | inr ge ↦ eq-eqb (i + 1) layout.count (omega arith) ∙ sym (le-leb (length rest) (65552 * (i + 1)) (omega arith))
+          let full : chunk_size * (i + 1) < layout.plain = full-at layout i more in
+          ne-eqb (i + 1) layout.count more ∙ sym (lt-leb (length rest) (sealed_chunk_size * (i + 1)) (omega arith))
+      | inr ge ↦ eq-eqb (i + 1) layout.count (omega arith)
+          ∙ sym (le-leb (length rest) (sealed_chunk_size * (i + 1)) (omega arith))
     ]
   where
     ne-eqb : (a b : ℕ) → a < b → nat_eq a b ≡ false
     ne-eqb a b l = false_from_ne_true (nat_eq a b) (λ e. let same : a ≡ b = eqb-true a b e in absurd (omega arith))
 
 there-piece : (told : Known) (layout : Layout) (i : ℕ) (piece : Bytes) → IsThere told layout → i < layout.count
-    → HasAt told (layout.first + 65552 * i) piece → length piece ≡ chunk_len layout.plain i + 16
-    → piece ≡ take 65552 (drop (65552 * i) (bytes_from told layout.first))
+    → HasAt told (layout.first + sealed_chunk_size * i) piece → length piece ≡ chunk_len layout.plain i + 16
+    → piece ≡ take sealed_chunk_size (drop (sealed_chunk_size * i) (bytes_from told layout.first))
 there-piece None layout i piece there lt has len = absurd (false≢true there.known)
 there-piece (Some bytes) layout i piece there lt has len =
     let rest : Bytes = drop layout.first bytes in
     let size : length rest ≡ layout.plain + 16 * layout.count = there.size in
-    let covers : layout.plain ≤ 65536 * layout.count = layout.covers in
-    let low : 65536 * i ≤ layout.plain = tight-at layout i lt in
-    let d : length (drop (65552 * i) rest) ≡ length rest - 65552 * i = length-drop (65552 * i) rest in
-    let at : piece ≡ take (length piece) (drop (65552 * i) rest) = has
-    ∙ ap (take (length piece)) (sym (drop-drop (65552 * i) layout.first bytes)) in
+    let covers : layout.plain ≤ chunk_size * layout.count = layout.covers in
+    let low : chunk_size * i ≤ layout.plain = tight-at layout i lt in
+    let d : length (drop (sealed_chunk_size * i) rest) ≡ length rest - sealed_chunk_size * i =
+    length-drop (sealed_chunk_size * i) rest in
+    let at : piece ≡ take (length piece) (drop (sealed_chunk_size * i) rest) = has
+    ∙ ap (take (length piece)) (sym (drop-drop (sealed_chunk_size * i) layout.first bytes)) in
     elim (cases_lt (i + 1) layout.count) [
       | inl more ↦
-          let full : 65536 * (i + 1) < layout.plain = full-at layout i more in
-          let e : length piece ≡ 65552 = omega arith in
-          at ∙ ap (λ k. take k (drop (65552 * i) rest)) e
-      | inr ge ↦ at ∙ take_all (length piece) (drop (65552 * i) rest) (omega arith)
-          ∙ sym (take_all 65552 (drop (65552 * i) rest) (omega arith))
+          let full : chunk_size * (i + 1) < layout.plain = full-at layout i more in
+          let e : length piece ≡ sealed_chunk_size = omega arith in
+          at ∙ ap (λ k. take k (drop (sealed_chunk_size * i) rest)) e
+      | inr ge ↦ at ∙ take_all (length piece) (drop (sealed_chunk_size * i) rest) (omega arith)
+          ∙ sym (take_all sealed_chunk_size (drop (sealed_chunk_size * i) rest) (omega arith))
     ]
 
 -- what was read at the offset of piece i and opened there
 pub open-there : (told : Known) (layout : Layout) (nonce buf : Bytes) (i end : ℕ) (o : Known) → IsThere told layout
     → i < layout.count
-    → HasAt told (layout.first + 65552 * i) (take end buf) → end ≡ chunk_len layout.plain i + 16 → length buf ≡ 65553
+    → HasAt told (layout.first + sealed_chunk_size * i) (take end buf) → end ≡ chunk_len layout.plain i + 16
+    → length buf ≡ chunk_buf_size
     → nonce ≡ chunk_nonce i (nat_eq (i + 1) layout.count) → opened layout.key nonce [] (take end buf) ≡ o
     → opens_to told layout i ≡ o
 open-there told layout nonce buf i end o there lt has len room at opens =
@@ -84,7 +90,7 @@ open-there told layout nonce buf i end o there lt has len room at opens =
     let count : length (pieces rest) ≡ layout.count = there-count layout rest there.size in
     let size : length (take end buf) ≡ end = length-take-le end buf (omega arith) in
     opening-at layout.key rest i (omega arith)
-    ∙ ap (λ b. opened_at layout.key i b (take 65552 (drop (65552 * i) rest)))
+    ∙ ap (λ b. opened_at layout.key i b (take sealed_chunk_size (drop (sealed_chunk_size * i) rest)))
     (sym (there-last layout rest i there.size lt))
     ∙ ap (opened_at layout.key i (nat_eq (i + 1) layout.count))
     (sym (there-piece told layout i (take end buf) there lt has (size ∙ len)))

@@ -14,36 +14,41 @@ use Rattle.age_stream.specs.declared.opening.Piece.{Piece}
 use Rattle.age_stream.specs.Counts.{is_read}
 use Rattle.age_stream.specs.Opening.{Advances, IsAtPiece, IsFilled, Loses, OpenerState, OpensNext, ReadsPiece, left_of, ahead_len, held_of}
 use Rattle.age_stream.specs.Reading.{outcome, first_outcome, after_first}
+use Rattle.age_stream.specs.Sizes.{chunk_size, sealed_chunk_size, chunk_buf_size}
 
 -- a full buffer: a piece and the byte that follows it
-pub outcome-more : (key : Bytes) (max i : ℕ) (ahead given filled : Bytes) → length filled ≡ 65553
+pub outcome-more : (key : Bytes) (max i : ℕ) (ahead given filled : Bytes) → length filled ≡ chunk_buf_size
     → filled ≡ ahead ++ given
-    → first_outcome key max i (ahead ++ given) ≡ outcome key max i false (take 65552 filled)
+    → first_outcome key max i (ahead ++ given) ≡ outcome key max i false (take sealed_chunk_size filled)
 outcome-more key max i ahead given filled len is =
-    let no : nat_le (length filled) 65552 ≡ false = lt-leb (length filled) 65552 (omega arith) in
-    ap (first_outcome key max i) (sym is) ∙ ap (λ b. outcome key max i b (take 65552 filled)) no
+    let no : nat_le (length filled) sealed_chunk_size ≡ false =
+    lt-leb (length filled) sealed_chunk_size (omega arith) in
+    ap (first_outcome key max i) (sym is) ∙ ap (λ b. outcome key max i b (take sealed_chunk_size filled)) no
 
-pub after-more : (ahead given filled : Bytes) → length filled ≡ 65553 → filled ≡ ahead ++ given
-    → after_first (ahead ++ given) ≡ Some (drop 65552 filled)
+pub after-more : (ahead given filled : Bytes) → length filled ≡ chunk_buf_size → filled ≡ ahead ++ given
+    → after_first (ahead ++ given) ≡ Some (drop sealed_chunk_size filled)
 after-more ahead given filled len is =
-    let no : nat_le (length filled) 65552 ≡ false = lt-leb (length filled) 65552 (omega arith) in
-    ap after_first (sym is) ∙ ap (λ b. cond b None (Some (drop 65552 filled))) no
+    let no : nat_le (length filled) sealed_chunk_size ≡ false =
+    lt-leb (length filled) sealed_chunk_size (omega arith) in
+    ap after_first (sym is) ∙ ap (λ b. cond b None (Some (drop sealed_chunk_size filled))) no
 
 -- no byte follows
-pub outcome-last : (key : Bytes) (max i : ℕ) (ahead given prefix : Bytes) → length prefix < 65553
+pub outcome-last : (key : Bytes) (max i : ℕ) (ahead given prefix : Bytes) → length prefix < chunk_buf_size
     → prefix ≡ ahead ++ given
     → first_outcome key max i (ahead ++ given) ≡ outcome key max i true prefix
 outcome-last key max i ahead given prefix len is =
-    let yes : nat_le (length prefix) 65552 ≡ true = le-leb (length prefix) 65552 (omega arith) in
+    let yes : nat_le (length prefix) sealed_chunk_size ≡ true =
+    le-leb (length prefix) sealed_chunk_size (omega arith) in
     ap (first_outcome key max i) (sym is)
-    ∙ ap (λ b. outcome key max i b (take 65552 prefix)) yes
-    ∙ ap (outcome key max i true) (take_all 65552 prefix (omega arith))
+    ∙ ap (λ b. outcome key max i b (take sealed_chunk_size prefix)) yes
+    ∙ ap (outcome key max i true) (take_all sealed_chunk_size prefix (omega arith))
 
-pub after-last : (ahead given prefix : Bytes) → length prefix < 65553 → prefix ≡ ahead ++ given
+pub after-last : (ahead given prefix : Bytes) → length prefix < chunk_buf_size → prefix ≡ ahead ++ given
     → after_first (ahead ++ given) ≡ None
 after-last ahead given prefix len is =
-    let yes : nat_le (length prefix) 65552 ≡ true = le-leb (length prefix) 65552 (omega arith) in
-    ap after_first (sym is) ∙ ap (λ b. cond b None (Some (drop 65552 prefix))) yes
+    let yes : nat_le (length prefix) sealed_chunk_size ≡ true =
+    le-leb (length prefix) sealed_chunk_size (omega arith) in
+    ap after_first (sym is) ∙ ap (λ b. cond b None (Some (drop sealed_chunk_size prefix))) yes
 
 -- what a call returns while pieces are left
 pub opens-err : (key : Bytes) (max i : ℕ) (held : Known) (ahead c : Bytes) (left : Known) (text : Bytes)
@@ -57,8 +62,10 @@ pub opens-ok : (key : Bytes) (max i : ℕ) (held left : Known) (ahead c text : B
 opens-ok key max i held left ahead c text is h l = rw is (refl, h, l)
 
 -- the byte that was read ahead is all that follows the first 65,552 bytes
-pub ahead-one : (bytes : Bytes) → length bytes ≡ 65553 → take 1 (drop 65552 bytes) ≡ drop 65552 bytes
-ahead-one bytes size = take_all 1 (drop 65552 bytes) (omega (arith, length-drop 65552 bytes, size))
+pub ahead-one : (bytes : Bytes) → length bytes ≡ chunk_buf_size
+    → take 1 (drop sealed_chunk_size bytes) ≡ drop sealed_chunk_size bytes
+ahead-one bytes size =
+    take_all 1 (drop sealed_chunk_size bytes) (omega (arith, length-drop sealed_chunk_size bytes, size))
 
 -- a fault of a piece is none of a read
 pub counts-piece : (max i old new : ℕ) (fault : StreamFault) → IsAtPiece max i fault → new ≡ old
@@ -71,12 +78,14 @@ unkept None p = p
 unkept (Some f) p = tt
 
 -- one byte is read ahead, and the text before it is a full chunk
-pub one-ahead : (more : Bool) (len : ℕ) (bytes : Bytes) → length bytes ≡ 65553 → (more ≡ true → len ≡ 65536)
-    → IfSome (held_of more (take 1 (drop 65552 bytes)))
-    (λ ahead. (length ahead ≡ 1) × (length (take len bytes) ≡ 65536))
+pub one-ahead : (more : Bool) (len : ℕ) (bytes : Bytes) → length bytes ≡ chunk_buf_size
+    → (more ≡ true → len ≡ chunk_size)
+    → IfSome (held_of more (take 1 (drop sealed_chunk_size bytes)))
+    (λ ahead. (length ahead ≡ 1) × (length (take len bytes) ≡ chunk_size))
 one-ahead true len bytes size full =
-    let l : length (drop 65552 bytes) ≡ length bytes - 65552 = length-drop 65552 bytes in
-    let one : length (drop 65552 bytes) ≡ 1 = omega arith in
+    let l : length (drop sealed_chunk_size bytes) ≡ length bytes - sealed_chunk_size =
+    length-drop sealed_chunk_size bytes in
+    let one : length (drop sealed_chunk_size bytes) ≡ 1 = omega arith in
     (ap length (ahead-one bytes size) ∙ one, length-take-le len bytes (omega (arith, full refl)) ∙ full refl)
 one-ahead false len bytes size full = tt
 
@@ -90,7 +99,7 @@ parts key max i more ahead bytes len fault = record {
   key = key;
   max_chunks = max;
   index = i;
-  held = held_of more (take ahead (drop 65552 bytes));
+  held = held_of more (take ahead (drop sealed_chunk_size bytes));
   text = take len bytes;
   fault = fault;
 }
@@ -99,42 +108,44 @@ unread : {X : Type 0} (p : Piece) → IsErrOf {T = Piece} (Ok p) Read ⊎ X → 
 unread p (inl e) = absurd (cc)
 unread p (inr x) = x
 
-ahead-len : (ahead : ℕ) (bytes : Bytes) → length bytes ≡ 65553 → ahead ≤ 1
-    → length (take ahead (drop 65552 bytes)) ≡ ahead
-ahead-len ahead bytes size le = length-take-le ahead (drop 65552 bytes) (omega (arith, length-drop 65552 bytes))
+ahead-len : (ahead : ℕ) (bytes : Bytes) → length bytes ≡ chunk_buf_size → ahead ≤ 1
+    → length (take ahead (drop sealed_chunk_size bytes)) ≡ ahead
+ahead-len ahead bytes size le =
+    length-take-le ahead (drop sealed_chunk_size bytes) (omega (arith, length-drop sealed_chunk_size bytes))
 
 -- what filling the buffer after these bytes gave
-pub is-filled : (ahead n : ℕ) (bytes given : Bytes) (left : Known) → length bytes ≡ 65553 → ahead ≤ 1
-    → ahead + length given ≡ n → n ≤ 65553 → (n < 65553 → IsAtEnd left)
-    → IsFilled (Some (take ahead (drop 65552 bytes))) given left
+pub is-filled : (ahead n : ℕ) (bytes given : Bytes) (left : Known) → length bytes ≡ chunk_buf_size → ahead ≤ 1
+    → ahead + length given ≡ n → n ≤ chunk_buf_size → (n < chunk_buf_size → IsAtEnd left)
+    → IsFilled (Some (take ahead (drop sealed_chunk_size bytes))) given left
 is-filled ahead n bytes given left size le sum room end =
-    let l : length (take ahead (drop 65552 bytes)) ≡ ahead = ahead-len ahead bytes size le in
+    let l : length (take ahead (drop sealed_chunk_size bytes)) ≡ ahead = ahead-len ahead bytes size le in
     (omega arith, λ low. end (omega arith))
 
 -- a piece was opened
 pub advances-ok : (now : OpenerState) (from to : Seen) (key : Bytes) (max i ahead len : ℕ) (more : Bool)
     (old slice bytes items : Bytes) (fault : Option StreamFault) (piece : Piece)
-    → parts key max i more ahead old len fault ≡ now → more ≡ true → fault ≡ None → slice ≡ old → length old ≡ 65553
-    → ahead ≤ 1 → length bytes ≡ 65553 → items ≡ bytes
-    → max ≤ 2 ^ 88 → i < max → (piece.more ≡ true → piece.len ≡ 65536)
+    → parts key max i more ahead old len fault ≡ now → more ≡ true → fault ≡ None → slice ≡ old
+    → length old ≡ chunk_buf_size
+    → ahead ≤ 1 → length bytes ≡ chunk_buf_size → items ≡ bytes
+    → max ≤ 2 ^ 88 → i < max → (piece.more ≡ true → piece.len ≡ chunk_size)
     → IsErrOf {T = Piece} (Ok piece) Read
-    ⊎ ReadsPiece key max i (take ahead (drop 65552 slice)) bytes (flow from to) (Ok piece)
+    ⊎ ReadsPiece key max i (take ahead (drop sealed_chunk_size slice)) bytes (flow from to) (Ok piece)
     → IfNone now.fault (IsErrOf {T = Bool} (Ok true) Read
     ⊎ Advances now (parts key max (i + 1) piece.more 1 items piece.len fault) (flow from to) (Ok true))
 advances-ok now from to key max i ahead len more old slice bytes items fault piece view is_more none same size le
     new_size all small within full opens =
-    let prefix : Bytes = take ahead (drop 65552 old) in
+    let prefix : Bytes = take ahead (drop sealed_chunk_size old) in
     let r : ReadsPiece key max i prefix items (flow from to) (Ok piece) =
     subst (λ t. ReadsPiece key max i prefix t (flow from to) (Ok piece)) (sym all)
-    (subst (λ t. ReadsPiece key max i (take ahead (drop 65552 t)) bytes (flow from to) (Ok piece)) same
+    (subst (λ t. ReadsPiece key max i (take ahead (drop sealed_chunk_size t)) bytes (flow from to) (Ok piece)) same
     (unread piece opens)) in
     let l : length prefix ≡ ahead = ahead-len ahead old size le in
     let held : held_of more prefix ≡ Some prefix = ap (λ m. held_of m prefix) is_more in
     let next : OpenerState = parts key max (i + 1) piece.more 1 items piece.len fault in
-    let one : IfSome (held_of piece.more (take 1 (drop 65552 items)))
-    (λ a. (length a ≡ 1) × (length (take piece.len items) ≡ 65536)) =
+    let one : IfSome (held_of piece.more (take 1 (drop sealed_chunk_size items)))
+    (λ a. (length a ≡ 1) × (length (take piece.len items) ≡ chunk_size)) =
     one-ahead piece.more piece.len items (ap length all ∙ new_size) full in
-    let rest : held_of piece.more (take 1 (drop 65552 items)) ≡ after_first (prefix ++ r.given) =
+    let rest : held_of piece.more (take 1 (drop sealed_chunk_size items)) ≡ after_first (prefix ++ r.given) =
     ap (held_of piece.more) (ahead-one items (ap length all ∙ new_size)) ∙ r.opens.2 in
     subst (λ s. IfNone s.fault (IsErrOf {T = Bool} (Ok true) Read ⊎ Advances s next (flow from to) (Ok true))) view
     (unkept fault (inr (record {
@@ -146,7 +157,8 @@ advances-ok now from to key max i ahead len more old slice bytes items fault pie
       given = r.given;
       gave = r.gave;
       filled = subst (λ h. IsFilled h r.given to.to_come) (sym held) r.filled;
-      opens = opens-ok key max i (held_of more prefix) (held_of piece.more (take 1 (drop 65552 items))) prefix r.given
+      opens = opens-ok key max i (held_of more prefix)
+          (held_of piece.more (take 1 (drop sealed_chunk_size items))) prefix r.given
           (take piece.len items) held r.opens.0 rest;
     })))
 
@@ -160,10 +172,11 @@ same-fault f e = cc
 -- a fault was met
 pub advances-err : (now : OpenerState) (from to : Seen) (key : Bytes) (max i ahead len : ℕ) (more : Bool)
     (old slice bytes items : Bytes) (kept : Option StreamFault) (fault : StreamFault)
-    → parts key max i more ahead old len kept ≡ now → more ≡ true → slice ≡ old → length old ≡ 65553 → ahead ≤ 1
+    → parts key max i more ahead old len kept ≡ now → more ≡ true → slice ≡ old → length old ≡ chunk_buf_size
+    → ahead ≤ 1
     → max ≤ 2 ^ 88
     → IsErrOf {T = Piece} (Err fault) Read
-    ⊎ ReadsPiece key max i (take ahead (drop 65552 slice)) bytes (flow from to) (Err fault)
+    ⊎ ReadsPiece key max i (take ahead (drop sealed_chunk_size slice)) bytes (flow from to) (Err fault)
     → (fault ≡ Read) ⊎ IsAtPiece max i fault
     → IfNone now.fault (IsErrOf {T = Bool} (Err fault) Read
     ⊎ Advances now (parts key max i false ahead items 0 (Some fault)) (flow from to) (Err fault))
@@ -175,9 +188,10 @@ advances-err now from to key max i ahead len more old slice bytes items kept fau
     advances-read now (parts key max i false ahead items 0 (Some fault)) from to fault read
 advances-err now from to key max i ahead len more old slice bytes items kept fault view is_more same size le small
     (inr opens) (inr at) =
-    let prefix : Bytes = take ahead (drop 65552 old) in
+    let prefix : Bytes = take ahead (drop sealed_chunk_size old) in
     let r : ReadsPiece key max i prefix bytes (flow from to) (Err fault) =
-    subst (λ t. ReadsPiece key max i (take ahead (drop 65552 t)) bytes (flow from to) (Err fault)) same opens in
+    subst
+    (λ t. ReadsPiece key max i (take ahead (drop sealed_chunk_size t)) bytes (flow from to) (Err fault)) same opens in
     let l : length prefix ≡ ahead = ahead-len ahead old size le in
     let held : held_of more prefix ≡ Some prefix = ap (λ m. held_of m prefix) is_more in
     let next : OpenerState = parts key max i false ahead items 0 (Some fault) in
@@ -200,7 +214,8 @@ pub loses-held : (now : OpenerState) (from to : Seen) (key : Bytes) (max i ahead
     → GaveSome (flow from to) → IfNone now.fault (Loses now.held (flow from to))
 loses-held now from to key max i ahead len more old kept view is_more some =
     subst (λ s. IfNone s.fault (Loses s.held (flow from to))) view
-    (unkept kept (subst (λ m. Loses (held_of m (take ahead (drop 65552 old))) (flow from to)) (sym is_more) some))
+    (unkept kept
+    (subst (λ m. Loses (held_of m (take ahead (drop sealed_chunk_size old))) (flow from to)) (sym is_more) some))
 
 -- after the last piece
 advances-end : (key : Bytes) (max i : ℕ) (text text2 : Bytes) (from : Seen) → max ≤ 2 ^ 88

@@ -12,6 +12,7 @@ use Rattle.age_stream.specs.Cutting.{IsCut, IsFilled}
 use Rattle.age_cipher.specs.Sealing.{sealed, opened}
 use Rattle.age_stream.specs.Payload.{chunks, pieces, chunk_nonce, is_end, sealed_from, payload_key, payload}
 use Rattle.age_stream.specs.Reading.{Reading, outcome, outcomes, first_fault, front, stops, reading_from, payload_reading, whole}
+use Rattle.age_stream.specs.Sizes.{chunk_size, sealed_chunk_size}
 use Rattle.age_stream.proofs.CuttingLemmas.{is_cut, one-cut, filled-cut, AtMost, cut-at_most}
 use Rattle.age_cipher.proofs.OpeningLemmas.{length-sealed, opened_is}
 use Rattle.age_header.specs.declared.file_key.FileKey.{FileKey}
@@ -83,16 +84,16 @@ opens-outcome key max i last c t h =
 
 -- texts numbered from i on: all but the last are full, and the last is empty only if its number is 0
 abbrev pub Sized : ℕ → List Bytes → Type 0
-Sized i ts = ((ts ≡ [] ∷ []) × (i ≡ 0)) ⊎ IsFilled 65536 ts
+Sized i ts = ((ts ≡ [] ∷ []) × (i ≡ 0)) ⊎ IsFilled chunk_size ts
 
-pub sized-one : (i : ℕ) (t : Bytes) → length t ≤ 65536 → (0 < i → 0 < length t) → Sized i (t ∷ [])
+pub sized-one : (i : ℕ) (t : Bytes) → length t ≤ chunk_size → (0 < i → 0 < length t) → Sized i (t ∷ [])
 sized-one i [] le h = elim (cases_lt 0 i) [
   | inl pos ↦ absurd (let z : 0 < 0 = h pos in omega arith)
   | inr zero ↦ inl (refl, omega arith)
 ]
 sized-one i (x ∷ t) le h = inr (omega arith, le)
 
-pub sized-more : (i : ℕ) (t : Bytes) (ts : List Bytes) → length t ≡ 65536 → Sized (i + 1) ts → Sized i (t ∷ ts)
+pub sized-more : (i : ℕ) (t : Bytes) (ts : List Bytes) → length t ≡ chunk_size → Sized (i + 1) ts → Sized i (t ∷ ts)
 sized-more i t [] len (inl e) = absurd (let z : i + 1 ≡ 0 = e.1 in omega arith)
 sized-more i t [] len (inr f) = absurd f
 sized-more i t (u ∷ ts) len (inl e) = absurd (let z : i + 1 ≡ 0 = e.1 in omega arith)
@@ -108,7 +109,7 @@ pub record AllOpen (key : Bytes) (max i : ℕ) (cs : List Bytes) (p : Bytes) : T
   pub sealed_so : sealed_from key i texts ≡ cs
   pub joined : concat texts ≡ p
   pub count : length texts + i ≤ max
-  pub sizes : AtMost 65552 cs → Sized i texts
+  pub sizes : AtMost sealed_chunk_size cs → Sized i texts
 
 -- pieces without a fault open
 pub no_fault-open : (key : Bytes) (max i : ℕ) (c : Bytes) (cs : List Bytes)
@@ -127,7 +128,7 @@ no_fault-open key max i c [] h =
             sealed_so = ap (λ x. x ∷ []) (sym o.sealed_so);
             joined = sym (ap (λ x. front (x ∷ [])) r.1);
             count = omega arith;
-            sizes = λ le. sized-one i r.0 (let k : length c ≤ 65552 = le in omega arith) (o.some refl);
+            sizes = λ le. sized-one i r.0 (let k : length c ≤ sealed_chunk_size = le in omega arith) (o.some refl);
           }
     ]
 no_fault-open key max i c (d ∷ more) h =
@@ -150,7 +151,7 @@ no_fault-open key max i c (d ∷ more) h =
             sizes = λ le.
                 let len : length c ≡ length r.0 + 16 = ap length o.sealed_so
                 ∙ length-sealed key (chunk_nonce i false) [] r.0 in
-                let full : length c ≡ 65552 = le.0 in
+                let full : length c ≡ sealed_chunk_size = le.0 in
                 sized-more i r.0 rest.texts (omega arith) (rest.sizes le.1);
           }
     ]
@@ -186,20 +187,21 @@ fault-all [] = refl
 fault-all (t ∷ ts) = fault-all ts
 
 -- sealed texts are cut as pieces are
-each-filled : (key : Bytes) (i : ℕ) (ts : List Bytes) → AtMost 65536 ts → IsFilled 65552 (sealed_from key i ts)
+each-filled : (key : Bytes) (i : ℕ) (ts : List Bytes) → AtMost chunk_size ts
+    → IsFilled sealed_chunk_size (sealed_from key i ts)
 each-filled key i [] h = h
 each-filled key i (t ∷ []) h =
     let l : length (sealed key (chunk_nonce i true) [] t) ≡ length t + 16 =
     length-sealed key (chunk_nonce i true) [] t in
-    let le : length t ≤ 65536 = h in (omega arith, omega arith)
+    let le : length t ≤ chunk_size = h in (omega arith, omega arith)
 each-filled key i (t ∷ u ∷ ts) h =
     let l : length (sealed key (chunk_nonce i false) [] t) ≡ length t + 16 =
     length-sealed key (chunk_nonce i false) [] t in
-    let le : length t ≡ 65536 = h.0 in (omega arith, each-filled key (i + 1) (u ∷ ts) h.1)
+    let le : length t ≡ chunk_size = h.0 in (omega arith, each-filled key (i + 1) (u ∷ ts) h.1)
 
-pub pieces-each : (key : Bytes) (ts : List Bytes) → AtMost 65536 ts
+pub pieces-each : (key : Bytes) (ts : List Bytes) → AtMost chunk_size ts
     → pieces (concat (sealed_from key 0 ts)) ≡ sealed_from key 0 ts
-pieces-each key ts h = filled-cut 65552 (sealed_from key 0 ts) (omega arith) (each-filled key 0 ts h)
+pieces-each key ts h = filled-cut sealed_chunk_size (sealed_from key 0 ts) (omega arith) (each-filled key 0 ts h)
 
 -- what reading a payload to its end says of it
 pub record IsPayload (k : FileKey) (b p : Bytes) (max : ℕ) : Type 0 where
@@ -209,7 +211,7 @@ pub record IsPayload (k : FileKey) (b p : Bytes) (max : ℕ) : Type 0 where
   pub count : length (chunks p) ≤ max
 
 -- the sizes of texts numbered from 0 on are those of a cut
-pub sized-cut : (ts : List Bytes) → Sized 0 ts → IsCut 65536 (concat ts) ts
+pub sized-cut : (ts : List Bytes) → Sized 0 ts → IsCut chunk_size (concat ts) ts
 sized-cut ts (inl e) = record { joined = refl; sizes = inl e.0 }
 sized-cut ts (inr f) = record { joined = refl; sizes = inr f }
 
@@ -217,10 +219,10 @@ all_open-payload : (k : FileKey) (b p : Bytes) (max : ℕ) → 16 ≤ length b
     → AllOpen (payload_key k (take 16 b)) max 0 (pieces (drop 16 b)) p → IsPayload k b p max
 all_open-payload k b p max le o =
     let key : Bytes = payload_key k (take 16 b) in
-    let same : o.texts ≡ chunks p = one-cut 65536 (concat o.texts) o.texts (omega arith)
-    (sized-cut o.texts (o.sizes (cut-at_most 65552 (drop 16 b) (omega arith)))) ∙ ap chunks o.joined in
+    let same : o.texts ≡ chunks p = one-cut chunk_size (concat o.texts) o.texts (omega arith)
+    (sized-cut o.texts (o.sizes (cut-at_most sealed_chunk_size (drop 16 b) (omega arith)))) ∙ ap chunks o.joined in
     let rest : drop 16 b ≡ concat (sealed_from key 0 (chunks p)) =
-    sym (is_cut 65552 (drop 16 b) (omega arith)).joined ∙ ap concat (sym o.sealed_so)
+    sym (is_cut sealed_chunk_size (drop 16 b) (omega arith)).joined ∙ ap concat (sym o.sealed_so)
     ∙ ap (λ ts. concat (sealed_from key 0 ts)) same in
     let count : length o.texts + 0 ≤ max = o.count in
     let n : length o.texts ≡ length (chunks p) = ap length same in
@@ -231,7 +233,8 @@ all_open-payload k b p max le o =
       count = omega arith;
     }
 
-some-open : (key : Bytes) (max : ℕ) (cs : List Bytes) → AtMost 65552 cs → first_fault (outcomes key max 0 cs) ≡ None
+some-open : (key : Bytes) (max : ℕ) (cs : List Bytes) → AtMost sealed_chunk_size cs
+    → first_fault (outcomes key max 0 cs) ≡ None
     → AllOpen key max 0 cs (front (outcomes key max 0 cs))
 some-open key max [] at h = absurd at
 some-open key max (c ∷ cs) at h = no_fault-open key max 0 c cs h
@@ -248,14 +251,14 @@ ok-payload k b p max h = elim (cases_lt (length b) 16) [
       let key : Bytes = payload_key k (take 16 b) in
       let is : payload_reading k max b ≡ reading_from key max 0 (drop 16 b) =
       cond-false (nat_lt (length b) 16) _ _ (le-ltb _ _ ge) in
-      let all = some-open key max (pieces (drop 16 b)) (cut-at_most 65552 (drop 16 b) (omega arith))
+      let all = some-open key max (pieces (drop 16 b)) (cut-at_most sealed_chunk_size (drop 16 b) (omega arith))
       (ap (λ (r : Reading StreamFault). r.fault) (sym is ∙ h)) in
       all_open-payload k b p max ge (subst (AllOpen key max 0 (pieces (drop 16 b)))
       (ap (λ (r : Reading StreamFault). r.front) (sym is ∙ h)) all)
 ]
 
 pub at_most-chunks : (p : Bytes) → Sized 0 (chunks p)
-at_most-chunks p = elim (is_cut 65536 p (omega arith)).sizes [ inl e ↦ inl (e, refl) | inr f ↦ inr f ]
+at_most-chunks p = elim (is_cut chunk_size p (omega arith)).sizes [ inl e ↦ inl (e, refl) | inr f ↦ inr f ]
 
 pub payload-ok : (k : FileKey) (b p : Bytes) (max : ℕ) → IsPayload k b p max
     → payload_reading k max b ≡ record { front = p; fault = None }
@@ -269,10 +272,10 @@ payload-ok k b p max h =
     let rest : drop 16 b ≡ sealed_text = ap (drop 16) h.spelled ∙ drop_at h.nonce sealed_text 16 sixteen in
     let count : length (chunks p) ≤ max = h.count in
     let outs : outcomes key max 0 (pieces sealed_text) ≡ map Ok (chunks p) =
-    ap (outcomes key max 0) (pieces-each key (chunks p) (cut-at_most 65536 p (omega arith)))
+    ap (outcomes key max 0) (pieces-each key (chunks p) (cut-at_most chunk_size p (omega arith)))
     ∙ each-opens key max 0 (chunks p) (at_most-chunks p) (omega arith) in
     let the_front : front (outcomes key max 0 (pieces sealed_text)) ≡ p = ap front outs ∙ front-all (chunks p)
-    ∙ (is_cut 65536 p (omega arith)).joined in
+    ∙ (is_cut chunk_size p (omega arith)).joined in
     let the_fault : first_fault (outcomes key max 0 (pieces sealed_text)) ≡ None = ap first_fault outs
     ∙ fault-all (chunks p) in
     cond-false (nat_lt (length b) 16) _ _ (le-ltb (length b) 16 (omega arith))
@@ -300,4 +303,4 @@ whole-count k max b p e =
     let i = ok-payload k b p max e in
     let key : Bytes = payload_key k i.nonce in
     ap (λ x. length (pieces x)) (ap (drop 16) i.spelled ∙ drop_at i.nonce _ 16 i.nonce_len)
-    ∙ ap length (pieces-each key (chunks p) (cut-at_most 65536 p (omega arith))) ∙ length-each key 0 (chunks p)
+    ∙ ap length (pieces-each key (chunks p) (cut-at_most chunk_size p (omega arith))) ∙ length-each key 0 (chunks p)

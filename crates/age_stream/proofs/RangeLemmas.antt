@@ -7,6 +7,7 @@ use Rattle.age_header.specs.Device.{Known}
 use Rattle.age_stream.specs.declared.layout.Layout.{Layout}
 use Rattle.age_stream.specs.Ranges.{opens_to, first_to_open, is_kept, sealed_span}
 use Rattle.age_stream.specs.Slice.{opening, chunk_len, IsSlice}
+use Rattle.age_stream.specs.Sizes.{chunk_size}
 use Rattle.age_stream.proofs.SliceLemmas.{slice-on}
 
 -- the text that is put after the first `done` bytes
@@ -34,9 +35,9 @@ pub rest-on : (old new first : Bytes) (done n : ℕ) → drop done old ≡ drop 
 rest-on old new first done n so_far e = e ∙ sym (drop-drop n done old) ∙ ap (drop n) so_far ∙ drop-drop n done first
 
 -- so far, one chunk on
-pub prefix-on : (key rest text old new : Bytes) (at done i skip n : ℕ) → at + done ≡ 65536 * i + skip
+pub prefix-on : (key rest text old new : Bytes) (at done i skip n : ℕ) → at + done ≡ chunk_size * i + skip
     → done ≤ length old
-    → skip + n ≤ length text → length text ≤ 65536
+    → skip + n ≤ length text → length text ≤ chunk_size
     → opening key rest i ≡ Some text → IsSlice key rest at (take done old)
     → take (done + n) new ≡ take done old ++ take n (drop skip text) → IsSlice key rest at (take (done + n) new)
 prefix-on key rest text old new at done i skip n pos le within size opens so_far e =
@@ -66,13 +67,13 @@ counts-on : (b : Bool) (new old start i0 i : ℕ) → min (old + 1) (2 ^ 64 - 1)
 counts-on true new old start i0 i h lt e = omega arith
 counts-on false new old start i0 i h lt e = omega arith
 
-pub counts-at_first : (index index0 : Option ℕ) (new old start at i : ℕ) → index ≡ index0 → i ≡ at / 65536
+pub counts-at_first : (index index0 : Option ℕ) (new old start at i : ℕ) → index ≡ index0 → i ≡ at / chunk_size
     → min (old + (if is_kept index i then 0 else 1)) (2 ^ 64 - 1) ≤ new → old ≡ start
     → min (start + (i + 1 - first_to_open index0 at)) (2 ^ 64 - 1) ≤ new
 counts-at_first index index0 new old start at i e is h same =
     subst (λ x. min (start + (x + 1 - first_to_open index0 at)) (2 ^ 64 - 1) ≤ new) (sym is)
-    (counts-first (is_kept index0 (at / 65536)) new old start (at / 65536)
-    (subst (λ x. min (old + (if is_kept x (at / 65536) then 0 else 1)) (2 ^ 64 - 1) ≤ new) e
+    (counts-first (is_kept index0 (at / chunk_size)) new old start (at / chunk_size)
+    (subst (λ x. min (old + (if is_kept x (at / chunk_size) then 0 else 1)) (2 ^ 64 - 1) ≤ new) e
     (subst (λ x. min (old + (if is_kept index x then 0 else 1)) (2 ^ 64 - 1) ≤ new) is h)) same)
 
 pub counts-later : (b : Bool) (index : Option ℕ) (new old start i0 i : ℕ) → index ≡ Some (i - 1) → i0 < i
@@ -87,50 +88,51 @@ counts-later b index new old start i0 i is lt h e =
     lt e
 
 given-first : (b : Bool) (new old start i : ℕ) (layout : Layout)
-    → new ≤ old + (if b then 0 else chunk_len layout.plain i + 16) → old ≡ start → 65536 * i < layout.plain
+    → new ≤ old + (if b then 0 else chunk_len layout.plain i + 16) → old ≡ start → chunk_size * i < layout.plain
     → new ≤ start + sealed_span layout (i + (if b then 1 else 0)) (i + 1)
 given-first true new old start i layout h e lt = omega arith
-given-first false new old start i layout h e lt = let covers : layout.plain ≤ 65536 * layout.count = layout.covers in
-    omega arith
+given-first false new old start i layout h e lt =
+    let covers : layout.plain ≤ chunk_size * layout.count = layout.covers in omega arith
 
 pub given-later : (b b2 : Bool) (new old start i0 i : ℕ) (layout : Layout)
-    → new ≤ old + (if b2 then 0 else chunk_len layout.plain i + 16) → i0 < i → 65536 * i < layout.plain
+    → new ≤ old + (if b2 then 0 else chunk_len layout.plain i + 16) → i0 < i → chunk_size * i < layout.plain
     → old ≤ start + sealed_span layout (i0 + (if b then 1 else 0)) i
     → new ≤ start + sealed_span layout (i0 + (if b then 1 else 0)) (i + 1)
-given-later true true new old start i0 i layout h lt within e = let covers : layout.plain ≤ 65536 * layout.count =
-    layout.covers in omega arith
-given-later true false new old start i0 i layout h lt within e = let covers : layout.plain ≤ 65536 * layout.count =
-    layout.covers in omega arith
-given-later false true new old start i0 i layout h lt within e = let covers : layout.plain ≤ 65536 * layout.count =
-    layout.covers in omega arith
-given-later false false new old start i0 i layout h lt within e = let covers : layout.plain ≤ 65536 * layout.count =
-    layout.covers in omega arith
+given-later true true new old start i0 i layout h lt within e =
+    let covers : layout.plain ≤ chunk_size * layout.count = layout.covers in omega arith
+given-later true false new old start i0 i layout h lt within e =
+    let covers : layout.plain ≤ chunk_size * layout.count = layout.covers in omega arith
+given-later false true new old start i0 i layout h lt within e =
+    let covers : layout.plain ≤ chunk_size * layout.count = layout.covers in omega arith
+given-later false false new old start i0 i layout h lt within e =
+    let covers : layout.plain ≤ chunk_size * layout.count = layout.covers in omega arith
 
-pub opened-at_first : (index index0 : Option ℕ) (new old start at i : ℕ) → index ≡ index0 → i ≡ at / 65536
+pub opened-at_first : (index index0 : Option ℕ) (new old start at i : ℕ) → index ≡ index0 → i ≡ at / chunk_size
     → new + (if is_kept index i then 1 else 0) ≤ old + 1 → old ≡ start → new ≤ start + (i + 1 - first_to_open index0 at)
 opened-at_first index index0 new old start at i e is h same =
     subst (λ x. new ≤ start + (x + 1 - first_to_open index0 at)) (sym is)
-    (opened-first (is_kept index0 (at / 65536)) new old start (at / 65536)
-    (subst (λ x. new + (if is_kept x (at / 65536) then 1 else 0) ≤ old + 1) e
+    (opened-first (is_kept index0 (at / chunk_size)) new old start (at / chunk_size)
+    (subst (λ x. new + (if is_kept x (at / chunk_size) then 1 else 0) ≤ old + 1) e
     (subst (λ x. new + (if is_kept index x then 1 else 0) ≤ old + 1) is h)) same)
 
 pub given-at_first : (index index0 : Option ℕ) (new old start at i : ℕ) (layout : Layout) → index ≡ index0
-    → i ≡ at / 65536 → new ≤ old + (if is_kept index i then 0 else chunk_len layout.plain i + 16) → old ≡ start
-    → 65536 * i < layout.plain → new ≤ start + sealed_span layout (first_to_open index0 at) (i + 1)
+    → i ≡ at / chunk_size → new ≤ old + (if is_kept index i then 0 else chunk_len layout.plain i + 16) → old ≡ start
+    → chunk_size * i < layout.plain → new ≤ start + sealed_span layout (first_to_open index0 at) (i + 1)
 given-at_first index index0 new old start at i layout e is h same lt =
     subst (λ x. new ≤ start + sealed_span layout (first_to_open index0 at) (x + 1)) (sym is)
-    (given-first (is_kept index0 (at / 65536)) new old start (at / 65536) layout
-    (subst (λ x. new ≤ old + (if is_kept x (at / 65536) then 0 else chunk_len layout.plain (at / 65536) + 16)) e
+    (given-first (is_kept index0 (at / chunk_size)) new old start (at / chunk_size) layout
+    (subst (λ x. new ≤ old + (if is_kept x (at / chunk_size) then 0 else chunk_len layout.plain (at / chunk_size) + 16))
+    e
     (subst (λ x. new ≤ old + (if is_kept index x then 0 else chunk_len layout.plain x + 16)) is h)) same
-    (subst (λ x. 65536 * x < layout.plain) is lt))
+    (subst (λ x. chunk_size * x < layout.plain) is lt))
 
-pub at-chunk : (at i : ℕ) → i ≡ at / 65536 → at < 65536 * (i + 1)
+pub at-chunk : (at i : ℕ) → i ≡ at / chunk_size → at < chunk_size * (i + 1)
 at-chunk at i is = omega arith
 
-pub below-chunk : (at i : ℕ) → i ≡ at / 65536 → 65536 * i ≤ at
+pub below-chunk : (at i : ℕ) → i ≡ at / chunk_size → chunk_size * i ≤ at
 below-chunk at i is = omega arith
 
-pub under-chunk : (at i : ℕ) → at / 65536 < i → at < 65536 * (i + 1)
+pub under-chunk : (at i : ℕ) → at / chunk_size < i → at < chunk_size * (i + 1)
 under-chunk at i is = omega arith
 
 -- what a chunk opens to, where source and layout are the same

@@ -7,6 +7,7 @@ use Rattle.age_stream.specs.declared.fault.StreamFault.{StreamFault}
 use Rattle.age_stream.specs.Cutting.{cut, cut_into}
 use Rattle.age_stream.specs.Payload.{pieces, is_end}
 use Rattle.age_stream.specs.Reading.{Reading, outcome, outcomes, first_fault, front, reading_from, stops}
+use Rattle.age_stream.specs.Sizes.{sealed_chunk_size}
 use Rattle.age_stream.proofs.CuttingLemmas.{cut-first, cut-last}
 
 -- nothing more to read
@@ -50,24 +51,25 @@ reading_first (Ok p) rs = refl
 reading_first (Err f) rs = refl
 
 -- the last piece
-pub reading-last : (key : Bytes) (max i : ℕ) (c : Bytes) → length c ≤ 65552
+pub reading-last : (key : Bytes) (max i : ℕ) (c : Bytes) → length c ≤ sealed_chunk_size
     → reading_from key max i c ≡ then_read (outcome key max i true c) ends
 reading-last key max i c le =
     ap (λ cs. record { front = front (outcomes key max i cs); fault = first_fault (outcomes key max i cs) })
-    (cut-last 65552 c le)
+    (cut-last sealed_chunk_size c le)
     ∙ reading_first (outcome key max i true c) []
 
 -- a piece with more after it
-pub reading-more : (key : Bytes) (max i : ℕ) (c : Bytes) → 65552 < length c
-    → reading_from key max i c ≡ then_read (outcome key max i false (take 65552 c))
-    (reading_from key max (i + 1) (drop 65552 c))
+pub reading-more : (key : Bytes) (max i : ℕ) (c : Bytes) → sealed_chunk_size < length c
+    → reading_from key max i c ≡ then_read (outcome key max i false (take sealed_chunk_size c))
+    (reading_from key max (i + 1) (drop sealed_chunk_size c))
 reading-more key max i c lt =
     ap (λ cs. record { front = front (outcomes key max i cs); fault = first_fault (outcomes key max i cs) })
-    (cut-step 65552 c (omega arith) lt)
-    ∙ reading_first (outcome key max i (is_end (pieces (drop 65552 c))) (take 65552 c))
-    (outcomes key max (i + 1) (pieces (drop 65552 c)))
-    ∙ ap (λ b. then_read (outcome key max i b (take 65552 c)) (reading_from key max (i + 1) (drop 65552 c)))
-    (is_end-cut 65552 [] (drop 65552 c))
+    (cut-step sealed_chunk_size c (omega arith) lt)
+    ∙ reading_first (outcome key max i (is_end (pieces (drop sealed_chunk_size c))) (take sealed_chunk_size c))
+    (outcomes key max (i + 1) (pieces (drop sealed_chunk_size c)))
+    ∙ ap (λ b. then_read (outcome key max i b (take sealed_chunk_size c))
+    (reading_from key max (i + 1) (drop sealed_chunk_size c)))
+    (is_end-cut sealed_chunk_size [] (drop sealed_chunk_size c))
 
 -- how many lists a cut has
 pub cut-count : (size n : ℕ) (p : Bytes) → 0 < size → (n ≡ 0) ⊎ (size * n < length p) → length p ≤ size * (n + 1)
@@ -86,11 +88,12 @@ cut-count size (suc n) p pos (inr lt) le =
     omega arith
 
 -- a piece more, and the last
-pub count-more : (c : Bytes) → 65552 < length c → length (pieces c) ≡ length (pieces (drop 65552 c)) + 1
-count-more c lt = ap length (cut-step 65552 c (omega arith) lt) ∙ one
+pub count-more : (c : Bytes) → sealed_chunk_size < length c
+    → length (pieces c) ≡ length (pieces (drop sealed_chunk_size c)) + 1
+count-more c lt = ap length (cut-step sealed_chunk_size c (omega arith) lt) ∙ one
   where
-    one : suc (length (pieces (drop 65552 c))) ≡ length (pieces (drop 65552 c)) + 1
+    one : suc (length (pieces (drop sealed_chunk_size c))) ≡ length (pieces (drop sealed_chunk_size c)) + 1
     one = omega arith
 
-pub count-last : (c : Bytes) → length c ≤ 65552 → length (pieces c) ≡ 1
-count-last c le = ap length (cut-last 65552 c le)
+pub count-last : (c : Bytes) → length c ≤ sealed_chunk_size → length (pieces c) ≡ 1
+count-last c le = ap length (cut-last sealed_chunk_size c le)

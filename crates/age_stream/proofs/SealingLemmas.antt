@@ -18,17 +18,18 @@ use Rattle.std.specs.Prelude.{IfNone}
 use Rattle.age_kdf.specs.Bytes.{Bytes}
 use Rattle.age_stream.specs.declared.done.Done.{Done as StreamDone}
 use Rattle.age_stream.specs.Sealing.{FinishesBy, Fills, SealerState, SealsAll, StopsIn, TakesAll, Fed, IsFed, Stopped, WroteAtLeast, at_start, sealed_after}
+use Rattle.age_stream.specs.Sizes.{chunk_size, sealed_chunk_size, chunk_buf_size}
 use Rattle.age_stream.proofs.CuttingLemmas.{concat-append, cut-fits, cut-full}
 use Rattle.age_stream.proofs.PayloadLemmas.{length-each}
 use Rattle.age_stream.proofs.ReadingLemmas.{is_end-cut, cut-some}
 
 -- a full chunk with more to come is sealed as one that is not the last
-pub chunks-full : (key : Bytes) (i : ℕ) (held text : Bytes) → 0 < length text → length held ≡ 65536
+pub chunks-full : (key : Bytes) (i : ℕ) (held text : Bytes) → 0 < length text → length held ≡ chunk_size
     → sealed_after key i held text ≡ sealed key (chunk_nonce i false) [] held ∷ sealed_after key (i + 1) [] text
 chunks-full key i held text some full =
-    ap (λ cs. sealed_from key i cs) (cut-full 65536 held text (omega arith) some full)
-    ∙ ap (λ b. sealed key (chunk_nonce i b) [] held ∷ sealed_from key (i + 1) (cut 65536 text))
-    (is_end-cut 65536 [] text)
+    ap (λ cs. sealed_from key i cs) (cut-full chunk_size held text (omega arith) some full)
+    ∙ ap (λ b. sealed key (chunk_nonce i b) [] held ∷ sealed_from key (i + 1) (cut chunk_size text))
+    (is_end-cut chunk_size [] text)
 
 pub fed-none : (key : Bytes) (i : ℕ) (held : Bytes) (a : Known) → Fed key i i held [] held (moved a a)
 fed-none key i held a = record {
@@ -41,7 +42,8 @@ fed-none key i held a = record {
 }
 
 -- what fits is held
-pub fed-held : (key : Bytes) (i j : ℕ) (held text now piece : Bytes) (a b : Known) → length now + length piece ≤ 65536
+pub fed-held : (key : Bytes) (i j : ℕ) (held text now piece : Bytes) (a b : Known)
+    → length now + length piece ≤ chunk_size
     → Fed key i j held text now (moved a b) → Fed key i j held (text ++ piece) (now ++ piece) (moved a b)
 fed-held key i j held text now piece a b fits f = record {
   gone = f.gone;
@@ -52,15 +54,15 @@ fed-held key i j held text now piece a b fits f = record {
   chunks = λ more.
       ap (λ t. sealed_after key i held t) (append_assoc text piece more)
       ∙ f.chunks (piece ++ more)
-      ∙ ap (λ cs. f.gone ++ sealed_from key j cs) (cut-fits 65536 now piece more fits);
+      ∙ ap (λ cs. f.gone ++ sealed_from key j cs) (cut-fits chunk_size now piece more fits);
 }
 
 -- `now` and a piece are a full chunk and the byte that follows it
 pub record IsFull (now piece full next : Bytes) : Type 0 where
-  pub size : length full ≡ 65536
+  pub size : length full ≡ chunk_size
   pub one : length next ≡ 1
   pub all : now ++ piece ≡ full ++ next
-  pub fits : length now ≤ 65536
+  pub fits : length now ≤ chunk_size
 
 piece-len : (now piece full next : Bytes) → IsFull now piece full next → length now + length piece ≡ 65537
 piece-len now piece full next h =
@@ -74,27 +76,27 @@ pub chunks-after : (key : Bytes) (i j : ℕ) (held text now piece full next more
     → sealed_after key i held ((text ++ piece) ++ more)
     ≡ f.gone ++ sealed key (chunk_nonce j false) [] full ∷ sealed_after key (j + 1) next more
 chunks-after key i j held text now piece full next more a b h f =
-    let m : ℕ = 65536 - length now in
-    let at : length now + m ≡ 65536 = omega (arith, h.fits) in
+    let m : ℕ = chunk_size - length now in
+    let at : length now + m ≡ chunk_size = omega (arith, h.fits) in
     let prefix : Bytes = take m piece in
     let back : Bytes = drop m piece in
     let lp : length now + length piece ≡ 65537 = piece-len now piece full next h in
     let lf : length prefix ≡ m = length-take-le m piece (omega arith) in
     let whole : now ++ prefix ≡ full = sym (take-append-add now piece m) ∙ ap (λ k. take k (now ++ piece)) at
-    ∙ ap (take 65536) h.all ∙ take_at full next 65536 h.size in
+    ∙ ap (take chunk_size) h.all ∙ take_at full next chunk_size h.size in
     let rest : back ≡ next = sym (drop-append-add now piece m) ∙ ap (λ k. drop k (now ++ piece)) at
-    ∙ ap (drop 65536) h.all ∙ drop_at full next 65536 h.size in
+    ∙ ap (drop chunk_size) h.all ∙ drop_at full next chunk_size h.size in
     let lm : length (next ++ more) ≡ length next + length more = length-append next more in
     ap (λ t. sealed_after key i held t) (append_assoc text piece more)
     ∙ f.chunks (piece ++ more)
     ∙ ap (λ t. f.gone ++ sealed_after key j now t)
     (ap (λ t. t ++ more) (sym (take-append-drop m piece)) ∙ append_assoc prefix back more)
-    ∙ ap (λ cs. f.gone ++ sealed_from key j cs) (cut-fits 65536 now prefix (back ++ more) (omega arith))
+    ∙ ap (λ cs. f.gone ++ sealed_from key j cs) (cut-fits chunk_size now prefix (back ++ more) (omega arith))
     ∙ ap (λ t. f.gone ++ sealed_after key j t (back ++ more)) whole
     ∙ ap (λ t. f.gone ++ sealed_after key j full (t ++ more)) rest
     ∙ ap (λ cs. f.gone ++ cs) (chunks-full key j full (next ++ more) (omega (arith, h.one)) h.size)
     ∙ ap (λ cs. f.gone ++ sealed key (chunk_nonce j false) [] full ∷ sealed_from key (j + 1) cs)
-    (cut-fits 65536 [] next more (omega (arith, h.one)))
+    (cut-fits chunk_size [] next more (omega (arith, h.one)))
 
 -- a chunk became full and one byte more came: the chunk went out
 pub fed-full : (key : Bytes) (i j : ℕ) (held text now piece full next : Bytes) (a b c : Known)
@@ -103,7 +105,8 @@ pub fed-full : (key : Bytes) (i j : ℕ) (held text now piece full next : Bytes)
     → Fed key i (j + 1) held (text ++ piece) next (moved a c)
 fed-full key i j held text now piece full next a b c h f put =
     let chunk : Bytes = sealed key (chunk_nonce j false) [] full in
-    let l : length chunk ≡ 65552 = length-sealed key (chunk_nonce j false) [] full ∙ ap (λ n. n + 16) h.size in
+    let l : length chunk ≡ sealed_chunk_size =
+    length-sealed key (chunk_nonce j false) [] full ∙ ap (λ n. n + 16) h.size in
     let gone : List Bytes = f.gone ++ chunk ∷ [] in
     let lg : length gone ≡ length f.gone + 1 = length-append f.gone (chunk ∷ []) in
     let joined : concat gone ≡ concat f.gone ++ chunk = concat-append f.gone (chunk ∷ [])
@@ -129,7 +132,7 @@ done-fed key i j held text now more rest a b f is =
     record { prefix = concat f.gone; took = f.written; is = ap concat is ∙ concat-append f.gone rest }
 
 wrote-fed : (key : Bytes) (i j : ℕ) (held text now part : Bytes) (a b c : Known) → Fed key i j held text now (moved a b)
-    → Appends b c part → WroteAtLeast (65552 * (j - i)) (moved a c)
+    → Appends b c part → WroteAtLeast (sealed_chunk_size * (j - i)) (moved a c)
 wrote-fed key i j held text now part a b c f put = (
   concat f.gone ++ part,
   Appends-trans a b c (concat f.gone) part f.written put,
@@ -153,7 +156,7 @@ stopped-read key max i j held text now from mid to a b took lost f = record {
 gave-full : (key : Bytes) (i j : ℕ) (held text now piece full next : Bytes) (from mid to : Seen) (a b : Known)
     → IsFull now piece full next → Fed key i j held text now (moved a b)
     → Gave (flow from mid) text → Gave (flow mid to) piece
-    → GaveAtMost (65536 * (j + 1 - i) + 1 - length held) (flow from to)
+    → GaveAtMost (chunk_size * (j + 1 - i) + 1 - length held) (flow from to)
 gave-full key i j held text now piece full next from mid to a b h f took more = (
   text ++ piece,
   gave-then from mid to text piece took more,
@@ -195,10 +198,11 @@ stopped-many key max i j held text now piece full next from mid to a b c h withi
           let rest : List Bytes = sealed_after key (j + 1) next d in
           let is : sealed_after key i held all ≡ f.gone ++ chunk ∷ rest =
           chunks-after key i j held text now piece full next d a b h f in
-          let lr : length rest ≡ length (cut_into 65536 next d) = length-each key (j + 1) (cut_into 65536 next d) in
-          let some : 0 < length (cut_into 65536 next d) = cut-some 65536 next d in
-          let ll : length (cut_into 65536 held all) ≡ length f.gone + length (chunk ∷ rest) =
-          sym (length-each key i (cut_into 65536 held all)) ∙ ap length is ∙ length-append f.gone (chunk ∷ rest) in
+          let lr : length rest ≡ length (cut_into chunk_size next d) =
+          length-each key (j + 1) (cut_into chunk_size next d) in
+          let some : 0 < length (cut_into chunk_size next d) = cut-some chunk_size next d in
+          let ll : length (cut_into chunk_size held all) ≡ length f.gone + length (chunk ∷ rest) =
+          sym (length-each key i (cut_into chunk_size held all)) ∙ ap length is ∙ length-append f.gone (chunk ∷ rest) in
           let n : max - 1 - i ≡ length f.gone = omega (arith, f.count) in
           let gone : take (max - 1 - i) (sealed_after key i held all) ≡ f.gone = ap (take (max - 1 - i)) is
           ∙ take_at f.gone (chunk ∷ rest) (max - 1 - i) (sym n) in
@@ -210,7 +214,7 @@ stopped-many key max i j held text now piece full next from mid to a b c h withi
 
 -- the source is at its end
 pub fed-end : (key : Bytes) (i j : ℕ) (held text now piece : Bytes) (from mid to : Seen) (a b : Known)
-    → length now + length piece ≤ 65536 → Gave (flow from mid) text → Gave (flow mid to) piece → IsAtEnd to.to_come
+    → length now + length piece ≤ chunk_size → Gave (flow from mid) text → Gave (flow mid to) piece → IsAtEnd to.to_come
     → Fed key i j held text now (moved a b) → IsFed key i j held (now ++ piece) (flow from to) (moved a b)
 fed-end key i j held text now piece from mid to a b fits took more end f = record {
   text = text ++ piece;
@@ -239,16 +243,16 @@ stopped-full key max i j k held text now piece full next from mid to a b c fault
     (stopped-many key max i j held text now piece full next from mid to a b c h within many took more f none))
 
 -- a buffer that was filled up to the byte after a full chunk
-pub full-is : (held n : ℕ) (bytes filled : Bytes) (a b : Seen) → 65536 < n → n ≤ 65537 → held ≤ 65536
-    → length bytes ≡ 65553 → length filled ≡ 65553
+pub full-is : (held n : ℕ) (bytes filled : Bytes) (a b : Seen) → chunk_size < n → n ≤ 65537 → held ≤ chunk_size
+    → length bytes ≡ chunk_buf_size → length filled ≡ chunk_buf_size
     → (f : Filled held n bytes filled (flow a b))
-    → IsFull (take held bytes) f.piece (take 65536 filled) (take 1 (drop 65536 filled))
+    → IsFull (take held bytes) f.piece (take chunk_size filled) (take 1 (drop chunk_size filled))
 full-is held n bytes filled a b low high le size full_size f =
-    let is : n ≡ 65536 + 1 = omega arith in
+    let is : n ≡ chunk_size + 1 = omega arith in
     record {
-      size = length-take-le 65536 filled (omega arith);
-      one = length-take-le 1 (drop 65536 filled) (omega (arith, length-drop 65536 filled));
-      all = sym f.is ∙ ap (λ k. take k filled) is ∙ take-add 65536 1 filled;
+      size = length-take-le chunk_size filled (omega arith);
+      one = length-take-le 1 (drop chunk_size filled) (omega (arith, length-drop chunk_size filled));
+      all = sym f.is ∙ ap (λ k. take k filled) is ∙ take-add chunk_size 1 filled;
       fits = omega (arith, length-take-le held bytes (omega arith));
     }
 
@@ -283,8 +287,8 @@ unkept (Some f) p = tt
 -- all was taken
 pub takes-ok : (u : Unit {0}) (now : SealerState) (from to : Seen) (a b : Known) (key : Bytes) (max i j len n : ℕ)
     (old slice bytes items : Bytes) (fault : Option StreamFault)
-    → parts key max i len old fault ≡ now → fault ≡ None → slice ≡ old → length bytes ≡ 65553 → items ≡ bytes
-    → n ≤ 65536 → j < max
+    → parts key max i len old fault ≡ now → fault ≡ None → slice ≡ old → length bytes ≡ chunk_buf_size → items ≡ bytes
+    → n ≤ chunk_size → j < max
     → IsFed key i j (take len slice) (take n bytes) (flow from to) (moved a b) × IsAtEnd to.to_come
     → IfNone now.fault (TakesAll {A = Unit {0}} now (parts key max j n items fault) (flow from to) (moved a b) (Ok u))
 takes-ok u now from to a b key max i j len n old slice bytes items fault view none same size all le within (fed, end) =
@@ -333,10 +337,10 @@ answer-all key i j held text now a b f = ap concat (chunks-all key i j held text
     ∙ concat-append f.gone (sealed_after key j now [])
 
 count-all : (key : Bytes) (i j : ℕ) (held text now : Bytes) (a b : Known) (f : Fed key i j held text now (moved a b))
-    → i + length (cut_into 65536 held text) ≡ j + 1
+    → i + length (cut_into chunk_size held text) ≡ j + 1
 count-all key i j held text now a b f =
-    let l : length (cut_into 65536 held text) ≡ length f.gone + length (sealed_after key j now []) =
-    sym (length-each key i (cut_into 65536 held text)) ∙ ap length (chunks-all key i j held text now a b f)
+    let l : length (cut_into chunk_size held text) ≡ length f.gone + length (sealed_after key j now []) =
+    sym (length-each key i (cut_into chunk_size held text)) ∙ ap length (chunks-all key i j held text now a b f)
     ∙ length-append f.gone (sealed_after key j now []) in
     let one : length (sealed_after key j now []) ≡ 1 = refl in
     omega (arith, l, one, f.count)
@@ -351,7 +355,7 @@ seals-ok s t u from to a b c done none takes finishes =
     let fed = h.2.3 in
     let last : Appends b c (concat (sealed_after s.key t.index t.held [])) =
     subst (λ k. Appends b c (concat (sealed_after k t.index t.held []))) h.0 e.0 in
-    let count : s.index + length (cut_into 65536 s.held fed.text) ≡ t.index + 1 =
+    let count : s.index + length (cut_into chunk_size s.held fed.text) ≡ t.index + 1 =
     count-all s.key s.index t.index s.held fed.text t.held a b fed.fed in
     let fits : t.index < s.max_chunks = subst (λ m. t.index < m) h.1 h.2.2 in
     of-ended from to fed.text _ fed.took h.2.4 (
@@ -412,8 +416,8 @@ when-none (Some kept) f = tt
 -- ---- a payload whose first chunk was filled before anything was written
 
 -- what was held is cut as if it came
-cut-held : (x more : Bytes) → length x ≤ 65536 → cut_into 65536 [] (x ++ more) ≡ cut_into 65536 x more
-cut-held x more fits = cut-fits 65536 [] x more (omega (arith, fits))
+cut-held : (x more : Bytes) → length x ≤ chunk_size → cut_into chunk_size [] (x ++ more) ≡ cut_into chunk_size x more
+cut-held x more fits = cut-fits chunk_size [] x more (omega (arith, fits))
 
 -- a sealer that was filled seals what came and what comes
 pub filled-seals : (key : Bytes) (max : ℕ) (t : SealerState) (more : Bool) (from mid to : Seen) (a c : Known)
@@ -423,14 +427,14 @@ pub filled-seals : (key : Bytes) (max : ℕ) (t : SealerState) (more : Bool) (fr
 filled-seals key max t more from mid to a c r (x, took, is, fits, full, ended) seals =
     go r (subst (λ (u : SealerState). SealsAll u (flow mid to) (moved a c) r) is seals)
   where
-    le : length x ≤ 65536
-    le = subst (λ (u : SealerState). length u.held ≤ 65536) is fits
+    le : length x ≤ chunk_size
+    le = subst (λ (u : SealerState). length u.held ≤ chunk_size) is fits
 
     go : (q : Result StreamDone StreamFault)
         → SealsAll (record (at_start key max) { held = x }) (flow mid to) (moved a c) q
         → SealsAll (at_start key max) (flow from to) (moved a c) q
     go (Ok done) h = of-then from mid to x _ _ took h (λ text q.
-        let same : cut_into 65536 [] (x ++ text) ≡ cut_into 65536 x text = cut-held x text le in (
+        let same : cut_into chunk_size [] (x ++ text) ≡ cut_into chunk_size x text = cut-held x text le in (
           subst (λ cs. Appends a c (concat (sealed_from key 0 cs))) (sym same) q.0,
           subst (λ (cs : List Bytes). 0 + length cs ≤ max) (sym same) q.1,
           omega (arith, q.2, length-append x text),
@@ -456,8 +460,8 @@ filled-seals key max t more from mid to a c r (x, took, is, fits, full, ended) s
             × Appends a c (concat (take (max - 1 - 0) (sealed_from key 0 cs)))) (sym (cut-held x text le)) h
         stops text _ h = absurd h
 
-        gave : (fault ≡ Read) ⊎ GaveAtMost (65536 * (j + 1 - 0) + 1 - length x) (flow mid to)
-            → (fault ≡ Read) ⊎ GaveAtMost (65536 * (j + 1 - 0) + 1 - 0) (flow from to)
+        gave : (fault ≡ Read) ⊎ GaveAtMost (chunk_size * (j + 1 - 0) + 1 - length x) (flow mid to)
+            → (fault ≡ Read) ⊎ GaveAtMost (chunk_size * (j + 1 - 0) + 1 - 0) (flow from to)
         gave (inl e) = inl e
         gave (inr g) = inr (
           x ++ g.0,
@@ -473,11 +477,11 @@ pub filled-finishes : (key : Bytes) (max : ℕ) (t : SealerState) (from mid to :
 filled-finishes key max t from mid to a c r some (x, took, is, fits, full, ended) still finishes =
     go r (subst (λ (u : SealerState). FinishesBy u (moved a c) r) is finishes)
   where
-    le : length x ≤ 65536
-    le = subst (λ (u : SealerState). length u.held ≤ 65536) is fits
+    le : length x ≤ chunk_size
+    le = subst (λ (u : SealerState). length u.held ≤ chunk_size) is fits
 
-    same : cut_into 65536 [] x ≡ x ∷ []
-    same = ap (cut_into 65536 []) (sym (append-nil x)) ∙ cut-held x [] le
+    same : cut_into chunk_size [] x ≡ x ∷ []
+    same = ap (cut_into chunk_size []) (sym (append-nil x)) ∙ cut-held x [] le
 
     go : (q : Result StreamDone StreamFault) → FinishesBy (record (at_start key max) { held = x }) (moved a c) q
         → SealsAll (at_start key max) (flow from to) (moved a c) q

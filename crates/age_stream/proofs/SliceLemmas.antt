@@ -12,6 +12,7 @@ use Rattle.age_stream.specs.Reading.{opened_at}
 use Rattle.age_stream.proofs.CuttingLemmas.{cut-last}
 use Rattle.age_stream.proofs.ReadingLemmas.{cut-step, is_end-cut}
 use Rattle.age_stream.specs.Slice.{openings, opening, plain_len, IsSlice}
+use Rattle.age_stream.specs.Sizes.{chunk_size, sealed_chunk_size}
 
 -- list i of a cut, by its offset
 pub cut-at : (size i : ℕ) (p : Bytes) → 0 < size → get_or (cut size p) i [] ≡ take size (drop (size * i) p)
@@ -71,13 +72,15 @@ openings-at key j (suc i) (c ∷ cs) lt =
 
 -- what piece i opens to, by its offset
 pub opening-at : (key rest : Bytes) (i : ℕ) → i < length (pieces rest)
-    → opening key rest i ≡ opened_at key i (nat_le (length rest) (65552 * (i + 1))) (take 65552 (drop (65552 * i) rest))
+    → opening key rest i ≡ opened_at key i (nat_le (length rest) (sealed_chunk_size * (i + 1)))
+    (take sealed_chunk_size (drop (sealed_chunk_size * i) rest))
 opening-at key rest i lt =
     openings-at key 0 i (pieces rest) lt
     ∙ ap (λ n. opened_at key n (is_end (drop (suc i) (pieces rest))) (get_or (pieces rest) i [])) none
     ∙ ap (λ b. opened_at key i b (get_or (pieces rest) i []))
-    (last-cut 65552 i rest (omega arith) ∙ ap (λ n. nat_le (length rest) (65552 * n)) one)
-    ∙ ap (λ x. opened_at key i (nat_le (length rest) (65552 * (i + 1))) x) (cut-at 65552 i rest (omega arith))
+    (last-cut sealed_chunk_size i rest (omega arith) ∙ ap (λ n. nat_le (length rest) (sealed_chunk_size * n)) one)
+    ∙ ap (λ x. opened_at key i (nat_le (length rest) (sealed_chunk_size * (i + 1))) x)
+    (cut-at sealed_chunk_size i rest (omega arith))
   where
     none : 0 + i ≡ i
     none = omega arith
@@ -86,29 +89,32 @@ opening-at key rest i lt =
     one = omega arith
 
 -- how long the plaintext is, where the last piece has a tag
-pub plain-count : (n : ℕ) (rest : Bytes) → (n ≡ 0) ⊎ (65552 * n < length rest) → length rest ≤ 65552 * (n + 1)
-    → 65552 * n + 16 ≤ length rest
+pub plain-count : (n : ℕ) (rest : Bytes) → (n ≡ 0) ⊎ (sealed_chunk_size * n < length rest)
+    → length rest ≤ sealed_chunk_size * (n + 1)
+    → sealed_chunk_size * n + 16 ≤ length rest
     → plain_len rest + 16 * (n + 1) ≡ length rest
 plain-count zero rest some le tag =
     let one : plain_len rest ≡ (length rest - 16) + 0 =
-    ap (sum_by (λ piece. length piece - 16)) (cut-last 65552 rest (omega arith))
+    ap (sum_by (λ piece. length piece - 16)) (cut-last sealed_chunk_size rest (omega arith))
     ∙ sum_by-cons (λ piece. length piece - 16) rest [] in
     omega arith
 plain-count (suc n) rest (inl e) le tag = absurd (omega arith)
 plain-count (suc n) rest (inr lt) le tag =
-    let more : 65552 < length rest = omega arith in
-    let d : length (drop 65552 rest) ≡ length rest - 65552 = length-drop 65552 rest in
-    let t : length (take 65552 rest) ≡ 65552 = length-take-le 65552 rest (omega arith) in
-    let behind : plain_len (drop 65552 rest) + 16 * (n + 1) ≡ length (drop 65552 rest) =
-    plain-count n (drop 65552 rest) (inr (omega arith)) (omega arith) (omega arith) in
-    let step : plain_len rest ≡ (length (take 65552 rest) - 16) + plain_len (drop 65552 rest) =
-    ap (sum_by (λ piece. length piece - 16)) (cut-step 65552 rest (omega arith) more)
-    ∙ sum_by-cons (λ piece. length piece - 16) (take 65552 rest) (pieces (drop 65552 rest)) in
+    let more : sealed_chunk_size < length rest = omega arith in
+    let d : length (drop sealed_chunk_size rest) ≡ length rest - sealed_chunk_size =
+    length-drop sealed_chunk_size rest in
+    let t : length (take sealed_chunk_size rest) ≡ sealed_chunk_size =
+    length-take-le sealed_chunk_size rest (omega arith) in
+    let behind : plain_len (drop sealed_chunk_size rest) + 16 * (n + 1) ≡ length (drop sealed_chunk_size rest) =
+    plain-count n (drop sealed_chunk_size rest) (inr (omega arith)) (omega arith) (omega arith) in
+    let step : plain_len rest ≡ (length (take sealed_chunk_size rest) - 16) + plain_len (drop sealed_chunk_size rest) =
+    ap (sum_by (λ piece. length piece - 16)) (cut-step sealed_chunk_size rest (omega arith) more)
+    ∙ sum_by-cons (λ piece. length piece - 16) (take sealed_chunk_size rest) (pieces (drop sealed_chunk_size rest)) in
     omega arith
 
 -- a slice goes on within one chunk
-pub slice-on : (key rest xs text : Bytes) (at i skip n : ℕ) → at + length xs ≡ 65536 * i + skip
-    → opening key rest i ≡ Some text → skip + n ≤ length text → length text ≤ 65536
+pub slice-on : (key rest xs text : Bytes) (at i skip n : ℕ) → at + length xs ≡ chunk_size * i + skip
+    → opening key rest i ≡ Some text → skip + n ≤ length text → length text ≤ chunk_size
     → IsSlice key rest at xs → IsSlice key rest at (xs ++ take n (drop skip text))
 slice-on key rest xs text at i skip n pos opens within size so_far k lt =
     let ys : Bytes = take n (drop skip text) in
@@ -122,8 +128,8 @@ slice-on key rest xs text at i skip n pos opens within size so_far k lt =
       | inr ge ↦
           let j : ℕ = k - length xs in
           let sum : k ≡ length xs + j = omega arith in
-          let here : (at + k) / 65536 ≡ i = omega arith in
-          let there : (at + k) % 65536 ≡ skip + j = omega arith in
+          let here : (at + k) / chunk_size ≡ i = omega arith in
+          let there : (at + k) % chunk_size ≡ skip + j = omega arith in
           let inside : j < n = omega arith in
           let value : slice_index (xs ++ ys) k ≡ slice_index text (skip + j) =
           ap (slice_index (xs ++ ys)) sum ∙ get_or-append-add xs ys j 0 ∙ get_or-take n (drop skip text) j 0 inside

@@ -8,19 +8,20 @@ use Rattle.age_stream.specs.declared.layout.Layout.{Layout}
 use Rattle.age_stream.specs.Offsets.{StaysGiven}
 use Rattle.age_stream.specs.Ranges.{IsVerified, IsVerifiedByte, KeepsVerified, RangeState, kept_text}
 use Rattle.age_stream.specs.Slice.{chunk_len}
+use Rattle.age_stream.specs.Sizes.{chunk_size, sealed_chunk_size}
 
 -- what was verified stays so
 pub verified-stays : (old new : ℕ → ℕ → Type 0) (layout : Layout) (i : ℕ) (text : Bytes) → StaysGiven old new
     → IsVerified old layout i text → IsVerified new layout i text
 verified-stays old new layout i text stays v = record {
   piece = v.piece;
-  read = λ k lt. stays (layout.first + 65552 * i + k) (slice_index v.piece k) (v.read k lt);
+  read = λ k lt. stays (layout.first + sealed_chunk_size * i + k) (slice_index v.piece k) (v.read k lt);
   opens = v.opens;
 }
 
 pub byte-stays : (old new : ℕ → ℕ → Type 0) (layout : Layout) (at byte : ℕ) → StaysGiven old new
     → IsVerifiedByte old layout at byte → IsVerifiedByte new layout at byte
-byte-stays old new layout at byte stays v = (v.0, verified-stays old new layout (at / 65536) v.0 stays v.1, v.2)
+byte-stays old new layout at byte stays v = (v.0, verified-stays old new layout (at / chunk_size) v.0 stays v.1, v.2)
 
 -- the text of the kept chunk
 pub verified-text : (gave : ℕ → ℕ → Type 0) (s : RangeState) (layout : Layout) (i : ℕ) (text : Bytes)
@@ -41,8 +42,8 @@ keeps-last gave layout opened items new same v i e =
 -- so far, one chunk on
 pub verified-on : (old_read new_read : ℕ → ℕ → Type 0) (layout : Layout) (text old new : Bytes) (at done i skip n : ℕ)
     → StaysGiven old_read new_read
-    → at + done ≡ 65536 * i + skip → done ≤ length old → done + n ≤ length new → skip + n ≤ length text
-    → length text ≤ 65536 → IsVerified new_read layout i text
+    → at + done ≡ chunk_size * i + skip → done ≤ length old → done + n ≤ length new → skip + n ≤ length text
+    → length text ≤ chunk_size → IsVerified new_read layout i text
     → ((k : ℕ) → k < done → IsVerifiedByte old_read layout (at + k) (slice_index old k))
     → take (done + n) new ≡ take done old ++ take n (drop skip text)
     → (k : ℕ) → k < done + n → IsVerifiedByte new_read layout (at + k) (slice_index new k)
@@ -64,8 +65,8 @@ verified-on old_read new_read layout text old new at done i skip n stays pos le 
       | inr ge ↦
           let j : ℕ = k - done in
           let sum : k ≡ length xs + j = omega arith in
-          let here : i ≡ (at + k) / 65536 = omega arith in
-          let there : (at + k) % 65536 ≡ skip + j = omega arith in
+          let here : i ≡ (at + k) / chunk_size = omega arith in
+          let there : (at + k) % chunk_size ≡ skip + j = omega arith in
           let inside : j < n = omega arith in
           let value : slice_index new k ≡ slice_index text (skip + j) =
           whole ∙ ap (slice_index (xs ++ ys)) sum ∙ get_or-append-add xs ys j 0

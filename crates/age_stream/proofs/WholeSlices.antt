@@ -18,6 +18,7 @@ use Rattle.age_stream.proofs.CuttingLemmas.{is_cut, cut-at_most}
 use Rattle.age_stream.proofs.PayloadLemmas.{ok-payload, pieces-each, each-opens, is_end-each, length-each, at_most-chunks}
 use Rattle.age_stream.proofs.ReadingLemmas.{cut-some}
 use Rattle.age_stream.specs.Slice.{openings, opening, plain_len, IsSlice, last_piece, range_outcome}
+use Rattle.age_stream.specs.Sizes.{chunk_size, sealed_chunk_size}
 use Rattle.age_stream.proofs.SliceLemmas.{cut-at}
 
 -- what is known of a payload that reads whole
@@ -34,7 +35,7 @@ whole-is k b p max h =
     let head : take 16 b ≡ i.nonce = ap (take 16) i.spelled ∙ take_at i.nonce text 16 i.nonce_len in
     let rest : drop 16 b ≡ text = ap (drop 16) i.spelled ∙ drop_at i.nonce text 16 i.nonce_len in
     record {
-      sealed_so = ap pieces rest ∙ pieces-each key (chunks p) (cut-at_most 65536 p (omega arith))
+      sealed_so = ap pieces rest ∙ pieces-each key (chunks p) (cut-at_most chunk_size p (omega arith))
           ∙ ap (λ n. sealed_from (payload_key k n) 0 (chunks p)) (sym head);
       count = i.count;
     }
@@ -66,7 +67,7 @@ pub whole-len : (k : FileKey) (b p : Bytes) (max : ℕ) → payload_reading k ma
 whole-len k b p max h =
     let w = whole-is k b p max h in
     ap (sum_by (λ piece. length piece - 16)) w.sealed_so ∙ plain-each (payload_key k (take 16 b)) 0 (chunks p)
-    ∙ ap length (is_cut 65536 p (omega arith)).joined
+    ∙ ap length (is_cut chunk_size p (omega arith)).joined
 
 outcomes-at : (key : Bytes) (max j i : ℕ) (cs : List Bytes) (d : Result Bytes StreamFault) → i < length cs
     → get_or (outcomes key max j cs) i d ≡ outcome key max (j + i) (is_end (drop (suc i) cs)) (get_or cs i [])
@@ -91,7 +92,7 @@ whole-opens k b p max h =
     let rest : Bytes = drop 16 b in
     let count : length (chunks p) ≤ max = w.count in
     let n : length (pieces rest) ≡ length (chunks p) = ap length w.sealed_so ∙ length-each key 0 (chunks p) in
-    let some : 0 < length (pieces rest) = cut-some 65552 [] rest in
+    let some : 0 < length (pieces rest) = cut-some sealed_chunk_size [] rest in
     let last : ℕ = length (pieces rest) - 1 in
     let none : 0 + last ≡ last = omega arith in
     let sixteen : length i.nonce ≡ 16 = i.nonce_len in
@@ -116,23 +117,25 @@ got (c ∷ cs) zero t h = sym (ap (λ o. unwrap_or o []) h)
 got (c ∷ cs) (suc i) t h = got cs i t h
 
 -- a byte of a slice is the plaintext's byte at its offset
-byte-of : (key rest p text : Bytes) (max x v : ℕ) → IsWhole key rest p max → opening key rest (x / 65536) ≡ Some text
-    → slice_get text (x % 65536) ≡ Some v
+byte-of : (key rest p text : Bytes) (max x v : ℕ) → IsWhole key rest p max
+    → opening key rest (x / chunk_size) ≡ Some text
+    → slice_get text (x % chunk_size) ≡ Some v
     → (x < length p) × (v ≡ get_or p x 0)
 byte-of key rest p text max x v w opens at =
-    let i : ℕ = x / 65536 in
-    let r : ℕ = x % 65536 in
-    let same : text ≡ take 65536 (drop (65536 * i) p) =
+    let i : ℕ = x / chunk_size in
+    let r : ℕ = x % chunk_size in
+    let same : text ≡ take chunk_size (drop (chunk_size * i) p) =
     got (chunks p) i text (sym (ap (λ os. get_or os i None)
-    (ap (openings key 0) w.sealed_so ∙ openings-each key 0 (chunks p))) ∙ opens) ∙ cut-at 65536 i p (omega arith) in
-    let d : length (drop (65536 * i) p) ≡ length p - 65536 * i = length-drop (65536 * i) p in
-    let l : length text ≡ min 65536 (length (drop (65536 * i) p)) = ap length same
-    ∙ length-take 65536 (drop (65536 * i) p) in
+    (ap (openings key 0) w.sealed_so ∙ openings-each key 0 (chunks p))) ∙ opens)
+    ∙ cut-at chunk_size i p (omega arith) in
+    let d : length (drop (chunk_size * i) p) ≡ length p - chunk_size * i = length-drop (chunk_size * i) p in
+    let l : length text ≡ min chunk_size (length (drop (chunk_size * i) p)) = ap length same
+    ∙ length-take chunk_size (drop (chunk_size * i) p) in
     let within : r < length text = slice_get_within text r v at in
-    let sum : 65536 * i + r ≡ x = omega arith in (
+    let sum : chunk_size * i + r ≡ x = omega arith in (
       omega (arith, within, l, d, sum),
       sym (get_or_from_slice_get text r v 0 at) ∙ ap (λ t. get_or t r 0) same
-          ∙ get_or-take 65536 (drop (65536 * i) p) r 0 (omega arith) ∙ get_or-drop (65536 * i) p r 0
+          ∙ get_or-take chunk_size (drop (chunk_size * i) p) r 0 (omega arith) ∙ get_or-drop (chunk_size * i) p r 0
           ∙ ap (λ y. get_or p y 0) sum,
     )
 

@@ -15,6 +15,7 @@ use Rattle.age_stream.specs.declared.fault.StreamFault.TheVariants.{ChunkShort, 
 use Rattle.age_stream.specs.Opening.{Advances, EndsAt, IsAtPiece, IsFilled, Loses, OpenerState, OpensNext, WritesAll, WritesReading, left_of, pieces_left, reading_left}
 use Rattle.age_stream.specs.Payload.{pieces}
 use Rattle.age_stream.specs.Reading.{Reading, after_first, first_outcome, outcome, reading_from, stops}
+use Rattle.age_stream.specs.Sizes.{chunk_size, sealed_chunk_size, chunk_buf_size}
 use Rattle.age_stream.proofs.ReadingLemmas.{count-last, count-more, then_read, reading-last, reading-more}
 
 -- a text, and then what a reading gives
@@ -26,66 +27,71 @@ pub record IsFirst (key : Bytes) (max i : ℕ) (c text : Bytes) (left : Known) :
   pub reads : reading_from key max i c ≡ before text (reading_left key max (i + 1) left)
   pub count : length (pieces c) ≡ length (pieces_left left) + 1
 
-first-last : (key : Bytes) (max i : ℕ) (c text : Bytes) (left : Known) → length c ≤ 65552
+first-last : (key : Bytes) (max i : ℕ) (c text : Bytes) (left : Known) → length c ≤ sealed_chunk_size
     → first_outcome key max i c ≡ Ok text → left ≡ after_first c → IsFirst key max i c text left
 first-last key max i c text left le is rest =
-    let yes : nat_le (length c) 65552 ≡ true = le-leb (length c) 65552 le in
-    let all : outcome key max i true c ≡ Ok text = ap (outcome key max i true) (sym (take_all 65552 c le))
-    ∙ ap (λ b. outcome key max i b (take 65552 c)) (sym yes) ∙ is in
-    let none : left ≡ None = rest ∙ ap (λ b. cond b None (Some (drop 65552 c))) yes in
+    let yes : nat_le (length c) sealed_chunk_size ≡ true = le-leb (length c) sealed_chunk_size le in
+    let all : outcome key max i true c ≡ Ok text = ap (outcome key max i true) (sym (take_all sealed_chunk_size c le))
+    ∙ ap (λ b. outcome key max i b (take sealed_chunk_size c)) (sym yes) ∙ is in
+    let none : left ≡ None = rest ∙ ap (λ b. cond b None (Some (drop sealed_chunk_size c))) yes in
     subst (IsFirst key max i c text) (sym none) (record {
       reads = reading-last key max i c le ∙ ap (λ r. then_read r (record { front = []; fault = None })) all;
       count = count-last c le;
     })
 
-first-more : (key : Bytes) (max i : ℕ) (c text : Bytes) (left : Known) → 65552 < length c
+first-more : (key : Bytes) (max i : ℕ) (c text : Bytes) (left : Known) → sealed_chunk_size < length c
     → first_outcome key max i c ≡ Ok text → left ≡ after_first c → IsFirst key max i c text left
 first-more key max i c text left lt is rest =
-    let no : nat_le (length c) 65552 ≡ false = lt-leb (length c) 65552 lt in
-    let one : outcome key max i false (take 65552 c) ≡ Ok text = ap (λ b. outcome key max i b (take 65552 c)) (sym no)
+    let no : nat_le (length c) sealed_chunk_size ≡ false = lt-leb (length c) sealed_chunk_size lt in
+    let one : outcome key max i false (take sealed_chunk_size c) ≡ Ok text =
+    ap (λ b. outcome key max i b (take sealed_chunk_size c)) (sym no)
     ∙ is in
-    let some : left ≡ Some (drop 65552 c) = rest ∙ ap (λ b. cond b None (Some (drop 65552 c))) no in
+    let some : left ≡ Some (drop sealed_chunk_size c) =
+    rest ∙ ap (λ b. cond b None (Some (drop sealed_chunk_size c))) no in
     subst (IsFirst key max i c text) (sym some) (record {
-      reads = reading-more key max i c lt ∙ ap (λ r. then_read r (reading_from key max (i + 1) (drop 65552 c))) one;
+      reads = reading-more key max i c lt
+          ∙ ap (λ r. then_read r (reading_from key max (i + 1) (drop sealed_chunk_size c))) one;
       count = count-more c lt;
     })
 
 pub first-ok : (key : Bytes) (max i : ℕ) (c text : Bytes) (left : Known) → first_outcome key max i c ≡ Ok text
     → left ≡ after_first c → IsFirst key max i c text left
-first-ok key max i c text left is rest = elim (cases_lt 65552 (length c)) [
+first-ok key max i c text left is rest = elim (cases_lt sealed_chunk_size (length c)) [
   | inr le ↦ first-last key max i c text left le is rest
   | inl lt ↦ first-more key max i c text left lt is rest
 ]
 
 pub first-err : (key : Bytes) (max i : ℕ) (c : Bytes) (fault : StreamFault) → first_outcome key max i c ≡ Err fault
     → reading_from key max i c ≡ stops fault
-first-err key max i c fault is = elim (cases_lt 65552 (length c)) [
+first-err key max i c fault is = elim (cases_lt sealed_chunk_size (length c)) [
   | inr le ↦ reading-last key max i c le ∙ ap (λ r. then_read r (record { front = []; fault = None }))
-      (ap (outcome key max i true) (sym (take_all 65552 c le))
-      ∙ ap (λ b. outcome key max i b (take 65552 c)) (sym (le-leb (length c) 65552 le)) ∙ is)
-  | inl lt ↦ reading-more key max i c lt ∙ ap (λ r. then_read r (reading_from key max (i + 1) (drop 65552 c)))
-      (ap (λ b. outcome key max i b (take 65552 c)) (sym (lt-leb (length c) 65552 lt)) ∙ is)
+      (ap (outcome key max i true) (sym (take_all sealed_chunk_size c le))
+      ∙ ap (λ b. outcome key max i b (take sealed_chunk_size c)) (sym (le-leb (length c) sealed_chunk_size le)) ∙ is)
+  | inl lt ↦
+      reading-more key max i c lt ∙ ap (λ r. then_read r (reading_from key max (i + 1) (drop sealed_chunk_size c)))
+      (ap (λ b. outcome key max i b (take sealed_chunk_size c)) (sym (lt-leb (length c) sealed_chunk_size lt)) ∙ is)
 ]
 
 -- what the first piece gives, where more follows it or nothing is added
-first-on : (key : Bytes) (max i : ℕ) (c d : Bytes) → (65552 < length c) ⊎ (d ≡ [])
+first-on : (key : Bytes) (max i : ℕ) (c d : Bytes) → (sealed_chunk_size < length c) ⊎ (d ≡ [])
     → first_outcome key max i (c ++ d) ≡ first_outcome key max i c
 first-on key max i c d (inl lt) =
     let l : length (c ++ d) ≡ length c + length d = length-append c d in
-    let no : nat_le (length c) 65552 ≡ false = lt-leb (length c) 65552 lt in
-    let far : nat_le (length (c ++ d)) 65552 ≡ false = lt-leb (length (c ++ d)) 65552 (omega arith) in
-    ap (λ b. outcome key max i b (take 65552 (c ++ d))) far
-    ∙ ap (outcome key max i false) (take-append-le 65552 c d (omega arith))
-    ∙ ap (λ b. outcome key max i b (take 65552 c)) (sym no)
+    let no : nat_le (length c) sealed_chunk_size ≡ false = lt-leb (length c) sealed_chunk_size lt in
+    let far : nat_le (length (c ++ d)) sealed_chunk_size ≡ false =
+    lt-leb (length (c ++ d)) sealed_chunk_size (omega arith) in
+    ap (λ b. outcome key max i b (take sealed_chunk_size (c ++ d))) far
+    ∙ ap (outcome key max i false) (take-append-le sealed_chunk_size c d (omega arith))
+    ∙ ap (λ b. outcome key max i b (take sealed_chunk_size c)) (sym no)
 first-on key max i c d (inr none) = ap (first_outcome key max i) (ap (λ t. c ++ t) none ∙ append-nil c)
 
 -- what follows the first piece, with what comes after it
 after-on : (c d : Bytes) (left : Known) → left ≡ after_first c → IfNone left (d ≡ [])
-    → ((65552 < length c) ⊎ (d ≡ [])) × (left_of left d ≡ after_first (c ++ d))
-after-on c d left is fits = elim (cases_lt 65552 (length c)) [
+    → ((sealed_chunk_size < length c) ⊎ (d ≡ [])) × (left_of left d ≡ after_first (c ++ d))
+after-on c d left is fits = elim (cases_lt sealed_chunk_size (length c)) [
   | inr le ↦
       let none : after_first c ≡ None =
-      ap (λ b. cond b None (Some (drop 65552 c))) (le-leb (length c) 65552 le) in
+      ap (λ b. cond b None (Some (drop sealed_chunk_size c))) (le-leb (length c) sealed_chunk_size le) in
       let e : d ≡ [] = subst (λ (x : Known). IfNone x (d ≡ [])) (is ∙ none) fits in (
         inr e,
         ap (λ (x : Known). left_of x d) (is ∙ none) ∙ sym none
@@ -93,12 +99,14 @@ after-on c d left is fits = elim (cases_lt 65552 (length c)) [
       )
   | inl lt ↦
       let l : length (c ++ d) ≡ length c + length d = length-append c d in
-      let some : after_first c ≡ Some (drop 65552 c) =
-      ap (λ b. cond b None (Some (drop 65552 c))) (lt-leb (length c) 65552 lt) in
-      let far : after_first (c ++ d) ≡ Some (drop 65552 (c ++ d)) =
-      ap (λ b. cond b None (Some (drop 65552 (c ++ d)))) (lt-leb (length (c ++ d)) 65552 (omega arith)) in (
+      let some : after_first c ≡ Some (drop sealed_chunk_size c) =
+      ap (λ b. cond b None (Some (drop sealed_chunk_size c))) (lt-leb (length c) sealed_chunk_size lt) in
+      let far : after_first (c ++ d) ≡ Some (drop sealed_chunk_size (c ++ d)) =
+      ap (λ b. cond b None (Some (drop sealed_chunk_size (c ++ d))))
+      (lt-leb (length (c ++ d)) sealed_chunk_size (omega arith)) in (
         inl lt,
-        ap (λ (x : Known). left_of x d) (is ∙ some) ∙ sym (far ∙ ap Some (drop-append-le 65552 c d (omega arith))),
+        ap (λ (x : Known). left_of x d) (is ∙ some)
+            ∙ sym (far ∙ ap Some (drop-append-le sealed_chunk_size c d (omega arith))),
       )
 ]
 
@@ -119,11 +127,11 @@ pub record Opened (s t : OpenerState) (bytes : ℕ) (from now : Seen) (old new :
   pub none : t.fault ≡ None
   pub index : s.index ≤ t.index
   pub written : Appends old new front
-  pub bound : length front ≤ 65536 * (t.index - s.index)
-  pub full : IfSome t.held (λ ahead. length front ≡ 65536 * (t.index - s.index))
+  pub bound : length front ≤ chunk_size * (t.index - s.index)
+  pub full : IfSome t.held (λ ahead. length front ≡ chunk_size * (t.index - s.index))
   pub given : Bytes
   pub gave : Gave (flow from now) given
-  pub size : IfSome t.held (λ ahead. length given ≤ 65552 * (t.index - s.index) + length ahead)
+  pub size : IfSome t.held (λ ahead. length given ≤ sealed_chunk_size * (t.index - s.index) + length ahead)
   pub ended : IfNone t.held (IfSome s.held (λ ahead. IsAtEnd now.to_come))
   pub reads : (d : Bytes) → IfNone t.held (d ≡ []) → IsOpenedIn s t front given d
 
@@ -145,11 +153,11 @@ opened-none s from old none = record {
   reads = λ d fits. (refl, refl);
 }
   where
-    full : (held : Known) → IfSome held (λ ahead. 0 ≡ 65536 * (s.index - s.index))
+    full : (held : Known) → IfSome held (λ ahead. 0 ≡ chunk_size * (s.index - s.index))
     full None = tt
     full (Some h) = omega arith
 
-    size : (held : Known) → IfSome held (λ ahead. 0 ≤ 65552 * (s.index - s.index) + length ahead)
+    size : (held : Known) → IfSome held (λ ahead. 0 ≤ sealed_chunk_size * (s.index - s.index) + length ahead)
     size None = tt
     size (Some h) = omega arith
 
@@ -260,24 +268,25 @@ gave-all s t u n from now next old new r o adv = gave-then from now next o.given
 
 gave-len : (s t u : OpenerState) (n : ℕ) (from now next : Seen) (old new : Known) (r : Result Bool StreamFault)
     (o : Opened s t n from now old new) (adv : Advances t u (flow now next) r) → (r ≡ Ok false → ⊥)
-    → length (o.given ++ adv.given) ≤ 65552 * (t.index - s.index + 1) + 1
+    → length (o.given ++ adv.given) ≤ sealed_chunk_size * (t.index - s.index + 1) + 1
 gave-len s t u n from now next old new r o adv not =
     let h = held-some t u now next r not adv in
-    let past : length o.given ≤ 65552 * (t.index - s.index) + length h.0 = at-some _ t.held h.0 h.1 o.size in
+    let past : length o.given ≤ sealed_chunk_size * (t.index - s.index) + length h.0 =
+    at-some _ t.held h.0 h.1 o.size in
     let filled : IsFilled (Some h.0) adv.given next.to_come =
     subst (λ (x : Known). IsFilled x adv.given next.to_come) h.1 adv.filled in
     omega (arith, past, filled.0, length-append o.given adv.given)
 
 -- the last piece is opened only at the end of the source
 ended-by : (key : Bytes) (max i : ℕ) (left : Known) (h g text : Bytes) (next : Known)
-    → OpensNext key max i (Some (h ++ g)) left text (Ok true) → (length h + length g < 65553 → IsAtEnd next)
+    → OpensNext key max i (Some (h ++ g)) left text (Ok true) → (length h + length g < chunk_buf_size → IsAtEnd next)
     → IfNone left (IsAtEnd next)
 ended-by key max i (Some a) h g text next o end = tt
-ended-by key max i None h g text next o end = elim (cases_lt 65552 (length (h ++ g))) [
+ended-by key max i None h g text next o end = elim (cases_lt sealed_chunk_size (length (h ++ g))) [
   | inl lt ↦
-      let some : after_first (h ++ g) ≡ Some (drop 65552 (h ++ g)) =
-      ap (λ b. cond b None (Some (drop 65552 (h ++ g)))) (lt-leb (length (h ++ g)) 65552 lt) in
-      absurd (none-some (drop 65552 (h ++ g)) (o.2 ∙ some))
+      let some : after_first (h ++ g) ≡ Some (drop sealed_chunk_size (h ++ g)) =
+      ap (λ b. cond b None (Some (drop sealed_chunk_size (h ++ g)))) (lt-leb (length (h ++ g)) sealed_chunk_size lt) in
+      absurd (none-some (drop sealed_chunk_size (h ++ g)) (o.2 ∙ some))
   | inr le ↦ end (omega (arith, le, length-append h g))
 ]
   where
@@ -303,12 +312,12 @@ some-const None p = tt
 some-const (Some h) p = p
 
 pub opened-more : (s t u : OpenerState) (n : ℕ) (from now next : Seen) (a b c : Known) → Opened s t n from now a b
-    → Advances t u (flow now next) (Ok true) → length u.text ≤ 65536 → Appends b c u.text
+    → Advances t u (flow now next) (Ok true) → length u.text ≤ chunk_size → Appends b c u.text
     → Opened s u (n + length u.text) from next a c
 opened-more s t u n from now next a b c o adv le put =
     let h = held-some t u now next (Ok true) true-not-false adv in
     let up : u.index ≡ t.index + 1 = adv.keeps.1 in
-    let full : length o.front ≡ 65536 * (t.index - s.index) = at-some _ t.held h.0 h.1 o.full in
+    let full : length o.front ≡ chunk_size * (t.index - s.index) = at-some _ t.held h.0 h.1 o.full in
     let l : length (o.front ++ u.text) ≡ length o.front + length u.text = length-append o.front u.text in
     let size = gave-len s t u n from now next a b (Ok true) o adv true-not-false in
     record {
@@ -333,17 +342,17 @@ opened-more s t u n from now next a b c o adv le put =
           (next-reads s t u n from now next a b o adv d fits);
     }
   where
-    next_full : (held : Known) → IfSome held (λ ahead. (length ahead ≡ 1) × (length u.text ≡ 65536))
-        → u.index ≡ t.index + 1 → length o.front ≡ 65536 * (t.index - s.index)
+    next_full : (held : Known) → IfSome held (λ ahead. (length ahead ≡ 1) × (length u.text ≡ chunk_size))
+        → u.index ≡ t.index + 1 → length o.front ≡ chunk_size * (t.index - s.index)
         → length (o.front ++ u.text) ≡ length o.front + length u.text → s.index ≤ t.index
-        → IfSome held (λ ahead. length (o.front ++ u.text) ≡ 65536 * (u.index - s.index))
+        → IfSome held (λ ahead. length (o.front ++ u.text) ≡ chunk_size * (u.index - s.index))
     next_full None k up full l le = tt
     next_full (Some x) k up full l le = omega (arith, k.1)
 
-    next_size : (held : Known) → IfSome held (λ ahead. (length ahead ≡ 1) × (length u.text ≡ 65536))
-        → u.index ≡ t.index + 1 → length (o.given ++ adv.given) ≤ 65552 * (t.index - s.index + 1) + 1
+    next_size : (held : Known) → IfSome held (λ ahead. (length ahead ≡ 1) × (length u.text ≡ chunk_size))
+        → u.index ≡ t.index + 1 → length (o.given ++ adv.given) ≤ sealed_chunk_size * (t.index - s.index + 1) + 1
         → s.index ≤ t.index
-        → IfSome held (λ ahead. length (o.given ++ adv.given) ≤ 65552 * (u.index - s.index) + length ahead)
+        → IfSome held (λ ahead. length (o.given ++ adv.given) ≤ sealed_chunk_size * (u.index - s.index) + length ahead)
     next_size None k up size le = tt
     next_size (Some x) k up size le = omega (arith, size, k.0)
 
@@ -454,7 +463,7 @@ pub ends-write : (s t u : OpenerState) (n : ℕ) (from now next : Seen) (a b c :
     → EndsAt s.max_chunks 0 (flow from next) (moved a c) Write
 ends-write s t u n from now next a b c o adv part =
     let h = held-some t u now next (Ok true) true-not-false adv in
-    let full : length o.front ≡ 65536 * (t.index - s.index) = at-some _ t.held h.0 h.1 o.full in
+    let full : length o.front ≡ chunk_size * (t.index - s.index) = at-some _ t.held h.0 h.1 o.full in
     let len = gave-len s t u n from now next a b (Ok true) o adv true-not-false in
     record {
       piece = t.index - s.index;
@@ -499,14 +508,15 @@ writes-stop s t u n from now next a b fault o adv =
     (length (pieces_left (left_of s.held ((o.given ++ g) ++ d)))) t.max_chunks t.index a b fault adv.keeps.2
     (ap (λ (r : Reading StreamFault). r.fault) all) (subst (Appends a b) (sym front) o.written))
   where
-    at-end : (h g d : Bytes) → (length h + length g < 65553 → IsAtEnd next.to_come) → (IsAtEnd next.to_come → d ≡ [])
-        → (65552 < length (h ++ g)) ⊎ (d ≡ [])
-    at-end h g d short end = elim (cases_lt 65552 (length (h ++ g))) [
+    at-end : (h g d : Bytes) → (length h + length g < chunk_buf_size → IsAtEnd next.to_come)
+        → (IsAtEnd next.to_come → d ≡ [])
+        → (sealed_chunk_size < length (h ++ g)) ⊎ (d ≡ [])
+    at-end h g d short end = elim (cases_lt sealed_chunk_size (length (h ++ g))) [
       | inl lt ↦ inl lt
       | inr le ↦ inr (end (short (omega (arith, le, length-append h g))))
     ]
 
-    stops-on : (h g d : Bytes) → (65552 < length (h ++ g)) ⊎ (d ≡ [])
+    stops-on : (h g d : Bytes) → (sealed_chunk_size < length (h ++ g)) ⊎ (d ≡ [])
         → first_outcome s.key s.max_chunks t.index (h ++ g) ≡ Err fault
         → reading_left s.key s.max_chunks t.index (Some (h ++ (g ++ d))) ≡ stops fault
     stops-on h g d full met = first-err s.key s.max_chunks t.index (h ++ (g ++ d)) fault
@@ -573,7 +583,7 @@ failed-ends s t u n from now next a b fault o h = go (advanced t u now next o.no
 -- the count of bytes has room for one more text
 pub opened-room : (s t u : OpenerState) (n : ℕ) (from now next : Seen) (a b : Known) (len : ℕ)
     → Opened s t n from now a b
-    → Advances t u (flow now next) (Ok true) → len ≤ 65536 → Fits w128 (n + len)
+    → Advances t u (flow now next) (Ok true) → len ≤ chunk_size → Fits w128 (n + len)
 opened-room s t u n from now next a b len o adv le =
     let within : t.index < t.max_chunks = adv.keeps.2 refl in
     omega (arith, o.len, o.bound, adv.small)

@@ -7,6 +7,7 @@ use Rattle.age_kdf.specs.Bytes.{Bytes}
 use Rattle.age_stream.specs.declared.fault.StreamFault.{StreamFault}
 use Rattle.age_stream.specs.Opening.{GivesText}
 use Rattle.age_stream.specs.Reading.{Reading, after_first, first_outcome, outcome, reading_from, stops}
+use Rattle.age_stream.specs.Sizes.{chunk_size, sealed_chunk_size}
 use Rattle.age_stream.proofs.RangeLemmas.{put-prefix, put-rest, rest-on}
 use Rattle.age_stream.proofs.WritesAllLemmas.{before, first-err, first-ok}
 use Rattle.age_file.specs.declared.fault.Fault.{Fault}
@@ -27,18 +28,19 @@ use Rattle.agefile.proofs.StepsReadLemmas.{IsVerdictFrom, verdict-from}
 -- ---- one chunk
 
 -- the first piece, by as many bytes as it has
-pub first_is : (key : Bytes) (i size : ℕ) (left piece : Bytes) → size ≡ min (length left) 65552 → piece ≡ take size left
-    → outcome key limits.max_chunks i (nat_le (length left) 65552) (take size piece)
+pub first_is : (key : Bytes) (i size : ℕ) (left piece : Bytes) → size ≡ min (length left) sealed_chunk_size
+    → piece ≡ take size left
+    → outcome key limits.max_chunks i (nat_le (length left) sealed_chunk_size) (take size piece)
     ≡ first_outcome key limits.max_chunks i left
 first_is key i size left piece sized is =
     let len : length (take size left) ≡ size = length-take-le size left (omega (arith, sized)) in
     let whole : take size piece ≡ take size left = ap (take size) is
     ∙ take_all size (take size left) (omega (arith, len)) in
-    let same : take size left ≡ take 65552 left = elim (cases_lt 65552 (length left)) [
-      | inl lt ↦ let full : size ≡ 65552 = omega (arith, sized, lt) in ap (λ n. take n left) full
-      | inr le ↦ take_all size left (omega (arith, sized, le)) ∙ sym (take_all 65552 left le)
+    let same : take size left ≡ take sealed_chunk_size left = elim (cases_lt sealed_chunk_size (length left)) [
+      | inl lt ↦ let full : size ≡ sealed_chunk_size = omega (arith, sized, lt) in ap (λ n. take n left) full
+      | inr le ↦ take_all size left (omega (arith, sized, le)) ∙ sym (take_all sealed_chunk_size left le)
     ] in
-    ap (outcome key limits.max_chunks i (nat_le (length left) 65552)) (whole ∙ same)
+    ap (outcome key limits.max_chunks i (nat_le (length left) sealed_chunk_size)) (whole ∙ same)
 
 pub first_given : (o p : Result Bytes StreamFault) (n : ℕ) (after text old new : Bytes) → p ≡ o
     → GivesText p after (Ok n) → text ≡ take n after → new ≡ text ++ drop n old
@@ -56,8 +58,8 @@ first_fault o p fault after old same h = subst (λ x. GivesFirst x old old (Err 
 
 -- so many chunks were opened, and their texts are at the start of the buffer
 pub record IsReadTo (key sealed old out : Bytes) (at len number : ℕ) : Type 0 where
-  pub place : at ≡ 65552 * number
-  pub text : len ≡ 65536 * number
+  pub place : at ≡ sealed_chunk_size * number
+  pub text : len ≡ chunk_size * number
   pub some : (number ≡ 0) ⊎ (at < length sealed)
   pub size : length out ≡ length old
   pub room : opened_len (length sealed) ≤ length old
@@ -76,15 +78,16 @@ within key sealed old out at len number r = elim r.some [
   | inr lt ↦ omega (arith, lt)
 ]
 
-room_of : (n i : ℕ) → 65552 * i ≤ n → 65536 * i + (min (n - 65552 * i) 65552 - 16) ≤ opened_len n
-room_of n i le = elim (cases_lt i (n / 65552)) [
+room_of : (n i : ℕ) → sealed_chunk_size * i ≤ n
+    → chunk_size * i + (min (n - sealed_chunk_size * i) sealed_chunk_size - 16) ≤ opened_len n
+room_of n i le = elim (cases_lt i (n / sealed_chunk_size)) [
   | inl lt ↦ omega (arith, lt)
   | inr ge ↦ omega (arith, ge, le)
 ]
 
 -- the next text has room
 pub text_fits : (key sealed old out : Bytes) (at len number : ℕ) → IsReadTo key sealed old out at len number
-    → len + (min (length (drop at sealed)) 65552 - 16) ≤ length out
+    → len + (min (length (drop at sealed)) sealed_chunk_size - 16) ≤ length out
 text_fits key sealed old out at len number r =
     let low : at ≤ length sealed = within key sealed old out at len number r in
     let left : length (drop at sealed) ≡ length sealed - at = length-drop at sealed in
@@ -181,14 +184,15 @@ put old out mid new text len n fits count is joined rest =
 pub read_ends : (key sealed old out : Bytes) (at len number n : ℕ) (mid new : Bytes)
     → IsReadTo key sealed old out at len number
     → GivesFirst (first_outcome key limits.max_chunks number (drop at sealed)) (drop len out) mid (Ok n)
-    → new ≡ take len out ++ mid → length (drop at sealed) ≤ 65552
+    → new ≡ take len out ++ mid → length (drop at sealed) ≤ sealed_chunk_size
     → len + n ≤ length out → GivesReading (reading_from key limits.max_chunks 0 sealed) old new (len + n) None
 read_ends key sealed old out at len number n mid new r gives joined last fits =
     let o = opened (first_outcome key limits.max_chunks number (drop at sealed)) n (drop len out) mid gives in
     let p = put old out mid new o.0 len n fits o.2 o.3 joined r.rest in
     let none : None ≡ after_first (drop at sealed) =
-    sym (cond-true (nat_le (length (drop at sealed)) 65552) None (Some (drop 65552 (drop at sealed)))
-    (le-leb _ 65552 last)) in
+    sym (cond-true (nat_le (length (drop at sealed)) sealed_chunk_size) None
+    (Some (drop sealed_chunk_size (drop at sealed)))
+    (le-leb _ sealed_chunk_size last)) in
     let f = first-ok key limits.max_chunks number (drop at sealed) o.0 None o.1 none in
     let all = r.reads ∙ ap (before (take len out)) f.reads in
     given (reading_from key limits.max_chunks 0 sealed) old new (len + n) None (omega (arith, p.fits, p.size))
@@ -199,15 +203,17 @@ read_ends key sealed old out at len number n mid new r gives joined last fits =
 pub read_more : (key sealed old out : Bytes) (at len number n : ℕ) (mid new : Bytes)
     → IsReadTo key sealed old out at len number
     → GivesFirst (first_outcome key limits.max_chunks number (drop at sealed)) (drop len out) mid (Ok n)
-    → new ≡ take len out ++ mid → 65552 < length (drop at sealed)
-    → n ≡ min (length (drop at sealed)) 65552 - 16 → IsReadTo key sealed old new (at + 65552) (len + n) (number + 1)
+    → new ≡ take len out ++ mid → sealed_chunk_size < length (drop at sealed)
+    → n ≡ min (length (drop at sealed)) sealed_chunk_size - 16
+    → IsReadTo key sealed old new (at + sealed_chunk_size) (len + n) (number + 1)
 read_more key sealed old out at len number n mid new r gives joined more count =
     let fits : len + n ≤ length out = omega (arith, count, text_fits key sealed old out at len number r) in
     let o = opened (first_outcome key limits.max_chunks number (drop at sealed)) n (drop len out) mid gives in
     let p = put old out mid new o.0 len n fits o.2 o.3 joined r.rest in
-    let left : Bytes = drop 65552 (drop at sealed) in
+    let left : Bytes = drop sealed_chunk_size (drop at sealed) in
     let some : Some left ≡ after_first (drop at sealed) =
-    sym (cond-false (nat_le (length (drop at sealed)) 65552) None (Some left) (lt-leb _ 65552 more)) in
+    sym (cond-false (nat_le (length (drop at sealed)) sealed_chunk_size) None (Some left)
+    (lt-leb _ sealed_chunk_size more)) in
     let f = first-ok key limits.max_chunks number (drop at sealed) o.0 (Some left) o.1 some in
     let tail : Reading StreamFault = reading_from key limits.max_chunks (number + 1) left in
     record {
@@ -220,7 +226,7 @@ read_more key sealed old out at len number n mid new r gives joined more count =
           ∙ ap (λ t. record { front = t; fault = tail.fault }) (sym (append_assoc (take len out) o.0 tail.front))
           ∙ ap (λ t. before t tail) (sym p.front)
           ∙ ap (λ c. before (take (len + n) new) (reading_from key limits.max_chunks (number + 1) c))
-          (drop-drop 65552 at sealed);
+          (drop-drop sealed_chunk_size at sealed);
       rest = p.rest;
     }
 

@@ -8,6 +8,7 @@ use Rattle.age_kdf.specs.Bytes.{Bytes}
 use Rattle.age_stream.specs.declared.fault.StreamFault.{StreamFault}
 use Rattle.age_stream.specs.Payload.{is_end, pieces}
 use Rattle.age_stream.specs.Reading.{first_fault, front, outcome, outcomes}
+use Rattle.age_stream.specs.Sizes.{sealed_chunk_size}
 use Rattle.age_stream.proofs.CuttingLemmas.{AtMost, cut-at_most}
 use Rattle.age_file.specs.declared.fault.Fault.{Fault}
 use Rattle.age_file.specs.declared.fault.Fault.TheVariants.{NotAge}
@@ -73,11 +74,11 @@ IsRead key i cs text code place = (text ≡ front (outcomes key limits.max_chunk
     × ((code ≡ code_of (option_map stream_fault (first_fault (outcomes key limits.max_chunks i cs))))
     × (place ≡ (report_of 0 (option_map stream_fault (first_fault (outcomes key limits.max_chunks i cs)))).place))
 
-last-fits : (key : Bytes) (i : ℕ) (chunk : Bytes) → length chunk ≤ 65552
+last-fits : (key : Bytes) (i : ℕ) (chunk : Bytes) → length chunk ≤ sealed_chunk_size
     → may_open (reading_at key i) (length chunk) true ≡ true
-last-fits key i chunk le = le-leb (length chunk) 65552 le
+last-fits key i chunk le = le-leb (length chunk) sealed_chunk_size le
 
-full-fits : (key : Bytes) (i : ℕ) (chunk : Bytes) → length chunk ≡ 65552
+full-fits : (key : Bytes) (i : ℕ) (chunk : Bytes) → length chunk ≡ sealed_chunk_size
     → may_open (reading_at key i) (length chunk) false ≡ true
 full-fits key i chunk is = ap (λ n. may_open (reading_at key i) n false) is
 
@@ -101,7 +102,7 @@ read-more key i text code place more (Ok t) os next (rest, joined, run) = let h 
     (joined ∙ ap (λ r. t ++ r) h.0, h.1)
 read-more key i text code place more (Err f) os next h = h
 
-pub run_reads : (key : Bytes) (i : ℕ) (cs : List Bytes) (text : Bytes) (code place : ℕ) → AtMost 65552 cs
+pub run_reads : (key : Bytes) (i : ℕ) (cs : List Bytes) (text : Bytes) (code place : ℕ) → AtMost sealed_chunk_size cs
     → OpensRun (reading_at key i) cs text code place
     → IsRead key i cs text code place
 run_reads key i [] text code place sizes run = absurd sizes
@@ -118,4 +119,4 @@ run_reads key i (c ∷ d ∷ more) text code place sizes run =
 pub payload_reads : (key rest text : Bytes) (code place : ℕ) → OpensRun (reading_at key 0) (pieces rest) text code place
     → IsRead key 0 (pieces rest) text code place
 payload_reads key rest text code place run =
-    run_reads key 0 (pieces rest) text code place (cut-at_most 65552 rest (omega arith)) run
+    run_reads key 0 (pieces rest) text code place (cut-at_most sealed_chunk_size rest (omega arith)) run

@@ -11,6 +11,7 @@ use Rattle.age_stream.specs.declared.fault.StreamFault.{StreamFault}
 use Rattle.age_stream.specs.declared.fault.StreamFault.TheVariants.{NonceTruncated}
 use Rattle.age_stream.specs.Payload.{is_end, payload_key, pieces, chunk_nonce}
 use Rattle.age_stream.specs.Reading.{Reading, front, outcome, outcomes, payload_reading, reading_from, stops}
+use Rattle.age_stream.specs.Sizes.{chunk_size, sealed_chunk_size}
 use Rattle.age_stream.proofs.CuttingLemmas.{AtMost, cut-at_most, concat-cut_into}
 use Rattle.age_stream.proofs.PayloadLemmas.{outcome-opens, result_cases}
 use Rattle.age_file.specs.declared.fault.Fault.{Fault}
@@ -22,15 +23,15 @@ use Rattle.age_recipient.proofs.HeaderSizeLemmas.{least_header}
 -- so many bytes of plaintext come from so many bytes of pieces: some pieces open, each to 65,536 bytes at most and 16
 -- fewer than it has
 abbrev pub Comes : ℕ → ℕ → Type 0
-Comes n r = (m : ℕ) × (n ≤ 65536 * m) × (n + 16 * m ≤ r)
+Comes n r = (m : ℕ) × (n ≤ chunk_size * m) × (n + 16 * m ≤ r)
 
 abbrev pub AreSmall : List Bytes → Type 0
-AreSmall cs = AllByRecursion (λ c. length c ≤ 65552) cs
+AreSmall cs = AllByRecursion (λ c. length c ≤ sealed_chunk_size) cs
 
-small : (cs : List Bytes) → AtMost 65552 cs → AreSmall cs
+small : (cs : List Bytes) → AtMost sealed_chunk_size cs → AreSmall cs
 small [] h = absurd h
 small (c ∷ []) h = (h, tt)
-small (c ∷ d ∷ more) h = (let full : length c ≡ 65552 = h.0 in omega arith, small (d ∷ more) h.1)
+small (c ∷ d ∷ more) h = (let full : length c ≡ sealed_chunk_size = h.0 in omega arith, small (d ∷ more) h.1)
 
 front_comes : (key : Bytes) (max i : ℕ) (cs : List Bytes) → AreSmall cs
     → Comes (length (front (outcomes key max i cs))) (length (concat cs))
@@ -38,11 +39,11 @@ front_comes key max i [] all = (0, omega arith, omega arith)
 front_comes key max i (c ∷ more) all = elim (result_cases (outcome key max i (is_end more) c)) [
   | inl some ↦
       let rest = front_comes key max (i + 1) more all.1 in
-      let size : length c ≤ 65552 = all.0 in
+      let size : length c ≤ sealed_chunk_size = all.0 in
       let len : length c ≡ length some.0 + 16 =
       ap length (outcome-opens key max i (is_end more) c some.0 some.1).sealed_so
       ∙ length-sealed key (chunk_nonce i (is_end more)) [] some.0 in
-      let low : length (front (outcomes key max (i + 1) more)) ≤ 65536 * rest.0 = rest.1 in
+      let low : length (front (outcomes key max (i + 1) more)) ≤ chunk_size * rest.0 = rest.1 in
       let high : length (front (outcomes key max (i + 1) more)) + 16 * rest.0 ≤ length (concat more) = rest.2 in
       let both = length-append some.0 (front (outcomes key max (i + 1) more)) in
       let sum = length-append c (concat more) in
@@ -55,7 +56,7 @@ front_comes key max i (c ∷ more) all = elim (result_cases (outcome key max i (
 ]
 
 comes_at_most : (n r most : ℕ) → Comes n r → r ≤ most → n ≤ opened_len most
-comes_at_most n r most (m, low, high) le = elim (cases_lt (most / 65552) m) [
+comes_at_most n r most (m, low, high) le = elim (cases_lt (most / sealed_chunk_size) m) [
   | inl above ↦ omega arith
   | inr within ↦ omega arith
 ]
@@ -65,10 +66,10 @@ payload_at_most : (k : FileKey) (max most : ℕ) (text : Bytes) → length text 
     → length (payload_reading k max text).front ≤ opened_len most
 payload_at_most k max most text le =
     let rest : Bytes = drop 16 text in
-    let join : length (concat (pieces rest)) ≡ length rest = ap length (concat-cut_into 65552 [] rest) in
+    let join : length (concat (pieces rest)) ≡ length rest = ap length (concat-cut_into sealed_chunk_size [] rest) in
     let size : length rest ≡ length text - 16 = length-drop 16 text in
     let comes = front_comes (payload_key k (take 16 text)) max 0 (pieces rest)
-    (small (pieces rest) (cut-at_most 65552 rest (omega arith))) in
+    (small (pieces rest) (cut-at_most sealed_chunk_size rest (omega arith))) in
     let opens : length (reading_from (payload_key k (take 16 text)) max 0 rest).front ≤ opened_len most =
     comes_at_most _ (length (concat (pieces rest))) most comes (omega arith) in
     elim (nat_lt (length text) 16) as (λ t. length

@@ -6,6 +6,7 @@ use Rattle.age_cipher.proofs.OpeningLemmas.{length-sealed, opened-sealed}
 use Rattle.age_stream.specs.Payload.{pieces, chunk_nonce}
 use Rattle.age_stream.specs.Reading.{opened_at, outcome}
 use Rattle.age_stream.specs.Slice.{IsSlice, last_outcome, opening, plain_len}
+use Rattle.age_stream.specs.Sizes.{chunk_size, sealed_chunk_size}
 use Rattle.age_stream.proofs.JudgesLastLemmas.{last-is, piece-count, some-or-none}
 use Rattle.age_stream.proofs.PayloadLemmas.{outcome-opens}
 use Rattle.age_stream.proofs.SliceLemmas.{opening-at, plain-count, slice-on}
@@ -19,15 +20,16 @@ left r b size = let d : length (drop r.first b) ≡ length b - r.first = length-
 
 -- a piece by its place in the file is the piece by its place in the payload
 piece-there : (r : Ranges) (b : Bytes) (i : ℕ) → length b ≡ r.first + r.sealed_len
-    → piece_at r b i ≡ take 65552 (drop (65552 * i) (drop r.first b))
+    → piece_at r b i ≡ take sealed_chunk_size (drop (sealed_chunk_size * i) (drop r.first b))
 piece-there r b i size =
     let rest : Bytes = drop r.first b in
-    let d : length (drop (65552 * i) rest) ≡ length rest - 65552 * i = length-drop (65552 * i) rest in
-    let e : r.sealed_len - 65552 * i ≡ length (drop (65552 * i) rest) =
-    sym (d ∙ ap (λ n. n - 65552 * i) (left r b size)) in
-    ap (take (piece_len r.sealed_len i)) (sym (drop-drop (65552 * i) r.first b))
-    ∙ ap (λ n. take (min 65552 n) (drop (65552 * i) rest)) e
-    ∙ take_min 65552 (drop (65552 * i) rest)
+    let d : length (drop (sealed_chunk_size * i) rest) ≡ length rest - sealed_chunk_size * i =
+    length-drop (sealed_chunk_size * i) rest in
+    let e : r.sealed_len - sealed_chunk_size * i ≡ length (drop (sealed_chunk_size * i) rest) =
+    sym (d ∙ ap (λ n. n - sealed_chunk_size * i) (left r b size)) in
+    ap (take (piece_len r.sealed_len i)) (sym (drop-drop (sealed_chunk_size * i) r.first b))
+    ∙ ap (λ n. take (min sealed_chunk_size n) (drop (sealed_chunk_size * i) rest)) e
+    ∙ take_min sealed_chunk_size (drop (sealed_chunk_size * i) rest)
 
 pub last-there : (r : Ranges) (b : Bytes) → length b ≡ r.first + r.sealed_len
     → outcome r.key limits.max_chunks (last_index r.sealed_len) true (piece_at r b (last_index r.sealed_len))
@@ -36,9 +38,10 @@ last-there r b size =
     let rest : Bytes = drop r.first b in
     let last : ℕ = last_index r.sealed_len in
     let n : length rest ≡ r.sealed_len = left r b size in
-    let d : length (drop (65552 * last) rest) ≡ length rest - 65552 * last = length-drop (65552 * last) rest in
+    let d : length (drop (sealed_chunk_size * last) rest) ≡ length rest - sealed_chunk_size * last =
+    length-drop (sealed_chunk_size * last) rest in
     ap (outcome r.key limits.max_chunks last true)
-    (piece-there r b last size ∙ take_all 65552 (drop (65552 * last) rest) (omega arith))
+    (piece-there r b last size ∙ take_all sealed_chunk_size (drop (sealed_chunk_size * last) rest) (omega arith))
     ∙ sym (last-is r.key limits.max_chunks rest last (ap last_index (sym n)))
 
 pub len-there : (r : Ranges) (b text : Bytes) → length b ≡ r.first + r.sealed_len
@@ -48,11 +51,12 @@ len-there r b text size h =
     let rest : Bytes = drop r.first b in
     let last : ℕ = last_index r.sealed_len in
     let n : length rest ≡ r.sealed_len = left r b size in
-    let is : last ≡ (length rest - 1) / 65552 = ap last_index (sym n) in
-    let d : length (drop (65552 * last) rest) ≡ length rest - 65552 * last = length-drop (65552 * last) rest in
-    let o = outcome-opens r.key limits.max_chunks last true (drop (65552 * last) rest) text
+    let is : last ≡ (length rest - 1) / sealed_chunk_size = ap last_index (sym n) in
+    let d : length (drop (sealed_chunk_size * last) rest) ≡ length rest - sealed_chunk_size * last =
+    length-drop (sealed_chunk_size * last) rest in
+    let o = outcome-opens r.key limits.max_chunks last true (drop (sealed_chunk_size * last) rest) text
     (sym (last-is r.key limits.max_chunks rest last is) ∙ h) in
-    let len : length (drop (65552 * last) rest) ≡ length text + 16 = ap length o.sealed_so
+    let len : length (drop (sealed_chunk_size * last) rest) ≡ length text + 16 = ap length o.sealed_so
     ∙ length-sealed r.key (chunk_nonce last true) [] text in
     let count : plain_len rest + 16 * (last + 1) ≡ length rest =
     plain-count last rest (some-or-none last (length rest) is) (omega arith) (omega arith) in
@@ -60,26 +64,28 @@ len-there r b text size h =
 
 pub slice-there : (r : Ranges) (b text : Bytes) (at : ℕ) → length b ≡ r.first + r.sealed_len
     → at < plain_of r.sealed_len
-    → gives r (at / 65536) (piece_at r b (at / 65536)) ≡ Ok text
-    → (at % 65536 < length text) × IsSlice r.key (drop r.first b) at (drop (at % 65536) text)
+    → gives r (at / chunk_size) (piece_at r b (at / chunk_size)) ≡ Ok text
+    → (at % chunk_size < length text) × IsSlice r.key (drop r.first b) at (drop (at % chunk_size) text)
 slice-there r b text at size within h =
     let rest : Bytes = drop r.first b in
-    let i : ℕ = at / 65536 in
-    let skip : ℕ = at % 65536 in
+    let i : ℕ = at / chunk_size in
+    let skip : ℕ = at % chunk_size in
     let last : ℕ = last_index r.sealed_len in
     let n : length rest ≡ r.sealed_len = left r b size in
     let count : length (pieces rest) ≡ last + 1 = piece-count rest last (ap last_index (sym n)) in
-    let piece : Bytes = take 65552 (drop (65552 * i) rest) in
+    let piece : Bytes = take sealed_chunk_size (drop (sealed_chunk_size * i) rest) in
     let there : piece_at r b i ≡ piece = piece-there r b i size in
-    let d : length (drop (65552 * i) rest) ≡ length rest - 65552 * i = length-drop (65552 * i) rest in
-    let l : length piece ≡ min 65552 (length (drop (65552 * i) rest)) = length-take 65552 (drop (65552 * i) rest) in
-    let flag : Bool = nat_le r.sealed_len (65552 * (i + 1)) in
+    let d : length (drop (sealed_chunk_size * i) rest) ≡ length rest - sealed_chunk_size * i =
+    length-drop (sealed_chunk_size * i) rest in
+    let l : length piece ≡ min sealed_chunk_size (length (drop (sealed_chunk_size * i) rest)) =
+    length-take sealed_chunk_size (drop (sealed_chunk_size * i) rest) in
+    let flag : Bool = nat_le r.sealed_len (sealed_chunk_size * (i + 1)) in
     let o = outcome-opens r.key limits.max_chunks i flag piece text
     (ap (outcome r.key limits.max_chunks i flag) (sym there) ∙ h) in
     let len : length piece ≡ length text + 16 = ap length o.sealed_so
     ∙ length-sealed r.key (chunk_nonce i flag) [] text in
     let opens : opening r.key rest i ≡ Some text =
-    opening-at r.key rest i (omega arith) ∙ ap (λ m. opened_at r.key i (nat_le m (65552 * (i + 1))) piece) n
+    opening-at r.key rest i (omega arith) ∙ ap (λ m. opened_at r.key i (nat_le m (sealed_chunk_size * (i + 1))) piece) n
     ∙ ap (opened_at r.key i flag) o.sealed_so ∙ opened-sealed r.key (chunk_nonce i flag) [] text in
     let t : length (drop skip text) ≡ length text - skip = length-drop skip text in
     let part : IsSlice r.key rest at ([] ++ take (length text - skip) (drop skip text)) =

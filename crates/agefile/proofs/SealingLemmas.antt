@@ -9,6 +9,7 @@ use Rattle.age_cipher.specs.Sealing.{sealed}
 use Rattle.age_cipher.proofs.OpeningLemmas.{length-sealed}
 use Rattle.age_header.specs.declared.file_key.FileKey.{FileKey}
 use Rattle.age_stream.specs.Payload.{chunk_nonce, chunks, payload, sealed_from}
+use Rattle.age_stream.specs.Sizes.{chunk_size, sealed_chunk_size}
 use Rattle.age_stream.proofs.CuttingLemmas.{cut-last}
 use Rattle.age_stream.proofs.ReadingLemmas.{cut-step, is_end-cut}
 use Rattle.agefile.specs.declared.report.Report.{Report}
@@ -23,29 +24,29 @@ use Rattle.agefile.proofs.SizeLemmas.{chunks_size}
 -- ---- one chunk
 
 -- the first chunk, by as many bytes as it has
-pub first_text : (size : ℕ) (left : Bytes) → size ≡ min (length left) 65536 → take size left ≡ take 65536 left
-first_text size left sized = elim (cases_lt 65536 (length left)) [
-  | inl lt ↦ let full : size ≡ 65536 = omega (arith, sized, lt) in ap (λ n. take n left) full
-  | inr le ↦ take_all size left (omega (arith, sized, le)) ∙ sym (take_all 65536 left le)
+pub first_text : (size : ℕ) (left : Bytes) → size ≡ min (length left) chunk_size → take size left ≡ take chunk_size left
+first_text size left sized = elim (cases_lt chunk_size (length left)) [
+  | inl lt ↦ let full : size ≡ chunk_size = omega (arith, sized, lt) in ap (λ n. take n left) full
+  | inr le ↦ take_all size left (omega (arith, sized, le)) ∙ sym (take_all chunk_size left le)
 ]
 
 -- the first chunk is sealed at the start of the room
 abbrev pub SealsFirst : (key : Bytes) (number : ℕ) (left room new : Bytes) → Type 0
 SealsFirst key number left room new =
-    new ≡ sealed key (chunk_nonce number (nat_le (length left) 65536)) [] (take 65536 left)
-    ++ drop (min (length left) 65536 + 16) room
+    new ≡ sealed key (chunk_nonce number (nat_le (length left) chunk_size)) [] (take chunk_size left)
+    ++ drop (min (length left) chunk_size + 16) room
 
 pub first_sealed : (key : Bytes) (number size : ℕ) (left text front back chunk rest room : Bytes)
-    → size ≡ min (length left) 65536 → text ≡ take size left → front ≡ text → length back ≡ 16
-    → chunk ≡ sealed key (chunk_nonce number (nat_le (length left) 65536)) []
+    → size ≡ min (length left) chunk_size → text ≡ take size left → front ≡ text → length back ≡ 16
+    → chunk ≡ sealed key (chunk_nonce number (nat_le (length left) chunk_size)) []
     (take (length (front ++ back) - 16) (front ++ back)) → rest ≡ drop (size + 16) room
     → SealsFirst key number left room (chunk ++ rest)
 first_sealed key number size left text front back chunk rest room sized is copied tag sealed_so behind =
-    let same : take (length (front ++ back) - 16) (front ++ back) ≡ take 65536 left =
+    let same : take (length (front ++ back) - 16) (front ++ back) ≡ take chunk_size left =
     take_at front back (length (front ++ back) - 16) (omega (arith, tag, length-append front back)) ∙ copied ∙ is
     ∙ first_text size left sized in
-    ap (λ c. c ++ rest) (sealed_so ∙ ap (sealed key (chunk_nonce number (nat_le (length left) 65536)) []) same)
-    ∙ ap (λ r. sealed key (chunk_nonce number (nat_le (length left) 65536)) [] (take 65536 left) ++ r)
+    ap (λ c. c ++ rest) (sealed_so ∙ ap (sealed key (chunk_nonce number (nat_le (length left) chunk_size)) []) same)
+    ∙ ap (λ r. sealed key (chunk_nonce number (nat_le (length left) chunk_size)) [] (take chunk_size left) ++ r)
     (behind ∙ ap (λ n. drop (n + 16) room) sized)
 
 -- ---- one chunk after another
@@ -60,8 +61,8 @@ sealed_there key plain out left room mid at done number left_is room_is is =
 
 -- so many chunks were sealed, and are at the start of the buffer
 pub record IsSealedTo (key plain out : Bytes) (at done number : ℕ) : Type 0 where
-  pub place : at ≡ 65536 * number
-  pub sealed_so : done ≡ 65552 * number
+  pub place : at ≡ chunk_size * number
+  pub sealed_so : done ≡ sealed_chunk_size * number
   pub some : (number ≡ 0) ⊎ (at < length plain)
   pub size : length out ≡ length plain + 16 * chunk_count (length plain)
   pub seals : concat (sealed_from key 0 (chunks plain))
@@ -80,7 +81,7 @@ plain_within key plain out at done number r = elim r.some [
 
 -- the next sealed chunk has room
 pub chunk_fits : (key plain out : Bytes) (at done number : ℕ) → IsSealedTo key plain out at done number
-    → done + (min (length (drop at plain)) 65536 + 16) ≤ length out
+    → done + (min (length (drop at plain)) chunk_size + 16) ≤ length out
 chunk_fits key plain out at done number r =
     let left : length (drop at plain) ≡ length plain - at = length-drop at plain in
     elim r.some [
@@ -90,7 +91,7 @@ chunk_fits key plain out at done number r =
 
 -- the last one fills the buffer
 last_fills : (key plain out : Bytes) (at done number : ℕ) → IsSealedTo key plain out at done number
-    → length (drop at plain) ≤ 65536 → length out ≡ done + (length (drop at plain) + 16)
+    → length (drop at plain) ≤ chunk_size → length out ≡ done + (length (drop at plain) + 16)
 last_fills key plain out at done number r last =
     let left : length (drop at plain) ≡ length plain - at = length-drop at plain in
     elim r.some [
@@ -99,53 +100,55 @@ last_fills key plain out at done number r last =
     ]
 
 pub seals_end : (key plain out mid new : Bytes) (at done number : ℕ) → IsSealedTo key plain out at done number
-    → length (drop at plain) ≤ 65536
+    → length (drop at plain) ≤ chunk_size
     → SealsFirst key number (drop at plain) (drop done out) mid → new ≡ take done out ++ mid
     → new ≡ concat (sealed_from key 0 (chunks plain))
 seals_end key plain out mid new at done number r last is joined =
     let left : Bytes = drop at plain in
     let fills = last_fills key plain out at done number r last in
-    let none : drop (min (length left) 65536 + 16) (drop done out) ≡ [] =
+    let none : drop (min (length left) chunk_size + 16) (drop done out) ≡ [] =
     nil_from_length _ (omega (
       arith,
       fills,
       last,
       length-drop done out,
-      length-drop (min (length left) 65536 + 16) (drop done out),
+      length-drop (min (length left) chunk_size + 16) (drop done out),
     )) in
     let one : mid ≡ sealed key (chunk_nonce number true) [] left ++ [] =
-    is ∙ ap (λ d. sealed key (chunk_nonce number (nat_le (length left) 65536)) [] (take 65536 left) ++ d) none
-    ∙ ap (λ b. sealed key (chunk_nonce number b) [] (take 65536 left) ++ []) (le-leb (length left) 65536 last)
-    ∙ ap (λ t. sealed key (chunk_nonce number true) [] t ++ []) (take_all 65536 left last) in
+    is ∙ ap (λ d. sealed key (chunk_nonce number (nat_le (length left) chunk_size)) [] (take chunk_size left) ++ d) none
+    ∙ ap (λ b. sealed key (chunk_nonce number b) [] (take chunk_size left) ++ []) (le-leb (length left) chunk_size last)
+    ∙ ap (λ t. sealed key (chunk_nonce number true) [] t ++ []) (take_all chunk_size left last) in
     let rest : concat (sealed_from key number (chunks left)) ≡ sealed key (chunk_nonce number true) [] left ++ [] =
-    ap (λ cs. concat (sealed_from key number cs)) (cut-last 65536 left last) in
+    ap (λ cs. concat (sealed_from key number cs)) (cut-last chunk_size left last) in
     joined ∙ ap (λ m. take done out ++ m) (one ∙ sym rest) ∙ sym r.seals
 
 pub seals_more : (key plain out mid new : Bytes) (at done number : ℕ) → IsSealedTo key plain out at done number
-    → 65536 < length (drop at plain)
+    → chunk_size < length (drop at plain)
     → SealsFirst key number (drop at plain) (drop done out) mid → new ≡ take done out ++ mid
-    → IsSealedTo key plain new (at + 65536) (done + 65552) (number + 1)
+    → IsSealedTo key plain new (at + chunk_size) (done + sealed_chunk_size) (number + 1)
 seals_more key plain out mid new at done number r more is joined =
     let left : Bytes = drop at plain in
-    let text : Bytes = take 65536 left in
+    let text : Bytes = take chunk_size left in
     let one : Bytes = sealed key (chunk_nonce number false) [] text in
     let fits = chunk_fits key plain out at done number r in
-    let full : length text ≡ 65536 = length-take-le 65536 left (omega (arith, more)) in
-    let long : length one ≡ 65552 = length-sealed key (chunk_nonce number false) [] text ∙ omega (arith, full) in
+    let full : length text ≡ chunk_size = length-take-le chunk_size left (omega (arith, more)) in
+    let long : length one ≡ sealed_chunk_size =
+    length-sealed key (chunk_nonce number false) [] text ∙ omega (arith, full) in
     let begun : length (take done out) ≡ done = length-take-le done out (omega (arith, fits)) in
-    let after : Bytes = drop (min (length left) 65536 + 16) (drop done out) in
+    let after : Bytes = drop (min (length left) chunk_size + 16) (drop done out) in
     let put : mid ≡ one ++ after = is ∙ ap (λ b. sealed key (chunk_nonce number b) [] text ++ after)
-    (lt-leb (length left) 65536 more) in
+    (lt-leb (length left) chunk_size more) in
     let all : new ≡ (take done out ++ one) ++ after = joined ∙ ap (λ m. take done out ++ m) put
     ∙ sym (append_assoc (take done out) one after) in
-    let front : take (done + 65552) new ≡ take done out ++ one = ap (take (done + 65552)) all
-    ∙ take_at (take done out ++ one) after (done + 65552)
+    let front : take (done + sealed_chunk_size) new ≡ take done out ++ one = ap (take (done + sealed_chunk_size)) all
+    ∙ take_at (take done out ++ one) after (done + sealed_chunk_size)
     (omega (arith, begun, long, length-append (take done out) one)) in
     let rest : concat (sealed_from key number (chunks left))
-    ≡ one ++ concat (sealed_from key (number + 1) (chunks (drop 65536 left))) =
-    ap (λ cs. concat (sealed_from key number cs)) (cut-step 65536 left (omega arith) more)
+    ≡ one ++ concat (sealed_from key (number + 1) (chunks (drop chunk_size left))) =
+    ap (λ cs. concat (sealed_from key number cs)) (cut-step chunk_size left (omega arith) more)
     ∙ ap (λ b. sealed key (chunk_nonce number b) [] text
-    ++ concat (sealed_from key (number + 1) (chunks (drop 65536 left)))) (is_end-cut 65536 [] (drop 65536 left)) in
+    ++ concat (sealed_from key (number + 1) (chunks (drop chunk_size left))))
+    (is_end-cut chunk_size [] (drop chunk_size left)) in
     record {
       place = omega (arith, r.place);
       sealed_so = omega (arith, r.sealed_so);
@@ -161,13 +164,14 @@ seals_more key plain out mid new at done number r more is joined =
         more,
         r.size,
         length-drop done out,
-        length-drop (min (length left) 65536 + 16) (drop done out),
+        length-drop (min (length left) chunk_size + 16) (drop done out),
       );
       seals = r.seals ∙ ap (λ t. take done out ++ t) rest
-          ∙ sym (append_assoc (take done out) one (concat (sealed_from key (number + 1) (chunks (drop 65536 left)))))
-          ∙ ap (λ t. t ++ concat (sealed_from key (number + 1) (chunks (drop 65536 left)))) (sym front)
-          ∙ ap (λ c. take (done + 65552) new ++ concat (sealed_from key (number + 1) (chunks c)))
-          (drop-drop 65536 at plain);
+          ∙ sym
+          (append_assoc (take done out) one (concat (sealed_from key (number + 1) (chunks (drop chunk_size left)))))
+          ∙ ap (λ t. t ++ concat (sealed_from key (number + 1) (chunks (drop chunk_size left)))) (sym front)
+          ∙ ap (λ c. take (done + sealed_chunk_size) new ++ concat (sealed_from key (number + 1) (chunks c)))
+          (drop-drop chunk_size at plain);
     }
 
 -- ---- the whole file

@@ -10,6 +10,7 @@ use Rattle.age_cipher.specs.Sealing.{sealed}
 use Rattle.age_header.specs.declared.file_key.FileKey.{FileKey}
 use Rattle.age_stream.specs.Cutting.{IsFilled}
 use Rattle.age_stream.specs.Payload.{chunks, is_end, payload, payload_key, chunk_nonce, sealed_from}
+use Rattle.age_stream.specs.Sizes.{chunk_size, sealed_chunk_size}
 use Rattle.age_stream.proofs.CuttingLemmas.{is_cut}
 use Rattle.agefile.specs.declared.payload.Payload.{Payload}
 use Rattle.agefile.specs.declared.report.Report.{Report}
@@ -29,16 +30,16 @@ writing_at key i = record { key = key; number = i; state = 2; spare = replicate 
 -- the sizes of the chunks of a plaintext from number i on
 abbrev pub AreChunks : ℕ → List Bytes → Type 0
 AreChunks i [] = ⊥
-AreChunks i (c ∷ []) = (length c ≤ 65536) × ((0 < length c) ⊎ (i ≡ 0))
-AreChunks i (c ∷ d ∷ more) = (length c ≡ 65536) × AreChunks (i + 1) (d ∷ more)
+AreChunks i (c ∷ []) = (length c ≤ chunk_size) × ((0 < length c) ⊎ (i ≡ 0))
+AreChunks i (c ∷ d ∷ more) = (length c ≡ chunk_size) × AreChunks (i + 1) (d ∷ more)
 
-filled-chunks : (i : ℕ) (cs : List Bytes) → IsFilled 65536 cs → AreChunks i cs
+filled-chunks : (i : ℕ) (cs : List Bytes) → IsFilled chunk_size cs → AreChunks i cs
 filled-chunks i [] h = h
 filled-chunks i (c ∷ []) h = (h.1, inl h.0)
 filled-chunks i (c ∷ d ∷ more) h = (h.0, filled-chunks (i + 1) (d ∷ more) h.1)
 
 plain-chunks : (plain : Bytes) → AreChunks 0 (chunks plain)
-plain-chunks plain = elim (is_cut 65536 plain (omega arith)).sizes [
+plain-chunks plain = elim (is_cut chunk_size plain (omega arith)).sizes [
   | inl one ↦ subst (AreChunks 0) (sym one) (omega arith, inr refl)
   | inr filled ↦ filled-chunks 0 (chunks plain) filled
 ]
@@ -56,12 +57,13 @@ text-there i n (inr zero) = elim (cases_lt 0 n) [
       ap (λ k. has_text k (n + 16)) zero ∙ ap (λ m. has_text 0 (m + 16)) empty
 ]
 
-last-fits : (key : Bytes) (i : ℕ) (c : Bytes) → length c ≤ 65536 → (0 < length c) ⊎ (i ≡ 0)
+last-fits : (key : Bytes) (i : ℕ) (c : Bytes) → length c ≤ chunk_size → (0 < length c) ⊎ (i ≡ 0)
     → may_seal (writing_at key i) (length c + 16) true ≡ true
-last-fits key i c le some = ap (λ t. t && has_text i (length c + 16)) (le-leb (length c + 16) 65552 (omega arith))
+last-fits key i c le some =
+    ap (λ t. t && has_text i (length c + 16)) (le-leb (length c + 16) sealed_chunk_size (omega arith))
     ∙ text-there i (length c) some
 
-full-fits : (key : Bytes) (i : ℕ) (c : Bytes) → length c ≡ 65536
+full-fits : (key : Bytes) (i : ℕ) (c : Bytes) → length c ≡ chunk_size
     → may_seal (writing_at key i) (length c + 16) false ≡ true
 full-fits key i c is = ap (λ n. may_seal (writing_at key i) (n + 16) false) is
 

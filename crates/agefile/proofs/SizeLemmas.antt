@@ -9,6 +9,7 @@ use Rattle.age_stream.specs.Cutting.{IsFilled}
 use Rattle.age_cipher.specs.Sealing.{sealed}
 use Rattle.agefile.specs.Sizes.{chunk_count}
 use Rattle.age_stream.specs.Payload.{chunks, is_end, payload, payload_key, chunk_nonce, sealed_from}
+use Rattle.age_stream.specs.Sizes.{chunk_size}
 
 filled_count : (size : ℕ) (cs : List Bytes) → 0 < size → IsFilled size cs
     → (size * length cs < length (concat cs) + size) × (length (concat cs) ≤ size * length cs)
@@ -21,16 +22,16 @@ filled_count size (c ∷ d ∷ more) pos h =
     let all = length-append c (concat (d ∷ more)) in
     (omega (arith, rest.0, all), omega (arith, rest.1, all))
 
-filled_chunks : (plain : Bytes) → IsFilled 65536 (chunks plain) → length (concat (chunks plain)) ≡ length plain
+filled_chunks : (plain : Bytes) → IsFilled chunk_size (chunks plain) → length (concat (chunks plain)) ≡ length plain
     → length (chunks plain) ≡ chunk_count (length plain)
 filled_chunks plain filled join =
-    let n = filled_count 65536 (chunks plain) (omega arith) filled in
-    let some = filled-some 65536 (chunks plain) (omega arith) filled in
+    let n = filled_count chunk_size (chunks plain) (omega arith) filled in
+    let some = filled-some chunk_size (chunks plain) (omega arith) filled in
     omega (arith, n.0, n.1)
 
 -- the number of chunks
 pub chunks_size : (plain : Bytes) → length (chunks plain) ≡ chunk_count (length plain)
-chunks_size plain = let is = is_cut 65536 plain (omega arith) in elim is.sizes [
+chunks_size plain = let is = is_cut chunk_size plain (omega arith) in elim is.sizes [
   | inl one ↦ let n : length (chunks plain) ≡ 1 = ap length one in
       let none : length plain ≡ 0 = sym (ap length is.joined) ∙ ap (λ cs. length (concat cs)) one in omega arith
   | inr filled ↦ filled_chunks plain filled (ap length is.joined)
@@ -52,6 +53,7 @@ pub payload_size : (k : FileKey) (nonce plain : Bytes)
     → length (payload k nonce plain) ≡ length nonce + (length plain + 16 * chunk_count (length plain))
 payload_size k nonce plain =
     let sealed = sealed_size (payload_key k nonce) 0 (chunks plain) in
-    let join : length (concat (chunks plain)) ≡ length plain = ap length (is_cut 65536 plain (omega arith)).joined in
+    let join : length (concat (chunks plain)) ≡ length plain =
+    ap length (is_cut chunk_size plain (omega arith)).joined in
     let count = chunks_size plain in
     omega (arith, length-append nonce (concat (sealed_from (payload_key k nonce) 0 (chunks plain))))

@@ -18,6 +18,7 @@ use Rattle.age_stream.specs.Payload.{chunk_nonce, chunks, is_end, payload_key, p
 use Rattle.age_stream.specs.Ranges.{HasPlain, IsSound, RangeState, opens_to}
 use Rattle.age_stream.specs.Reading.{opened_at, payload_reading, whole}
 use Rattle.age_stream.specs.Slice.{opening, openings}
+use Rattle.age_stream.specs.Sizes.{chunk_size}
 use Rattle.age_stream.proofs.CuttingLemmas.{is_cut}
 use Rattle.age_stream.proofs.PayloadLemmas.{is_end-each}
 use Rattle.age_stream.proofs.WholeSlices.{whole-is}
@@ -46,16 +47,16 @@ none_within [] i lt e = absurd (omega arith)
 none_within (c ∷ cs) zero lt e = absurd (cc)
 none_within (c ∷ cs) (suc i) lt e = none_within cs i (omega arith) e
 
-most_filled : (cs : List Bytes) → IsFilled 65536 cs → length (concat cs) ≤ 65536 * length cs
+most_filled : (cs : List Bytes) → IsFilled chunk_size cs → length (concat cs) ≤ chunk_size * length cs
 most_filled [] h = absurd h
-most_filled (c ∷ []) h = let high : length c ≤ 65536 = h.1 in omega (arith, length-append c [])
+most_filled (c ∷ []) h = let high : length c ≤ chunk_size = h.1 in omega (arith, length-append c [])
 most_filled (c ∷ d ∷ more) h =
-    let one : length c ≡ 65536 = h.0 in
+    let one : length c ≡ chunk_size = h.0 in
     let rest = most_filled (d ∷ more) h.1 in
     omega (arith, rest, length-append c (concat (d ∷ more)))
 
-chunk_within : (p : Bytes) (i : ℕ) → 65536 * i < length p → i < length (chunks p)
-chunk_within p i lt = let is = is_cut 65536 p (omega arith) in elim is.sizes [
+chunk_within : (p : Bytes) (i : ℕ) → chunk_size * i < length p → i < length (chunks p)
+chunk_within p i lt = let is = is_cut chunk_size p (omega arith) in elim is.sizes [
   | inl one ↦ let none : length p ≡ 0 = sym (ap length is.joined) ∙ ap (λ cs. length (concat cs)) one in
       absurd (omega arith)
   | inr filled ↦
@@ -130,7 +131,7 @@ lost_part told t2 s s2 plain range old new fault stay same keeps sound sliced ad
         | inl read ↦ inr read
         | inr bad ↦
             let size : s2.layout.plain ≡ length plain = ap (λ (l : Layout). l.plain) same ∙ sliced.len in
-            let lt : 65536 * bad.0 < s2.layout.plain = bad.2 in
+            let lt : chunk_size * bad.0 < s2.layout.plain = bad.2 in
             absurd (sliced.opens bad.0 (omega arith) (subst (λ l. opens_to told l bad.0 ≡ None) same bad.3))
       ]
     ]

@@ -2,6 +2,7 @@ use Rattle.std.proofs.Common.{◌≤◌, ◌<◌, ◌≡◌, ◌∙◌, ◌+◌,
 use Rattle.age_header.specs.Device.{Known}
 use Rattle.age_stream.specs.declared.layout.Layout.{Layout}
 use Rattle.age_stream.specs.Ranges.{IsSound}
+use Rattle.age_stream.specs.Sizes.{chunk_size}
 use Rattle.age_commands.proofs.RangeLemmas.{failed_on, joined, some_on, whole_on}
 use Rattle.age_commands.proofs.VerifiedLemmas as verified
 use Rattle.age_commands.proofs.range.write_range.Goals as goal
@@ -27,9 +28,9 @@ loop-left-preserved g c =
     let inv = c.loop-left.invariant in
     let end : c.loop-left.at + c.loop-left.left ≡ c.args.at + c.args.len = inv.end in
     let same_plain = ap (λ (l : Layout). l.plain) inv.same in
-    let number : c.in-Ok.n ≡ min (min c.loop-left.left (65536 - c.loop-left.at % 65536))
+    let number : c.in-Ok.n ≡ min (min c.loop-left.left (chunk_size - c.loop-left.at % chunk_size))
     (c.args.reader.now.chunks.layout.plain - c.loop-left.at) =
-    c.in-Ok.ensures.number ∙ ap (λ (p : ℕ). min (min c.loop-left.left (65536 - c.loop-left.at % 65536))
+    c.in-Ok.ensures.number ∙ ap (λ (p : ℕ). min (min c.loop-left.left (chunk_size - c.loop-left.at % chunk_size))
     (p - c.loop-left.at)) same_plain in
     let begin = inv.begin in
     let within = inv.within in
@@ -68,8 +69,8 @@ returns-in-Ok-eq0-clause-any g c = λ keeps.
     let plain = c.args.reader.now.chunks.layout.plain in
     let n = c.in-Ok-eq0.field-0 in
     let none : n ≡ 0 = c.in-Ok-eq0.field-0-test in
-    let number : n ≡ min (min left (65536 - at % 65536)) (plain - at) =
-    c.in-Ok-eq0.ensures.number ∙ ap (λ (p : ℕ). min (min left (65536 - at % 65536)) (p - at))
+    let number : n ≡ min (min left (chunk_size - at % chunk_size)) (plain - at) =
+    c.in-Ok-eq0.ensures.number ∙ ap (λ (p : ℕ). min (min left (chunk_size - at % chunk_size)) (p - at))
     (ap (λ (l : Layout). l.plain) inv.same) in
     let some : at - c.args.at ≤ min c.args.len (plain - c.args.at) = inv.some in
     let more : 0 < left = omega (arith, c.loop-left-test.true) in

@@ -1,6 +1,7 @@
 use Rattle.std.proofs.Common.{◌≤◌, ◌<◌, ◌≡◌, ◌+◌, ◌-◌, ◌^◌, length}
 use Rattle.age_stream.specs.Offsets.{StaysGiven}
 use Rattle.age_stream.specs.Ranges.{IsSound, KeepsVerified, range_len}
+use Rattle.age_stream.specs.Sizes.{chunk_size}
 use Rattle.age_commands.specs.Range.{WritesPlain, WritesVerified}
 use Rattle.age_commands.proofs.RangeLemmas.{IsWhole}
 use Rattle.age_commands.proofs.range.write_range.Given as goal
@@ -14,7 +15,7 @@ invariant-loop-left g l =
       end : l.at + l.left ≡ l.fn.at + l.fn.len;
       begin : l.fn.at ≤ l.at;
       within : l.at + l.left < 2 ^ 64;
-      piece : length l.piece ≡ 65536;
+      piece : length l.piece ≡ chunk_size;
       same_reference : l.reader.dev.ghost_name ≡ l.fn.reader.dev.ghost_name;
       stay : g.D.ReadAt.bytes l.reader.dev.now ≡ told;
       same : l.reader.chunks.layout ≡ s.layout;

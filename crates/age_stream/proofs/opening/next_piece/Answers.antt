@@ -3,12 +3,13 @@ use Rattle.std.proofs.lemmas.List.{drop-drop, length-take-le, take_all}
 use Rattle.age_kdf.specs.Bytes.{Bytes}
 use Rattle.age_stream.proofs.OpeningLemmas.{counts-piece, is-filled, outcome-last, after-last, outcome-more, after-more}
 use Rattle.age_stream.proofs.opening.next_piece.Goals as goal
+use Rattle.age_stream.specs.Sizes.{chunk_size, sealed_chunk_size, chunk_buf_size}
 
 pub returns-in-Ok-open_chunk-clause-opens : goal.returns-in-Ok-open_chunk-clause-opens
 returns-in-Ok-open_chunk-clause-opens g c =
     let f = c.in-Ok.ensures.bytes in
     let filled : Bytes = c.fill_from.new.buf in
-    let ahead : Bytes = take c.args.ahead (drop 65552 c.args.bytes.now) in
+    let ahead : Bytes = take c.args.ahead (drop sealed_chunk_size c.args.bytes.now) in
     let l : length (take c.in-Ok.n filled) ≡ c.in-Ok.n = length-take-le c.in-Ok.n filled (search rules) in
     let is : take c.in-Ok.n filled ≡ ahead ++ f.piece = f.is ∙ ap (λ t. t ++ f.piece) c.carry.ensures.prefix in
     inr (record {
@@ -29,7 +30,7 @@ pub returns-in-Err-clause-opens : goal.returns-in-Err-clause-opens
 returns-in-Err-clause-opens g c =
     let f = c.in-Ok.ensures.bytes in
     let filled : Bytes = c.fill_from.new.buf in
-    let ahead : Bytes = take c.args.ahead (drop 65552 c.args.bytes.now) in
+    let ahead : Bytes = take c.args.ahead (drop sealed_chunk_size c.args.bytes.now) in
     let l : length (take c.in-Ok.n filled) ≡ c.in-Ok.n = length-take-le c.in-Ok.n filled (search rules) in
     let is : take c.in-Ok.n filled ≡ ahead ++ f.piece = f.is ∙ ap (λ t. t ++ f.piece) c.carry.ensures.prefix in
     inr (record {
@@ -46,13 +47,14 @@ pub returns-in-Ok-open_chunk-2-clause-opens : goal.returns-in-Ok-open_chunk-2-cl
 returns-in-Ok-open_chunk-2-clause-opens g c =
     let f = c.in-Ok.ensures.bytes in
     let filled : Bytes = c.fill_from.new.buf in
-    let ahead : Bytes = take c.args.ahead (drop 65552 c.args.bytes.now) in
-    let size : length filled ≡ 65553 = search rules in
+    let ahead : Bytes = take c.args.ahead (drop sealed_chunk_size c.args.bytes.now) in
+    let size : length filled ≡ chunk_buf_size = search rules in
     let all : take c.in-Ok.n filled ≡ filled = take_all c.in-Ok.n filled (omega arith) in
     let is : filled ≡ ahead ++ f.piece = sym all ∙ f.is ∙ ap (λ t. t ++ f.piece) c.carry.ensures.prefix in
-    let rest : drop 65552 c.open_chunk-else-n-le-SEALED_CHUNK_SIZE.new.bytes ≡ drop 65552 filled =
-    sym (drop-drop 16 65536 c.open_chunk-else-n-le-SEALED_CHUNK_SIZE.new.bytes)
-    ∙ ap (drop 16) c.in-Ok-open_chunk-2.ensures.rest ∙ drop-drop 16 65536 filled in
+    let rest : drop sealed_chunk_size c.open_chunk-else-n-le-SEALED_CHUNK_SIZE.new.bytes
+    ≡ drop sealed_chunk_size filled =
+    sym (drop-drop 16 chunk_size c.open_chunk-else-n-le-SEALED_CHUNK_SIZE.new.bytes)
+    ∙ ap (drop 16) c.in-Ok-open_chunk-2.ensures.rest ∙ drop-drop 16 chunk_size filled in
     inr (record {
       given = f.piece;
       gave = f.bytes;
@@ -71,8 +73,8 @@ pub returns-in-Err-open_chunk-clause-opens : goal.returns-in-Err-open_chunk-clau
 returns-in-Err-open_chunk-clause-opens g c =
     let f = c.in-Ok.ensures.bytes in
     let filled : Bytes = c.fill_from.new.buf in
-    let ahead : Bytes = take c.args.ahead (drop 65552 c.args.bytes.now) in
-    let size : length filled ≡ 65553 = search rules in
+    let ahead : Bytes = take c.args.ahead (drop sealed_chunk_size c.args.bytes.now) in
+    let size : length filled ≡ chunk_buf_size = search rules in
     let all : take c.in-Ok.n filled ≡ filled = take_all c.in-Ok.n filled (omega arith) in
     let is : filled ≡ ahead ++ f.piece = sym all ∙ f.is ∙ ap (λ t. t ++ f.piece) c.carry.ensures.prefix in
     inr (record {

@@ -4,6 +4,7 @@ use Rattle.age_header.proofs.DeviceLemmas.{gave-none, gave-then}
 use Rattle.age_kdf.specs.Bytes.{Bytes}
 use Rattle.age_stream.proofs.SealingLemmas.{fed-end, fed-next, fed-none, full-is, stopped-full, stopped-read}
 use Rattle.age_stream.proofs.sealing.feed.Goals as goal
+use Rattle.age_stream.specs.Sizes.{chunk_size}
 
 pub loop-n-init : goal.loop-n-init
 loop-n-init g c = record {
@@ -64,7 +65,8 @@ loop-n-preserved g c =
         gave-then _ _ _ inv.0 f.piece inv.1 f.bytes,
         fed-next c.args.key.now c.args.index.now c.loop-n.index c.put_full.new.index (take c.args.len c.args.bytes.now)
             inv.0 (take c.loop-n.held c.loop-n.bytes) f.piece
-            (take 65536 filled) (take 1 (drop 65536 filled)) (take 1 c.put_full.new.bytes) _ _ _ h inv.2 puts.0 puts.2
+            (take chunk_size filled) (take 1 (drop chunk_size filled))
+            (take 1 c.put_full.new.bytes) _ _ _ h inv.2 puts.0 puts.2
             puts.1,
       );
     }

@@ -4,6 +4,7 @@ use Rattle.age_header.specs.Device.{CountsFaultIf}
 use Rattle.age_stream.specs.Counts.{is_read}
 use Rattle.age_stream.specs.Ranges.{HasPlain, IsSound, OpenedAtLeast, bytes_from, first_to_open, is_kept, opens_to, sealed_span}
 use Rattle.age_stream.specs.Slice.{chunk_len}
+use Rattle.age_stream.specs.Sizes.{chunk_size}
 use Rattle.age_stream.proofs.RangeLemmas.{put-prefix, put-rest, length-part, rest-on, prefix-on, counts-at_first, counts-later, opened-later, given-later, opened-at_first, given-at_first, at-chunk, under-chunk, below-chunk, opens-moved}
 use Rattle.age_stream.proofs.VerifiedLemmas.{changed-verified, verified-on, verified-text}
 use Rattle.age_stream.proofs.chunks.Chunks.read_range.Goals as goal
@@ -44,7 +45,7 @@ returns g c =
         rises = inv.rises;
         counts = λ some. elim inv.stage [
           | inl z ↦ let e = z.0 in absurd (omega (arith, e, some, end))
-          | inr z ↦ let e : i ≡ (at + n - 1) / 65536 + 1 = omega (arith, z.0, z.1, z.3, inv.below, end) in
+          | inr z ↦ let e : i ≡ (at + n - 1) / chunk_size + 1 = omega (arith, z.0, z.1, z.3, inv.below, end) in
               subst (λ k. OpenedAtLeast s l.opened (k - first_to_open s.index at)) e inv.counts
         ];
         opened = λ last fits. elim inv.stage [
@@ -72,22 +73,22 @@ returns-in-Err g c =
     let at = c.args.at in
     let i = c.loop-done.i in
     let n = c.range_len-end.result in
-    let pos : at + c.loop-done.done ≡ 65536 * i + c.loop-done.skip = inv.pos c.loop-done-test.true in
-    let done : c.loop-done.done ≡ 65536 * i - at = elim inv.stage [
-      | inl z ↦ let e = z.0 in let low : 65536 * i ≤ at = below-chunk at i z.1 in omega (arith, e, low)
+    let pos : at + c.loop-done.done ≡ chunk_size * i + c.loop-done.skip = inv.pos c.loop-done-test.true in
+    let done : c.loop-done.done ≡ chunk_size * i - at = elim inv.stage [
+      | inl z ↦ let e = z.0 in let low : chunk_size * i ≤ at = below-chunk at i z.1 in omega (arith, e, low)
       | inr z ↦ let e = z.1 in omega (arith, e, pos)
     ] in
     let same : c.layout-layout.result.plain ≡ s.layout.plain = ap (λ (x : Layout). x.plain) c.layout-layout.ensures in
     let is : n ≡ min (length c.args.buf.now) (s.layout.plain - at) = c.range_len-end.ensures
     ∙ ap (λ p. min (length c.args.buf.now) (p - at)) same in
     let more : c.loop-done.done < n = c.loop-done-test.true in
-    let touched : 65536 * i < s.layout.plain = omega (arith, pos, more, is) in
+    let touched : chunk_size * i < s.layout.plain = omega (arith, pos, more, is) in
     let more_given = subst (λ (x : Layout). g.D.ReadAt.given c.hold-held.new.dev
     ≤ g.D.ReadAt.given c.loop-done.dev + (if is_kept l.index i then 0 else chunk_len x.plain i + 16)) inv.layout
     c.hold-held.ensures.given in
     let opened : h.opened ≤ s.opened + (i + 1 - first_to_open s.index at) = elim inv.stage [
       | inl z ↦ opened-at_first l.index s.index h.opened l.opened s.opened at i z.3 z.1 c.hold-held.ensures.opened z.4
-      | inr z ↦ opened-later (is_kept s.index (at / 65536)) h.opened l.opened s.opened (at / 65536) i
+      | inr z ↦ opened-later (is_kept s.index (at / chunk_size)) h.opened l.opened s.opened (at / chunk_size) i
           (if is_kept l.index i then 1 else 0) c.hold-held.ensures.opened z.2 inv.opened
     ] in
     let given : g.D.ReadAt.given c.hold-held.new.dev
@@ -95,8 +96,9 @@ returns-in-Err g c =
       | inl z ↦ given-at_first l.index s.index (g.D.ReadAt.given c.hold-held.new.dev)
           (g.D.ReadAt.given c.loop-done.dev) (g.D.ReadAt.given c.args.dev.now) at i s.layout z.3 z.1 more_given z.5
           touched
-      | inr z ↦ given-later (is_kept s.index (at / 65536)) (is_kept l.index i) (g.D.ReadAt.given c.hold-held.new.dev)
-          (g.D.ReadAt.given c.loop-done.dev) (g.D.ReadAt.given c.args.dev.now) (at / 65536) i s.layout
+      | inr z ↦
+          given-later (is_kept s.index (at / chunk_size)) (is_kept l.index i) (g.D.ReadAt.given c.hold-held.new.dev)
+          (g.D.ReadAt.given c.loop-done.dev) (g.D.ReadAt.given c.args.dev.now) (at / chunk_size) i s.layout
           more_given z.2 touched inv.given
     ] in
     record {
@@ -135,7 +137,8 @@ returns-in-Err g c =
           counts = elim inv.stage [
             | inl z ↦ counts-at_first l.index s.index h.opened l.opened s.opened at i z.3 z.1
                 c.hold-held.ensures.counts z.4
-            | inr z ↦ counts-later (is_kept s.index (at / 65536)) l.index h.opened l.opened s.opened (at / 65536) i z.4
+            | inr z ↦ counts-later (is_kept s.index (at / chunk_size)) l.index h.opened l.opened s.opened
+                (at / chunk_size) i z.4
                 z.2 c.hold-held.ensures.counts inv.counts
           ];
         };
@@ -166,17 +169,17 @@ loop-done-preserved g c =
     let n = c.put-n.result in
     let t = c.text.result.now in
     let plain = s.layout.plain in
-    let pos : at + done ≡ 65536 * i + skip = inv.pos c.loop-done-test.true in
+    let pos : at + done ≡ chunk_size * i + skip = inv.pos c.loop-done-test.true in
     let more : done < end = c.loop-done-test.true in
     let first : c.layout-layout.result.plain ≡ plain = ap (λ (x : Layout). x.plain) c.layout-layout.ensures in
     let is : end ≡ min (length c.args.buf.now) (plain - at) = c.range_len-end.ensures
     ∙ ap (λ p. min (length c.args.buf.now) (p - at)) first in
-    let touched : 65536 * i < plain = omega (arith, pos, more, is) in
+    let touched : chunk_size * i < plain = omega (arith, pos, more, is) in
     let lies : h.layout ≡ s.layout = c.hold-held.ensures.same ∙ inv.layout in
     let same : h.layout.plain ≡ plain = ap (λ (x : Layout). x.plain) lies in
     let len : length t ≡ chunk_len plain i = c.text.ensures.len ∙ ap (λ p. chunk_len p i) same in
     let count : n ≡ min (length t - skip) (end - done) = c.put-n.ensures.count in
-    let small : skip < 65536 = inv.skip in
+    let small : skip < chunk_size = inv.skip in
     let some : 0 < n = omega (arith, count, len, more, pos, is, small) in
     let part : skip + n ≤ length t = omega (arith, count, len, some) in
     let inside : done + n ≤ end = omega (arith, count, more) in
@@ -185,17 +188,17 @@ loop-done-preserved g c =
     let new_len : length c.put-n.new.buf ≡ length c.loop-done.buf = c.put-n.auto.buf in
     let sized : length (take n (drop skip t)) ≡ n = length-part n skip t part in
     let put = c.put-n.ensures.bytes in
-    let size : length t ≤ 65536 = omega (arith, len) in
+    let size : length t ≤ chunk_size = omega (arith, len) in
     let sound : IsSound told s → IsSound told h = λ told_so.
     subst (λ x. IsSound x h) inv.stay (c.hold-held.ensures.sound
     (subst (λ x. IsSound x l) (sym inv.stay) (inv.sound told_so))) in
     let opens : IsSound told s → opens_to told s.layout i ≡ Some t = λ told_so.
     opens-moved told told h.layout s.layout i (Some t) refl lies
     ((sound told_so).keeps i c.in_default.ensures.kept_chunk ∙ ap Some (sym c.text.ensures.text)) in
-    let next : at + (done + n) ≤ 65536 * (i + 1) = omega (arith, pos, part, size) in
-    let next-chunk : at / 65536 < i + 1 = elim inv.stage [
-      | inl z ↦ let e : i ≡ at / 65536 = z.1 in omega (arith, e)
-      | inr z ↦ let e : at / 65536 < i = z.2 in omega (arith, e)
+    let next : at + (done + n) ≤ chunk_size * (i + 1) = omega (arith, pos, part, size) in
+    let next-chunk : at / chunk_size < i + 1 = elim inv.stage [
+      | inl z ↦ let e : i ≡ at / chunk_size = z.1 in omega (arith, e)
+      | inr z ↦ let e : at / chunk_size < i = z.2 in omega (arith, e)
     ] in
     let more_given = subst (λ (x : Layout). g.D.ReadAt.given c.hold-held.new.dev
     ≤ g.D.ReadAt.given c.loop-done.dev + (if is_kept l.index i then 0 else chunk_len x.plain i + 16)) inv.layout
@@ -225,21 +228,23 @@ loop-done-preserved g c =
           (omega (arith, room)) sized put);
       counts = elim inv.stage [
         | inl z ↦ counts-at_first l.index s.index h.opened l.opened s.opened at i z.3 z.1 c.hold-held.ensures.counts z.4
-        | inr z ↦ counts-later (is_kept s.index (at / 65536)) l.index h.opened l.opened s.opened (at / 65536) i z.4 z.2
+        | inr z ↦ counts-later (is_kept s.index (at / chunk_size)) l.index h.opened l.opened s.opened
+            (at / chunk_size) i z.4 z.2
             c.hold-held.ensures.counts inv.counts
       ];
       rises = omega (arith, inv.rises, c.hold-held.ensures.rises);
       opened = elim inv.stage [
         | inl z ↦ opened-at_first l.index s.index h.opened l.opened s.opened at i z.3 z.1 c.hold-held.ensures.opened z.4
-        | inr z ↦ opened-later (is_kept s.index (at / 65536)) h.opened l.opened s.opened (at / 65536) i
+        | inr z ↦ opened-later (is_kept s.index (at / chunk_size)) h.opened l.opened s.opened (at / chunk_size) i
             (if is_kept l.index i then 1 else 0) c.hold-held.ensures.opened z.2 inv.opened
       ];
       given = elim inv.stage [
         | inl z ↦ given-at_first l.index s.index (g.D.ReadAt.given c.hold-held.new.dev)
             (g.D.ReadAt.given c.loop-done.dev) (g.D.ReadAt.given c.args.dev.now) at i s.layout z.3 z.1 more_given z.5
             touched
-        | inr z ↦ given-later (is_kept s.index (at / 65536)) (is_kept l.index i) (g.D.ReadAt.given c.hold-held.new.dev)
-            (g.D.ReadAt.given c.loop-done.dev) (g.D.ReadAt.given c.args.dev.now) (at / 65536) i s.layout
+        | inr z ↦
+            given-later (is_kept s.index (at / chunk_size)) (is_kept l.index i) (g.D.ReadAt.given c.hold-held.new.dev)
+            (g.D.ReadAt.given c.loop-done.dev) (g.D.ReadAt.given c.args.dev.now) (at / chunk_size) i s.layout
             more_given z.2 touched inv.given
       ];
       failed = c.in_default.ensures.count ∙ inv.failed;
