@@ -59,19 +59,20 @@ xored_on at next s t old mid new e first then =
     let inside : (j : ℕ) → j < length (s ++ t) → (j < length s) ⊎ (length s ≤ j)
     → slice_index new (at + j) ≡ bit_xor (slice_index old (at + j)) (slice_index (s ++ t) j) =
     λ j below here. elim here [
-      | inl low ↦ then.0 (at + j) (omega arith) ∙ first.1 j low
+      | inl low ↦ then.before (at + j) (omega arith) ∙ first.inside j low
           ∙ ap (bit_xor (slice_index old (at + j))) (sym (get_or_append_left s t 0 j low))
       | inr high ↦
           let k = j - length s in
           let at_is : at + j ≡ next + k = omega arith in
-          ap (slice_index new) at_is ∙ then.1 k (omega (arith, length-append s t))
-          ∙ ap₂ bit_xor (ap (slice_index mid) (sym at_is) ∙ first.2 (at + j) (omega arith))
+          ap (slice_index new) at_is ∙ then.inside k (omega (arith, length-append s t))
+          ∙ ap₂ bit_xor (ap (slice_index mid) (sym at_is) ∙ first.after (at + j) (omega arith))
           (sym (get_or-append_right s t (length s) j 0 refl (omega arith)))
-    ] in (
-      λ j below. then.0 j (omega arith) ∙ first.0 j below,
-      λ j below. inside j below (cases_lt j (length s)),
-      λ j above. then.2 j (omega (arith, length-append s t)) ∙ first.2 j (omega (arith, length-append s t)),
-    )
+    ] in record {
+      before = λ j below. then.before j (omega arith) ∙ first.before j below;
+      inside = λ j below. inside j below (cases_lt j (length s));
+      after =
+          λ j above. then.after j (omega (arith, length-append s t)) ∙ first.after j (omega (arith, length-append s t));
+    }
 
 -- n bytes of a buffer xored with a stream
 pub chunk_xored : (n at : ℕ) (buf digits stream : Bytes) → digits ≡ stream → length stream ≡ n → at + n ≤ length buf
@@ -81,31 +82,31 @@ chunk_xored n at buf digits stream e long room =
     let mixed = zip2 bit_xor (take n (drop at buf)) stream in
     let mixed_long : length mixed ≡ n = length-zip2 bit_xor (take n (drop at buf)) stream (chunk_long ∙ sym long)
     ∙ chunk_long in
-    rw e (
-      λ j below. get_or-put_chunk_below at buf mixed j 0 below,
-      λ j below. get_or-put_chunk_at at buf mixed j 0 (omega arith) (omega arith)
+    rw e (record {
+      before = λ j below. get_or-put_chunk_below at buf mixed j 0 below;
+      inside = λ j below. get_or-put_chunk_at at buf mixed j 0 (omega arith) (omega arith)
           ∙ get_or-zip2 bit_xor (take n (drop at buf)) stream j 0 0 0 (omega arith) below
-          ∙ ap (λ b. bit_xor b (slice_index stream j)) (get_or-chunk at n buf j 0 (omega arith)),
-      λ j above. get_or-put_chunk_above at buf mixed j 0 (omega arith),
-    )
+          ∙ ap (λ b. bit_xor b (slice_index stream j)) (get_or-chunk at n buf j 0 (omega arith));
+      after = λ j above. get_or-put_chunk_above at buf mixed j 0 (omega arith);
+    })
 
 -- a list is the key stream's first n bytes, from the block `counter` on
-abbrev pub IsStream : Bytes → Bytes → ℕ → ℕ → Bytes → Type 0
-IsStream key nonce counter n stream =
-    (length stream ≡ n) × ((j : ℕ) → j < n → slice_index stream j ≡ stream_byte key nonce counter j)
+pub record IsStream (key nonce : Bytes) (counter n : ℕ) (stream : Bytes) : Type 0 where
+  pub long : length stream ≡ n
+  pub byte : (j : ℕ) → j < n → slice_index stream j ≡ stream_byte key nonce counter j
 
 -- the bytes of a block's words are the stream for one block
 pub block-stream : (key nonce : Bytes) (counter : ℕ) (words : Words) → words ≡ mixed (start key nonce counter)
     → IsStream key nonce counter 64 (bytes words)
 unfolding block mixed
-block-stream key nonce counter words e = rw e (
-  refl,
-  λ j below.
+block-stream key nonce counter words e = rw e (record {
+  long = refl;
+  byte = λ j below.
       let none : j / 64 ≡ 0 = omega arith in
       let same : j % 64 ≡ j = omega arith in
       let here : counter + 0 ≡ counter = omega arith in
-      rw (none, same, here) refl,
-)
+      rw (none, same, here) refl;
+})
 
 -- a stream of m blocks, and the stream after it
 pub stream_on : (key nonce : Bytes) (counter next m n : ℕ) (prefix back : Bytes) → next ≡ counter + m
@@ -114,16 +115,16 @@ pub stream_on : (key nonce : Bytes) (counter next m n : ℕ) (prefix back : Byte
 stream_on key nonce counter next m n prefix back e one two =
     let cases : (j : ℕ) → j < 64 * m + n → (j < 64 * m) ⊎ (64 * m ≤ j)
     → slice_index (prefix ++ back) j ≡ stream_byte key nonce counter j = λ j below here. elim here [
-      | inl low ↦ get_or_append_left prefix back 0 j (omega (arith, one.0)) ∙ one.1 j low
+      | inl low ↦ get_or_append_left prefix back 0 j (omega (arith, one.long)) ∙ one.byte j low
       | inr high ↦
           let block_number : next + (j - 64 * m) / 64 ≡ counter + j / 64 = omega arith in
           let at_is : (j - 64 * m) % 64 ≡ j % 64 = omega arith in
-          get_or-append_right prefix back (64 * m) j 0 one.0 high ∙ two.1 (j - 64 * m) (omega arith)
+          get_or-append_right prefix back (64 * m) j 0 one.long high ∙ two.byte (j - 64 * m) (omega arith)
           ∙ ap₂ (λ b i. slice_index (block key nonce b) i) block_number at_is
-    ] in (
-      omega (arith, length-append prefix back, one.0, two.0),
-      λ j below. cases j below (cases_lt j (64 * m)),
-    )
+    ] in record {
+      long = omega (arith, length-append prefix back, one.long, two.long);
+      byte = λ j below. cases j below (cases_lt j (64 * m));
+    }
 
 -- four blocks' stream
 pub four_stream : (key nonce : Bytes) (counter : ℕ) (a b c d : Bytes)
@@ -142,5 +143,5 @@ pub xored_with_stream : (key nonce : Bytes) (counter at n : ℕ) (stream old new
     → slice_index new j ≡ bit_xor (slice_index old j) (stream_byte key nonce counter (j - at))
 xored_with_stream key nonce counter at n stream old new is xored j low high =
     let at_is : at + (j - at) ≡ j = omega arith in
-    ap (slice_index new) (sym at_is) ∙ xored.1 (j - at) (omega (arith, is.0))
-    ∙ ap₂ bit_xor (ap (slice_index old) at_is) (is.1 (j - at) (omega arith))
+    ap (slice_index new) (sym at_is) ∙ xored.inside (j - at) (omega (arith, is.long))
+    ∙ ap₂ bit_xor (ap (slice_index old) at_is) (is.byte (j - at) (omega arith))
