@@ -1,11 +1,10 @@
 -- What a source gave in reads one after another, and a text that is written part by part.
-use Rattle.std.proofs.Common.{◌∙◌, ◌++◌, ◌+◌, ℕ, [], ap, refl, arith, append-nil, length-append, ◌≡◌, ◌≤◌, length, take, min, sym, append_assoc, subst, IsErrAnd}
+use Rattle.std.proofs.Common.{◌∙◌, ◌++◌, ◌+◌, ℕ, [], ap, refl, arith, append-nil, length-append, ◌≡◌, ◌≤◌, length, take, min, sym, append_assoc, subst}
 use Rattle.std.specs.declared.option.Option.TheVariants.{None, Some}
 use Rattle.std.specs.Io.KnownBytes.{Consumes, IsAtEnd, Appends}
 use Rattle.std.specs.Prelude.{IfSome, ⊤}
 use Rattle.std.proofs.KnownBytes.{Consumes-nil, Consumes-trans, Appends-trans, Appends-nil}
 use Rattle.std.proofs.lemmas.List.{take_min, take-append-le}
-use Rattle.std.proofs.lemmas.Result.{err_from_is_err_and}
 use Rattle.std.proofs.Math.Seq.{take-append-add}
 use Rattle.std.specs.declared.result.Result.{Result}
 use Rattle.std.specs.declared.result.Result.TheVariants.{Ok, Err}
@@ -164,11 +163,6 @@ done_part a b c whole left x y d e w =
 pub done_last : (a b c : Known) (whole left : Bytes) → Done a b whole left → WritesPart (moved b c) left
     → WritesPart (moved a c) whole
 done_last a b c whole left d w = done_part a b c whole left left [] d (sym (append-nil left)) w
-
--- at the exit of a `?` a prefix was written
-pub part_at_exit : {T E : Type 0} (Q : E → Type 0) (a b : Known) (r : Result T E) (text : Bytes) → IsErrAnd r Q
-    → WritesPart (moved a b) text → Writes (moved a b) r text
-part_at_exit Q a b r text exit part = let p = err_from_is_err_and r exit in rw p.1 part
 
 -- what the last call did to what was left, it did to the whole
 pub writes_last : {T E : Type 0} (a b c : Known) (r : Result T E) (whole left : Bytes) → Done a b whole left

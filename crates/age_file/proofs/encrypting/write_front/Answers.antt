@@ -1,6 +1,7 @@
 use Rattle.std.proofs.Common.{◌++◌, refl}
 use Rattle.age_header.specs.Device.{Bytes}
-use Rattle.age_header.proofs.DeviceLemmas.{done_start, done_more, done_part, part_at_exit, writes_last}
+use Rattle.std.proofs.lemmas.Result.{err_from_is_err_and}
+use Rattle.age_header.proofs.DeviceLemmas.{done_start, done_more, done_part, writes_last}
 use Rattle.age_file.proofs.encrypting.write_front.Goals as goal
 
 pub returns-in_err-write_header-clause-text : goal.returns-in_err-write_header-clause-text
@@ -9,7 +10,7 @@ returns-in_err-write_header-clause-text g c =
     let text : Bytes = h.0 ++ c.args.nonce.now in (
       h.0,
       h.1,
-      part_at_exit _ _ _ _ _ c.from_residual.ensures.1
+      rw (err_from_is_err_and c.from_residual.result c.from_residual.ensures.1).1
           (done_part _ _ _ text text h.0 c.args.nonce.now (done_start _ text) refl h.2),
     )
 

@@ -5,13 +5,14 @@ use Rattle.age_kdf.specs.Bytes.{Bytes}
 use Rattle.age_header.specs.Header.{argument_line}
 use Rattle.age_header.proofs.ArgumentsLemmas.{spaced}
 use Rattle.age_header.proofs.TextLemmas.{args_step}
-use Rattle.age_header.proofs.DeviceLemmas.{done_start, done_more, done_part, part_at_exit, writes_last}
+use Rattle.std.proofs.lemmas.Result.{err_from_is_err_and}
+use Rattle.age_header.proofs.DeviceLemmas.{done_start, done_more, done_part, writes_last}
 use Rattle.age_header.proofs.writer.write_args.Goals as goal
 
 pub returns-in_err-write_all-clause-text : goal.returns-in_err-write_all-clause-text
 returns-in_err-write_all-clause-text g c =
     let text : Bytes = argument_line (map string_bytes c.args.args.now) in
-    part_at_exit _ _ _ _ _ c.from_residual.ensures.1
+    rw (err_from_is_err_and c.from_residual.result c.from_residual.ensures.1).1
     (done_part _ _ _ text text (codes "->") (spaced (map string_bytes c.args.args.now) ++ 10 ∷ []) (done_start _ text)
     refl c.in_err-write_all.ensures.text)
 
@@ -19,7 +20,7 @@ pub returns-in_err-write_all-2-clause-text : goal.returns-in_err-write_all-2-cla
 returns-in_err-write_all-2-clause-text g c =
     let step = args_step string_bytes c.args.args.now c.loop-arg.arg-index c.arg-item.result (omega arith)
     c.arg-item.is in
-    part_at_exit _ _ _ _ _ c.from_residual-in_err-write_all-2.ensures.1
+    rw (err_from_is_err_and c.from_residual-in_err-write_all-2.result c.from_residual-in_err-write_all-2.ensures.1).1
     (done_part _ _ _ _ _ (32 ∷ []) _ c.loop-arg.invariant.written step c.in_err-write_all-2.ensures.text)
 
 pub returns-in_err-write_all-3-clause-text : goal.returns-in_err-write_all-3-clause-text
@@ -28,7 +29,7 @@ returns-in_err-write_all-3-clause-text g c =
     c.arg-item.is in
     let one = done_more _ _ _ _ _ _ _ c.loop-arg.invariant.written step c.in_ok-write_all-2.ensures.text in
     let failed = rw c.as_bytes.ensures.value at c.in_err-write_all-3.ensures.text in
-    part_at_exit _ _ _ _ _ c.from_residual-in_err-write_all-3.ensures.1
+    rw (err_from_is_err_and c.from_residual-in_err-write_all-3.result c.from_residual-in_err-write_all-3.ensures.1).1
     (done_part _ _ _ _ _ (string_bytes c.arg-item.result)
     (spaced (map string_bytes (drop (c.loop-arg.arg-index + 1) c.args.args.now)) ++ 10 ∷ []) one refl failed)
 

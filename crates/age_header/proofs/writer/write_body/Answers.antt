@@ -2,14 +2,15 @@ use Rattle.std.proofs.Common.{◌∙◌, [], ◌∷◌, refl, arith}
 use Rattle.age_header.specs.Base64.{base64_of}
 use Rattle.age_header.specs.Text.{body_text}
 use Rattle.age_header.proofs.TextLemmas.{body_step, body_end}
-use Rattle.age_header.proofs.DeviceLemmas.{done_more, done_part, part_at_exit, writes_last}
+use Rattle.std.proofs.lemmas.Result.{err_from_is_err_and}
+use Rattle.age_header.proofs.DeviceLemmas.{done_more, done_part, writes_last}
 use Rattle.age_header.proofs.writer.write_body.Goals as goal
 
 pub returns-in_err-write_base64-clause-text : goal.returns-in_err-write_base64-clause-text
 returns-in_err-write_base64-clause-text g c =
     let step = body_step c.loop-rest.rest.now c.split_at.result.0.now c.split_at.result.1.now (omega arith)
     c.split_at.ensures.front c.split_at.ensures.back in
-    part_at_exit _ _ _ _ _ c.from_residual.ensures.1
+    rw (err_from_is_err_and c.from_residual.result c.from_residual.ensures.1).1
     (done_part _ _ _ _ _ (base64_of c.split_at.result.0.now) _ c.loop-rest.invariant.written step
     c.in_err-write_base64.ensures.text)
 
@@ -18,7 +19,7 @@ returns-in_err-write_all-clause-text g c =
     let step = body_step c.loop-rest.rest.now c.split_at.result.0.now c.split_at.result.1.now (omega arith)
     c.split_at.ensures.front c.split_at.ensures.back in
     let one = done_more _ _ _ _ _ _ _ c.loop-rest.invariant.written step c.in_ok-write_base64.ensures.text in
-    part_at_exit _ _ _ _ _ c.from_residual-in_err-write_all.ensures.1
+    rw (err_from_is_err_and c.from_residual-in_err-write_all.result c.from_residual-in_err-write_all.ensures.1).1
     (done_part _ _ _ _ _ (10 ∷ []) (body_text c.split_at.result.1.now) one refl c.in_err-write_all.ensures.text)
 
 pub loop-rest-preserved : goal.loop-rest-preserved
@@ -35,7 +36,8 @@ loop-rest-preserved g c =
 pub returns-in_err-write_base64-2-clause-text : goal.returns-in_err-write_base64-2-clause-text
 returns-in_err-write_base64-2-clause-text g c =
     let end = body_end c.loop-rest.rest.now (omega arith) in
-    part_at_exit _ _ _ _ _ c.from_residual-in_err-write_base64-2.ensures.1
+    rw
+    (err_from_is_err_and c.from_residual-in_err-write_base64-2.result c.from_residual-in_err-write_base64-2.ensures.1).1
     (done_part _ _ _ _ _ (base64_of c.loop-rest.rest.now) (10 ∷ []) c.loop-rest.invariant.written end
     c.in_err-write_base64-2.ensures.text)
 

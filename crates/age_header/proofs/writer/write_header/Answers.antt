@@ -3,7 +3,8 @@ use Rattle.age_kdf.specs.Bytes.{Bytes}
 use Rattle.age_header.specs.Header.{Head}
 use Rattle.age_header.specs.Text.{signed, mac_end}
 use Rattle.age_header.proofs.TextLemmas.{header_text_is}
-use Rattle.age_header.proofs.DeviceLemmas.{done_start, done_more, done_part, part_at_exit, writes_last}
+use Rattle.std.proofs.lemmas.Result.{err_from_is_err_and}
+use Rattle.age_header.proofs.DeviceLemmas.{done_start, done_more, done_part, writes_last}
 use Rattle.age_header.proofs.writer.write_header.Goals as goal
 
 pub returns-in_err-write_signed-clause-text : goal.returns-in_err-write_signed-clause-text
@@ -15,7 +16,7 @@ returns-in_err-write_signed-clause-text g c =
     let failed = rw c.stanzas.ensures.value at c.in_err-write_signed.ensures.text in (
       text,
       head,
-      part_at_exit _ _ _ _ _ c.from_residual.ensures.1
+      rw (err_from_is_err_and c.from_residual.result c.from_residual.ensures.1).1
           (done_part _ _ _ text text (signed ss) (mac_end mac) (done_start _ text) refl failed),
     )
 

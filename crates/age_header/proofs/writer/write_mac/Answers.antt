@@ -2,14 +2,15 @@ use Rattle.std.proofs.Common.{[], ◌∷◌, ◌++◌, refl}
 use Rattle.age_kdf.specs.Bytes.{Bytes}
 use Rattle.age_header.specs.Base64.{base64_of}
 use Rattle.age_header.specs.Text.{mac_end}
-use Rattle.age_header.proofs.DeviceLemmas.{done_start, done_more, done_part, part_at_exit, writes_last}
+use Rattle.std.proofs.lemmas.Result.{err_from_is_err_and}
+use Rattle.age_header.proofs.DeviceLemmas.{done_start, done_more, done_part, writes_last}
 use Rattle.age_header.proofs.writer.write_mac.Goals as goal
 
 pub returns-in_err-write_all-clause-text : goal.returns-in_err-write_all-clause-text
 unfolding mac_end
 returns-in_err-write_all-clause-text g c =
     let mac : Bytes = c.args.mac.now in
-    part_at_exit _ _ _ _ _ c.from_residual.ensures.1
+    rw (err_from_is_err_and c.from_residual.result c.from_residual.ensures.1).1
     (done_part _ _ _ (mac_end mac) (mac_end mac) (32 ∷ []) (base64_of mac ++ 10 ∷ []) (done_start _ (mac_end mac)) refl
     c.in_err-write_all.ensures.text)
 
@@ -19,7 +20,7 @@ returns-in_err-write_base64-clause-text g c =
     let mac : Bytes = c.args.mac.now in
     let one = done_more _ _ _ (mac_end mac) (mac_end mac) (32 ∷ []) (base64_of mac ++ 10 ∷ [])
     (done_start _ (mac_end mac)) refl c.in_ok-write_all.ensures.text in
-    part_at_exit _ _ _ _ _ c.from_residual-in_err-write_base64.ensures.1
+    rw (err_from_is_err_and c.from_residual-in_err-write_base64.result c.from_residual-in_err-write_base64.ensures.1).1
     (done_part _ _ _ (mac_end mac) (base64_of mac ++ 10 ∷ []) (base64_of mac) (10 ∷ []) one refl
     c.in_err-write_base64.ensures.text)
 

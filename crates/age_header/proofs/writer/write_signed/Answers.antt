@@ -4,7 +4,8 @@ use Rattle.age_kdf.specs.Bytes.{Bytes}
 use Rattle.age_header.specs.Header.{argument_line, version_line}
 use Rattle.age_header.specs.Text.{body_text, stanza_text, signed}
 use Rattle.age_header.proofs.TextLemmas.{stanza_step}
-use Rattle.age_header.proofs.DeviceLemmas.{done_start, done_more, done_part, part_at_exit, writes_last}
+use Rattle.std.proofs.lemmas.Result.{err_from_is_err_and}
+use Rattle.age_header.proofs.DeviceLemmas.{done_start, done_more, done_part, writes_last}
 use Rattle.age_header.proofs.writer.write_signed.Goals as goal
 
 pub returns-in_err-write_all-clause-text : goal.returns-in_err-write_all-clause-text
@@ -12,7 +13,7 @@ unfolding signed version_line
 returns-in_err-write_all-clause-text g c =
     let ss = c.args.stanzas.now in
     let rest : Bytes = flat_map stanza_text ss ++ codes "---" in
-    part_at_exit _ _ _ _ _ c.from_residual.ensures.1
+    rw (err_from_is_err_and c.from_residual.result c.from_residual.ensures.1).1
     (done_part _ _ _ (signed ss) (signed ss) version_line rest (done_start _ (signed ss))
     (append_assoc version_line (flat_map stanza_text ss) (codes "---")) c.in_err-write_all.ensures.text)
 
@@ -32,7 +33,7 @@ returns-in_err-write_args-clause-text g c =
     let s = c.stanza-item.result in
     let step = stanza_step c.args.stanzas.now c.loop-stanza.stanza-index s c.loop-stanza-test.true c.stanza-item.is in
     let failed = rw c.args-in-loop-stanza.ensures.value at c.in_err-write_args.ensures.text in
-    part_at_exit _ _ _ _ _ c.from_residual-in_err-write_args.ensures.1
+    rw (err_from_is_err_and c.from_residual-in_err-write_args.result c.from_residual-in_err-write_args.ensures.1).1
     (done_part _ _ _ _ _ (argument_line s.args) _ c.loop-stanza.invariant.written step failed)
 
 pub returns-in_err-write_body-clause-text : goal.returns-in_err-write_body-clause-text
@@ -42,7 +43,7 @@ returns-in_err-write_body-clause-text g c =
     let wrote = rw c.args-in-loop-stanza.ensures.value at c.in_ok-write_args.ensures.text in
     let one = done_more _ _ _ _ _ (argument_line s.args) _ c.loop-stanza.invariant.written step wrote in
     let failed = rw c.body.ensures.value at c.in_err-write_body.ensures.text in
-    part_at_exit _ _ _ _ _ c.from_residual-in_err-write_body.ensures.1
+    rw (err_from_is_err_and c.from_residual-in_err-write_body.result c.from_residual-in_err-write_body.ensures.1).1
     (done_part _ _ _ _ _ (body_text s.body) _ one refl failed)
 
 pub loop-stanza-preserved : goal.loop-stanza-preserved
