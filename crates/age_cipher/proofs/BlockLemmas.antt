@@ -53,9 +53,9 @@ bytes_of_four a b c d =
     rw (flat_map-append f a (b ++ (c ++ d)), flat_map-append f b (c ++ d), flat_map-append f c d) refl
 
 -- two pieces xored one after the other
-pub xored_on : (at next : ℕ) (s t old mid new : Bytes) → next ≡ at + length s → IsXoredAt at s old mid
+pub xored_on : {at next : ℕ} {s t old mid new : Bytes} → next ≡ at + length s → IsXoredAt at s old mid
     → IsXoredAt next t mid new → IsXoredAt at (s ++ t) old new
-xored_on at next s t old mid new e first then =
+xored_on {at} {next} {s} {t} {old} {mid} {new} e first then =
     let inside : (j : ℕ) → j < length (s ++ t) → (j < length s) ⊎ (length s ≤ j)
     → slice_index new (at + j) ≡ bit_xor (slice_index old (at + j)) (slice_index (s ++ t) j) =
     λ j below here. elim here [
@@ -75,9 +75,10 @@ xored_on at next s t old mid new e first then =
     }
 
 -- n bytes of a buffer xored with a stream
-pub chunk_xored : (n at : ℕ) (buf digits stream : Bytes) → digits ≡ stream → length stream ≡ n → at + n ≤ length buf
+pub chunk_xored : (n at : ℕ) (buf : Bytes) {digits : Bytes} (stream : Bytes)
+    → digits ≡ stream → length stream ≡ n → at + n ≤ length buf
     → IsXoredAt at stream buf (put_chunk at buf (zip2 bit_xor (take n (drop at buf)) digits))
-chunk_xored n at buf digits stream e long room =
+chunk_xored n at buf stream e long room =
     let chunk_long : length (take n (drop at buf)) ≡ n = length-chunk at n buf room in
     let mixed = zip2 bit_xor (take n (drop at buf)) stream in
     let mixed_long : length mixed ≡ n = length-zip2 bit_xor (take n (drop at buf)) stream (chunk_long ∙ sym long)
@@ -109,10 +110,10 @@ block-stream key nonce counter words e = rw e (record {
 })
 
 -- a stream of m blocks, and the stream after it
-pub stream_on : (key nonce : Bytes) (counter next m n : ℕ) (prefix back : Bytes) → next ≡ counter + m
+pub stream_on : (key nonce : Bytes) (counter next m n : ℕ) {prefix back : Bytes} → next ≡ counter + m
     → IsStream key nonce counter (64 * m) prefix → IsStream key nonce next n back
     → IsStream key nonce counter (64 * m + n) (prefix ++ back)
-stream_on key nonce counter next m n prefix back e one two =
+stream_on key nonce counter next m n {prefix} {back} e one two =
     let cases : (j : ℕ) → j < 64 * m + n → (j < 64 * m) ⊎ (64 * m ≤ j)
     → slice_index (prefix ++ back) j ≡ stream_byte key nonce counter j = λ j below here. elim here [
       | inl low ↦ get_or_append_left prefix back 0 j (omega (arith, one.long)) ∙ one.byte j low
@@ -127,21 +128,21 @@ stream_on key nonce counter next m n prefix back e one two =
     }
 
 -- four blocks' stream
-pub four_stream : (key nonce : Bytes) (counter : ℕ) (a b c d : Bytes)
+pub four_stream : (key nonce : Bytes) (counter : ℕ) {a b c d : Bytes}
     → a ≡ mixed (start key nonce counter) → b ≡ mixed (start key nonce (counter + 1))
     → c ≡ mixed (start key nonce (counter + 2)) → d ≡ mixed (start key nonce (counter + 3))
     → IsStream key nonce counter 256 (bytes a ++ (bytes b ++ (bytes c ++ bytes d)))
-four_stream key nonce counter a b c d ea eb ec ed =
-    stream_on key nonce counter (counter + 1) 1 192 _ _ (omega arith) (block-stream key nonce counter a ea)
-    (stream_on key nonce (counter + 1) (counter + 2) 1 128 _ _ (omega arith) (block-stream key nonce (counter + 1) b eb)
-    (stream_on key nonce (counter + 2) (counter + 3) 1 64 _ _ (omega arith) (block-stream key nonce (counter + 2) c ec)
+four_stream key nonce counter {a} {b} {c} {d} ea eb ec ed =
+    stream_on key nonce counter (counter + 1) 1 192 (omega arith) (block-stream key nonce counter a ea)
+    (stream_on key nonce (counter + 1) (counter + 2) 1 128 (omega arith) (block-stream key nonce (counter + 1) b eb)
+    (stream_on key nonce (counter + 2) (counter + 3) 1 64 (omega arith) (block-stream key nonce (counter + 2) c ec)
     (block-stream key nonce (counter + 3) d ed)))
 
 -- xored with a list that is the stream, byte by byte
-pub xored_with_stream : (key nonce : Bytes) (counter at n : ℕ) (stream old new : Bytes)
+pub xored_with_stream : {key nonce : Bytes} {counter : ℕ} (at : ℕ) {n : ℕ} {stream old new : Bytes}
     → IsStream key nonce counter n stream → IsXoredAt at stream old new → (j : ℕ) → at ≤ j → j < at + n
     → slice_index new j ≡ bit_xor (slice_index old j) (stream_byte key nonce counter (j - at))
-xored_with_stream key nonce counter at n stream old new is xored j low high =
+xored_with_stream at {old} {new} is xored j low high =
     let at_is : at + (j - at) ≡ j = omega arith in
     ap (slice_index new) (sym at_is) ∙ xored.inside (j - at) (omega (arith, is.long))
     ∙ ap₂ bit_xor (ap (slice_index old) at_is) (is.byte (j - at) (omega arith))

@@ -8,16 +8,17 @@ use Rattle.age_kdf.specs.Salsa.{salsa8}
 use Rattle.age_kdf.specs.BlockMix.{mixed, evens, odds}
 
 -- one step: X after it
-pub mixed_next : (r : ℕ) (b x out : Words) (i at next : ℕ) → x ≡ mixed r b i → at ≡ 16 * i → next ≡ suc i
+pub mixed_next : (r : ℕ) (b : Words) {x out : Words} (i at next : ℕ) → x ≡ mixed r b i → at ≡ 16 * i → next ≡ suc i
     → out ≡ salsa8 (zip2 bit_xor x (take 16 (drop at b))) → out ≡ mixed r b next
 unfolding mixed
-mixed_next r b x out i at next is at_is after made =
+mixed_next r b i at next is at_is after made =
     made ∙ ap₂ (λ y a. salsa8 (zip2 bit_xor y (take 16 (drop a b)))) is at_is ∙ ap (mixed r b) (sym after)
 
 -- a block written after those that were written before
-pub block_written : (out prefix x : Words) (at k next : ℕ) → take at out ≡ prefix → length x ≡ 16 → next ≡ at + 16
+pub block_written : (out : Words) {prefix : Words} (x : Words) (at k next : ℕ)
+    → take at out ≡ prefix → length x ≡ 16 → next ≡ at + 16
     → at + 16 ≤ length out → take next (put_mid at k out x) ≡ prefix ++ x
-block_written out prefix x at k next is len after room =
+block_written out x at k next is len after room =
     take-put_mid at k out x next (omega arith) (omega arith) ∙ ap (λ z. z ++ x) is
 
 -- one more even block

@@ -13,5 +13,5 @@ zipped f xs ys out n len-xs len-ys len-out is =
     get_or_default out k d 0 below ∙ is k (omega arith) ∙ sym (get_or-zip2 f xs ys k 0 0 d (omega arith) (omega arith)))
 
 -- a list that is written as far as its end is what was written
-pub filled : (k : ℕ) (out xs : List ℕ) → length out ≤ k → take k out ≡ xs → out ≡ xs
-filled k out xs whole is = sym (take_all k out whole) ∙ is
+pub filled : {k : ℕ} {out xs : List ℕ} → length out ≤ k → take k out ≡ xs → out ≡ xs
+filled {k} {out} whole is = sym (take_all k out whole) ∙ is

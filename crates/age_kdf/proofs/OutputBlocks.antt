@@ -7,10 +7,11 @@ use Rattle.age_kdf.specs.Bytes.{Bytes}
 use borrow.Rule.Slice.PartMut.{put_mid}
 
 -- where the whole block fits
-pub whole : (out prefix block ys : Bytes) (at next k : ℕ) → length prefix ≡ at → take at out ≡ take (length out) prefix
+pub whole : (out prefix block : Bytes) {ys : Bytes} {at next : ℕ} (k : ℕ)
+    → length prefix ≡ at → take at out ≡ take (length out) prefix
     → length block ≡ 32 → ys ≡ take 32 block → next ≡ at + 32 → at + 32 ≤ length out
     → take next (put_mid at k out ys) ≡ take (length out) (prefix ++ block)
-whole out prefix block ys at next k size same len is on room =
+whole out prefix block {ys} {at} {next} k size same len is on room =
     let all : ys ≡ block = is ∙ take_all 32 block (omega arith) in
     take-put_mid at k out ys next (rw all (omega arith)) (omega arith)
     ∙ rw (
@@ -21,11 +22,11 @@ whole out prefix block ys at next k size same len is on room =
     ) refl
 
 -- where its first n bytes alone fit
-pub cut : (out prefix block ys : Bytes) (at next k m n : ℕ) → length prefix ≡ at
+pub cut : (out prefix block : Bytes) {ys : Bytes} {at next k m : ℕ} (n : ℕ) → length prefix ≡ at
     → take at out ≡ take (length out) prefix → length ys ≡ n → ys ≡ take m block → m ≡ n → k ≡ n
     → at + n ≡ length out → length out ≤ next
     → take next (put_mid at k out ys) ≡ take (length out) (prefix ++ block)
-cut out prefix block ys at next k m n size same len is m-is k-is end past =
+cut out prefix block {ys} {at} {next} {k} n size same len is m-is k-is end past =
     let long : length (put_mid at k out ys) ≡ length out = search (rules, overwrites) in
     take_all next (put_mid at k out ys) (omega arith)
     ∙ sym (take_all (length out) (put_mid at k out ys) (omega arith))

@@ -51,11 +51,11 @@ first_sum pass first =
     sym (zip2_splat_left bit_xor 0 32 u (length-hmac pass first) ∙ map_same (λ y. bit_xor 0 y) (λ y. xor_zero_l y) u)
 
 -- one more round
-pub next_sum : (pass first sum last next out : Bytes) (j : ℕ) → sum ≡ pbkdf2_sum pass first (j + 1)
+pub next_sum : (pass first : Bytes) {sum last next out : Bytes} (j : ℕ) → sum ≡ pbkdf2_sum pass first (j + 1)
     → last ≡ pbkdf2_round pass first j → next ≡ hmac pass last → out ≡ zip2 bit_xor sum next
     → record { sum : out ≡ pbkdf2_sum pass first (j + 1 + 1); last : next ≡ pbkdf2_round pass first (j + 1) }
 unfolding pbkdf2_sum pbkdf2_round
-next_sum pass first sum last next out j sum-is last-is next-is out-is =
+next_sum pass first {sum} {last} {next} j sum-is last-is next-is out-is =
     let one : suc j ≡ j + 1 = omega arith in
     let two : suc (suc j) ≡ j + 1 + 1 = omega arith in
     let here : next ≡ pbkdf2_round pass first (suc j) = next-is ∙ ap (hmac pass) last-is in

@@ -20,9 +20,9 @@ row_here at size k xs ys len room =
     ∙ drop_at (take at xs) ys at (length-take-le at xs room)
 
 -- a row before the one that was written
-pub row_below : (a at size k : ℕ) (xs ys : Words) → a + size ≤ at → at ≤ length xs
+pub row_below : (a : ℕ) {at : ℕ} (size k : ℕ) (xs ys : Words) → a + size ≤ at → at ≤ length xs
     → take size (drop a (put_mid at k xs ys)) ≡ take size (drop a xs)
-row_below a at size k xs ys before room =
+row_below a {at} size k xs ys before room =
     sym (drop-take a size (put_mid at k xs ys))
     ∙ ap (drop a) (take-put_mid_below at k xs ys (a + size) before room)
     ∙ drop-take a size xs

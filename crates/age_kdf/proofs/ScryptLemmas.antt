@@ -45,10 +45,11 @@ words-joined xs ys m (suc n) len =
     ∙ append_assoc (words_of xs m) (words_of ys n) _
 
 -- a block of eight words written after those that were written before
-pub block_loaded : (words ws : Words) (prefix block : Bytes) (i k : ℕ) → take (8 * i) words ≡ words_of prefix (8 * i)
+pub block_loaded : (words : Words) {ws : Words} (prefix block : Bytes) (i k : ℕ)
+    → take (8 * i) words ≡ words_of prefix (8 * i)
     → ws ≡ words_of block 8 → length ws ≡ 8 → length prefix ≡ 32 * i → 8 * i + 8 ≤ length words
     → take (8 * (i + 1)) (put_mid (8 * i) k words ws) ≡ words_of (prefix ++ block) (8 * (i + 1))
-block_loaded words ws prefix block i k before is len long room =
+block_loaded words {ws} prefix block i k before is len long room =
     let next : 8 * i + 8 ≡ 8 * (i + 1) = omega arith in
     take-put_mid (8 * i) k words ws (8 * (i + 1)) (omega arith) (omega arith)
     ∙ ap₂ ◌++◌ before is
@@ -56,7 +57,8 @@ block_loaded words ws prefix block i k before is len long room =
     ∙ ap (words_of (prefix ++ block)) next
 
 -- a part mixed in place after those that were mixed before
-pub part_mixed : (r n size i k next : ℕ) (b parts x : Words) → size ≡ 32 * r → k ≡ size → next ≡ size * i + size
+pub part_mixed : (r n size i : ℕ) {k : ℕ} (next : ℕ) (b parts : Words) {x : Words}
+    → size ≡ 32 * r → k ≡ size → next ≡ size * i + size
     → take (size * i) parts ≡ parts_mixed r n b i → drop (size * i) parts ≡ drop (size * i) b
     → x ≡ romix r n (take k (drop (size * i) parts)) → length x ≡ size → next ≤ length parts
     → record {
@@ -64,7 +66,7 @@ pub part_mixed : (r n size i k next : ℕ) (b parts x : Words) → size ≡ 32 *
       rest : drop next (put_mid (size * i) k parts x) ≡ drop next b;
     }
 unfolding parts_mixed
-part_mixed r n size i k next b parts x size-is k-is next-is done rest x-is len room =
+part_mixed r n size i {k} next b parts {x} size-is k-is next-is done rest x-is len room =
     let one : suc i ≡ i + 1 = omega arith in
     record {
       done = take-put_mid (size * i) k parts x next (omega arith) (omega arith)

@@ -50,10 +50,8 @@ returns c =
     rw (sym row6) c.xor_halves-7.ensures in
     let b7 : IsXoredAt (at + 448) (bytes (lane 7 words)) c.xor_halves-7.new.buf c.xor_halves-8.new.buf =
     rw (sym row7) c.xor_halves-8.ensures in
-    let prefix = xored_on _ _ _ _ _ _ _ (omega (arith, long 0)) b0
-    (xored_on _ _ _ _ _ _ _ (omega (arith, long 1)) b1
-    (xored_on _ _ _ _ _ _ _ (omega (arith, long 2)) b2 b3)) in
-    let back = xored_on _ _ _ _ _ _ _ (omega (arith, long 4)) b4
-    (xored_on _ _ _ _ _ _ _ (omega (arith, long 5)) b5
-    (xored_on _ _ _ _ _ _ _ (omega (arith, long 6)) b6 b7)) in
-    xored_on _ _ _ _ _ _ _ (omega (arith, length-four_blocks _ _ _ _ (long 0) (long 1) (long 2) (long 3))) prefix back
+    let prefix = xored_on (omega (arith, long 0)) b0
+    (xored_on (omega (arith, long 1)) b1 (xored_on (omega (arith, long 2)) b2 b3)) in
+    let back = xored_on (omega (arith, long 4)) b4
+    (xored_on (omega (arith, long 5)) b5 (xored_on (omega (arith, long 6)) b6 b7)) in
+    xored_on (omega (arith, length-four_blocks _ _ _ _ (long 0) (long 1) (long 2) (long 3))) prefix back

@@ -21,18 +21,18 @@ pairs-preserved c =
     let b = c.args.from.now in
     let i = c.pairs.i in
     let first : c.mix.new.x ≡ mixed r b (2 * i + 1) =
-    mixed_next r b _ _ (2 * i) (32 * i) (2 * i + 1) c.pairs.invariant.x (omega arith) (omega arith) c.mix.ensures in
+    mixed_next r b (2 * i) (32 * i) (2 * i + 1) c.pairs.invariant.x (omega arith) (omega arith) c.mix.ensures in
     let second : c.mix-in-pairs.new.x ≡ mixed r b (2 * i + 2) =
-    mixed_next r b _ _ (2 * i + 1) (32 * i + 16) (2 * i + 2) first (omega arith) (omega arith) c.mix-in-pairs.ensures in
+    mixed_next r b (2 * i + 1) (32 * i + 16) (2 * i + 2) first (omega arith) (omega arith) c.mix-in-pairs.ensures in
     let two : 2 * i + 2 ≡ 2 * (i + 1) = omega arith in
     record {
       x = second ∙ ap (mixed r b) two;
       even = evens_next r b c.copy_from_slice-in-pairs.new.self _ i
-          (block_written _ _ _ (16 * i) _ (16 * (i + 1)) c.pairs.invariant.even (search rules)
+          (block_written _ _ (16 * i) _ (16 * (i + 1)) c.pairs.invariant.even (search rules)
           (omega arith) (omega (arith, c.pairs.auto.even, c.split_at_mut-even.ensures.front_len)))
           (c.copy_from_slice-in-pairs.ensures.after ∙ first);
       odd = odds_next r b c.copy_from_slice-in-pairs-2.new.self _ i
-          (block_written _ _ _ (16 * i) _ (16 * (i + 1)) c.pairs.invariant.odd (search rules)
+          (block_written _ _ (16 * i) _ (16 * (i + 1)) c.pairs.invariant.odd (search rules)
           (omega arith) (omega (arith, c.pairs.auto.odd, c.split_at_mut-even.ensures.back_len)))
           (c.copy_from_slice-in-pairs-2.ensures.after ∙ second);
     }
@@ -42,7 +42,7 @@ unfolding block_mix
 returns c =
     let end : c.pairs.i ≡ c.args.r = omega arith in
     ap₂ ◌++◌
-    (filled _ _ _ (omega (arith, c.pairs.auto.even, c.split_at_mut-even.ensures.front_len))
+    (filled (omega (arith, c.pairs.auto.even, c.split_at_mut-even.ensures.front_len))
     c.pairs.invariant.even ∙ ap (evens _ _) end)
-    (filled _ _ _ (omega (arith, c.pairs.auto.odd, c.split_at_mut-even.ensures.back_len))
+    (filled (omega (arith, c.pairs.auto.odd, c.split_at_mut-even.ensures.back_len))
     c.pairs.invariant.odd ∙ ap (odds _ _) end)

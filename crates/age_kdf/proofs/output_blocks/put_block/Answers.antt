@@ -6,8 +6,7 @@ use Rattle.age_kdf.proofs.output_blocks.put_block.Goals.{then-room-lt32, else-ro
 pub returns : goal.returns
 returns c front size same =
     elim c.if-room-lt32.branch [
-      | then-room-lt32 w ↦ cut _ _ _ _ _ _ _ _ c.if-room-lt32.n size same (search rules)
+      | then-room-lt32 w ↦ cut _ _ _ c.if-room-lt32.n size same (search rules)
           c.copy_from_slice.ensures.after (omega arith) (omega arith) (omega arith) (omega arith)
-      | else-room-lt32 w ↦ whole _ _ _ _ _ _ _ size same c.told-block
-          (search rules) (omega arith) (omega arith)
+      | else-room-lt32 w ↦ whole _ _ _ _ size same c.told-block (search rules) (omega arith) (omega arith)
     ]

@@ -25,5 +25,5 @@ pub returns : goal.returns
 unfolding pbkdf2
 returns c pass salt keyed salted =
     let end : c.each_block.i ≡ (length c.args.out.now + 31) / 32 = omega arith in
-    filled _ _ _ (omega (arith, c.each_block.auto.out)) (c.each_block.invariant pass salt keyed salted)
+    filled (omega (arith, c.each_block.auto.out)) (c.each_block.invariant pass salt keyed salted)
     ∙ rw (c.each_block.auto.out, end) refl

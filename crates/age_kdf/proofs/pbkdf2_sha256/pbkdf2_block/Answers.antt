@@ -18,7 +18,7 @@ pub rounds-preserved : goal.rounds-preserved
 rounds-preserved c pass salt keyed salted =
     let before = c.rounds.invariant pass salt keyed salted in
     let next = c.tag_with-last-in-rounds.ensures pass [] keyed ∙ ap (hmac pass) (append-nil c.rounds.last) in
-    next_sum pass _ _ _ _ _ c.rounds._round before.sum before.last next c.xor_block.ensures
+    next_sum pass _ c.rounds._round before.sum before.last next c.xor_block.ensures
 
 pub returns : goal.returns
 returns c pass salt keyed salted =

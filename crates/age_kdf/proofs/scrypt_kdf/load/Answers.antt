@@ -16,7 +16,7 @@ each_block-preserved c pass salt keyed salted =
     let i = c.each_block.i in
     let blocks = pbkdf2_blocks pass salt 1 in
     let next : suc i ≡ i + 1 = omega arith in
-    block_loaded c.each_block.words _ (blocks i) _ i _ (c.each_block.invariant pass salt keyed salted)
+    block_loaded c.each_block.words (blocks i) _ i _ (c.each_block.invariant pass salt keyed salted)
     c.load_block.ensures (search rules) (length-pbkdf2_blocks pass salt 1 i) (omega (arith, c.each_block.auto.words))
     ∙ ap (λ z. words_of (blocks i ++ z) (8 * (i + 1))) (c.pbkdf2_block-block.ensures pass salt keyed salted)
     ∙ ap (λ k. words_of (blocks k) (8 * (i + 1))) next
@@ -24,6 +24,6 @@ each_block-preserved c pass salt keyed salted =
 pub returns : goal.returns
 returns c pass salt keyed salted =
     let end : c.each_block.i ≡ c.args.count = omega arith in
-    filled _ _ _ (omega (arith, c.each_block.auto.words)) (c.each_block.invariant pass salt keyed salted)
+    filled (omega (arith, c.each_block.auto.words)) (c.each_block.invariant pass salt keyed salted)
     ∙ ap (λ k. words_of (pbkdf2_blocks pass salt 1 k) (8 * k)) end
     ∙ ap (λ z. words_of z (8 * c.args.count)) (sym (pbkdf2-whole pass salt 1 c.args.count))

@@ -15,7 +15,7 @@ pub each_part-preserved : goal.each_part-preserved
 each_part-preserved c =
     let i = c.each_part.i in
     let size = 32 * c.args.r in
-    part_mixed c.args.r (2 ^ c.args.log_n) size i _ (size * (i + 1)) c.args.parts.now c.each_part.parts _
+    part_mixed c.args.r (2 ^ c.args.log_n) size i (size * (i + 1)) c.args.parts.now c.each_part.parts
     refl (omega arith) (omega arith) c.each_part.invariant.done c.each_part.invariant.rest
     c.romix.ensures (search rules)
     (omega (arith, rows_apart size c.args.p i (omega arith), c.each_part.auto.parts))
@@ -23,5 +23,5 @@ each_part-preserved c =
 pub returns : goal.returns
 returns c =
     let end : c.each_part.i ≡ c.args.p = omega arith in
-    filled _ _ _ (rw end (omega (arith, c.each_part.auto.parts))) c.each_part.invariant.done
+    filled (rw end (omega (arith, c.each_part.auto.parts))) c.each_part.invariant.done
     ∙ ap (parts_mixed c.args.r (2 ^ c.args.log_n) c.args.parts.now) end
