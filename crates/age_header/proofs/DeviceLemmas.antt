@@ -33,8 +33,8 @@ gave-some a b x g = record { bytes = x; grew = g.grew }
 pub some-none : (a : Seen) → GaveSome (flow a a)
 some-none a = record { bytes = []; grew = grew-none a }
 
-pub some-then : (a b c : Seen) (x : Bytes) → Gave (flow a b) x → GaveSome (flow b c) → GaveSome (flow a c)
-some-then a b c x g h = record { bytes = x ++ h.bytes; grew = grew-then a b c x h.bytes g.grew h.grew }
+pub some-then : {a b c : Seen} {x : Bytes} → Gave (flow a b) x → GaveSome (flow b c) → GaveSome (flow a c)
+some-then {a} {b} {c} {x} g h = record { bytes = x ++ h.bytes; grew = grew-then a b c x h.bytes g.grew h.grew }
 
 pub gave-more : (a b c : Seen) (n m : ℕ) → GaveAtMost n (flow a b) → GaveAtMost m (flow b c)
     → GaveAtMost (n + m) (flow a c)
@@ -97,8 +97,8 @@ pub of-map : (a b : Seen) (P Q : Bytes → Type 0) → OfGiven (flow a b) Q → 
 of-map a b P Q h p = of-then a a b [] P Q (gave-none a) h p
 
 -- a source that gave no more
-pub of-still : (a b c : Seen) (P : Bytes → Type 0) → OfGiven (flow a b) P → Grew (flow b c) [] → OfGiven (flow a c) P
-of-still a b c P h g = record {
+pub of-still : (a b c : Seen) {P : Bytes → Type 0} → OfGiven (flow a b) P → Grew (flow b c) [] → OfGiven (flow a c) P
+of-still a b c h g = record {
   given = h.given;
   grew = λ past p. subst c.gave (append-nil (past ++ h.given)) (g (past ++ h.given) (h.grew past p));
   holds = h.holds;
@@ -129,12 +129,13 @@ pub record Done (a b : Known) (whole left : Bytes) : Type 0 where
   pub took : Appends a b prefix
   pub is : whole ≡ prefix ++ left
 
-pub done_start : (a : Known) (whole : Bytes) → Done a a whole whole
-done_start a whole = record { prefix = []; took = Appends-nil a; is = refl }
+pub done_start : {a : Known} (whole : Bytes) → Done a a whole whole
+done_start {a} whole = record { prefix = []; took = Appends-nil a; is = refl }
 
-pub done_more : (a b c : Known) (whole left x y : Bytes) → Done a b whole left → left ≡ x ++ y → Appends b c x
+pub done_more : {a b c : Known} {whole left : Bytes} (x : Bytes) {y : Bytes}
+    → Done a b whole left → left ≡ x ++ y → Appends b c x
     → Done a c whole y
-done_more a b c whole left x y d e h = record {
+done_more {a} {b} {c} x {y} d e h = record {
   prefix = d.prefix ++ x;
   took = Appends-trans a b c d.prefix x d.took h;
   is = d.is ∙ ap (λ (z : Bytes). d.prefix ++ z) e ∙ sym (append_assoc d.prefix x y);
@@ -165,7 +166,7 @@ pub done_last : (a b c : Known) (whole left : Bytes) → Done a b whole left →
 done_last a b c whole left d w = done_part a b c whole left left [] d (sym (append-nil left)) w
 
 -- what the last call did to what was left, it did to the whole
-pub writes_last : {T E : Type 0} (a b c : Known) (r : Result T E) (whole left : Bytes) → Done a b whole left
+pub writes_last : {T E : Type 0} {a b : Known} (c : Known) (r : Result T E) (whole left : Bytes) → Done a b whole left
     → Writes (moved b c) r left → Writes (moved a c) r whole
-writes_last a b c (Ok x) whole left d h = done_all a b c whole left d h
-writes_last a b c (Err e) whole left d h = done_last a b c whole left d h
+writes_last {a} {b} c (Ok x) whole left d h = done_all a b c whole left d h
+writes_last {a} {b} c (Err e) whole left d h = done_last a b c whole left d h

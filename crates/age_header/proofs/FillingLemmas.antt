@@ -17,9 +17,9 @@ filled-none start buf a le = record {
   bytes = gave-none a;
 }
 
-pub filled-more : (start at n : ℕ) (buf mid after : Bytes) (a b c : Seen) → length mid ≡ length buf
+pub filled-more : (start at n : ℕ) (buf mid after : Bytes) {a b c : Seen} → length mid ≡ length buf
     → Filled start at buf mid (flow a b) → Got at n mid after (flow b c) → Filled start (at + n) buf after (flow a c)
-filled-more start at n buf mid after a b c size f h = record {
+filled-more start at n buf mid after {a} {b} {c} size f h = record {
   piece = f.piece ++ h.piece;
   len = omega (arith, length-append f.piece h.piece, f.len, h.len);
   room = omega (arith, h.room, size);

@@ -95,13 +95,13 @@ head_path ss mac h k =
       mac_text = k.mac_text;
     }
 
-apart : (a b : ℕ) → a ≡ b → a ≡ 45 → b ≡ 62 → ⊥
-apart a b e f g = omega arith
+apart : {a b : ℕ} → a ≡ b → a ≡ 45 → b ≡ 62 → ⊥
+apart e f g = omega arith
 
 -- an end line leads nowhere
 pub no_step : (ss : List StanzaParts) (characters : Bytes) (s : State) → Step (between ss) (end_text characters) s → ⊥
 no_step ss characters (between ts) h = h
-no_step ss characters (within ts args body) h = apart _ _ (ap (λ (x : Bytes). slice_index x 1) h.3) refl refl
+no_step ss characters (within ts args body) h = apart (ap (λ (x : Bytes). slice_index x 1) h.3) refl refl
 
 -- a path that goes on after an end line is none
 pub past_end : (ls more : List Bytes) (ss : List StanzaParts) (p : Bytes) (t : State)

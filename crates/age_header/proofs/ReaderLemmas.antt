@@ -39,9 +39,9 @@ refused b max Truncated h = absurd h
 refused b max TooLarge h = absurd h
 
 -- what a line's own fault says
-pub outside : (a new : Seen) (max : ℕ) (e : HeaderFault) → IsOutside e → GaveSome (flow a new)
+pub outside : {a new : Seen} (max : ℕ) (e : HeaderFault) → IsOutside e → GaveSome (flow a new)
     → ReadsHeader (flow a new) max (Err e)
-outside a new max e h some = of-any a new _ some (λ b. refused b max e h)
+outside {a} {new} max e h some = of-any a new _ some (λ b. refused b max e h)
 
 -- what a reader returns of known bytes
 pub reads_known : (b : Bytes) (source : Flow) (max : ℕ) (r : Result HeaderParts HeaderFault)

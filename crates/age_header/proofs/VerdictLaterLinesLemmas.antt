@@ -286,5 +286,5 @@ lines_le : (ls : List Bytes) → length ls ≤ length (lines_text ls)
 lines_le [] = omega arith
 lines_le (l ∷ ls) = omega (arith, lines_le ls, length-append (line l) (lines_text ls), length-append l (10 ∷ []))
 
-pub path_lines : (a mid : Seen) (max room count : ℕ) (s : State) → Reached a mid max room count s → count < max
-path_lines a mid max room count s p = omega (arith, lines_le p.ls, p.size, p.lines)
+pub path_lines : {a mid : Seen} (max room count : ℕ) (s : State) → Reached a mid max room count s → count < max
+path_lines max room count s p = omega (arith, lines_le p.ls, p.size, p.lines)

@@ -49,11 +49,11 @@ bytes_eq_sym : (a b : Bytes) → bytes_eq a b ≡ bytes_eq b a
 bytes_eq_sym a b = (lists_equiv nat_eq_equiv).symm a b
 
 -- one text more
-pub one_more : (texts : List (Bor Bytes)) (i : ℕ) (d : Bor Bytes) (bytes text : Bytes) (old new : Bool)
+pub one_more : (texts : List (Bor Bytes)) (i : ℕ) (d : Bor Bytes) {bytes : Bytes} (text : Bytes) {old new : Bool}
     → i < length texts → bytes ≡ (get_or texts i d).now
     → new ≡ cond (bytes_eq bytes text) true old → old ≡ list_any (λ t. bytes_eq text t.now) (take i texts)
     → new ≡ list_any (λ t. bytes_eq text t.now) (take (i + 1) texts)
-one_more texts i d bytes text old new low is now before =
+one_more texts i d {bytes} text {old} low is now before =
     let test : bytes_eq bytes text ≡ bytes_eq text (get_or texts i d).now = bytes_eq_sym bytes text
     ∙ ap (bytes_eq text) is in
     now ∙ or_last (bytes_eq bytes text) old ∙ ap (λ b. b || bytes_eq bytes text) before
@@ -67,10 +67,10 @@ any_now text [] = refl
 any_now text (t ∷ ts) = ap (λ b. bytes_eq text t.now || b) (any_now text ts)
 
 -- two sets of strings are compared by their bytes
-pub names_together : (self other : Labels) (a b : List Bytes) (xs ys : List (String Global)) (r : Bool) → self ≡ Names a
+pub names_together : {self other : Labels} {a b : List Bytes} (xs ys : List (String Global)) {r : Bool} → self ≡ Names a
     → other ≡ Names b
     → map string_bytes xs ≡ a → map string_bytes ys ≡ b → r ≡ pointwise string_eq xs ys → r ≡ go_together self other
-names_together self other a b xs ys r left right of_xs of_ys is =
+names_together {a} xs ys left right of_xs of_ys is =
     rw (left, right) (is ∙ sym (pointwise-map string_bytes bytes_eq xs ys)
     ∙ ap (λ l. pointwise bytes_eq l (map string_bytes ys)) of_xs ∙ ap (pointwise bytes_eq a) of_ys)
 
@@ -100,23 +100,23 @@ one_fewer first others i l low is =
     ap (incompatible_from first (i + 1)) (drop_more others i l low ∙ ap (λ y. y ∷ drop (i + 1) others) (sym is))
 
 -- the one at index i goes together with the first, so the others decide
-pub passes_over : (first : Labels) (others : List Labels) (i : ℕ) (l : Labels) → i < length others
+pub passes_over : (first : Labels) (others : List Labels) (i : ℕ) {l : Labels} → i < length others
     → l ≡ get_or others i l → go_together first l ≡ true
     → incompatible_from first 1 others ≡ incompatible_from first (i + 1) (drop i others)
     → incompatible_from first 1 others ≡ incompatible_from first (i + 1 + 1) (drop (i + 1) others)
-passes_over first others i l low is goes before = before ∙ one_fewer first others i l low is ∙ rw goes refl
+passes_over first others i {l} low is goes before = before ∙ one_fewer first others i l low is ∙ rw goes refl
 
 -- the one at index i does not
-pub stops_at : (all : List Labels) (first : Labels) (others : List Labels) (i : ℕ) (l : Labels) → all ≡ first ∷ others
+pub stops_at : {all : List Labels} {first : Labels} {others : List Labels} (i : ℕ) {l : Labels} → all ≡ first ∷ others
     → i < length others → l ≡ get_or others i l
     → go_together first l ≡ false → incompatible_from first 1 others ≡ incompatible_from first (i + 1) (drop i others)
     → Some (i + 1) ≡ incompatible all
-stops_at all first others i l is_all low is goes before =
+stops_at {first} {others} i {l} is_all low is goes before =
     rw is_all (sym (before ∙ one_fewer first others i l low is ∙ rw goes refl))
 
 -- none is left
-pub passes_all : (all : List Labels) (first : Labels) (others : List Labels) (i : ℕ) → all ≡ first ∷ others
+pub passes_all : {all : List Labels} {first : Labels} {others : List Labels} (i : ℕ) → all ≡ first ∷ others
     → length others ≤ i
     → incompatible_from first 1 others ≡ incompatible_from first (i + 1) (drop i others) → None ≡ incompatible all
-passes_all all first others i is_all end before =
+passes_all {first} {others} i is_all end before =
     rw is_all (sym (before ∙ ap (incompatible_from first (i + 1)) (drop_all i others end)))

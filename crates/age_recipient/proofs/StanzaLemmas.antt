@@ -4,6 +4,6 @@ use Rattle.age_kdf.specs.Bytes.{Bytes}
 use Rattle.age_header.specs.Header.{StanzaParts}
 
 -- a stanza is its arguments and its body
-pub of_parts : (s : StanzaParts) (args : List Bytes) (body : Bytes) → s.args ≡ args → s.body ≡ body
+pub of_parts : (s : StanzaParts) {args : List Bytes} {body : Bytes} → s.args ≡ args → s.body ≡ body
     → s ≡ record { args = args; body = body }
-of_parts s args body a b = rw (sym a, sym b) refl
+of_parts s a b = rw (sym a, sym b) refl

@@ -485,7 +485,7 @@ filled-finishes key max t from mid to a c r some (x, took, is, fits, full, ended
 
     go : (q : Result StreamDone StreamFault) → FinishesBy (record (at_start key max) { held = x }) (moved a c) q
         → SealsAll (at_start key max) (flow from to) (moved a c) q
-    go (Ok done) (put, bytes, count) = of-still from mid to _ (of-ended from mid x _ took (ended refl) (
+    go (Ok done) (put, bytes, count) = of-still from mid to (of-ended from mid x _ took (ended refl) (
       subst (λ cs. Appends a c (concat (sealed_from key 0 cs))) (sym same) put,
       subst (λ (cs : List Bytes). 0 + length cs ≤ max) (sym same) (omega (arith, some)),
       omega (arith, bytes),
@@ -494,7 +494,7 @@ filled-finishes key max t from mid to a c r some (x, took, is, fits, full, ended
     go (Err fault) (write, part) = (
       0,
       record {
-        stops = of-still from mid to _ (of-ended from mid x _ took (ended refl)
+        stops = of-still from mid to (of-ended from mid x _ took (ended refl)
             (subst (λ f. StopsIn key max 0 [] x (moved a c) f) (sym write)
             (subst (λ cs. WritesPart (moved a c) (concat (sealed_from key 0 cs))) (sym same) part))) still.grew;
         wrote = (_, part.1, omega arith);

@@ -416,7 +416,7 @@ writes-done s t u n from now next a b done o adv bytes chunks = go t.held refl
         absurd (false-not-true some.0)
     go None is =
         let none : adv.given ≡ [] = subst (λ (x : Known). IsFilled x adv.given next.to_come) is adv.filled in
-        of-still from now next _ (of-more from now o.given _ o.gave (writes is))
+        of-still from now next (of-more from now o.given _ o.gave (writes is))
         (subst (λ x. Grew (flow now next) x) none adv.gave.grew)
 
 -- a prefix of a reading was written

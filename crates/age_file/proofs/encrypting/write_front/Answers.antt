@@ -11,12 +11,12 @@ returns-in_err-write_header-clause-text g c =
       h.0,
       h.1,
       rw (err_from_is_err_and c.from_residual.result c.from_residual.ensures.1).1
-          (done_part _ _ _ text text h.0 c.args.nonce.now (done_start _ text) refl h.2),
+          (done_part _ _ _ text text h.0 c.args.nonce.now (done_start text) refl h.2),
     )
 
 pub returns-clause-text : goal.returns-clause-text
 returns-clause-text g c =
     let h = c.in_ok-write_header.ensures.text in
     let text : Bytes = h.0 ++ c.args.nonce.now in
-    let one = done_more _ _ _ text text h.0 c.args.nonce.now (done_start _ text) refl h.2 in
-    (h.0, h.1, writes_last _ _ _ c.write_all.result text c.args.nonce.now one c.write_all.ensures.text)
+    let one = done_more h.0 (done_start text) refl h.2 in
+    (h.0, h.1, writes_last _ c.write_all.result text c.args.nonce.now one c.write_all.ensures.text)

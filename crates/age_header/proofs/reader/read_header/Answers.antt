@@ -20,16 +20,16 @@ lines-init g c = record {
 pub returns-in_err-text-clause-verdict : goal.returns-in_err-text-clause-verdict
 returns-in_err-text-clause-verdict g c =
     let is : c.from_residual-in_err-text.result ≡ Err c.in_err-text.field-0.0 = search rules in
-    rw is (outside _ _ c.args.max c.in_err-text.field-0.0 c.in_err-text.ensures.err
-    (some-then _ _ _ _ c.lines.invariant.path.read c.in_err-text.ensures.lost))
+    rw is (outside c.args.max c.in_err-text.field-0.0 c.in_err-text.ensures.err
+    (some-then c.lines.invariant.path.read c.in_err-text.ensures.lost))
 
 pub returns-in-Err-clause-verdict : goal.returns-in-Err-clause-verdict
 returns-in-Err-clause-verdict g c =
-    of-any _ _ _ (some-then _ _ _ _ c.lines.invariant.path.read (gave-some _ _ _ c.in_ok-text.ensures.bytes)) (λ b. tt)
+    of-any _ _ _ (some-then c.lines.invariant.path.read (gave-some _ _ _ c.in_ok-text.ensures.bytes)) (λ b. tt)
 
 pub returns-in-Err-step-clause-verdict : goal.returns-in-Err-step-clause-verdict
 returns-in-Err-step-clause-verdict g c =
-    of-any _ _ _ (some-then _ _ _ _ c.lines.invariant.path.read (gave-some _ _ _ c.in_ok-text.ensures.bytes)) (λ b. tt)
+    of-any _ _ _ (some-then c.lines.invariant.path.read (gave-some _ _ _ c.in_ok-text.ensures.bytes)) (λ b. tt)
 
 pub returns-in-Input-clause-verdict : goal.returns-in-Input-clause-verdict
 returns-in-Input-clause-verdict g c =
@@ -49,7 +49,7 @@ returns-in-Room-clause-verdict g c =
 
 pub overflow_add-lines : goal.overflow_add-lines
 overflow_add-lines g c =
-    let low = path_lines _ _ c.args.max c.lines.room c.lines.lines c.lines.progress c.lines.invariant.path in
+    let low = path_lines c.args.max c.lines.room c.lines.lines c.lines.progress c.lines.invariant.path in
     omega arith
 
 pub returns-in-Ok-Some-clause-verdict : goal.returns-in-Ok-Some-clause-verdict

@@ -10,7 +10,7 @@ use Rattle.age_header.proofs.reader.read_version.Goals as goal
 pub returns-in_err-first-clause-err : goal.returns-in_err-first-clause-err
 returns-in_err-first-clause-err g c =
     let is : c.from_residual.result ≡ Err c.in_err-first.field-0.0 = search rules in
-    rw is (outside _ _ c.args.max c.in_err-first.field-0.0 c.in_err-first.ensures.err c.in_err-first.ensures.lost)
+    rw is (outside c.args.max c.in_err-first.field-0.0 c.in_err-first.ensures.err c.in_err-first.ensures.lost)
 
 pub returns-in_default-clause-err : goal.returns-in_default-clause-err
 unfolding version_text

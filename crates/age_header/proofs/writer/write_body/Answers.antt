@@ -18,7 +18,7 @@ pub returns-in_err-write_all-clause-text : goal.returns-in_err-write_all-clause-
 returns-in_err-write_all-clause-text g c =
     let step = body_step c.loop-rest.rest.now c.split_at.result.0.now c.split_at.result.1.now (omega arith)
     c.split_at.ensures.front c.split_at.ensures.back in
-    let one = done_more _ _ _ _ _ _ _ c.loop-rest.invariant.written step c.in_ok-write_base64.ensures.text in
+    let one = done_more _ c.loop-rest.invariant.written step c.in_ok-write_base64.ensures.text in
     rw (err_from_is_err_and c.from_residual-in_err-write_all.result c.from_residual-in_err-write_all.ensures.1).1
     (done_part _ _ _ _ _ (10 ∷ []) (body_text c.split_at.result.1.now) one refl c.in_err-write_all.ensures.text)
 
@@ -26,10 +26,9 @@ pub loop-rest-preserved : goal.loop-rest-preserved
 loop-rest-preserved g c =
     let step = body_step c.loop-rest.rest.now c.split_at.result.0.now c.split_at.result.1.now (omega arith)
     c.split_at.ensures.front c.split_at.ensures.back in
-    let one = done_more _ _ _ _ _ _ _ c.loop-rest.invariant.written step c.in_ok-write_base64.ensures.text in
+    let one = done_more _ c.loop-rest.invariant.written step c.in_ok-write_base64.ensures.text in
     record {
-      written = done_more _ _ _ _ _ (10 ∷ []) (body_text c.split_at.result.1.now) one refl
-          c.in_ok-write_all.ensures.text;
+      written = done_more (10 ∷ []) one refl c.in_ok-write_all.ensures.text;
       count = c.in_ok-write_all.ensures.count ∙ c.in_ok-write_base64.ensures.count ∙ c.loop-rest.invariant.count;
     }
 
@@ -44,5 +43,5 @@ returns-in_err-write_base64-2-clause-text g c =
 pub returns-clause-text : goal.returns-clause-text
 returns-clause-text g c =
     let end = body_end c.loop-rest.rest.now (omega arith) in
-    let one = done_more _ _ _ _ _ _ _ c.loop-rest.invariant.written end c.in_ok-write_base64-2.ensures.text in
-    writes_last _ _ _ c.write_all-2.result _ (10 ∷ []) one c.write_all-2.ensures.text
+    let one = done_more _ c.loop-rest.invariant.written end c.in_ok-write_base64-2.ensures.text in
+    writes_last _ c.write_all-2.result _ (10 ∷ []) one c.write_all-2.ensures.text

@@ -9,7 +9,7 @@ pub returns-then-open_in_place : goal.returns-then-open_in_place
 unfolding unsealed
 returns-then-open_in_place c =
     let e = rw c.if-open_in_place.true at c.open_in_place.ensures.opened in
-    let whole = joined c.args.body.now _ _ _ _ c.split_at.ensures.front c.split_at.ensures.back
+    let whole = joined c.args.body.now c.split_at.ensures.front c.split_at.ensures.back
     c.copy_from_slice.ensures.after c.copy_from_slice-2.ensures.after in
     sym (ap key_answer (ap (λ (z : Bytes). opened c.args.wrap_key.now zero_nonce [] z) (sym whole) ∙ e))
 
@@ -17,6 +17,6 @@ pub returns : goal.returns
 unfolding unsealed
 returns c =
     let e = rw c.if-open_in_place.false at c.open_in_place.ensures.opened in
-    let whole = joined c.args.body.now _ _ _ _ c.split_at.ensures.front c.split_at.ensures.back
+    let whole = joined c.args.body.now c.split_at.ensures.front c.split_at.ensures.back
     c.copy_from_slice.ensures.after c.copy_from_slice-2.ensures.after in
     sym (ap key_answer (ap (λ (z : Bytes). opened c.args.wrap_key.now zero_nonce [] z) (sym whole) ∙ e))

@@ -7,5 +7,5 @@ pub returns : goal.returns
 unfolding keyed_stanza
 returns c =
     let salt = c.as_str.ensures.value ∙ c.in_ok-salt_text.ensures in
-    of_parts c.in-Ok.stanza _ _ (rw salt at c.in-Ok.ensures.ok.0)
+    of_parts c.in-Ok.stanza (rw salt at c.in-Ok.ensures.ok.0)
     (rw (c.seal_key-body.ensures, c.keyed_wrap_key.ensures) at c.in-Ok.ensures.ok.1)

@@ -8,5 +8,5 @@ unfolding pass_stanza
 returns c =
     let salt = c.as_str.ensures.value ∙ c.in_ok-salt_text.ensures in
     let work = c.as_str-2.ensures.value ∙ c.in_ok-work_text.ensures.ok in
-    of_parts c.in-Ok.stanza _ _ (rw (salt, work) at c.in-Ok.ensures.ok.0)
+    of_parts c.in-Ok.stanza (rw (salt, work) at c.in-Ok.ensures.ok.0)
     (rw (c.seal_key-body.ensures, c.in_ok-wrap_key.ensures) at c.in-Ok.ensures.ok.1)
