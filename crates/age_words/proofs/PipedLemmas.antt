@@ -9,9 +9,9 @@ use Rattle.age_job.specs.declared.job.Job.{Job}
 use Rattle.age_words.specs.declared.options.TheConstants.{DEFAULT_MAX_HEADER}
 use Rattle.age_words.proofs.TakenLemmas.{one_command}
 
-none_mapped : {A B : Type 0} (f : A → B) (o : Option A) → option_map f o ≡ None → o ≡ None
-none_mapped f None e = refl
-none_mapped f (Some x) e = cc
+none_mapped : {A B : Type 0} (f : A → B) {o : Option A} → option_map f o ≡ None → o ≡ None
+none_mapped f {o = None} e = refl
+none_mapped f {o = Some x} e = cc
 
 pub record Piped (command : Command) (words : List Text) (job : Job) : Type 0 where
   pub is : job.command ≡ command
@@ -25,8 +25,8 @@ piped command words job (rows, is, input, output) (faultless, of) =
     let made = subst (λ (o : Option (Text × List Row)). IsJobOf o job) is of in
     record {
       is = one_command _ _ (sym made.0);
-      input = none_mapped _ _ (made.1.input ∙ input);
-      output = none_mapped _ _ (made.1.output ∙ output);
+      input = none_mapped _ (made.1.input ∙ input);
+      output = none_mapped _ (made.1.output ∙ output);
       max_header = made.1.max_header ∙ ap (λ (o : Option (Text × List Row)).
           option_map_or (λ named. number_or DEFAULT_MAX_HEADER (codes "max-header") named.1) o DEFAULT_MAX_HEADER)
           (sym is);

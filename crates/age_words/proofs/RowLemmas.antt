@@ -68,12 +68,12 @@ pub values_or_none : (o : Option (Bor (List (Bor Text)))) (d : Bor (List (Bor Te
 values_or_none None d e = ap nows e
 values_or_none (Some s) d e = refl
 
-pub names_input : {A : Type 0} (f : A → Text) (command : Command) (o : Option A) (v : Option Text) → option_map f o ≡ v
+pub names_input : {A : Type 0} (f : A → Text) (command : Command) (o : Option A) {v : Option Text} → option_map f o ≡ v
     → NamesInput command v → NamesInput command o
-names_input f Encrypt o v e h = tt
-names_input f Decrypt o v e h = tt
-names_input f Inspect o v e h = tt
-names_input f Rewrap o v e h = tt
-names_input f Salvage o v e h = tt
-names_input f Range None v e h = ap is_some e ∙ h
-names_input f Range (Some x) v e h = refl
+names_input f Encrypt o e h = tt
+names_input f Decrypt o e h = tt
+names_input f Inspect o e h = tt
+names_input f Rewrap o e h = tt
+names_input f Salvage o e h = tt
+names_input f Range None e h = ap is_some e ∙ h
+names_input f Range (Some x) e h = refl

@@ -97,11 +97,11 @@ at_row_passes id change missing (r ∷ rs) c m q = go (at_row_passes id change m
 without_passes : (id : Text) (rows : List Row) → Each RowPasses rows → Each RowPasses (without id rows)
 without_passes id rows q = at_row_passes id (λ _. []) [] rows (λ r e p. tt) tt q
 
-with_values_passes : (id : Text) (how : Reading) (s : ValueSource) (values : List Text) (rows : List Row)
+with_values_passes : (id : Text) {how : Reading} (s : ValueSource) (values : List Text) (rows : List Row)
     → how ≡ AsWritten
     → 0 < length values → Each (Passes id) values → Each RowPasses rows
     → Each RowPasses (with_values id how s values rows)
-with_values_passes id how s values rows written some pass q =
+with_values_passes id s values rows written some pass q =
     at_row_passes id (more_values s values) _ rows more ((written, some, pass), tt) q
   where
     more : (r : Row) → bytes_eq r.id id ≡ true → RowPasses r → Each RowPasses (more_values s values r)
@@ -126,16 +126,16 @@ accepts_too (vp.Unsigned a b) (vp.Unsigned x y) v f h =
     rw (first, second) h
 accepts_too p q v f h = absurd (true≢false (sym f))
 
-test_passes : (b : Bool) (k : ErrorKind) → cond b [] (k ∷ []) ≡ [] → b ≡ true
-test_passes true k f = refl
-test_passes false k f = cc
+test_passes : {b : Bool} (k : ErrorKind) → cond b [] (k ∷ []) ≡ [] → b ≡ true
+test_passes {b = true} k f = refl
+test_passes {b = false} k f = cc
 
 values_pass : (id : Text) (parser : ValueParser) (values : List Text) → covers (parser_for id) parser ≡ true
     → values_kinds false parser values ≡ [] → Each (Passes id) values
 values_pass id parser [] fits e = tt
 values_pass id parser (v ∷ vs) fits e = (
-  accepts_too (parser_for id) parser v fits (test_passes _ _ (first_none _ _ e)),
-  values_pass id parser vs fits (second_none _ _ e),
+  accepts_too (parser_for id) parser v fits (test_passes _ (first_none _ e)),
+  values_pass id parser vs fits (second_none _ e),
 )
 
 -- what the test says of a rule
@@ -146,9 +146,9 @@ record IsGood (a : Rule) : Type 0 where
   no_count : is_count (action_of a) ≡ false
   value : has_value a ≡ true
 
-not_true : (b : Bool) → not b ≡ true → b ≡ false
-not_true false e = refl
-not_true true e = cc
+not_true : {b : Bool} → not b ≡ true → b ≡ false
+not_true {b = false} e = refl
+not_true {b = true} e = cc
 
 reads : (r : Reading) → is_as_written r ≡ true → r ≡ AsWritten
 reads AsWritten e = refl
@@ -162,9 +162,9 @@ good_of a e =
     let t = both _ _ r.1 in
     record {
       covered = p.0;
-      exact = not_true _ q.0;
+      exact = not_true q.0;
       written = reads _ r.0;
-      no_count = not_true _ t.0;
+      no_count = not_true t.0;
       value = t.1;
     }
 
@@ -177,33 +177,33 @@ stored : (again : Bool) (a : Rule) → IsGood a → (x : ArgAction) → is_count
     → action_fault x again a values rows ≡ [] → Each RowPasses rows
     → Each RowPasses (used_as x a.id (reading_by a) values rows)
 stored again a g Set c values rows some e q =
-    with_values_passes a.id _ CommandLine values (without a.id rows) g.written (ltb-true _ _ some)
-    (faults_pass a g values (second_none _ _ e)) (without_passes a.id rows q)
+    with_values_passes a.id CommandLine values (without a.id rows) g.written (ltb-true _ _ some)
+    (faults_pass a g values (second_none _ e)) (without_passes a.id rows q)
 stored again a g SetTrue c values rows some e q =
-    with_values_passes a.id _ CommandLine values (without a.id rows) g.written (ltb-true _ _ some)
-    (faults_pass a g values (second_none _ _ e)) (without_passes a.id rows q)
+    with_values_passes a.id CommandLine values (without a.id rows) g.written (ltb-true _ _ some)
+    (faults_pass a g values (second_none _ e)) (without_passes a.id rows q)
 stored again a g SetFalse c values rows some e q =
-    with_values_passes a.id _ CommandLine values (without a.id rows) g.written (ltb-true _ _ some)
-    (faults_pass a g values (second_none _ _ e)) (without_passes a.id rows q)
+    with_values_passes a.id CommandLine values (without a.id rows) g.written (ltb-true _ _ some)
+    (faults_pass a g values (second_none _ e)) (without_passes a.id rows q)
 stored again a g Append c values rows some e q =
-    with_values_passes a.id _ CommandLine values rows g.written (ltb-true _ _ some) (faults_pass a g values e) q
+    with_values_passes a.id CommandLine values rows g.written (ltb-true _ _ some) (faults_pass a g values e) q
 stored again a g Count c values rows some e q = absurd (true≢false c)
 stored again a g x c values rows some e q = q
 
-head_fails : (b : Bool) (k : ErrorKind) (rest : Kinds) → cond b (k ∷ []) rest ≡ [] → b ≡ false
-head_fails false k rest e = refl
-head_fails true k rest e = cc
+head_fails : {b : Bool} (k : ErrorKind) (rest : Kinds) → cond b (k ∷ []) rest ≡ [] → b ≡ false
+head_fails {b = false} k rest e = refl
+head_fails {b = true} k rest e = cc
 
-or_other : (b c : Bool) → (b || c) ≡ true → (b && true) ≡ false → c ≡ true
-or_other false c e f = e
-or_other true c e f = absurd (true≢false f)
+or_other : (b : Bool) {c : Bool} → (b || c) ≡ true → (b && true) ≡ false → c ≡ true
+or_other false e f = e
+or_other true e f = absurd (true≢false f)
 
 one_value : (a : Rule) (values : List Text)
     → (nat_lt 0 (unwrap_or_range a.range).start_inclusive || nat_lt 0 (length a.missing)) ≡ true
     → range_kinds (unwrap_or_range a.range).start_inclusive (most_values a) (length values) ≡ []
     → 0 < length (values_or_missing a values)
 one_value a (v ∷ vs) some e = omega arith
-one_value a [] some e = ltb-true _ _ (or_other _ _ some (head_fails _ _ _ e))
+one_value a [] some e = ltb-true _ _ (or_other _ some (head_fails _ _ e))
 
 some_value : (a : Rule) (values : List Text) (b : Bool)
     → (b || (nat_lt 0 (unwrap_or_range a.range).start_inclusive || nat_lt 0 (length a.missing))) ≡ true
@@ -216,7 +216,7 @@ used_well : (again : Bool) (a : Rule) → is_good a ≡ true → UsesWell again 
 used_well again a good values rows e q =
     let g = good_of a good in
     stored again a g (action_of a) g.no_count (values_or_missing a values) rows
-    (some_value a values (is_request (action_of a)) g.value (first_none _ _ e)) (second_none _ _ e) q
+    (some_value a values (is_request (action_of a)) g.value (first_none _ e)) (second_none _ e) q
 
 defaults_well : (again : Bool) (a : Rule) → is_good a ≡ true → DefaultsWell again RowPasses a
 defaults_well again a good rows e q = go (has_row a.id rows) e
@@ -227,8 +227,8 @@ defaults_well again a good rows e q = go (has_row a.id rows) e
     given [] f = q
     given (v ∷ vs) f =
         let g = good_of a good in
-        with_values_passes a.id _ DefaultValue (v ∷ vs) rows g.written (omega arith)
-        (faults_pass a g (v ∷ vs) (second_none _ _ f)) q
+        with_values_passes a.id DefaultValue (v ∷ vs) rows g.written (omega arith)
+        (faults_pass a g (v ∷ vs) (second_none _ f)) q
 
     tested : (values : List Text) → cond (is_empty values) [] (given_default_fault a values) ≡ []
         → Each RowPasses (default_rows a.id (reading_by a) values rows)
@@ -252,9 +252,9 @@ find_passes id (r ∷ rs) q = go (find_passes id rs q.1) (bytes_eq r.id id) refl
     go rest true e = ((bytes_eq-Decides r.id id).0 e, q.0)
     go rest false e = rest
 
-has_number : (least most : ℕ) (id : Text) (rows : List Row) → parser_for id ≡ vp.Unsigned least most
+has_number : {least most : ℕ} (id : Text) (rows : List Row) → parser_for id ≡ vp.Unsigned least most
     → Each RowPasses rows → HasNumber least most id rows
-has_number least most id rows p q = go (find (λ r. bytes_eq r.id id) rows) (find_passes id rows q)
+has_number {least} {most} id rows p q = go (find (λ r. bytes_eq r.id id) rows) (find_passes id rows q)
   where
     first : (r : Row) (values : List Text) → r.reading ≡ AsWritten → Each (Passes id) values
         → IfSome (option_map (Rattle.clap.specs.Values.read_as r.reading) (slice_get values 0))
@@ -271,9 +271,9 @@ has_number least most id rows p q = go (find (λ r. bytes_eq r.id id) rows) (fin
 
 -- ---- what is required is there
 
-neither : (a b : Bool) → (a || b) ≡ false → (a ≡ false) × (b ≡ false)
-neither false b e = (refl, e)
-neither true b e = absurd (true≢false e)
+neither : {a b : Bool} → (a || b) ≡ false → (a ≡ false) × (b ≡ false)
+neither {a = false} e = (refl, e)
+neither {a = true} e = absurd (true≢false e)
 
 not_false : (b : Bool) → not b ≡ false → b ≡ true
 not_false true e = refl
@@ -291,8 +291,8 @@ wanted_given id (a ∷ rest) rows none some = go (wanted_given id rest rows) a.r
         → (r && not (is_given a.id rows) || list_any (λ a. a.required && not (is_given a.id rows)) rest) ≡ false
         → (r && b || list_any (λ a. a.required && bytes_eq a.id id) rest) ≡ true → is_given id rows ≡ true
     go ih true true e n f = ap (λ (i : Text). is_given i rows) (sym ((bytes_eq-Decides a.id id).0 e))
-        ∙ not_false _ (neither _ _ n).0
-    go ih true false e n f = ih (neither _ _ n).1 f
+        ∙ not_false _ (neither n).0
+    go ih true false e n f = ih (neither n).1 f
     go ih false b e n f = ih n f
 
 given_first : (id : Text) (rows : List Row) → Each RowPasses rows → is_given id rows ≡ true
@@ -309,10 +309,10 @@ given_first id rows q g = go (find (λ r. bytes_eq r.id id) rows) (find_passes i
     go None h e = cc
     go (Some r) h e = first r.values h.1.1
 
-wanted_kind : (a b c : Bool) → Rattle.clap.specs.Kinds.check_kinds a b c ≡ [] → c ≡ false
-wanted_kind true b c e = cc
-wanted_kind false true c e = cc
-wanted_kind false false c e = test_fails c _ _ e
+wanted_kind : (a b : Bool) {c : Bool} → Rattle.clap.specs.Kinds.check_kinds a b c ≡ [] → c ≡ false
+wanted_kind true b e = cc
+wanted_kind false true e = cc
+wanted_kind false false {c} e = test_fails c _ _ e
 
 -- ---- a subcommand
 
@@ -385,14 +385,14 @@ level_taken command s words good e =
     let h = both _ _ g.1 in
     let level = level_ok s [] RowPasses (λ _. ⊤) (each_good _ s.rules (used_well s.args_override_self) h.0)
     (each_good _ s.rules (defaults_well s.args_override_self) h.0) (λ _ _. tt) words false [] e in
-    let wanted = wanted_kind _ _ _ level.2 in
-    let none = negated s.subcommand_negates_reqs _ (not_true _ g.0) wanted in
+    let wanted = wanted_kind _ _ level.2 in
+    let none = negated s.subcommand_negates_reqs _ (not_true g.0) wanted in
     record {
-      work = has_number _ _ _ _ refl level.0;
-      max_work = has_number _ _ _ _ refl level.0;
-      max_header = has_number _ _ _ _ refl level.0;
-      at = has_number _ _ _ _ refl level.0;
-      len = has_number _ _ _ _ refl level.0;
+      work = has_number _ _ refl level.0;
+      max_work = has_number _ _ refl level.0;
+      max_header = has_number _ _ refl level.0;
+      at = has_number _ _ refl level.0;
+      len = has_number _ _ refl level.0;
       input = names_input command s _ h.1 level.0 none;
     }
   where
@@ -472,7 +472,7 @@ pub taken : (words : List Text) (name : Text) (rows : List Row) → fault_of age
     → subcommand_of agep words ≡ Some (name, rows) → Taken name rows
 taken words name rows none is =
     at_stop name rows (stop_after (built agep).top.rules (names_of (built agep)) (argument_words agep words))
-    (no_help _ _ _ none) (first_none _ _ (second_none _ _ none)) is
+    (no_help _ _ _ none) (first_none _ (second_none _ none)) is
 
 -- ---- the name of a command
 
