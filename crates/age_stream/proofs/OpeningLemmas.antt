@@ -68,10 +68,10 @@ ahead-one bytes size =
     take_all 1 (drop sealed_chunk_size bytes) (omega (arith, length-drop sealed_chunk_size bytes, size))
 
 -- a fault of a piece is none of a read
-pub counts-piece : (max i old new : ℕ) (fault : StreamFault) → IsAtPiece max i fault → new ≡ old
+pub counts-piece : (max i : ℕ) {old new : ℕ} (fault : StreamFault) → IsAtPiece max i fault → new ≡ old
     → CountsFaultIf is_read old new fault
-counts-piece max i old new Read at is = absurd at
-counts-piece max i old new _ at is = is
+counts-piece max i Read at is = absurd at
+counts-piece max i _ at is = is
 
 unkept : {P : Type 0} (fault : Option StreamFault) → P → IfNone fault P
 unkept None p = p
@@ -122,7 +122,7 @@ is-filled ahead n bytes given left size le sum room end =
     (omega arith, λ low. end (omega arith))
 
 -- a piece was opened
-pub advances-ok : (now : OpenerState) (from to : Seen) (key : Bytes) (max i ahead len : ℕ) (more : Bool)
+pub advances-ok : {now : OpenerState} {from to : Seen} (key : Bytes) (max i ahead len : ℕ) (more : Bool)
     (old slice bytes items : Bytes) (fault : Option StreamFault) (piece : Piece)
     → parts key max i more ahead old len fault ≡ now → more ≡ true → fault ≡ None → slice ≡ old
     → length old ≡ chunk_buf_size
@@ -132,7 +132,7 @@ pub advances-ok : (now : OpenerState) (from to : Seen) (key : Bytes) (max i ahea
     ⊎ ReadsPiece key max i (take ahead (drop sealed_chunk_size slice)) bytes (flow from to) (Ok piece)
     → IfNone now.fault (IsErrOf {T = Bool} (Ok true) Read
     ⊎ Advances now (parts key max (i + 1) piece.more 1 items piece.len fault) (flow from to) (Ok true))
-advances-ok now from to key max i ahead len more old slice bytes items fault piece view is_more none same size le
+advances-ok {from} {to} key max i ahead len more old slice bytes items fault piece view is_more none same size le
     new_size all small within full opens =
     let prefix : Bytes = take ahead (drop sealed_chunk_size old) in
     let r : ReadsPiece key max i prefix items (flow from to) (Ok piece) =
@@ -170,7 +170,7 @@ same-fault : (f : StreamFault) → IsErrOf {T = Piece} (Err f) Read → f ≡ Re
 same-fault f e = cc
 
 -- a fault was met
-pub advances-err : (now : OpenerState) (from to : Seen) (key : Bytes) (max i ahead len : ℕ) (more : Bool)
+pub advances-err : {now : OpenerState} {from to : Seen} (key : Bytes) (max i ahead len : ℕ) (more : Bool)
     (old slice bytes items : Bytes) (kept : Option StreamFault) (fault : StreamFault)
     → parts key max i more ahead old len kept ≡ now → more ≡ true → slice ≡ old → length old ≡ chunk_buf_size
     → ahead ≤ 1
@@ -180,13 +180,13 @@ pub advances-err : (now : OpenerState) (from to : Seen) (key : Bytes) (max i ahe
     → (fault ≡ Read) ⊎ IsAtPiece max i fault
     → IfNone now.fault (IsErrOf {T = Bool} (Err fault) Read
     ⊎ Advances now (parts key max i false ahead items 0 (Some fault)) (flow from to) (Err fault))
-advances-err now from to key max i ahead len more old slice bytes items kept fault view is_more same size le small
+advances-err {now} {from} {to} key max i ahead len more old slice bytes items kept fault view is_more same size le small
     (inl e) at =
     advances-read now (parts key max i false ahead items 0 (Some fault)) from to fault (same-fault fault e)
-advances-err now from to key max i ahead len more old slice bytes items kept fault view is_more same size le small
+advances-err {now} {from} {to} key max i ahead len more old slice bytes items kept fault view is_more same size le small
     (inr opens) (inl read) =
     advances-read now (parts key max i false ahead items 0 (Some fault)) from to fault read
-advances-err now from to key max i ahead len more old slice bytes items kept fault view is_more same size le small
+advances-err {from} {to} key max i ahead len more old slice bytes items kept fault view is_more same size le small
     (inr opens) (inr at) =
     let prefix : Bytes = take ahead (drop sealed_chunk_size old) in
     let r : ReadsPiece key max i prefix bytes (flow from to) (Err fault) =
@@ -209,10 +209,10 @@ advances-err now from to key max i ahead len more old slice bytes items kept fau
     })))
 
 -- a fault is met only where a piece was left
-pub loses-held : (now : OpenerState) (from to : Seen) (key : Bytes) (max i ahead len : ℕ) (more : Bool) (old : Bytes)
+pub loses-held : {now : OpenerState} {from to : Seen} (key : Bytes) (max i ahead len : ℕ) (more : Bool) (old : Bytes)
     (kept : Option StreamFault) → parts key max i more ahead old len kept ≡ now → more ≡ true
     → GaveSome (flow from to) → IfNone now.fault (Loses now.held (flow from to))
-loses-held now from to key max i ahead len more old kept view is_more some =
+loses-held {from} {to} key max i ahead len more old kept view is_more some =
     subst (λ s. IfNone s.fault (Loses s.held (flow from to))) view
     (unkept kept
     (subst (λ m. Loses (held_of m (take ahead (drop sealed_chunk_size old))) (flow from to)) (sym is_more) some))
@@ -234,14 +234,14 @@ advances-end key max i text text2 from small = record {
   opens = (refl, refl);
 }
 
-pub advances-none : (now : OpenerState) (from : Seen) (key : Bytes) (max i ahead len : ℕ) (more : Bool) (bytes : Bytes)
+pub advances-none : {now : OpenerState} (from : Seen) (key : Bytes) (max i ahead len : ℕ) (more : Bool) (bytes : Bytes)
     (fault : Option StreamFault)
     → parts key max i more ahead bytes len fault ≡ now → more ≡ false → fault ≡ None → max ≤ 2 ^ 88
     → IfNone now.fault (IsErrOf {T = Bool} (Ok false) Read
     ⊎ Advances now (parts key max i more ahead bytes 0 fault) (flow from from) (Ok false))
-advances-none now from key max i ahead len true bytes fault view over none small = absurd (cc)
-advances-none now from key max i ahead len false bytes (Some fault) view over none small = absurd (cc)
-advances-none now from key max i ahead len false bytes None view over none small =
+advances-none from key max i ahead len true bytes fault view over none small = absurd (cc)
+advances-none from key max i ahead len false bytes (Some fault) view over none small = absurd (cc)
+advances-none from key max i ahead len false bytes None view over none small =
     subst (λ s. IfNone s.fault (IsErrOf {T = Bool} (Ok false) Read
     ⊎ Advances s (parts key max i false ahead bytes 0 None) (flow from from) (Ok false))) view
     (inr (advances-end key max i (take len bytes) (take 0 bytes) from small))

@@ -15,10 +15,10 @@ not-read s (inr x) = x
 
 -- a reader of the source from which an opener read the nonce
 pub starts-reader : {S : Type 0} (to_come : S → Known) (gave : S → Bytes → Type 0) (failed : S → ℕ) (k : FileKey)
-    (max : ℕ) (old mid new : S)
-    (s t : OpenerState) → new ≡ mid → t ≡ s → Starts k max (flow_by to_come gave old mid) (Ok s)
+    (max : ℕ) (old : S) {mid new : S} (s : OpenerState) {t : OpenerState}
+    → new ≡ mid → t ≡ s → Starts k max (flow_by to_come gave old mid) (Ok s)
     → IsErrOf {T = OpenerState} (Ok s) Read ⊎ GaveAtMost nonce_size (flow_by to_come gave old mid)
     → failed mid ≡ failed old
     → StartsReader to_come gave failed k max old new (Ok t)
-starts-reader to_come gave failed k max old mid new s t same opener starts most uncounted =
+starts-reader to_come gave failed k max old s same opener starts most uncounted =
     rw same (rw opener (starts, not-read s most, uncounted))

@@ -140,10 +140,10 @@ wrote-fed key i j held text now part a b c f put = (
 )
 
 -- a read failed
-pub stopped-read : (key : Bytes) (max i j : ℕ) (held text now : Bytes) (from mid to : Seen) (a b : Known)
+pub stopped-read : (key : Bytes) (max i j : ℕ) (held text : Bytes) {now : Bytes} {from mid to : Seen} {a b : Known}
     → Gave (flow from mid) text → GaveSome (flow mid to)
     → Fed key i j held text now (moved a b) → Stopped key max i j held (flow from to) (moved a b) Read
-stopped-read key max i j held text now from mid to a b took lost f = record {
+stopped-read key max i j held text {now} {from} {mid} {to} {a} {b} took lost f = record {
   stops = of-then from mid to text _ _ took (of-any mid to
       (λ d. WritesPart (moved a b) (concat (sealed_after key i held (text ++ d)))) lost (λ d. done_part a b b _ _ [] _
       (done-fed key i j held text now (text ++ d) (sealed_after key j now d) a b f (f.chunks d)) refl
@@ -213,10 +213,10 @@ stopped-many key max i j held text now piece full next from mid to a b c h withi
     }
 
 -- the source is at its end
-pub fed-end : (key : Bytes) (i j : ℕ) (held text now piece : Bytes) (from mid to : Seen) (a b : Known)
+pub fed-end : (key : Bytes) (i j : ℕ) (held text now piece : Bytes) {from mid to : Seen} {a b : Known}
     → length now + length piece ≤ chunk_size → Gave (flow from mid) text → Gave (flow mid to) piece → IsAtEnd to.to_come
     → Fed key i j held text now (moved a b) → IsFed key i j held (now ++ piece) (flow from to) (moved a b)
-fed-end key i j held text now piece from mid to a b fits took more end f = record {
+fed-end key i j held text now piece {from} {mid} {to} {a} {b} fits took more end f = record {
   text = text ++ piece;
   took = gave-then from mid to text piece took more;
   all = gave-all from.to_come to.to_come (text ++ piece) (gave-then from mid to text piece took more).consumes end;
@@ -224,30 +224,29 @@ fed-end key i j held text now piece from mid to a b fits took more end f = recor
 }
 
 -- a chunk that did not go out
-pub stopped-full : (key : Bytes) (max i j k : ℕ) (held text now piece full next : Bytes) (from mid to : Seen)
-    (a b c : Known)
-    (fault : StreamFault) → IsFull now piece full next → j < max
+pub stopped-full : (key : Bytes) (max i j k : ℕ) (held text : Bytes) {now : Bytes} (piece : Bytes) {full next : Bytes}
+    {from mid to : Seen} {a b c : Known} (fault : StreamFault) → IsFull now piece full next → j < max
     → Gave (flow from mid) text → Gave (flow mid to) piece → Fed key i j held text now (moved a b)
     → (k ≡ j) × (((fault ≡ Write) × WritesPart (moved b c) (sealed key (chunk_nonce j false) [] full))
     ⊎ ((fault ≡ TooManyChunks) × (max ≤ j + 1) × Appends b c []))
     → Stopped key max i k held (flow from to) (moved a c) fault
-stopped-full key max i j k held text now piece full next from mid to a b c fault h within took more f
+stopped-full key max i j k held text {now} piece {full} {next} {from} {mid} {to} {a} {b} {c} fault h within took more f
     (same, inl (is, part)) =
     subst (λ n. Stopped key max i n held (flow from to) (moved a c) fault) (sym same)
     (subst (Stopped key max i j held (flow from to) (moved a c)) (sym is)
     (stopped-write key max i j held text now piece full next from mid to a b c h took more f part))
-stopped-full key max i j k held text now piece full next from mid to a b c fault h within took more f
+stopped-full key max i j k held text {now} piece {full} {next} {from} {mid} {to} {a} {b} {c} fault h within took more f
     (same, inr (is, many, none)) =
     subst (λ n. Stopped key max i n held (flow from to) (moved a c) fault) (sym same)
     (subst (Stopped key max i j held (flow from to) (moved a c)) (sym is)
     (stopped-many key max i j held text now piece full next from mid to a b c h within many took more f none))
 
 -- a buffer that was filled up to the byte after a full chunk
-pub full-is : (held n : ℕ) (bytes filled : Bytes) (a b : Seen) → chunk_size < n → n ≤ 65537 → held ≤ chunk_size
+pub full-is : (held n : ℕ) (bytes filled : Bytes) {a b : Seen} → chunk_size < n → n ≤ 65537 → held ≤ chunk_size
     → length bytes ≡ chunk_buf_size → length filled ≡ chunk_buf_size
     → (f : Filled held n bytes filled (flow a b))
     → IsFull (take held bytes) f.piece (take chunk_size filled) (take 1 (drop chunk_size filled))
-full-is held n bytes filled a b low high le size full_size f =
+full-is held n bytes filled low high le size full_size f =
     let is : n ≡ chunk_size + 1 = omega arith in
     record {
       size = length-take-le chunk_size filled (omega arith);
@@ -266,11 +265,11 @@ first-of (x ∷ xs) zero lt = refl
 first-of (x ∷ xs) (suc k) lt = first-of xs k (omega arith)
 
 -- a chunk that went out, by the byte that is then first
-pub fed-next : (key : Bytes) (i j k : ℕ) (held text now piece full next prefix : Bytes) (a b c : Known)
+pub fed-next : (key : Bytes) (i j k : ℕ) (held text now piece full next prefix : Bytes) {a b c : Known}
     → IsFull now piece full next → Fed key i j held text now (moved a b)
     → k ≡ j + 1 → prefix ≡ next → Appends b c (sealed key (chunk_nonce j false) [] full)
     → Fed key i k held (text ++ piece) prefix (moved a c)
-fed-next key i j k held text now piece full next prefix a b c h f is same put =
+fed-next key i j k held text now piece full next prefix {a} {b} {c} h f is same put =
     subst (λ n. Fed key i n held (text ++ piece) prefix (moved a c)) (sym is)
     (subst (λ t. Fed key i (j + 1) held (text ++ piece) t (moved a c)) (sym same)
     (fed-full key i j held text now piece full next a b c h f put))
@@ -285,13 +284,14 @@ unkept None p = p
 unkept (Some f) p = tt
 
 -- all was taken
-pub takes-ok : (u : Unit {0}) (now : SealerState) (from to : Seen) (a b : Known) (key : Bytes) (max i j len n : ℕ)
+pub takes-ok : {u : Unit {0}} {now : SealerState} {from to : Seen} {a b : Known} (key : Bytes) (max i j len n : ℕ)
     (old slice bytes items : Bytes) (fault : Option StreamFault)
     → parts key max i len old fault ≡ now → fault ≡ None → slice ≡ old → length bytes ≡ chunk_buf_size → items ≡ bytes
     → n ≤ chunk_size → j < max
     → IsFed key i j (take len slice) (take n bytes) (flow from to) (moved a b) × IsAtEnd to.to_come
     → IfNone now.fault (TakesAll {A = Unit {0}} now (parts key max j n items fault) (flow from to) (moved a b) (Ok u))
-takes-ok u now from to a b key max i j len n old slice bytes items fault view none same size all le within (fed, end) =
+takes-ok {u} {from} {to} {a} {b} key max i j len n old slice bytes items fault view none same size all le within
+    (fed, end) =
     subst (λ s. IfNone s.fault (TakesAll s (parts key max j n items fault) (flow from to) (moved a b) (Ok u))) view
     (unkept fault (
       refl,
@@ -307,14 +307,13 @@ takes-ok u now from to a b key max i j len n old slice bytes items fault view no
     ))
 
 -- a fault was met
-pub takes-err : (now : SealerState) (from to : Seen) (a b : Known) (key : Bytes) (max i j len : ℕ)
-    (old slice items : Bytes)
-    (kept : Option StreamFault) (fault : StreamFault)
+pub takes-err : {now : SealerState} {from to : Seen} {a b : Known} (key : Bytes) (max i j len : ℕ)
+    (old slice items : Bytes) (kept : Option StreamFault) (fault : StreamFault)
     → parts key max i len old kept ≡ now → slice ≡ old
     → Stopped key max i j (take len slice) (flow from to) (moved a b) fault
     → IfNone now.fault
     (TakesAll {A = Unit {0}} now (parts key max j len items (Some fault)) (flow from to) (moved a b) (Err fault))
-takes-err now from to a b key max i j len old slice items kept fault view same stopped =
+takes-err {from} {to} {a} {b} key max i j len old slice items kept fault view same stopped =
     subst
     (λ s. IfNone s.fault
     (TakesAll {A = Unit {0}} s (parts key max j len items (Some fault)) (flow from to) (moved a b)
@@ -389,19 +388,19 @@ seals-last s t u from to a b c fault none takes finishes =
       }),
     )
 
-pub seals-finish : (s t : SealerState) (u : Unit {0}) (from to : Seen) (a b c : Known)
+pub seals-finish : (s t : SealerState) {u : Unit {0}} (from to : Seen) (a b c : Known)
     (r : Result StreamDone StreamFault)
     → s.fault ≡ None → IfNone s.fault (TakesAll s t (flow from to) (moved a b) (Ok u))
     → IfNone t.fault (FinishesBy t (moved b c) r)
     → SealsAll s (flow from to) (moved a c) r
-seals-finish s t u from to a b c (Ok done) none takes finishes = seals-ok s t u from to a b c done none takes finishes
-seals-finish s t u from to a b c (Err fault) none takes finishes =
+seals-finish s t {u} from to a b c (Ok done) none takes finishes = seals-ok s t u from to a b c done none takes finishes
+seals-finish s t {u} from to a b c (Err fault) none takes finishes =
     seals-last s t u from to a b c fault none takes finishes
 
-pub seals-err : (s t : SealerState) (from to : Seen) (a b : Known) (fault : StreamFault) → s.fault ≡ None
+pub seals-err : (s t : SealerState) {from to : Seen} {a b : Known} (fault : StreamFault) → s.fault ≡ None
     → IfNone s.fault (TakesAll {A = Unit {0}} s t (flow from to) (moved a b) (Err fault))
     → SealsAll s (flow from to) (moved a b) (Err fault)
-seals-err s t from to a b fault none takes =
+seals-err s t {from} {to} {a} {b} fault none takes =
     let h = subst
     (λ (x : Option StreamFault). IfNone x (TakesAll {A = Unit {0}} s t (flow from to) (moved a b) (Err fault)))
     none

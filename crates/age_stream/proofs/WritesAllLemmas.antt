@@ -135,8 +135,8 @@ pub record Opened (s t : OpenerState) (bytes : ℕ) (from now : Seen) (old new :
   pub ended : IfNone t.held (IfSome s.held (λ ahead. IsAtEnd now.to_come))
   pub reads : (d : Bytes) → IfNone t.held (d ≡ []) → IsOpenedIn s t front given d
 
-pub opened-none : (s : OpenerState) (from : Seen) (old : Known) → s.fault ≡ None → Opened s s 0 from from old old
-opened-none s from old none = record {
+pub opened-none : (s : OpenerState) {from : Seen} {old : Known} → s.fault ≡ None → Opened s s 0 from from old old
+opened-none s {from} {old} none = record {
   front = [];
   len = refl;
   key = refl;
@@ -311,10 +311,11 @@ some-const : {P : Type 0} (held : Known) → P → IfSome held (λ h. P)
 some-const None p = tt
 some-const (Some h) p = p
 
-pub opened-more : (s t u : OpenerState) (n : ℕ) (from now next : Seen) (a b c : Known) → Opened s t n from now a b
+pub opened-more : {s t : OpenerState} (u : OpenerState) {n : ℕ} {from now next : Seen} {a b c : Known}
+    → Opened s t n from now a b
     → Advances t u (flow now next) (Ok true) → length u.text ≤ chunk_size → Appends b c u.text
     → Opened s u (n + length u.text) from next a c
-opened-more s t u n from now next a b c o adv le put =
+opened-more {s} {t} u {n} {from} {now} {next} {a} {b} {c} o adv le put =
     let h = held-some t u now next (Ok true) true-not-false adv in
     let up : u.index ≡ t.index + 1 = adv.keeps.1 in
     let full : length o.front ≡ chunk_size * (t.index - s.index) = at-some _ t.held h.0 h.1 o.full in
@@ -387,10 +388,10 @@ reads-on s t n from now a b o d end = go s.held refl t.held refl
 -- ---- the ends
 
 -- nothing is left
-pub writes-done : (s t u : OpenerState) (n : ℕ) (from now next : Seen) (a b : Known) (done : Done)
+pub writes-done : {s t : OpenerState} (u : OpenerState) {n : ℕ} {from now next : Seen} {a b : Known} (done : Done)
     → Opened s t n from now a b → Advances t u (flow now next) (Ok false)
     → done.bytes ≡ n → done.chunks ≡ t.index - s.index → WritesAll s (flow from next) (moved a b) (Ok done)
-writes-done s t u n from now next a b done o adv bytes chunks = go t.held refl
+writes-done {s} {t} u {n} {from} {now} {next} {a} {b} done o adv bytes chunks = go t.held refl
   where
     writes : t.held ≡ None → (d : Bytes) → (IsAtEnd now.to_come → d ≡ [])
         → WritesReading (reading_left s.key s.max_chunks s.index (left_of s.held (o.given ++ d)))
@@ -420,10 +421,11 @@ writes-done s t u n from now next a b done o adv bytes chunks = go t.held refl
         (subst (λ x. Grew (flow now next) x) none adv.gave.grew)
 
 -- a prefix of a reading was written
-part-of : (all rest : Reading StreamFault) (front part : Bytes) (a b c : Known) → all ≡ before front rest
+part-of : {all : Reading StreamFault} (rest : Reading StreamFault) (front part : Bytes) (a b c : Known)
+    → all ≡ before front rest
     → Appends a b front → (more : Bytes) → rest.front ≡ part ++ more → WritesPart (moved b c) part
     → WritesPart (moved a c) all.front
-part-of all rest front part a b c is put more cut wrote =
+part-of {all} rest front part a b c is put more cut wrote =
     done_part a b c all.front rest.front part more
     (record { prefix = front; took = put; is = ap (λ (r : Reading StreamFault). r.front) is }) cut wrote
 
@@ -436,7 +438,7 @@ writes-read s t n from now next a b o lost = go t.held refl
         → WritesPart (moved a b) (reading_left s.key s.max_chunks s.index (left_of s.held (o.given ++ d))).front
     begins h is d =
         let past = o.reads d (some-fits (d ≡ []) t.held h is) in
-        part-of _ (reading_left s.key s.max_chunks t.index (left_of t.held d)) o.front [] a b b past.0
+        part-of (reading_left s.key s.max_chunks t.index (left_of t.held d)) o.front [] a b b past.0
         o.written _ refl (0, Appends-nil b)
 
     go : (held : Known) → t.held ≡ held → WritesAll s (flow from next) (moved a b) (Err Read)
@@ -448,20 +450,22 @@ writes-read s t n from now next a b o lost = go t.held refl
         (subst (λ (x : Known). Loses x (flow now next)) is lost) (begins h is)) (λ d part. part)
 
 -- a write failed
-pub writes-write : (s t u : OpenerState) (n : ℕ) (from now next : Seen) (a b c : Known) → Opened s t n from now a b
+pub writes-write : {s t : OpenerState} (u : OpenerState) {n : ℕ} {from now next : Seen} {a b : Known} (c : Known)
+    → Opened s t n from now a b
     → Advances t u (flow now next) (Ok true) → WritesPart (moved b c) u.text
     → WritesAll s (flow from next) (moved a c) (Err Write)
-writes-write s t u n from now next a b c o adv part =
+writes-write {s} {t} u {n} {from} {now} {next} {a} {b} c o adv part =
     of-more from next (o.given ++ adv.given) _ (gave-all s t u n from now next a b (Ok true) o adv) (λ d end.
     let past = next-reads s t u n from now next a b o adv d (none-map u.held end (ended-next t u now next adv)) in
     let rest = reading_left s.key s.max_chunks (t.index + 1) (left_of u.held d) in
     let all = past.0 ∙ ap (λ f. record { front = f; fault = rest.fault }) (append_assoc o.front u.text rest.front) in
-    part-of _ (before u.text rest) o.front u.text a b c all o.written rest.front refl part)
+    part-of (before u.text rest) o.front u.text a b c all o.written rest.front refl part)
 
-pub ends-write : (s t u : OpenerState) (n : ℕ) (from now next : Seen) (a b c : Known) → Opened s t n from now a b
+pub ends-write : {s t : OpenerState} (u : OpenerState) {n : ℕ} {from now next : Seen} {a b c : Known}
+    → Opened s t n from now a b
     → Advances t u (flow now next) (Ok true) → WritesPart (moved b c) u.text
     → EndsAt s.max_chunks 0 (flow from next) (moved a c) Write
-ends-write s t u n from now next a b c o adv part =
+ends-write {s} {t} u {n} {from} {now} {next} {a} {b} {c} o adv part =
     let h = held-some t u now next (Ok true) true-not-false adv in
     let full : length o.front ≡ chunk_size * (t.index - s.index) = at-some _ t.held h.0 h.1 o.full in
     let len = gave-len s t u n from now next a b (Ok true) o adv true-not-false in
@@ -546,21 +550,21 @@ advanced {r} t u now next none h = subst
 same-fault : (fault : StreamFault) → IsErrOf {T = Bool} (Err fault) Read → fault ≡ Read
 same-fault fault e = cc
 
-pub advanced-ok : (some : Bool) (t u : OpenerState) (now next : Seen) → t.fault ≡ None
+pub advanced-ok : (some : Bool) (t u : OpenerState) {now next : Seen} → t.fault ≡ None
     → IfNone t.fault (IsErrOf (Ok some) Read ⊎ Advances t u (flow now next) (Ok some))
     → Advances t u (flow now next) (Ok some)
-advanced-ok some t u now next none h = go (advanced t u now next none h)
+advanced-ok some t u {now} {next} none h = go (advanced t u now next none h)
   where
     go : IsErrOf (Ok some) Read ⊎ Advances t u (flow now next) (Ok some) → Advances t u (flow now next) (Ok some)
     go (inl e) = absurd (ok-not-err Read some e)
     go (inr a) = a
 
 -- the fault of a call, of a read or of a piece
-pub failed-writes : (s t u : OpenerState) (n : ℕ) (from now next : Seen) (a b : Known) (fault : StreamFault)
-    → Opened s t n from now a b
+pub failed-writes : {s t : OpenerState} (u : OpenerState) {n : ℕ} {from now next : Seen} {a b : Known}
+    (fault : StreamFault) → Opened s t n from now a b
     → IfNone t.fault (IsErrOf {T = Bool} (Err fault) Read ⊎ Advances t u (flow now next) (Err fault))
     → IfNone t.fault (Loses t.held (flow now next)) → WritesAll s (flow from next) (moved a b) (Err fault)
-failed-writes s t u n from now next a b fault o h lost = go (advanced t u now next o.none h)
+failed-writes {s} {t} u {n} {from} {now} {next} {a} {b} fault o h lost = go (advanced t u now next o.none h)
   where
     go : IsErrOf {T = Bool} (Err fault) Read ⊎ Advances t u (flow now next) (Err fault)
         → WritesAll s (flow from next) (moved a b) (Err fault)
@@ -569,11 +573,11 @@ failed-writes s t u n from now next a b fault o h lost = go (advanced t u now ne
         (subst (λ (x : Option StreamFault). IfNone x (Loses t.held (flow now next))) o.none lost))
     go (inr adv) = writes-stop s t u n from now next a b fault o adv
 
-pub failed-ends : (s t u : OpenerState) (n : ℕ) (from now next : Seen) (a b : Known) (fault : StreamFault)
-    → Opened s t n from now a b
+pub failed-ends : {s t : OpenerState} (u : OpenerState) {n : ℕ} {from now next : Seen} {a b : Known}
+    (fault : StreamFault) → Opened s t n from now a b
     → IfNone t.fault (IsErrOf {T = Bool} (Err fault) Read ⊎ Advances t u (flow now next) (Err fault))
     → (fault ≡ Read) ⊎ EndsAt s.max_chunks 0 (flow from next) (moved a b) fault
-failed-ends s t u n from now next a b fault o h = go (advanced t u now next o.none h)
+failed-ends {s} {t} u {n} {from} {now} {next} {a} {b} fault o h = go (advanced t u now next o.none h)
   where
     go : IsErrOf {T = Bool} (Err fault) Read ⊎ Advances t u (flow now next) (Err fault)
         → (fault ≡ Read) ⊎ EndsAt s.max_chunks 0 (flow from next) (moved a b) fault
@@ -581,9 +585,9 @@ failed-ends s t u n from now next a b fault o h = go (advanced t u now next o.no
     go (inr adv) = inr (ends-stop s t u n from now next a b fault o adv)
 
 -- the count of bytes has room for one more text
-pub opened-room : (s t u : OpenerState) (n : ℕ) (from now next : Seen) (a b : Known) (len : ℕ)
+pub opened-room : {s t : OpenerState} (u : OpenerState) {n : ℕ} {from now next : Seen} {a b : Known} (len : ℕ)
     → Opened s t n from now a b
     → Advances t u (flow now next) (Ok true) → len ≤ chunk_size → Fits w128 (n + len)
-opened-room s t u n from now next a b len o adv le =
+opened-room {t} u len o adv le =
     let within : t.index < t.max_chunks = adv.keeps.2 refl in
     omega (arith, o.len, o.bound, adv.small)

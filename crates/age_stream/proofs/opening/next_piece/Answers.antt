@@ -88,9 +88,9 @@ returns-in-Err-open_chunk-clause-opens g c =
     })
 
 pub returns-in-Err-clause-count : goal.returns-in-Err-clause-count
-returns-in-Err-clause-count g c = counts-piece c.args.max c.args.i _ _ c.in-Err.fault c.in-Err.ensures.at
+returns-in-Err-clause-count g c = counts-piece c.args.max c.args.i c.in-Err.fault c.in-Err.ensures.at
     c.in-Ok.ensures.count
 
 pub returns-in-Err-open_chunk-clause-count : goal.returns-in-Err-open_chunk-clause-count
 returns-in-Err-open_chunk-clause-count g c =
-    counts-piece c.args.max c.args.i _ _ c.in-Err-open_chunk.fault c.in-Err-open_chunk.ensures.at c.in-Ok.ensures.count
+    counts-piece c.args.max c.args.i c.in-Err-open_chunk.fault c.in-Err-open_chunk.ensures.at c.in-Ok.ensures.count

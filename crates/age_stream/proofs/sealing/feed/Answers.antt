@@ -19,8 +19,8 @@ loop-n-init g c = record {
 pub returns-in-Err-clause-fed : goal.returns-in-Err-clause-fed
 returns-in-Err-clause-fed g c =
     let inv = c.loop-n.invariant.fed in
-    stopped-read c.args.key.now c.args.max c.args.index.now c.loop-n.index (take c.args.len c.args.bytes.now) inv.0 _ _
-    _ _ _ _ inv.1 c.in-Err.ensures.lost inv.2
+    stopped-read c.args.key.now c.args.max c.args.index.now c.loop-n.index
+    (take c.args.len c.args.bytes.now) inv.0 inv.1 c.in-Err.ensures.lost inv.2
 
 pub returns-then-n-le-CHUNK_SIZE-clause-fed : goal.returns-then-n-le-CHUNK_SIZE-clause-fed
 returns-then-n-le-CHUNK_SIZE-clause-fed g c =
@@ -31,8 +31,7 @@ returns-then-n-le-CHUNK_SIZE-clause-fed g c =
     length-take-le c.loop-n.held c.loop-n.bytes (omega (arith, c.loop-n.invariant.held, c.loop-n.invariant.size)) in
     let end = c.in-Ok.ensures.end (search rules) in (
       rw f.is (fed-end c.args.key.now c.args.index.now c.loop-n.index (take c.args.len c.args.bytes.now) inv.0 now
-          f.piece _ _ _ _ _
-          (omega (arith, f.len)) inv.1 f.bytes end inv.2),
+          f.piece (omega (arith, f.len)) inv.1 f.bytes end inv.2),
       end,
     )
 
@@ -40,10 +39,10 @@ pub returns-in-Err-put_full-clause-fed : goal.returns-in-Err-put_full-clause-fed
 returns-in-Err-put_full-clause-fed g c =
     let inv = c.loop-n.invariant.fed in
     let f = c.in-Ok.ensures.bytes.1 in
-    let h = full-is c.loop-n.held c.in-Ok.n c.loop-n.bytes c.fill_up_to.new.bytes _ _ (omega arith)
+    let h = full-is c.loop-n.held c.in-Ok.n c.loop-n.bytes c.fill_up_to.new.bytes (omega arith)
     c.in-Ok.ensures.bytes.0 c.loop-n.invariant.held c.loop-n.invariant.size c.in-Ok.ensures.size f in
     stopped-full c.args.key.now c.args.max c.args.index.now c.loop-n.index c.put_full.new.index
-    (take c.args.len c.args.bytes.now) inv.0 _ f.piece _ _ _ _ _ _ _ _ c.in-Err-put_full.fault
+    (take c.args.len c.args.bytes.now) inv.0 f.piece c.in-Err-put_full.fault
     h c.loop-n.invariant.within inv.1 f.bytes inv.2 c.in-Err-put_full.ensures.puts
 
 pub loop-n-preserved : goal.loop-n-preserved
@@ -51,7 +50,7 @@ loop-n-preserved g c =
     let inv = c.loop-n.invariant.fed in
     let f = c.in-Ok.ensures.bytes.1 in
     let filled : Bytes = c.fill_up_to.new.bytes in
-    let h = full-is c.loop-n.held c.in-Ok.n c.loop-n.bytes filled _ _ (omega arith) c.in-Ok.ensures.bytes.0
+    let h = full-is c.loop-n.held c.in-Ok.n c.loop-n.bytes filled (omega arith) c.in-Ok.ensures.bytes.0
     c.loop-n.invariant.held c.loop-n.invariant.size c.in-Ok.ensures.size f in
     let puts = c.in_default.ensures.puts in
     record {
@@ -66,7 +65,6 @@ loop-n-preserved g c =
         fed-next c.args.key.now c.args.index.now c.loop-n.index c.put_full.new.index (take c.args.len c.args.bytes.now)
             inv.0 (take c.loop-n.held c.loop-n.bytes) f.piece
             (take chunk_size filled) (take 1 (drop chunk_size filled))
-            (take 1 c.put_full.new.bytes) _ _ _ h inv.2 puts.0 puts.2
-            puts.1,
+            (take 1 c.put_full.new.bytes) h inv.2 puts.0 puts.2 puts.1,
       );
     }

@@ -8,6 +8,6 @@ returns-in-Ok-start-clause-starts g c = (
   c.in-Ok.key,
   found-key _ c.in-Ok.key c.in-Ok.ensures.key,
   rw (sym c.max_chunks.ensures.value) (starts-reader g.S.Source.to_come g.S.Source.gave g.S.Source.failed c.in-Ok.key
-      c.max_chunks.result c.args.self.input.now _ _ c.in-Ok-start.opener _ c.over.ensures.unchanged
+      c.max_chunks.result c.args.self.input.now c.in-Ok-start.opener c.over.ensures.unchanged
       c.over.ensures.opener c.in-Ok-start.ensures.starts c.in-Ok-start.ensures.gave c.in-Ok-start.ensures.count),
 )

@@ -7,7 +7,7 @@ use Rattle.age_stream.proofs.opening.ChunkOpener.advance.Goals as goal
 pub returns-in-Ok-clause-opens : goal.returns-in-Ok-clause-opens
 returns-in-Ok-clause-opens g c =
     let o = c.self.inside in
-    advances-ok _ _ _ o.key o.max_chunks o.index o.ahead o.len o.more o.buf.items c.as_mut_slice.result.now
+    advances-ok o.key o.max_chunks o.index o.ahead o.len o.more o.buf.items c.as_mut_slice.result.now
     c.next_piece.new.bytes (with_items o.buf c.next_piece.new.bytes).items o.fault c.in-Ok.piece
     c.self.view_is (search rules) (search rules) c.as_mut_slice.ensures.value c.self.invariant.0 c.self.invariant.1
     c.in-Ok.ensures.len
@@ -18,7 +18,7 @@ returns-in-Ok-clause-opens g c =
 pub returns-in-Err-clause-opens : goal.returns-in-Err-clause-opens
 returns-in-Err-clause-opens g c =
     let o = c.self.inside in
-    advances-err _ _ _ o.key o.max_chunks o.index o.ahead o.len o.more o.buf.items c.as_mut_slice.result.now
+    advances-err o.key o.max_chunks o.index o.ahead o.len o.more o.buf.items c.as_mut_slice.result.now
     c.next_piece.new.bytes (with_items o.buf c.next_piece.new.bytes).items o.fault c.in-Err.fault
     c.self.view_is (search rules) c.as_mut_slice.ensures.value c.self.invariant.0 c.self.invariant.1 c.self.invariant.4
     c.in-Err.ensures.opens c.in-Err.ensures.at
@@ -26,11 +26,11 @@ returns-in-Err-clause-opens g c =
 pub returns-in-Err-clause-lost : goal.returns-in-Err-clause-lost
 returns-in-Err-clause-lost g c =
     let o = c.self.inside in
-    loses-held _ _ _ o.key o.max_chunks o.index o.ahead o.len o.more o.buf.items o.fault c.self.view_is (search rules)
+    loses-held o.key o.max_chunks o.index o.ahead o.len o.more o.buf.items o.fault c.self.view_is (search rules)
     c.in-Err.ensures.lost
 
 pub returns-then-not-self-clause-opens : goal.returns-then-not-self-clause-opens
 returns-then-not-self-clause-opens g c =
     let o = c.self.inside in
-    advances-none _ _ o.key o.max_chunks o.index o.ahead o.len o.more o.buf.items o.fault c.self.view_is (search rules)
+    advances-none _ o.key o.max_chunks o.index o.ahead o.len o.more o.buf.items o.fault c.self.view_is (search rules)
     (search rules) c.self.invariant.4
