@@ -15,26 +15,26 @@ pub record Copied (from now : Seen) (old new : Known) (k : ℕ) : Type 0 where
   pub put : Appends old new bytes
   pub long : buffer_size * k ≤ length bytes
 
-pub copied_none : (from : Seen) (old : Known) → Copied from from old old 0
-copied_none from old = record { bytes = []; took = gave-none from; put = Appends-nil old; long = omega arith }
+pub copied_none : {from : Seen} {old : Known} → Copied from from old old 0
+copied_none {from} {old} = record { bytes = []; took = gave-none from; put = Appends-nil old; long = omega arith }
 
-pub copied_more : (size : ℕ) (from a b : Seen) (old m n : Known) (k : ℕ) (more : Bool) → size ≡ buffer_size
+pub copied_more : {size : ℕ} {from a b : Seen} {old m n : Known} {k : ℕ} (more : Bool) → size ≡ buffer_size
     → more ≡ true
     → Copied from a old m k
     → CopiesPiece size (flow a b) (moved m n) (Ok more) → Copied from b old n (k + 1)
-copied_more size from a b old m n k false full is c h = absurd (true≢false (sym is))
-copied_more _ from a b old m n k true size is c (piece, took, put, full) = record {
+copied_more false full is c h = absurd (true≢false (sym is))
+copied_more {from} {a} {b} {old} {m} {n} true size is c (piece, took, put, full) = record {
   bytes = c.bytes ++ piece;
   took = gave-then from a b c.bytes piece c.took took;
   put = Appends-trans old m n c.bytes piece c.put put;
   long = omega (arith, length-append c.bytes piece, full, size, c.long);
 }
 
-pub copied_all : (size : ℕ) (from a b : Seen) (old m n : Known) (k : ℕ) (more : Bool) → more ≡ false
+pub copied_all : (size : ℕ) {from : Seen} (a b : Seen) {old : Known} (m n : Known) (k : ℕ) (more : Bool) → more ≡ false
     → Copied from a old m k → CopiesPiece size (flow a b) (moved m n) (Ok more)
     → Copies (flow from b) (moved old n) (Ok tt)
-copied_all size from a b old m n k true is c h = absurd (true≢false is)
-copied_all size from a b old m n k false is c (piece, took, put, end) =
+copied_all size a b m n k true is c h = absurd (true≢false is)
+copied_all size {from} a b {old} m n k false is c (piece, took, put, end) =
     of-ended from b (c.bytes ++ piece) _ (gave-then from a b c.bytes piece c.took took) end
     (Appends-trans old m n c.bytes piece c.put put)
 
@@ -57,17 +57,19 @@ read_failed from a b old m k c lost =
     of-then from a b c.bytes _ _ c.took
     (of-any a b (λ d. WritesPart (moved old m) (c.bytes ++ d)) lost (λ d. front old m c.bytes d c.put)) (λ d part. part)
 
-pub copied_failed : (size : ℕ) (from a b : Seen) (old m n : Known) (k : ℕ) (fault : Fault) → Copied from a old m k
+pub copied_failed : (size : ℕ) {from a : Seen} (b : Seen) {old m : Known} (n : Known) {k : ℕ} (fault : Fault)
+    → Copied from a old m k
     → CopiesPiece size (flow a b) (moved m n) (Err fault)
     → Copies (flow from b) (moved old n) (Err fault)
-copied_failed size from a b old m n k Read c h =
+copied_failed size {from} {a} b {old} {m} n {k} Read c h =
     subst (λ t. Copies (flow from b) (moved old t) (Err Read)) (sym h.1) (read_failed from a b old m k c h.0)
-copied_failed size from a b old m n k Write c (piece, took, part) = write_failed from a b old m n k piece c took part
-copied_failed size from a b old m n k _ c h = absurd h
+copied_failed size {from} {a} b {old} {m} n {k} Write c (piece, took, part) =
+    write_failed from a b old m n k piece c took part
+copied_failed size b n _ c h = absurd h
 
-pub copied_beyond : (from a : Seen) (old m : Known) (k : ℕ) → 2 ^ 89 ≤ k → Copied from a old m k
+pub copied_beyond : {from : Seen} (a : Seen) {old m : Known} (k : ℕ) → 2 ^ 89 ≤ k → Copied from a old m k
     → Copies (flow from a) (moved old m) (Err TooManyChunks)
-copied_beyond from a old m k beyond c = (
+copied_beyond {from} a {old} {m} k beyond c = (
   (c.bytes, c.put, omega (arith, c.long, beyond)),
   of-more from a c.bytes _ c.took
       (λ d end. (front old m c.bytes d c.put, omega (arith, length-append c.bytes d, c.long, beyond))),

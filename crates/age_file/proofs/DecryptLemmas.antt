@@ -100,10 +100,10 @@ header-decrypts : (limits : Bounds) (answers : Answering) (come mid : Seen) (old
 header-decrypts limits answers come mid old g h =
     of-map come mid _ _ h (λ b refuses. header-text limits answers b old g refuses)
 
-pub inspect-decrypts : (limits : Bounds) (answers : Answering) (come mid : Seen) (old : Known) (fault : Fault)
+pub inspect-decrypts : (limits : Bounds) (answers : Answering) {come : Seen} (mid : Seen) (old : Known) (fault : Fault)
     → Inspects limits (flow come mid) (Err fault) → Decrypts limits answers (flow come mid) (moved old old) (Err fault)
-inspect-decrypts limits answers come mid old fault (Ok parts, is, h) = absurd (cc)
-inspect-decrypts limits answers come mid old fault (Err g, is, h) =
+inspect-decrypts limits answers mid old fault (Ok parts, is, h) = absurd (cc)
+inspect-decrypts limits answers {come} mid old fault (Err g, is, h) =
     subst (λ f. Decrypts limits answers (flow come mid) (moved old old) (Err f))
     (sym (err-err {A = HeaderParts} fault (header_fault g) is)) (header-decrypts limits answers come mid old g h)
 
@@ -147,17 +147,16 @@ pub memory-decrypts : (limits : Bounds) (answers : Answering) (come to : Seen) (
 memory-decrypts limits answers come to old new some = of-any come to _ some (λ b. tt)
 
 -- no key
-pub locked-decrypts : (limits : Bounds) (answers : Answering) (come mid : Seen) (old : Known) (h : HeaderParts)
-    (fault : Fault)
-    → Inspects limits (flow come mid) (Ok h)
+pub locked-decrypts : (limits : Bounds) (answers : Answering) {come : Seen} (mid : Seen) (old : Known) {h : HeaderParts}
+    (fault : Fault) → Inspects limits (flow come mid) (Ok h)
     → (◌≡◌ {A = Result FileKey Fault} (Err fault) (Err OutOfMemory)) ⊎ (Err fault ≡ unlocked answers h)
     → Decrypts limits answers (flow come mid) (moved old old) (Err fault)
-locked-decrypts limits answers come mid old h fault i (inl memory) =
+locked-decrypts limits answers {come} mid old {h} fault i (inl memory) =
     let is = headed limits come mid h i in
     subst (λ f. Decrypts limits answers (flow come mid) (moved old old) (Err f))
     (sym (err-err {A = FileKey} fault OutOfMemory memory))
     (memory-decrypts limits answers come mid old old (gave-some come mid is.text is.took))
-locked-decrypts limits answers come mid old h fault i (inr key) =
+locked-decrypts limits answers {come} mid old {h} fault i (inr key) =
     let is = headed limits come mid h i in
     of-more come mid is.text _ is.took (λ d end. stops-decrypts limits answers (is.text ++ d) old fault
     (subst (λ k. IsVerdict limits answers (is.text ++ d) (read_under limits d k)) (sym key)
@@ -220,14 +219,13 @@ payload-decrypts limits answers come mid to old new h k max r i (inr key) same w
     (subst (λ m. WritesReading (payload_reading k m c) (length (pieces (drop 16 c))) (moved old new) r) same x))
 
 -- there is no nonce, or no memory
-pub missed-decrypts : {S : Type 0} (to_come : S → Known) (gave : S → Bytes → Type 0) (limits : Bounds)
-    (answers : Answering) (come : Seen) (mid to : S) (old : Known) (before after : ℕ)
-    (h : HeaderParts) (k : FileKey) (max : ℕ) (fault : StreamFault)
-    → Inspects limits (flow come (seen_by to_come gave mid)) (Ok h)
+pub missed-decrypts : {S : Type 0} (to_come : S → Known) (gave : S → Bytes → Type 0) {limits : Bounds}
+    (answers : Answering) {come : Seen} (mid : S) {to : S} (old : Known) (before after : ℕ) {h : HeaderParts}
+    (k : FileKey) (max : ℕ) (fault : StreamFault) → Inspects limits (flow come (seen_by to_come gave mid)) (Ok h)
     → (◌≡◌ {A = Result FileKey Fault} (Ok k) (Err OutOfMemory)) ⊎ (Ok k ≡ unlocked answers h) → max ≡ limits.max_chunks
     → ((fault ≡ stream.Memory) × (to ≡ mid)) ⊎ MissesNonce k max (flow_by to_come gave mid to) before after fault
     → Decrypts limits answers (flow come (seen_by to_come gave to)) (moved old old) (Err (stream_fault fault))
-missed-decrypts to_come gave limits answers come mid to old before after h k max fault i key same (inl m) =
+missed-decrypts to_come gave {limits} answers {come} mid old before after {h} k max fault i key same (inl m) =
     let is = headed limits come (seen_by to_come gave mid) h i in
     subst (λ x. Decrypts limits answers (flow come (seen_by to_come gave x)) (moved old old) (Err (stream_fault fault)))
     (sym m.1)
@@ -235,7 +233,7 @@ missed-decrypts to_come gave limits answers come mid to old before after h k max
     (Err (stream_fault f))) (sym m.0)
     (memory-decrypts limits answers come (seen_by to_come gave mid) old old
     (gave-some come (seen_by to_come gave mid) is.text is.took)))
-missed-decrypts to_come gave limits answers come mid to old before after h k max fault i key same (inr m) =
+missed-decrypts to_come gave {limits} answers {come} mid {to} old before after {h} k max fault i key same (inr m) =
     payload-decrypts limits answers come (seen_by to_come gave mid) (seen_by to_come gave to) old old h k max
     (Err fault) i key same
     (nonce-writes k max (seen_by to_come gave mid) (seen_by to_come gave to) old fault m.0)
@@ -318,11 +316,11 @@ ends-takes limits come mid to old new h i stream.TooManyChunks e = go e.at
     go (inr at) = took-piece limits come mid to old new h i stream.TooManyChunks limits.max_chunks e (omega (arith, at))
 ends-takes limits come mid to old new h i _ e = tt
 
-pub payload-takes : (limits : Bounds) (come mid to : Seen) (old new : Known) (h : HeaderParts) (fault : StreamFault)
-    → Inspects limits (flow come mid) (Ok h)
+pub payload-takes : {limits : Bounds} {come : Seen} (mid : Seen) {to : Seen} {old new : Known} {h : HeaderParts}
+    (fault : StreamFault) → Inspects limits (flow come mid) (Ok h)
     → (fault ≡ stream.Read) ⊎ EndsAt limits.max_chunks 16 (flow mid to) (moved old new) fault
     → TookUpTo limits (flow come to) (moved old new) (stream_fault fault)
-payload-takes limits come mid to old new h fault i (inl e) =
+payload-takes {limits} {come} mid {to} {old} {new} fault i (inl e) =
     subst (λ f. TookUpTo limits (flow come to) (moved old new) (stream_fault f)) (sym e) tt
-payload-takes limits come mid to old new h fault i (inr e) =
+payload-takes {limits} {come} mid {to} {old} {new} {h} fault i (inr e) =
     ends-takes limits come mid to old new h (headed limits come mid h i) fault e

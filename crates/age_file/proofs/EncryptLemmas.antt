@@ -71,12 +71,12 @@ encrypts_unmade limits fresh gathered from to old new fault some (inr refusal) =
     go plain _ h = tt
 
 -- a prefix of the header and the nonce was written
-pub encrypts_begun : (limits : Bounds) (fresh : Fresh) (gathered : Gathering) (stanzas : List StanzaParts) (mac : Bytes)
-    (from to : Seen) (old new : Known) → GaveSome (flow from to)
+pub encrypts_begun : {limits : Bounds} {fresh : Fresh} {gathered : Gathering} {stanzas : List StanzaParts} {mac : Bytes}
+    {from to : Seen} {old new : Known} → GaveSome (flow from to)
     → HeaderMade limits fresh.file_key gathered stanzas mac
     → FrontWritten stanzas mac (λ text. WritesPart (moved old new) (text ++ fresh.nonce))
     → EncryptsGiven limits fresh gathered (flow from to) (moved old new) (Err Write)
-encrypts_begun limits fresh gathered stanzas mac from to old new some header (text, head, part) =
+encrypts_begun {limits} {fresh} {gathered} {stanzas} {mac} {from} {to} {old} {new} some header (text, head, part) =
     let m = made limits fresh.file_key gathered stanzas mac text header head in
     let front : Bytes = text ++ fresh.nonce in
     of-any from to _ some (λ plain.
@@ -92,11 +92,11 @@ encrypts_begun limits fresh gathered stanzas mac from to old new some header (te
     })
 
 -- the first chunk was not read, and nothing was written
-pub encrypts_unread : (limits : Bounds) (fresh : Fresh) (gathered : Gathering) (stanzas : List StanzaParts)
-    (mac : Bytes) (from to : Seen) (old : Known) → GaveSome (flow from to)
+pub encrypts_unread : {limits : Bounds} {fresh : Fresh} {gathered : Gathering} {stanzas : List StanzaParts}
+    {mac : Bytes} {from to : Seen} {old : Known} → GaveSome (flow from to)
     → HeaderMade limits fresh.file_key gathered stanzas mac
     → EncryptsGiven limits fresh gathered (flow from to) (moved old old) (Err Read)
-encrypts_unread limits fresh gathered stanzas mac from to old some (is, (text, heading)) =
+encrypts_unread {stanzas} {from} {to} {old} some (is, (text, heading)) =
     of-any from to _ some
     (λ plain. record { stanzas = stanzas; text = text; heading = heading; part = (0, Appends-nil old) })
 
@@ -165,27 +165,28 @@ up_to_limit limits fresh gathered text plain a b c m front many rest =
     )
 
 -- a sealer that was just made was filled
-pub filled : (s t : SealerState) (key : Bytes) (m max : ℕ) (more : Bool) (from mid : Seen) → s ≡ at_start key m
+pub filled : {s t : SealerState} {key : Bytes} {m max : ℕ} {more : Bool} {from mid : Seen} → s ≡ at_start key m
     → m ≡ max → IfNone s.fault (Fills s t (flow from mid) (Ok more))
     → Fills (at_start key max) t (flow from mid) (Ok more)
-filled s t key m max more from mid is same h =
+filled {t} {key} {more} {from} {mid} is same h =
     subst (λ n. Fills (at_start key n) t (flow from mid) (Ok more)) same
     (subst (λ x. IfNone x.fault (Fills x t (flow from mid) (Ok more))) is h)
 
 -- or was not, since a read failed
-pub unfilled : (s t : SealerState) (key : Bytes) (m : ℕ) (source : Flow) (fault : StreamFault) → s ≡ at_start key m
+pub unfilled : {s : SealerState} (t : SealerState) {key : Bytes} {m : ℕ} {source : Flow} (fault : StreamFault)
+    → s ≡ at_start key m
     → IfNone s.fault (Fills s t source (Err fault)) → GaveSome source
-unfilled s t key m source fault is h =
+unfilled t {source} fault is h =
     (subst (λ x. IfNone x.fault (Fills x t source (Err fault))) is h).1
 
 -- and then sealed what it held and what came
-pub sealed_filled : (key : Bytes) (max : ℕ) (t : SealerState) (more : Bool) (from mid to : Seen) (a c : Known)
+pub sealed_filled : {key : Bytes} {max : ℕ} {t : SealerState} {more : Bool} {from mid : Seen} (to : Seen) (a c : Known)
     (r : Result Done StreamFault) → 1 ≤ max
     → Fills (at_start key max) t (flow from mid) (Ok more) → SealsRest t more (flow mid to) (moved a c) r
     → SealsAll (at_start key max) (flow from to) (moved a c) r
-sealed_filled key max t true from mid to a c r some fills seals =
+sealed_filled {key} {max} {t} {more = true} {from} {mid} to a c r some fills seals =
     filled-seals key max t true from mid to a c r fills seals
-sealed_filled key max t false from mid to a c r some fills (finishes, same) =
+sealed_filled {key} {max} {t} {more = false} {from} {mid} to a c r some fills (finishes, same) =
     filled-finishes key max t from mid to a c r some fills same finishes
 
 -- the payload after the header and the nonce
@@ -214,25 +215,25 @@ encrypts_payload limits fresh gathered text from to a b c (Err fault) sixteen m 
     go _ h = absurd h.holds
 
 -- the header, the nonce and the payload
-pub encrypts_sealed : (limits : Bounds) (fresh : Fresh) (gathered : Gathering) (stanzas : List StanzaParts)
-    (mac : Bytes) (from to : Seen) (a b c : Known) (r : Result Done StreamFault)
+pub encrypts_sealed : {limits : Bounds} (fresh : Fresh) {gathered : Gathering} {stanzas : List StanzaParts}
+    {mac : Bytes} {from to : Seen} (a b c : Known) (r : Result Done StreamFault)
     → HeaderMade limits fresh.file_key gathered stanzas mac
     → FrontWritten stanzas mac (λ text. Appends a b (text ++ fresh.nonce)) → length fresh.nonce ≡ 16
     → SealsAll (at_start (payload_key fresh.file_key fresh.nonce) limits.max_chunks) (flow from to) (moved b c) r
     → EncryptsGiven limits fresh gathered (flow from to) (moved a c) (file_result r)
-encrypts_sealed limits fresh gathered stanzas mac from to a b c r header (text, head, front) sixteen seals =
+encrypts_sealed {limits} fresh {gathered} {stanzas} {mac} {from} {to} a b c r header (text, head, front) sixteen seals =
     encrypts_payload limits fresh gathered text from to a b c r sixteen
     (made limits fresh.file_key gathered stanzas mac text header head) front seals
 
 -- a read failed after something was written: the source gave a whole chunk
-pub read_late : (key : Bytes) (max : ℕ) (t : SealerState) (more : Bool) (from mid to : Seen) (a c : Known)
+pub read_late : {key : Bytes} {max : ℕ} {t : SealerState} {more : Bool} {from mid to : Seen} (a c : Known)
     (fault : StreamFault)
     → Fills (at_start key max) t (flow from mid) (Ok more) → SealsRest t more (flow mid to) (moved a c) (Err fault)
     → stream_fault fault ≡ Read → FillsChunk (flow from to)
-read_late key max t true from mid to a c fault (x, took, is, fits, full, ended) (chunk, seals) read =
+read_late {more = true} {from} {mid} {to} a c fault (x, took, is, fits, full, ended) (chunk, seals) read =
     let l : length x ≡ chunk_size = subst (λ (u : SealerState). length u.held ≡ chunk_size) is (full refl) in
     of-then from mid to x _ _ took seals.stops (λ text h. omega (arith, length-append x text, l))
-read_late key max t false from mid to a c fault fills ((write, part), same) read =
+read_late {more = false} a c fault fills ((write, part), same) read =
     absurd (not-read (subst (λ f. stream_fault f ≡ Read) write read))
   where
     not-read : stream_fault stream.Write ≡ Read → ⊥
@@ -240,13 +241,13 @@ read_late key max t false from mid to a c fault fills ((write, part), same) read
 
 -- ---- what was taken
 
-pub takes_begun : (limits : Bounds) (fresh : Fresh) (gathered : Gathering) (stanzas : List StanzaParts) (mac : Bytes)
-    (key : Bytes) (max : ℕ) (t : SealerState) (more : Bool)
-    (from mid : Seen) (old new : Known) → HeaderMade limits fresh.file_key gathered stanzas mac
+pub takes_begun : {limits : Bounds} {fresh : Fresh} {gathered : Gathering} {stanzas : List StanzaParts} {mac : Bytes}
+    {key : Bytes} {max : ℕ} {t : SealerState} {more : Bool} {from mid : Seen} {old new : Known}
+    → HeaderMade limits fresh.file_key gathered stanzas mac
     → FrontWritten stanzas mac (λ text. WritesPart (moved old new) (text ++ fresh.nonce))
     → Fills (at_start key max) t (flow from mid) (Ok more)
     → TookWhileEncrypting limits fresh gathered (flow from mid) (moved old new) Write
-takes_begun limits fresh gathered stanzas mac key max t more from mid old new header (text, head, part)
+takes_begun {limits} {fresh} {gathered} {stanzas} {mac} header (text, head, part)
     (x, gave, is, fits, full, ended) =
     let m = made limits fresh.file_key gathered stanzas mac text header head in
     let le : length x ≤ chunk_size = subst (λ (u : SealerState). length u.held ≤ chunk_size) is fits in
@@ -324,13 +325,14 @@ refuses_none limits fresh gathered from to b c (stream.ChunkShort i) h = absurd 
 refuses_none limits fresh gathered from to b c (stream.EmptyFinal i) h = absurd h.1.stops.holds
 refuses_none limits fresh gathered from to b c (stream.BadChunk i) h = absurd h.1.stops.holds
 
-pub takes_sealed : (limits : Bounds) (fresh : Fresh) (gathered : Gathering) (stanzas : List StanzaParts) (mac : Bytes)
-    (from to : Seen) (a b c : Known) (fault : StreamFault)
+pub takes_sealed : {limits : Bounds} (fresh : Fresh) {gathered : Gathering} {stanzas : List StanzaParts} {mac : Bytes}
+    {from to : Seen} (a : Known) {b c : Known} (fault : StreamFault)
     → HeaderMade limits fresh.file_key gathered stanzas mac
     → FrontWritten stanzas mac (λ text. Appends a b (text ++ fresh.nonce)) → length fresh.nonce ≡ 16
     → SealsAll (at_start (payload_key fresh.file_key fresh.nonce) limits.max_chunks) (flow from to) (moved b c)
     (Err fault)
     → TookWhileEncrypting limits fresh gathered (flow from to) (moved a c) (stream_fault fault)
-takes_sealed limits fresh gathered stanzas mac from to a b c fault header (text, head, front) sixteen seals =
+takes_sealed {limits} fresh {gathered} {stanzas} {mac} {from} {to} a {b} {c} fault header
+    (text, head, front) sixteen seals =
     takes_payload limits fresh gathered text from to a b c fault sixteen
     (made limits fresh.file_key gathered stanzas mac text header head) front seals

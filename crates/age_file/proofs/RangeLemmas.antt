@@ -35,11 +35,11 @@ use Rattle.age_file.proofs.AtStateLemmas.{first-none, first-stays}
 use Rattle.age_file.proofs.DecryptLemmas.{err-err, found-key, headed, reads-file}
 
 -- a header that was read from the first byte on
-pub header-found : (limits : Bounds) (told : Known) (at : ℕ) (a b : Seen) (h : HeaderParts)
+pub header-found : (limits : Bounds) (told : Known) (at : ℕ) {a b : Seen} (h : HeaderParts)
     → a.to_come ≡ option_map (drop 0) told → b.to_come ≡ option_map (drop at) told → IsWithin told at
     → Inspects limits (flow a b) (Ok h) → HasHeader limits told at h
-header-found limits None at x y h old new w i = tt
-header-found limits (Some b) at x y h old new w i =
+header-found limits None at h old new w i = tt
+header-found limits (Some b) at {a = x} {b = y} h old new w i =
     let is = headed limits x y h i in
     let all : b ≡ is.text ++ drop at b = subst (λ (t : Known). Consumes (Some b) t is.text) new
     (subst (λ (t : Known). Consumes t y.to_come is.text) old is.took.consumes) in
@@ -75,12 +75,12 @@ refused limits b header.Truncated h = inr (inr (header.Truncated, h, refl))
 refused limits b header.TooLarge h = inr (inr (header.TooLarge, h, refl))
 
 -- no header
-pub header-missed : (limits : Bounds) (told : Known) (a mid : Seen) (fault : Fault)
+pub header-missed : (limits : Bounds) (told : Known) {a mid : Seen} (fault : Fault)
     → a.to_come ≡ option_map (drop 0) told → Inspects limits (flow a mid) (Err fault)
     → MissesHeader limits told fault
-header-missed limits None a mid fault old i = inr (inr tt)
-header-missed limits (Some b) a mid fault old (Ok parts, is, h) = absurd (cc)
-header-missed limits (Some b) a mid fault old (Err g, is, h) =
+header-missed limits None fault old i = inr (inr tt)
+header-missed limits (Some b) fault old (Ok parts, is, h) = absurd (cc)
+header-missed limits (Some b) {a} {mid} fault old (Err g, is, h) =
     subst (MissesHeader limits (Some b)) (sym (err-err {A = HeaderParts} fault (header_fault g) is))
     (refused limits b g (of-known (λ x. Refuses x limits.max_header g) (flow a mid) b old h))
 
@@ -130,10 +130,10 @@ inspect-open header.TooLarge = tt
 inspect-open header.Read = tt
 inspect-open header.Memory = tt
 
-pub header-named : (limits : Bounds) (old mid : Seen) (fault : Fault) → Inspects limits (flow old mid) (Err fault)
+pub header-named : (limits : Bounds) {old mid : Seen} (fault : Fault) → Inspects limits (flow old mid) (Err fault)
     → IsOpenFault fault
-header-named limits old mid fault (Ok parts, is, h) = absurd (cc)
-header-named limits old mid fault (Err g, is, h) =
+header-named limits fault (Ok parts, is, h) = absurd (cc)
+header-named limits fault (Err g, is, h) =
     subst IsOpenFault (sym (err-err {A = HeaderParts} fault (header_fault g) is)) (inspect-open g)
 
 either-open : (b : Bool) (x y : Result FileKey Fault) → IfErr x IsOpenFault → IfErr y IsOpenFault
@@ -172,11 +172,11 @@ payload-named fault.Memory h = tt
 
 -- ---- why a file was not opened
 
-pub header-refuses : (limits : Bounds) (answers : Answering) (told told2 : Known) (failed failed2 : ℕ) (fault : Fault)
-    → MissesHeader limits told fault → IsOpenFault fault
+pub header-refuses : (limits : Bounds) (answers : Answering) (told : Known) {told2 : Known} (failed : ℕ) {failed2 : ℕ}
+    {fault : Fault} → MissesHeader limits told fault → IsOpenFault fault
     → told2 ≡ told → CountsFaultIf is_read failed failed2 fault
     → RefusesRanges limits answers (moved told told2) failed failed2 fault
-header-refuses limits answers told told2 failed failed2 fault m early stay count =
+header-refuses limits answers told failed {fault} m early stay count =
     record { misses = missed-ranges limits answers told fault m; named = early; stay = stay; counted = count }
 
 none-counted : (fault : Fault) (old new : ℕ) → IsNoDeviceFault fault → new ≡ old → CountsFaultIf is_read old new fault
@@ -215,30 +215,31 @@ payload-refuses limits answers told mid told2 failed failed1 failed2 at max h k 
 
 -- ---- a file that was opened
 
-pub file-begins : (limits : Bounds) (answers : Answering) (gave : ℕ → ℕ → Type 0) (size : Option ℕ)
-    (chunks : stream.RangeState) (at : ℕ) (h : HeaderParts) (k : FileKey) → GaveHeader limits gave at h
+pub file-begins : (limits : Bounds) (answers : Answering) {gave : ℕ → ℕ → Type 0} {size : Option ℕ}
+    {chunks : stream.RangeState} (at : ℕ) (h : HeaderParts) (k : FileKey) → GaveHeader limits gave at h
     → (◌≡◌ {A = Result FileKey Fault} (Ok k) (Err OutOfMemory)) ⊎ (Ok k ≡ unlocked answers h)
     → stream.BeginsAt k at gave size chunks → BeginsFile limits answers gave size chunks
-file-begins limits answers gave size chunks at h k first key b =
+file-begins limits answers at h k first key b =
     record { header = h; at = at; first = first; key = k; chosen = found-key (unlocked answers h) k key; begins = b }
 
 -- what was given stays so
-pub header-stays : (limits : Bounds) (old new : ℕ → ℕ → Type 0) (at : ℕ) (h : HeaderParts) → StaysGiven old new
+pub header-stays : {limits : Bounds} {old new : ℕ → ℕ → Type 0} {at : ℕ} {h : HeaderParts} → StaysGiven old new
     → GaveHeader limits old at h → GaveHeader limits new at h
-header-stays limits old new at h stays first = record {
+header-stays {old} {new} {at} stays first = record {
   text = first.text;
   gave_text = first-stays old new at first.text stays first.gave_text;
   verdict = first.verdict;
 }
 
-pub file-ranges : (limits : Bounds) (answers : Answering) (told mid told2 : Known) (given given1 given2 at max : ℕ)
-    (h : HeaderParts) (k : FileKey) (chunks : stream.RangeState) → mid ≡ told → given1 ≤ given + at
+pub file-ranges : (limits : Bounds) (answers : Answering) (told : Known) {mid told2 : Known} (given : ℕ)
+    {given1 given2 : ℕ} (at max : ℕ) (h : HeaderParts) (k : FileKey) (chunks : stream.RangeState)
+    → mid ≡ told → given1 ≤ given + at
     → max ≡ limits.max_chunks → HasHeader limits told at h
     → (◌≡◌ {A = Result FileKey Fault} (Ok k) (Err OutOfMemory)) ⊎ (Ok k ≡ unlocked answers h)
     → OpensRanges k max at mid (Ok chunks) → stream.Probes (moved mid told2) at given1 given2
     → IfSome told (λ b. IsRangesOf limits answers b chunks given given2)
-file-ranges limits answers None mid told2 given given1 given2 at max h k chunks same le most found key opens probes = tt
-file-ranges limits answers (Some b) mid told2 given given1 given2 at max h k chunks same le most found key opens
+file-ranges limits answers None given at max h k chunks same le most found key opens probes = tt
+file-ranges limits answers (Some b) {told2} given {given1} {given2} at max h k chunks same le most found key opens
     probes =
     let o = subst (λ t. OpensRanges k max at t (Ok chunks)) same opens in
     let p = subst (λ t. stream.Probes (moved t told2) at given1 given2) same probes in

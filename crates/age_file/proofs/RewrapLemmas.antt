@@ -72,11 +72,11 @@ none_read : (limits : Bounds) (answers : Answering) (gathered : FileKey → Gath
 none_read limits answers gathered come mid old g h =
     of-map come mid _ _ h (λ b refuses. no_header limits answers gathered b old g refuses)
 
-pub inspect_rewraps : (limits : Bounds) (answers : Answering) (gathered : FileKey → Gathering) (come mid : Seen)
+pub inspect_rewraps : (limits : Bounds) (answers : Answering) (gathered : FileKey → Gathering) {come mid : Seen}
     (old : Known) (fault : Fault) → Inspects limits (flow come mid) (Err fault)
     → Rewraps limits answers gathered (flow come mid) (moved old old) (Err fault)
-inspect_rewraps limits answers gathered come mid old fault (Ok parts, is, h) = absurd (cc)
-inspect_rewraps limits answers gathered come mid old fault (Err g, is, h) =
+inspect_rewraps limits answers gathered old fault (Ok parts, is, h) = absurd (cc)
+inspect_rewraps limits answers gathered {come} {mid} old fault (Err g, is, h) =
     subst (λ f. Rewraps limits answers gathered (flow come mid) (moved old old) (Err f))
     (sym (err-err {A = HeaderParts} fault (header_fault g) is)) (none_read limits answers gathered come mid old g h)
 
@@ -109,15 +109,15 @@ pub memory_rewraps : (limits : Bounds) (answers : Answering) (gathered : FileKey
     → Rewraps limits answers gathered (flow come mid) (moved old new) (Err OutOfMemory)
 memory_rewraps limits answers gathered come mid old new h i = of-more come mid i.text _ i.took (λ d end. tt)
 
-pub locked_rewraps : (limits : Bounds) (answers : Answering) (gathered : FileKey → Gathering) (come mid : Seen)
-    (old : Known) (h : HeaderParts) (fault : Fault)
+pub locked_rewraps : (limits : Bounds) (answers : Answering) (gathered : FileKey → Gathering) {come mid : Seen}
+    (old : Known) {h : HeaderParts} (fault : Fault)
     → IsHeaded limits come mid h → (◌≡◌ {A = Result FileKey Fault} (Err fault) (Err OutOfMemory))
     ⊎ (Err fault ≡ unlocked answers h)
     → Rewraps limits answers gathered (flow come mid) (moved old old) (Err fault)
-locked_rewraps limits answers gathered come mid old h fault i (inl is) =
+locked_rewraps limits answers gathered {come} {mid} old {h} fault i (inl is) =
     subst (λ f. Rewraps limits answers gathered (flow come mid) (moved old old) (Err f))
     (sym (err-err {A = FileKey} fault OutOfMemory is)) (memory_rewraps limits answers gathered come mid old old h i)
-locked_rewraps limits answers gathered come mid old h fault i (inr is) =
+locked_rewraps limits answers gathered {come} {mid} old {h} fault i (inr is) =
     of-more come mid i.text _ i.took (λ d end. refused limits answers gathered (i.text ++ d) old fault
     (early_unlocked answers h fault (sym is)) (Ok (found_in i.text h), i.verdict d, inl (sym is)))
 
@@ -133,14 +133,14 @@ early_refusal limits k gathered HeaderTooLarge h = tt
 early_refusal limits k gathered fault h = absurd h
 
 -- no new header was made
-pub heading_rewraps : (limits : Bounds) (answers : Answering) (gathered : FileKey → Gathering) (come mid : Seen)
+pub heading_rewraps : (limits : Bounds) (answers : Answering) (gathered : FileKey → Gathering) {come mid : Seen}
     (old : Known) (h : HeaderParts) (key : FileKey) (fault : Fault)
     → IsHeaded limits come mid h → unlocked answers h ≡ Ok key → FailsHeading limits key (gathered key) fault
     → Rewraps limits answers gathered (flow come mid) (moved old old) (Err fault)
-heading_rewraps limits answers gathered come mid old h key fault i chosen (inl is) =
+heading_rewraps limits answers gathered {come} {mid} old h key fault i chosen (inl is) =
     subst (λ g. Rewraps limits answers gathered (flow come mid) (moved old old) (Err g)) (sym is)
     (memory_rewraps limits answers gathered come mid old old h i)
-heading_rewraps limits answers gathered come mid old h key fault i chosen (inr refusal) =
+heading_rewraps limits answers gathered {come} {mid} old h key fault i chosen (inr refusal) =
     of-more come mid i.text _ i.took (λ d end. refused limits answers gathered (i.text ++ d) old fault
     (early_refusal limits key (gathered key) fault refusal)
     (Ok (found_in i.text h), i.verdict d, inr (key, chosen, refusal)))
@@ -169,11 +169,11 @@ new_file limits answers gathered come mid h key text bytes i chosen made = (
 )
 
 -- a prefix of the header was written
-pub begun_rewraps : (limits : Bounds) (answers : Answering) (gathered : FileKey → Gathering) (come mid : Seen)
+pub begun_rewraps : (limits : Bounds) (answers : Answering) (gathered : FileKey → Gathering) {come mid : Seen}
     (old new : Known) (h : HeaderParts) (key : FileKey) (text : Bytes)
     → IsHeaded limits come mid h → unlocked answers h ≡ Ok key → Made limits key (gathered key) text
     → WritesPart (moved old new) text → Rewraps limits answers gathered (flow come mid) (moved old new) (Err Write)
-begun_rewraps limits answers gathered come mid old new h key text i chosen made part =
+begun_rewraps limits answers gathered {come} {mid} old new h key text i chosen made part =
     of-more come mid i.text _ i.took (λ d end. (
       text ++ d,
       new_file limits answers gathered come mid h key text d i chosen made,
@@ -194,18 +194,18 @@ copied_part limits answers gathered come mid old put new h key text bytes i chos
       (sym (append-nil bytes)) part,
 )
 
-pub copied_rewraps : (limits : Bounds) (answers : Answering) (gathered : FileKey → Gathering)
-    (come mid to : Seen) (old put new : Known) (h : HeaderParts) (key : FileKey) (text : Bytes)
-    (r : Result (Unit {0}) Fault) → IsHeaded limits come mid h → unlocked answers h ≡ Ok key
+pub copied_rewraps : (limits : Bounds) (answers : Answering) (gathered : FileKey → Gathering) {come : Seen} (mid : Seen)
+    {to : Seen} (old put new : Known) (h : HeaderParts) (key : FileKey) (text : Bytes) (r : Result (Unit {0}) Fault)
+    → IsHeaded limits come mid h → unlocked answers h ≡ Ok key
     → Made limits key (gathered key) text → Appends old put text → Copies (flow mid to) (moved put new) r
     → Rewraps limits answers gathered (flow come to) (moved old new) r
-copied_rewraps limits answers gathered come mid to old put new h key text (Ok done) i chosen made front copied =
+copied_rewraps limits answers gathered {come} mid {to} old put new h key text (Ok done) i chosen made front copied =
     of-then come mid to i.text _ _ i.took copied (λ bytes wrote. (
       text ++ bytes,
       new_file limits answers gathered come mid h key text bytes i chosen made,
       Appends-trans old put new text bytes front wrote,
     ))
-copied_rewraps limits answers gathered come mid to old put new h key text (Err fault) i chosen made front copied =
+copied_rewraps limits answers gathered {come} mid {to} old put new h key text (Err fault) i chosen made front copied =
     go fault copied
   where
     part : (bytes : Bytes) → WritesPart (moved put new) bytes
@@ -284,8 +284,8 @@ keeps limits old new b c is chosen v = (
         (headers.found_begins c limits.max_header found begins))
 
 -- the key that was found
-pub key_found : (answers : Answering) (h : HeaderParts) (key : FileKey)
+pub key_found : (answers : Answering) (h : HeaderParts) {key : FileKey}
     → (◌≡◌ {A = Result FileKey Fault} (Ok key) (Err OutOfMemory)) ⊎ (Ok key ≡ unlocked answers h)
     → unlocked answers h ≡ Ok key
-key_found answers h key (inl e) = absurd (cc)
-key_found answers h key (inr e) = sym e
+key_found answers h (inl e) = absurd (cc)
+key_found answers h (inr e) = sym e

@@ -12,6 +12,6 @@ returns-in-Ok-true-clause-copies g c =
 
 pub returns-in-Err-clause-copies : goal.returns-in-Err-clause-copies
 returns-in-Err-clause-copies g c =
-    copied_failed (length c.split_at_mut-start.result.0.now) _ _
-    (seen_by g.S.Source.to_come g.S.Source.gave c.copy_piece.new.input) _ _
-    (g.W.Sink.taken c.copy_piece.new.out) 0 c.in-Err.fault (copied_none _ _) c.in-Err.ensures.copies
+    copied_failed (length c.split_at_mut-start.result.0.now)
+    (seen_by g.S.Source.to_come g.S.Source.gave c.copy_piece.new.input)
+    (g.W.Sink.taken c.copy_piece.new.out) c.in-Err.fault (copied_none) c.in-Err.ensures.copies

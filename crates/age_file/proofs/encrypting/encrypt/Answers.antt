@@ -22,46 +22,40 @@ returns-in_default-clause-encrypts g c =
 
 pub returns-in-Err-clause-encrypts : goal.returns-in-Err-clause-encrypts
 returns-in-Err-clause-encrypts g c =
-    encrypts_unread _ _ _ _ _ _ _ _ (unfilled _ c.fill.new.self _ _ _ _ c.new-sealer.ensures c.in-Err.ensures.fills)
-    c.in_ok-header.ensures.ok
+    encrypts_unread (unfilled c.fill.new.self _ c.new-sealer.ensures c.in-Err.ensures.fills) c.in_ok-header.ensures.ok
 
 pub returns-in_default-write_front-clause-encrypts : goal.returns-in_default-write_front-clause-encrypts
 returns-in_default-write_front-clause-encrypts g c =
-    let fills = filled _ _ _ _ _ _ _ _ c.new-sealer.ensures c.max_chunks.ensures.value c.in-Ok-fill.ensures.fills in
-    encrypts_begun _ _ _ _ _ _ _ _ _ (gave-some _ _ _ fills.1) c.in_ok-header.ensures.ok
-    c.in_default-write_front.ensures.text
+    let fills = filled c.new-sealer.ensures c.max_chunks.ensures.value c.in-Ok-fill.ensures.fills in
+    encrypts_begun (gave-some _ _ _ fills.1) c.in_ok-header.ensures.ok c.in_default-write_front.ensures.text
 
 pub returns-in_default-write_front-clause-took : goal.returns-in_default-write_front-clause-took
 returns-in_default-write_front-clause-took g c =
-    let fills = filled _ _ _ _ _ _ _ _ c.new-sealer.ensures c.max_chunks.ensures.value c.in-Ok-fill.ensures.fills in
-    takes_begun _ _ _ _ _ _ _ _ _ _ _ _ _ c.in_ok-header.ensures.ok c.in_default-write_front.ensures.text fills
+    let fills = filled c.new-sealer.ensures c.max_chunks.ensures.value c.in-Ok-fill.ensures.fills in
+    takes_begun c.in_ok-header.ensures.ok c.in_default-write_front.ensures.text fills
 
 pub returns-in-Ok-seal_rest-clause-encrypts : goal.returns-in-Ok-seal_rest-clause-encrypts
 returns-in-Ok-seal_rest-clause-encrypts g c =
-    let fills = filled _ _ _ _ _ _ _ _ c.new-sealer.ensures c.max_chunks.ensures.value c.in-Ok-fill.ensures.fills in
-    let seals = sealed_filled _ _ _ _ _ _ _ _ _ _ c.max_chunks.ensures.range.chunks_low fills
-    c.in-Ok-seal_rest.ensures.seals in
-    encrypts_sealed _ c.args.fresh.now _ _ _ (seen_by g.S.Source.to_come g.S.Source.gave c.args.plain.now)
-    (seen_by g.S.Source.to_come g.S.Source.gave c.seal_rest.new.plain) _ _ _
+    let fills = filled c.new-sealer.ensures c.max_chunks.ensures.value c.in-Ok-fill.ensures.fills in
+    let seals = sealed_filled _ _ _ _ c.max_chunks.ensures.range.chunks_low fills c.in-Ok-seal_rest.ensures.seals in
+    encrypts_sealed c.args.fresh.now _ _ _
     (Ok c.in-Ok-seal_rest.done) c.in_ok-header.ensures.ok c.in-Ok-write_front.ensures.text (search rules) seals
 
 pub returns-clause-encrypts : goal.returns-clause-encrypts
 returns-clause-encrypts g c =
-    let fills = filled _ _ _ _ _ _ _ _ c.new-sealer.ensures c.max_chunks.ensures.value c.in-Ok-fill.ensures.fills in
-    let seals = sealed_filled _ _ _ _ _ _ _ _ _ _ c.max_chunks.ensures.range.chunks_low fills
-    c.in-Err-seal_rest.ensures.seals in
-    rw c.stream_fault.ensures (encrypts_sealed _ c.args.fresh.now _ _ _ _ _ _ _ _ (Err c.in-Err-seal_rest.fault)
+    let fills = filled c.new-sealer.ensures c.max_chunks.ensures.value c.in-Ok-fill.ensures.fills in
+    let seals = sealed_filled _ _ _ _ c.max_chunks.ensures.range.chunks_low fills c.in-Err-seal_rest.ensures.seals in
+    rw c.stream_fault.ensures (encrypts_sealed c.args.fresh.now _ _ _ (Err c.in-Err-seal_rest.fault)
     c.in_ok-header.ensures.ok c.in-Ok-write_front.ensures.text (search rules) seals)
 
 pub returns-clause-spared : goal.returns-clause-spared
 returns-clause-spared g c = λ read.
-    let fills = filled _ _ _ _ _ _ _ _ c.new-sealer.ensures c.max_chunks.ensures.value c.in-Ok-fill.ensures.fills in
-    inr (read_late _ _ _ _ _ _ _ _ _ _ fills c.in-Err-seal_rest.ensures.seals (cc))
+    let fills = filled c.new-sealer.ensures c.max_chunks.ensures.value c.in-Ok-fill.ensures.fills in
+    inr (read_late _ _ _ fills c.in-Err-seal_rest.ensures.seals (cc))
 
 pub returns-clause-took : goal.returns-clause-took
 returns-clause-took g c =
-    let fills = filled _ _ _ _ _ _ _ _ c.new-sealer.ensures c.max_chunks.ensures.value c.in-Ok-fill.ensures.fills in
-    let seals = sealed_filled _ _ _ _ _ _ _ _ _ _ c.max_chunks.ensures.range.chunks_low fills
-    c.in-Err-seal_rest.ensures.seals in
-    rw c.stream_fault.ensures (takes_sealed _ c.args.fresh.now _ _ _ _ _ _ _ _ c.in-Err-seal_rest.fault
+    let fills = filled c.new-sealer.ensures c.max_chunks.ensures.value c.in-Ok-fill.ensures.fills in
+    let seals = sealed_filled _ _ _ _ c.max_chunks.ensures.range.chunks_low fills c.in-Err-seal_rest.ensures.seals in
+    rw c.stream_fault.ensures (takes_sealed c.args.fresh.now _ c.in-Err-seal_rest.fault
     c.in_ok-header.ensures.ok c.in-Ok-write_front.ensures.text (search rules) seals)

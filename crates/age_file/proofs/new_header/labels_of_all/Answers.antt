@@ -6,7 +6,7 @@ loop-recipient-init g c = rw c.new-all.ensures.items tt
 
 pub loop-recipient-preserved : goal.loop-recipient-preserved
 loop-recipient-preserved g c =
-    collects _ _ c.loop-recipient.recipient-index _ c.in_ok-labels_of.field-0 _ _ c.loop-recipient-test.true
+    collects _ _ c.loop-recipient.recipient-index c.in_ok-labels_of.field-0 _ c.loop-recipient-test.true
     c.recipient-item.is
     c.in_ok-labels_of.ensures c.in_ok-push.ensures.items c.loop-recipient.invariant
 

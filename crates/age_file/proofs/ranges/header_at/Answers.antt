@@ -6,7 +6,7 @@ use Rattle.age_file.proofs.ranges.header_at.Goals as goal
 pub returns-in-Ok-clause-header : goal.returns-in-Ok-clause-header
 returns-in-Ok-clause-header g c =
     let told = ap g.D.ReadAt.bytes (sym c.into_parts-dev.ensures.unchanged) ∙ c.into_parts-dev.ensures.bytes in
-    header-found c.args.limits.now g.K.Origin.bytes c.into_parts-dev.result.1 _ _ c.in-Ok.header
+    header-found c.args.limits.now g.K.Origin.bytes c.into_parts-dev.result.1 c.in-Ok.header
     (ap (λ (s : AtState _). option_map (drop s.at) (g.D.ReadAt.bytes s.dev)) c.new-source.ensures
     ∙ ap (option_map (drop 0)) (sym c.requires.bytes))
     (ap (λ n. option_map (drop n) (g.D.ReadAt.bytes c.inspect.new.input.dev)) (sym c.into_parts-dev.ensures.at)
@@ -27,10 +27,10 @@ returns-in-Ok-clause-first g c =
 pub returns-in-Err-clause-misses : goal.returns-in-Err-clause-misses
 returns-in-Err-clause-misses g c =
     subst (MissesHeader c.args.limits.now g.K.Origin.bytes) (sym c.of.ensures.fault)
-    (header-missed c.args.limits.now g.K.Origin.bytes _ _ c.in-Err.fault
+    (header-missed c.args.limits.now g.K.Origin.bytes c.in-Err.fault
     (ap (λ (s : AtState _). option_map (drop s.at) (g.D.ReadAt.bytes s.dev)) c.new-source.ensures
     ∙ ap (option_map (drop 0)) (sym c.requires.bytes)) c.in-Err.ensures.verdict)
 
 pub returns-in-Err-clause-named : goal.returns-in-Err-clause-named
 returns-in-Err-clause-named g c = subst IsOpenFault (sym c.of.ensures.fault)
-    (header-named c.args.limits.now _ _ c.in-Err.fault c.in-Err.ensures.verdict)
+    (header-named c.args.limits.now c.in-Err.fault c.in-Err.ensures.verdict)

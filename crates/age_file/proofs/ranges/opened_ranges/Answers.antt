@@ -10,7 +10,7 @@ pub returns-in-Err-clause-refuses : goal.returns-in-Err-clause-refuses
 returns-in-Err-clause-refuses g c =
     header-refuses c.args.limits.now (λ (s : List StanzaParts). map
     (λ i. (goal.Identity-dyn g (i.vtable, i.value)).meaning i.value s) c.args.identities.now)
-    (g.D.ReadAt.bytes c.args.dev.now) _ (g.D.ReadAt.failed c.args.dev.now) _ _ c.in-Err.ensures.misses
+    (g.D.ReadAt.bytes c.args.dev.now) (g.D.ReadAt.failed c.args.dev.now) c.in-Err.ensures.misses
     c.in-Err.ensures.named c.in-Err.ensures.left c.in-Err.ensures.counted
 
 pub returns-in-Err-unlock_header-clause-refuses : goal.returns-in-Err-unlock_header-clause-refuses
@@ -36,12 +36,12 @@ returns-in-Ok-started-clause-ranges g c =
     c.args.identities.now) in
     let opens = c.in-Ok-started.ensures.opens in (
       opens.1.stay ∙ c.in-Ok.ensures.stay,
-      file-ranges c.args.limits.now answers (g.D.ReadAt.bytes c.args.dev.now) _ _ _ _ _ c.in-Ok.found.at
+      file-ranges c.args.limits.now answers (g.D.ReadAt.bytes c.args.dev.now) _ c.in-Ok.found.at
           c.max_chunks.result c.in-Ok.found.header c.in-Ok-unlock_header.key _ c.in-Ok.ensures.stay
           c.in-Ok.ensures.given c.max_chunks.ensures.value c.in-Ok.ensures.header
           c.in-Ok-unlock_header.ensures.key opens.0 opens.1,
-      file-begins c.args.limits.now answers _ _ _ c.in-Ok.found.at c.in-Ok.found.header
-          c.in-Ok-unlock_header.key (header-stays _ _ _ _ _ opens.2 c.in-Ok.ensures.first)
+      file-begins c.args.limits.now answers c.in-Ok.found.at c.in-Ok.found.header
+          c.in-Ok-unlock_header.key (header-stays opens.2 c.in-Ok.ensures.first)
           c.in-Ok-unlock_header.ensures.key opens.3.0,
       opens.3.1,
       opens.0.0,

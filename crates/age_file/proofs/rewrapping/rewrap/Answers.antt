@@ -15,7 +15,7 @@ returns-in-Err-clause-rewraps g c =
     (map (λ r. (goal.Recipient-dyn g (r.vtable, r.value)).the_labels r.value) c.args.recipients.now) in
     let answers = λ (stanzas : List StanzaParts). map
     (λ i. (goal.Identity-dyn g (i.vtable, i.value)).meaning i.value stanzas) c.args.identities.now in
-    inspect_rewraps c.args.limits.now answers gathered _ _ (g.W.Sink.taken c.args.out.now) c.in-Err.fault
+    inspect_rewraps c.args.limits.now answers gathered (g.W.Sink.taken c.args.out.now) c.in-Err.fault
     c.in-Err.ensures.verdict
 
 pub returns-in-Err-unlock_header-clause-rewraps : goal.returns-in-Err-unlock_header-clause-rewraps
@@ -25,7 +25,7 @@ returns-in-Err-unlock_header-clause-rewraps g c =
     (map (λ r. (goal.Recipient-dyn g (r.vtable, r.value)).the_labels r.value) c.args.recipients.now) in
     let answers = λ (stanzas : List StanzaParts). map
     (λ i. (goal.Identity-dyn g (i.vtable, i.value)).meaning i.value stanzas) c.args.identities.now in
-    locked_rewraps c.args.limits.now answers gathered _ _ (g.W.Sink.taken c.args.out.now) _ c.in-Err-unlock_header.fault
+    locked_rewraps c.args.limits.now answers gathered (g.W.Sink.taken c.args.out.now) c.in-Err-unlock_header.fault
     (headed _ _ _ _ c.in-Ok.ensures.verdict) c.in-Err-unlock_header.ensures.key
 
 pub returns-in-Err-header_for-clause-rewraps : goal.returns-in-Err-header_for-clause-rewraps
@@ -35,9 +35,9 @@ returns-in-Err-header_for-clause-rewraps g c =
     (map (λ r. (goal.Recipient-dyn g (r.vtable, r.value)).the_labels r.value) c.args.recipients.now) in
     let answers = λ (stanzas : List StanzaParts). map
     (λ i. (goal.Identity-dyn g (i.vtable, i.value)).meaning i.value stanzas) c.args.identities.now in
-    heading_rewraps c.args.limits.now answers gathered _ _ (g.W.Sink.taken c.args.out.now) c.in-Ok.header
+    heading_rewraps c.args.limits.now answers gathered (g.W.Sink.taken c.args.out.now) c.in-Ok.header
     c.in-Ok-unlock_header.key c.in-Err-header_for.fault (headed _ _ _ _ c.in-Ok.ensures.verdict)
-    (key_found answers c.in-Ok.header _ c.in-Ok-unlock_header.ensures.key) c.in-Err-header_for.ensures.err
+    (key_found answers c.in-Ok.header c.in-Ok-unlock_header.ensures.key) c.in-Err-header_for.ensures.err
 
 pub returns-in_default-write_header-clause-rewraps : goal.returns-in_default-write_header-clause-rewraps
 returns-in_default-write_header-clause-rewraps g c =
@@ -47,9 +47,9 @@ returns-in_default-write_header-clause-rewraps g c =
     let answers = λ (stanzas : List StanzaParts). map
     (λ i. (goal.Identity-dyn g (i.vtable, i.value)).meaning i.value stanzas) c.args.identities.now in
     let wrote = c.in_default-write_header.ensures.text in
-    begun_rewraps c.args.limits.now answers gathered _ _ _ _ c.in-Ok.header c.in-Ok-unlock_header.key wrote.0
+    begun_rewraps c.args.limits.now answers gathered _ _ c.in-Ok.header c.in-Ok-unlock_header.key wrote.0
     (headed _ _ _ _ c.in-Ok.ensures.verdict)
-    (key_found answers c.in-Ok.header _ c.in-Ok-unlock_header.ensures.key)
+    (key_found answers c.in-Ok.header c.in-Ok-unlock_header.ensures.key)
     (made _ _ (gathered c.in-Ok-unlock_header.key) _ _ wrote.0 c.in-Ok-header_for.ensures.ok wrote.1) wrote.2
 
 pub returns-clause-rewraps : goal.returns-clause-rewraps
@@ -60,11 +60,10 @@ returns-clause-rewraps g c =
     let answers = λ (stanzas : List StanzaParts). map
     (λ i. (goal.Identity-dyn g (i.vtable, i.value)).meaning i.value stanzas) c.args.identities.now in
     let wrote = c.in-Ok-write_header.ensures.text in
-    copied_rewraps c.args.limits.now answers gathered _
-    (seen_by g.S.Source.to_come g.S.Source.gave c.inspect.new.input) _ _
+    copied_rewraps c.args.limits.now answers gathered (seen_by g.S.Source.to_come g.S.Source.gave c.inspect.new.input) _
     (g.W.Sink.taken c.write_header.new.out) _ c.in-Ok.header c.in-Ok-unlock_header.key wrote.0
     c.copy_all.result (headed _ _ _ _ c.in-Ok.ensures.verdict)
-    (key_found answers c.in-Ok.header _ c.in-Ok-unlock_header.ensures.key)
+    (key_found answers c.in-Ok.header c.in-Ok-unlock_header.ensures.key)
     (made _ _ (gathered c.in-Ok-unlock_header.key) _ _ wrote.0 c.in-Ok-header_for.ensures.ok wrote.1) wrote.2
     c.copy_all.ensures.copies
 
