@@ -36,11 +36,11 @@ missed_from limits raw key from to old e h =
     of-map from to _ _ h (λ b reads. missed_of limits raw key b (flow from to) old e reads)
 
 -- there is no header
-pub missed : (limits l : Bounds) (raw : Bool) (key : Option Bytes) (from to : Seen) (old : Known) (fault : Fault)
+pub missed : {limits l : Bounds} (raw : Bool) (key : Option Bytes) {from to : Seen} (old : Known) {fault : Fault}
     → l ≡ limits → Inspects l (flow from to) (Err fault)
     → Inspecting limits raw key (flow from to) (moved old old) (Err fault)
-missed limits l raw key from to old fault same (Ok h, is, reads) = absurd (cc)
-missed limits l raw key from to old fault same (Err e, is, reads) =
+missed raw key old same (Ok h, is, reads) = absurd (cc)
+missed {limits} raw key {from} {to} old {fault} same (Err e, is, reads) =
     let one : ◌≡◌ {A = Fault} fault (header_fault e) = cc in
     subst (λ f. Inspecting limits raw key (flow from to) (moved old old) (Err f)) (sym one)
     (missed_from limits raw key from to old e
@@ -58,12 +58,12 @@ shown_of limits raw key from to old new h fault reads (inr (is, k)) =
     (of-map from to _ _ reads (λ b found. k))
 
 -- all of a header was shown
-pub shown : (limits l : Bounds) (raw : Bool) (key : Option Bytes) (from to : Seen) (old new : Known)
-    (h : HeaderParts) (checked : Check) (r : Result ⊤ Fault) → l ≡ limits
+pub shown : {limits l : Bounds} (raw : Bool) (key : Option Bytes) {from to : Seen} (old new : Known) {h : HeaderParts}
+    (checked : Check) {r : Result ⊤ Fault} → l ≡ limits
     → Inspects l (flow from to) (Ok h) → checked ≡ check_of key h → Shows raw h checked (moved old new) (Ok tt)
     → r ≡ checked_result checked → OfGiven (flow from to) (λ b. ShowsAll limits raw key b (moved old new) r)
-shown limits l raw key from to old new h checked r same (Err e, is, reads) made shows tells = absurd (cc)
-shown limits l raw key from to old new h checked r same (Ok g, is, reads) made shows tells =
+shown raw key old new checked same (Err e, is, reads) made shows tells = absurd (cc)
+shown {l} raw key {from} {to} old new {h} checked same (Ok g, is, reads) made shows tells =
     let one : ◌≡◌ {A = HeaderParts} g h = cc in
     of-map from to _ _ (subst (λ (m : Bounds). ReadsHeader (flow from to) m.max_header (Ok h)) same
     (subst (λ (x : HeaderParts). ReadsHeader (flow from to) l.max_header (Ok x)) one reads)) (λ b found. (
@@ -75,12 +75,12 @@ shown limits l raw key from to old new h checked r same (Ok g, is, reads) made s
     ))
 
 -- a header that was not shown to its end, or not at all where memory was refused
-pub shown_in_part : (limits l : Bounds) (raw : Bool) (key : Option Bytes) (from to : Seen) (old new : Known)
-    (h : HeaderParts) (checked : Check) (fault : Fault) → l ≡ limits
+pub shown_in_part : {limits l : Bounds} (raw : Bool) (key : Option Bytes) {from to : Seen} (old new : Known)
+    {h : HeaderParts} {checked : Check} {fault : Fault} → l ≡ limits
     → Inspects l (flow from to) (Ok h) → checked ≡ check_of key h → Shows raw h checked (moved old new) (Err fault)
     → Inspecting limits raw key (flow from to) (moved old new) (Err fault)
-shown_in_part limits l raw key from to old new h checked fault same (Err e, is, reads) made shows = absurd (cc)
-shown_in_part limits l raw key from to old new h checked fault same (Ok g, is, reads) made shows =
+shown_in_part raw key old new same (Err e, is, reads) made shows = absurd (cc)
+shown_in_part {limits} {l} raw key {from} {to} old new {h} {fault} same (Ok g, is, reads) made shows =
     let one : ◌≡◌ {A = HeaderParts} g h = cc in
     shown_of limits raw key from to old new h fault
     (subst (λ (m : Bounds). ReadsHeader (flow from to) m.max_header (Ok h)) same

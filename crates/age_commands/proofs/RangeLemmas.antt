@@ -65,12 +65,12 @@ within_one : (at n m i : ℕ) → chunk_size * i < at + n → n ≤ m → m ≤ 
 within_one at n m i to low within = omega arith
 
 -- what a range that stops has not written
-pub stopped : (told : Known) (s : RangeState) (at left most : ℕ) (was buf : Bytes) (opened : ℕ) (fault : StreamFault)
-    (named : Fault) (old : Known)
+pub stopped : {told : Known} {s : RangeState} (at left : ℕ) {most : ℕ} {was buf : Bytes} {opened : ℕ}
+    {fault : StreamFault} {named : Fault} {old : Known}
     → most ≤ left → most ≤ chunk_size - at % chunk_size → named ≡ stream_fault fault → IsSound told s
     → Stops told s at (range_len s at most) was buf opened fault
     → WritesRange told s at left (moved old old) (Err named)
-stopped told s at left most was buf opened fault named old le within is sound stops =
+stopped {told} {s} at left {most} {old} le within is sound stops =
     let some : 0 < range_len s at most = stops.some in
     let to : chunk_size * stops.chunk < at + range_len s at most = stops.to in
     elim stops.lost [
@@ -88,10 +88,10 @@ stopped told s at left most was buf opened fault named old le within is sound st
     ]
 
 -- a piece was written
-pub written : (told : Known) (layout : Layout) (at n : ℕ) (buf rest : Bytes) (old new : Known) → n ≤ length buf
+pub written : {told : Known} {layout : Layout} (at n : ℕ) (buf rest : Bytes) {old new : Known} → n ≤ length buf
     → HasPlain told layout at (take n buf)
     → Appends old new (take n (buf ++ rest)) → WritesPlain told layout at n (moved old new)
-written told layout at n buf rest old new le plain a = record {
+written at n buf rest {old} {new} le plain a = record {
   part = take n buf;
   size = length-take-le n buf le;
   plain = plain;
@@ -99,11 +99,11 @@ written told layout at n buf rest old new le plain a = record {
 }
 
 -- a prefix of a piece was written
-pub written_part : (told : Known) (layout : Layout) (at n k most : ℕ) (buf rest : Bytes) (old new : Known)
+pub written_part : {told : Known} {layout : Layout} (at n k : ℕ) {most : ℕ} (buf rest : Bytes) {old new : Known}
     → n ≤ length buf → HasPlain told layout at (take n buf) → n ≤ most
     → Appends old new (take k (take n (buf ++ rest))) → (x : ℕ) × (x ≤ most)
     × WritesPlain told layout at x (moved old new)
-written_part told layout at n k most buf rest old new le plain low a =
+written_part {told} {layout} at n k buf rest {old} {new} le plain low a =
     let l : length (take k (take n buf)) ≡ min k (length (take n buf)) = length-take k (take n buf) in
     let m : length (take n buf) ≡ n = length-take-le n buf le in (
       length (take k (take n buf)),
@@ -117,11 +117,11 @@ written_part told layout at n k most buf rest old new le plain low a =
     )
 
 -- two parts that follow one another are one
-pub joined : (told again : Known) (layout same : Layout) (at k from n m : ℕ) (old mid new : Known) → again ≡ told
+pub joined : (told again : Known) (layout same : Layout) (at k from n m : ℕ) {old mid new : Known} → again ≡ told
     → same ≡ layout → from ≡ at + k → m ≡ k + n
     → WritesPlain told layout at k (moved old mid) → WritesPlain again same from n (moved mid new)
     → WritesPlain told layout at m (moved old new)
-joined told again layout same at k from n m old mid new et el ef em one more =
+joined told again layout same at k from n m {old} {mid} {new} et el ef em one more =
     let all : length (one.part ++ more.part) ≡ length one.part + length more.part = length-append one.part more.part in
     let a : length one.part ≡ k = one.size in
     let b : length more.part ≡ n = more.size in
@@ -140,9 +140,9 @@ joined told again layout same at k from n m old mid new et el ef em one more =
 abbrev pub IsWhole : (plain begin at left : ℕ) → Type 0
 IsWhole plain begin at left = (at ≡ begin) ⊎ ((at % chunk_size ≡ 0) ⊎ ((plain ≤ at) ⊎ (left ≡ 0)))
 
-pub whole_on : (plain begin at left n : ℕ) → n ≡ min (min left (chunk_size - at % chunk_size)) (plain - at)
+pub whole_on : {plain begin : ℕ} (at left : ℕ) {n : ℕ} → n ≡ min (min left (chunk_size - at % chunk_size)) (plain - at)
     → IsWhole plain begin (at + n) (left - n)
-whole_on plain begin at left n is = elim (cases_lt n left) [
+whole_on at left {n} is = elim (cases_lt n left) [
   | inl lt ↦ elim (cases_lt n (chunk_size - at % chunk_size)) [
     | inl less ↦ inr (inr (inl (omega arith)))
     | inr ge ↦ inr (inl (omega arith))
@@ -150,10 +150,11 @@ whole_on plain begin at left n is = elim (cases_lt n left) [
   | inr ge ↦ inr (inr (inr (omega arith)))
 ]
 
-pub some_on : (plain begin len at left n : ℕ) → n ≡ min (min left (chunk_size - at % chunk_size)) (plain - at)
+pub some_on : (plain : ℕ) {begin : ℕ} (len : ℕ) {at : ℕ} (left : ℕ) {n : ℕ}
+    → n ≡ min (min left (chunk_size - at % chunk_size)) (plain - at)
     → at + left ≡ begin + len → begin ≤ at → at - begin ≤ min len (plain - begin)
     → at + n - begin ≤ min len (plain - begin)
-some_on plain begin len at left n is end low some = omega arith
+some_on plain len left is end low some = omega arith
 
 -- where the chunk begins that stops a range
 before_chunk : (plain begin at left i : ℕ) → IsWhole plain begin at left → begin ≤ at → 0 < min left (plain - at)
@@ -164,13 +165,13 @@ before_chunk plain begin at left i (inr (inr (inl e))) low some from = absurd (o
 before_chunk plain begin at left i (inr (inr (inr e))) low some from = absurd (omega arith)
 
 -- a range that fails after a part
-pub failed_on : (told again : Known) (s t : RangeState) (begin len at left : ℕ) (old mid new : Known) (fault : Fault)
+pub failed_on : {told again : Known} {s t : RangeState} (begin len at left : ℕ) {old mid new : Known} {fault : Fault}
     → again ≡ told → t.layout ≡ s.layout
     → at + left ≡ begin + len → begin ≤ at → at - begin ≤ range_len s begin len → IsWhole s.layout.plain begin at left
     → WritesPlain told s.layout begin (at - begin) (moved old mid)
     → WritesRange again t at left (moved mid new) (Err fault)
     → WritesRange told s begin len (moved old new) (Err fault)
-failed_on told again s t begin len at left old mid new fault et el end low some whole one (inl (i, is, stops)) =
+failed_on {told} {again} {s} {t} begin len at left {old} {mid} {new} et el end low some whole one (inl (i, is, stops)) =
     let plain : t.layout.plain ≡ s.layout.plain = ap (λ (l : Layout). l.plain) el in
     let has : 0 < range_len t at left = stops.has.some in
     let from : at < chunk_size * (i + 1) = stops.has.from in
@@ -183,12 +184,11 @@ failed_on told again s t begin len at left old mid new fault et el end low some 
         lost = subst (λ (l : Layout). opens_to told l i ≡ None) el
             (subst (λ (k : Known). opens_to k t.layout i ≡ None) et stops.lost);
         writes = joined told again s.layout t.layout begin (at - begin) at (chunk_size * i - at)
-            (chunk_size * i - begin) old mid
-            new et el (omega arith)
+            (chunk_size * i - begin) et el (omega arith)
             (before_chunk s.layout.plain begin at left i whole low (omega arith) from) one stops.writes;
       },
     )
-failed_on told again s t begin len at left old mid new fault et el end low some whole one
+failed_on {told} {again} {s} {t} begin len at left {old} {mid} {new} et el end low some whole one
     (inr (which, (n, within, more))) =
     let plain : t.layout.plain ≡ s.layout.plain = ap (λ (l : Layout). l.plain) el in
     inr (
@@ -196,20 +196,19 @@ failed_on told again s t begin len at left old mid new fault et el end low some 
       (
         at - begin + n,
         omega arith,
-        joined told again s.layout t.layout begin (at - begin) at n (at - begin + n) old mid new et el (omega arith)
-            refl one more,
+        joined told again s.layout t.layout begin (at - begin) at n (at - begin + n) et el (omega arith) refl one more,
       ),
     )
 
 -- a source that was opened, by one identity in a list
-pub ranged : {X : Type 0} (m : X → List StanzaParts → Unwrapped) (items : List X) (x : X) (l limits : Bounds)
-    (at len : ℕ) (told again : Known) (s : RangeState) (given given2 : ℕ)
-    (old new : Known) (r : Result ⊤ Fault) → items ≡ x ∷ [] → l ≡ limits → again ≡ told
+pub ranged : {X : Type 0} (m : X → List StanzaParts → Unwrapped) (items : List X) (x : X) {l limits : Bounds}
+    (at len : ℕ) {told again : Known} {s : RangeState} (given given2 : ℕ) (old new : Known) (r : Result ⊤ Fault)
+    → items ≡ x ∷ [] → l ≡ limits → again ≡ told
     → IfSome told (λ b. IsRangesOf l (λ stanzas. map (λ i. m i stanzas) items) b s given given2)
     → (IsSound again s → WritesRange again s at len (moved old new) r)
     → Ranging limits (λ stanzas. m x stanzas ∷ []) at len told (moved old new) r
-ranged m items x l limits at len None again s given given2 old new r one is et opens writes = tt
-ranged m items x l limits at len (Some b) again s given given2 old new r one is et opens writes =
+ranged m items x at len {told = None} given given2 old new r one is et opens writes = tt
+ranged m items x {l} {limits} at len {told = Some b} {s} given given2 old new r one is et opens writes =
     let opened : IsRangesOf limits (λ stanzas. m x stanzas ∷ []) b s given given2 =
     subst (λ (k : Bounds). IsRangesOf k (λ stanzas. m x stanzas ∷ []) b s given given2) is
     (subst (λ xs. IsRangesOf l (λ stanzas. map (λ i. m i stanzas) xs) b s given given2) one opens) in
@@ -223,21 +222,21 @@ ranged m items x l limits at len (Some b) again s given given2 old new r one is 
     })
 
 -- one that was not
-pub unopened : {X : Type 0} (m : X → List StanzaParts → Unwrapped) (items : List X) (x : X) (l limits : Bounds)
-    (at len : ℕ) (told old : Known) (fault : Fault) → items ≡ x ∷ [] → l ≡ limits
+pub unopened : {X : Type 0} (m : X → List StanzaParts → Unwrapped) (items : List X) (x : X) {l limits : Bounds}
+    (at len : ℕ) (told old : Known) {fault : Fault} → items ≡ x ∷ [] → l ≡ limits
     → MissesRanges l (λ stanzas. map (λ i. m i stanzas) items) told fault
     → Ranging limits (λ stanzas. m x stanzas ∷ []) at len told (moved old old) (Err fault)
-unopened m items x l limits at len None old fault one is misses = tt
-unopened m items x l limits at len (Some b) old fault one is misses =
+unopened m items x at len None old one is misses = tt
+unopened m items x {l} at len (Some b) old {fault} one is misses =
     inl (
       subst (λ (k : Bounds). MissesRanges k (λ stanzas. m x stanzas ∷ []) (Some b) fault) is
           (subst (λ xs. MissesRanges l (λ stanzas. map (λ i. m i stanzas) xs) (Some b) fault) one misses),
       Keeps-refl old,
     )
 
-pub ranging_meant : (f g : List StanzaParts → Unwrapped) (limits : Bounds) (at len : ℕ) (told old new : Known)
+pub ranging_meant : {f g : List StanzaParts → Unwrapped} (limits : Bounds) (at len : ℕ) (told old new : Known)
     (r : Result ⊤ Fault) → f ≡ g
     → Ranging limits (λ s. f s ∷ []) at len told (moved old new) r
     → Ranging limits (λ s. g s ∷ []) at len told (moved old new) r
-ranging_meant f g limits at len told old new r same h =
+ranging_meant limits at len told old new r same h =
     subst (λ (m : List StanzaParts → Unwrapped). Ranging limits (λ s. m s ∷ []) at len told (moved old new) r) same h

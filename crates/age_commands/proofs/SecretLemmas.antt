@@ -24,19 +24,19 @@ use Rattle.age_file.specs.declared.fault.Fault.TheVariants.{OutOfMemory}
 use Rattle.age_file.specs.Rewrap.{Rewraps}
 use Rattle.age_commands.specs.Task.{Encrypting}
 
-pub decrypts_alone : {X : Type 0} (m : X → List StanzaParts → Unwrapped) (items : List X) (x : X) (l limits : Bounds)
-    (source : Flow) (old new : Known) (r : Result Done Fault)
+pub decrypts_alone : {X : Type 0} (m : X → List StanzaParts → Unwrapped) (items : List X) (x : X) {l limits : Bounds}
+    {source : Flow} (old new : Known) (r : Result Done Fault)
     → items ≡ x ∷ [] → l ≡ limits → Decrypts l (λ s. map (λ i. m i s) items) source (moved old new) r
     → Decrypts limits (λ s. m x s ∷ []) source (moved old new) r
-decrypts_alone m items x l limits source old new r one is h =
+decrypts_alone m items x {l} {source} old new r one is h =
     subst (λ b. Decrypts b (λ s. m x s ∷ []) source (moved old new) r) is
     (subst (λ xs. Decrypts l (λ s. map (λ i. m i s) xs) source (moved old new) r) one h)
 
-pub decrypting_meant : (f g : List StanzaParts → Unwrapped) (limits : Bounds) (source : Flow) (old new : Known)
+pub decrypting_meant : {f g : List StanzaParts → Unwrapped} (limits : Bounds) {source : Flow} (old new : Known)
     (r : Result Done Fault) → f ≡ g
     → Decrypts limits (λ s. f s ∷ []) source (moved old new) r → Decrypts limits (λ s. g s ∷ []) source (moved old new)
     r
-decrypting_meant f g limits source old new r same h =
+decrypting_meant limits {source} old new r same h =
     subst (λ (m : List StanzaParts → Unwrapped). Decrypts limits (λ s. m s ∷ []) source (moved old new) r) same h
 
 pub salvages_alone : {X : Type 0} (m : X → List StanzaParts → Unwrapped) (items : List X) (x : X) (l limits : Bounds)
@@ -56,25 +56,24 @@ salvaging_meant f g limits source old new before after r same h =
     subst (λ (m : List StanzaParts → Unwrapped). SalvagesFile limits (λ s. m s ∷ []) source (moved old new)
     (told before after) r) same h
 
-pub encrypting_meant : (w v : FileKey → Result (List StanzaParts) ℕ) (l m : Labels) (limits : Bounds) (fresh : Fresh)
-    (source : Flow) (old new : Known) (r : Result Done Fault) → w ≡ v → l ≡ m
+pub encrypting_meant : {w v : FileKey → Result (List StanzaParts) ℕ} {l m : Labels} {limits : Bounds} {fresh : Fresh}
+    {source : Flow} {old new : Known} {r : Result Done Fault} → w ≡ v → l ≡ m
     → Encrypting limits fresh (Gathered (w fresh.file_key ∷ []) (l ∷ [])) source (moved old new) r
     → Encrypting limits fresh (Gathered (v fresh.file_key ∷ []) (m ∷ [])) source (moved old new) r
-encrypting_meant w v l m limits fresh source old new r same labels h =
+encrypting_meant {v} {l} {limits} {fresh} {source} {old} {new} {r} same labels h =
     subst (λ (x : Labels). Encrypting limits fresh (Gathered (v fresh.file_key ∷ []) (x ∷ [])) source (moved old new) r)
     labels
     (subst (λ (x : FileKey → Result (List StanzaParts) ℕ). Encrypting limits fresh
     (Gathered (x fresh.file_key ∷ []) (l ∷ [])) source (moved old new) r) same h)
 
 pub rewraps_alone : {X Y : Type 0} (m : X → List StanzaParts → Unwrapped)
-    (w : Y → FileKey → Result (List StanzaParts) ℕ) (labels : Y → Labels)
-    (items : List X) (x : X) (others : List Y) (y : Y) (l limits : Bounds) (source : Flow) (old new : Known)
-    (r : Result ⊤ Fault)
+    (w : Y → FileKey → Result (List StanzaParts) ℕ) (labels : Y → Labels) {items : List X} (x : X) {others : List Y}
+    (y : Y) {l limits : Bounds} {source : Flow} (old new : Known) (r : Result ⊤ Fault)
     → items ≡ x ∷ [] → others ≡ y ∷ [] → l ≡ limits
     → Rewraps l (λ s. map (λ i. m i s) items) (λ key. Gathered (map (λ o. w o key) others) (map (λ o. labels o) others))
     source (moved old new) r
     → Rewraps limits (λ s. m x s ∷ []) (λ key. Gathered (w y key ∷ []) (labels y ∷ [])) source (moved old new) r
-rewraps_alone m w labels items x others y l limits source old new r one other is h =
+rewraps_alone m w labels x {others} y {l} {source} old new r one other is h =
     subst (λ b. Rewraps b (λ s. m x s ∷ []) (λ key. Gathered (w y key ∷ []) (labels y ∷ [])) source (moved old new) r)
     is
     (subst (λ ys. Rewraps l (λ s. m x s ∷ []) (λ key. Gathered (map (λ o. w o key) ys) (map (λ o. labels o) ys)) source
@@ -82,12 +81,11 @@ rewraps_alone m w labels items x others y l limits source old new r one other is
     (subst (λ xs. Rewraps l (λ s. map (λ i. m i s) xs)
     (λ key. Gathered (map (λ o. w o key) others) (map (λ o. labels o) others)) source (moved old new) r) one h))
 
-pub rewrapping_meant : (f g : List StanzaParts → Unwrapped) (w v : FileKey → Result (List StanzaParts) ℕ) (l m : Labels)
-    (limits : Bounds) (source : Flow) (old new : Known) (r : Result ⊤ Fault)
-    → f ≡ g → w ≡ v → l ≡ m
+pub rewrapping_meant : {f g : List StanzaParts → Unwrapped} {w v : FileKey → Result (List StanzaParts) ℕ} {l m : Labels}
+    (limits : Bounds) {source : Flow} (old new : Known) (r : Result ⊤ Fault) → f ≡ g → w ≡ v → l ≡ m
     → Rewraps limits (λ s. f s ∷ []) (λ key. Gathered (w key ∷ []) (l ∷ [])) source (moved old new) r
     → Rewraps limits (λ s. g s ∷ []) (λ key. Gathered (v key ∷ []) (m ∷ [])) source (moved old new) r
-rewrapping_meant f g w v l m limits source old new r same wraps labels h =
+rewrapping_meant {g} {w} {v} {l} limits {source} old new r same wraps labels h =
     subst
     (λ (x : Labels). Rewraps limits (λ s. g s ∷ []) (λ key. Gathered (v key ∷ []) (x ∷ [])) source (moved old new) r)
     labels
@@ -97,9 +95,9 @@ rewrapping_meant f g w v l m limits source old new r same wraps labels h =
     source (moved old new) r) same h))
 
 -- one more is made for the next key
-pub wrapped_more : {S : Type 0} (f : Bytes → S) (keys : List Bytes) (i : ℕ) (old one new : List S) → i < length keys
+pub wrapped_more : {S : Type 0} (f : Bytes → S) (keys : List Bytes) (i : ℕ) {old one new : List S} → i < length keys
     → new ≡ old ++ one → one ≡ f (get_or keys i []) ∷ [] → old ≡ map f (take i keys) → new ≡ map f (take (i + 1) keys)
-wrapped_more f keys i old one new low added is before =
+wrapped_more f keys i {one} low added is before =
     added ∙ ap (λ xs. xs ++ one) before ∙ ap (λ ys. map f (take i keys) ++ ys) is
     ∙ sym (map_push f (take i keys) (get_or keys i []))
     ∙ ap (map f) (sym (take_more keys i [] low))

@@ -25,17 +25,17 @@ known-any None P p = tt
 known-any (Some told) P p = p told
 
 -- what holds of any bytes
-pub unseen-any : (from : Known) (P : Bytes → Type 0) → ((b : Bytes) → P b) → OfGiven (unseen from) P
-unseen-any from P p = record { given = []; grew = λ past h. tt; holds = p []; known = known-any from P p }
+pub unseen-any : (from : Known) {P : Bytes → Type 0} → ((b : Bytes) → P b) → OfGiven (unseen from) P
+unseen-any from {P} p = record { given = []; grew = λ past h. tt; holds = p []; known = known-any from P p }
 
 -- memory was refused before a task began
 pub no_memory : (job : Job) (task : Task) (from old : Known) → Performs job task from (moved old old) (Err OutOfMemory)
-no_memory job (Encrypt secret seed) from old = (Err OutOfMemory, refl, unseen-any from _ (λ b. tt), tt)
-no_memory job (Decrypt secret) from old = (Err OutOfMemory, refl, unseen-any from _ (λ b. tt))
-no_memory job (Rewrap one other salt) from old = unseen-any from _ (λ b. tt)
-no_memory job (Inspect key) from old = unseen-any from _ (λ b. Keeps-refl old)
+no_memory job (Encrypt secret seed) from old = (Err OutOfMemory, refl, unseen-any from (λ b. tt), tt)
+no_memory job (Decrypt secret) from old = (Err OutOfMemory, refl, unseen-any from (λ b. tt))
+no_memory job (Rewrap one other salt) from old = unseen-any from (λ b. tt)
+no_memory job (Inspect key) from old = unseen-any from (λ b. Keeps-refl old)
 no_memory job (Salvage secret) from old =
-    (Err OutOfMemory, refl, (told None None, unseen-any from _ (λ b. (Appends-nil old, tt))))
+    (Err OutOfMemory, refl, (told None None, unseen-any from (λ b. (Appends-nil old, tt))))
 no_memory job (Range secret) from old = (None, inl (tt, Keeps-refl old))
 
 pub no_memory_quiet : {W : Type 0} (task : Task) (old : W) → PerformsQuietly task old old (Err OutOfMemory)

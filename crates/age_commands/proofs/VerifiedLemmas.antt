@@ -54,10 +54,10 @@ filled gave layout at n buf le verified k lt =
     (verified k (omega (arith, l, lt)))
 
 -- a piece was written
-pub written : (gave : ℕ → ℕ → Type 0) (layout : Layout) (at n : ℕ) (buf rest : Bytes) (old new : Known)
+pub written : {gave : ℕ → ℕ → Type 0} {layout : Layout} (at n : ℕ) (buf rest : Bytes) {old new : Known}
     → n ≤ length buf → ((k : ℕ) → k < n → IsVerifiedByte gave layout (at + k) (slice_index buf k))
     → Appends old new (take n (buf ++ rest)) → WritesVerified gave layout at n (moved old new)
-written gave layout at n buf rest old new le verified a = record {
+written {gave} {layout} at n buf rest {old} {new} le verified a = record {
   part = take n buf;
   size = length-take-le n buf le;
   verified = filled gave layout at n buf le verified;
@@ -65,11 +65,12 @@ written gave layout at n buf rest old new le verified a = record {
 }
 
 -- a prefix of a piece was written
-pub written_part : (gave : ℕ → ℕ → Type 0) (layout : Layout) (at n k most : ℕ) (buf rest : Bytes) (old new : Known)
+pub written_part : {gave : ℕ → ℕ → Type 0} {layout : Layout} (at n k : ℕ) {most : ℕ} (buf rest : Bytes)
+    {old new : Known}
     → n ≤ length buf → ((k : ℕ) → k < n → IsVerifiedByte gave layout (at + k) (slice_index buf k)) → n ≤ most
     → Appends old new (take k (take n (buf ++ rest)))
     → (x : ℕ) × (x ≤ most) × WritesVerified gave layout at x (moved old new)
-written_part gave layout at n k most buf rest old new le verified low a =
+written_part {gave} {layout} at n k buf rest {old} {new} le verified low a =
     let l : length (take k (take n buf)) ≡ min k (length (take n buf)) = length-take k (take n buf) in
     let m : length (take n buf) ≡ n = length-take-le n buf le in (
       length (take k (take n buf)),
@@ -83,10 +84,10 @@ written_part gave layout at n k most buf rest old new le verified low a =
     )
 
 -- a range that stops within its first piece has written nothing
-pub stopped : (gave : ℕ → ℕ → Type 0) (told : Known) (s : RangeState) (at left most : ℕ) (was buf : Bytes)
-    (opened : ℕ) (fault : StreamFault) (named : Fault) (old : Known) → most ≤ left → named ≡ stream_fault fault
+pub stopped : {gave : ℕ → ℕ → Type 0} {told : Known} {s : RangeState} (at left : ℕ) {most : ℕ} {was buf : Bytes}
+    {opened : ℕ} {fault : StreamFault} {named : Fault} {old : Known} → most ≤ left → named ≡ stream_fault fault
     → Stops told s at (range_len s at most) was buf opened fault → WritesAny gave s at left (moved old old) (Err named)
-stopped gave told s at left most was buf opened fault named old le is stops =
+stopped {gave} {s} at left {most} {old} le is stops =
     let some : 0 < range_len s at most = stops.some in
     let to : chunk_size * stops.chunk < at + range_len s at most = stops.to in (
       elim stops.lost [
@@ -112,11 +113,11 @@ part_of_whole s t begin len at left fault el end low (inl (i, is, has)) =
     inl (i, is, record { some = omega arith; from = omega arith; to = omega arith })
 
 -- two parts that follow one another are one
-pub joined : (early late : ℕ → ℕ → Type 0) (layout same : Layout) (at k from n m : ℕ) (old mid new : Known)
+pub joined : (early late : ℕ → ℕ → Type 0) (layout same : Layout) (at k from n m : ℕ) {old mid new : Known}
     → StaysGiven early late → same ≡ layout → from ≡ at + k → m ≡ k + n
     → WritesVerified early layout at k (moved old mid) → WritesVerified late same from n (moved mid new)
     → WritesVerified late layout at m (moved old new)
-joined early late layout same at k from n m old mid new stays el ef em one more =
+joined early late layout same at k from n m {old} {mid} {new} stays el ef em one more =
     let all : length (one.part ++ more.part) ≡ length one.part + length more.part = length-append one.part more.part in
     let a : length one.part ≡ k = one.size in
     let b : length more.part ≡ n = more.size in
@@ -142,30 +143,31 @@ joined early late layout same at k from n m old mid new stays el ef em one more 
     }
 
 -- a range that fails after a part
-pub failed_on : (early late : ℕ → ℕ → Type 0) (s t : RangeState) (begin len at left : ℕ) (old mid new : Known)
-    (fault : Fault) → StaysGiven early late → t.layout ≡ s.layout → at + left ≡ begin + len → begin ≤ at
+pub failed_on : {early late : ℕ → ℕ → Type 0} (s t : RangeState) (begin len at left : ℕ) {old mid new : Known}
+    {fault : Fault} → StaysGiven early late → t.layout ≡ s.layout → at + left ≡ begin + len → begin ≤ at
     → at - begin ≤ range_len s begin len
     → WritesVerified early s.layout begin (at - begin) (moved old mid)
     → WritesAny late t at left (moved mid new) (Err fault) → WritesAny late s begin len (moved old new) (Err fault)
-failed_on early late s t begin len at left old mid new fault stays el end low some one (which, (n, within, more)) =
+failed_on {early} {late} s t begin len at left {old} {mid} {new} {fault} stays el end low some one
+    (which, (n, within, more)) =
     let plain : t.layout.plain ≡ s.layout.plain = ap (λ (l : Layout). l.plain) el in (
       part_of_whole s t begin len at left fault el end low which,
       (
         at - begin + n,
         omega (arith, within, plain, end, low, some),
-        joined early late s.layout t.layout begin (at - begin) at n (at - begin + n) old mid new stays el
+        joined early late s.layout t.layout begin (at - begin) at n (at - begin + n) stays el
             (omega (arith, low)) refl one more,
       ),
     )
 
 -- a source that was opened, by one identity in a list
-pub ranged : {D X : Type 0} (gave : D → ℕ → ℕ → Type 0) (found : D → Option ℕ) (m : X → List StanzaParts → Unwrapped)
-    (items : List X) (x : X) (l limits : Bounds) (at len : ℕ) (source new : D) (s : RangeState) (old taken : Known)
-    (r : Result ⊤ Fault) → items ≡ x ∷ [] → l ≡ limits
+pub ranged : {D X : Type 0} {gave : D → ℕ → ℕ → Type 0} {found : D → Option ℕ} (m : X → List StanzaParts → Unwrapped)
+    (items : List X) (x : X) {l limits : Bounds} (at len : ℕ) (source : D) {new : D} {s : RangeState}
+    {old taken : Known} {r : Result ⊤ Fault} → items ≡ x ∷ [] → l ≡ limits
     → BeginsFile l (λ stanzas. map (λ i. m i stanzas) items) (gave source) (found source) s
     → WritesAny (gave new) s at len (moved old taken) r
     → RangingAny gave found limits (λ stanzas. m x stanzas ∷ []) at len new (moved old taken) r
-ranged gave found m items x l limits at len source new s old taken r one is begins writes = inr (record {
+ranged {gave} {found} m items x {l} at len source {s} one is begins writes = inr (record {
   source = source;
   state = s;
   begins = subst (λ (k : Bounds). BeginsFile k (λ stanzas. m x stanzas ∷ []) (gave source) (found source) s) is
@@ -174,27 +176,26 @@ ranged gave found m items x l limits at len source new s old taken r one is begi
 })
 
 -- one that was not
-pub unopened : {D : Type 0} (gave : D → ℕ → ℕ → Type 0) (found : D → Option ℕ) (limits : Bounds) (answers : Answering)
-    (at len : ℕ) (new : D) (old : Known) (fault : Fault) → IsOpenFault fault
+pub unopened : {D : Type 0} {gave : D → ℕ → ℕ → Type 0} {found : D → Option ℕ} {limits : Bounds} {answers : Answering}
+    (at len : ℕ) {new : D} {old : Known} {fault : Fault} → IsOpenFault fault
     → RangingAny gave found limits answers at len new (moved old old) (Err fault)
-unopened gave found limits answers at len new old fault named = inl (named, Keeps-refl old)
+unopened at len {old} named = inl (named, Keeps-refl old)
 
-pub ranging_meant : {D : Type 0} (gave : D → ℕ → ℕ → Type 0) (found : D → Option ℕ)
-    (f g : List StanzaParts → Unwrapped) (limits : Bounds) (at len : ℕ) (new : D) (old taken : Known)
-    (r : Result ⊤ Fault) → f ≡ g
+pub ranging_meant : {D : Type 0} {gave : D → ℕ → ℕ → Type 0} {found : D → Option ℕ} {f g : List StanzaParts → Unwrapped}
+    {limits : Bounds} {at len : ℕ} {new : D} {old taken : Known} {r : Result ⊤ Fault} → f ≡ g
     → RangingAny gave found limits (λ s. f s ∷ []) at len new (moved old taken) r
     → RangingAny gave found limits (λ s. g s ∷ []) at len new (moved old taken) r
-ranging_meant gave found f g limits at len new old taken r same h =
+ranging_meant {gave} {found} {limits} {at} {len} {new} {old} {taken} {r} same h =
     subst (λ (m : List StanzaParts → Unwrapped). RangingAny gave found limits (λ s. m s ∷ []) at len new
     (moved old taken) r) same h
 
 -- a range of a source, of which proofs see the size alone
-pub ranges_unseen : {D : Type 0} (found : D → Option ℕ) (job : Job) (secret : Secret) (new : D) (sink : Moved)
-    (r : Result ⊤ Fault)
+pub ranges_unseen : {D : Type 0} {found : D → Option ℕ} (job : Job) (secret : Secret) {new : D} {sink : Moved}
+    {r : Result ⊤ Fault}
     → RangingAny (λ _ _ _. ⊤) found (limits_of job) (answers_of secret job.max_work) job.at job.len new sink r
     → RangesUnseen job secret sink r
-ranges_unseen found job secret new sink r (inl none) = (None, inl none)
-ranges_unseen found job secret new sink r (inr o) = (
+ranges_unseen job secret (inl none) = (None, inl none)
+ranges_unseen {found} job secret (inr o) = (
   found o.source,
   inr (record { source = found o.source; state = o.state; begins = o.begins; writes = o.writes }),
 )

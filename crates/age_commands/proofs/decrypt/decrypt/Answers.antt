@@ -11,7 +11,7 @@ pub returns-in-Ok-new-clause-decrypts : goal.returns-in-Ok-new-clause-decrypts
 returns-in-Ok-new-clause-decrypts g c =
     let same = read_made own-1 entry-1-1 at-1-1 same-1-1 _ (λ j y. j.1.meaning y) _ _ _ c.into_dyn_box.ensures.1
     ∙ ap unwraps_of (c.in-Ok-new.ensures.ok ∙ c.in-Ok.ensures) in
-    decrypting_meant _ _ _ _ _ _ _ same c.decrypt_by.ensures.decrypts
+    decrypting_meant _ _ _ _ same c.decrypt_by.ensures.decrypts
 
 pub returns-in_default-clause-decrypts : goal.returns-in_default-clause-decrypts
 returns-in_default-clause-decrypts g c =

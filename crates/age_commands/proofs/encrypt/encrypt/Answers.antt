@@ -14,7 +14,7 @@ returns-in-Ok-new-clause-encrypts g c =
     ∙ ap wraps_of made in
     let labels = read_made own-1 entry-1-1 at-1-1 same-1-1 _ (λ j y. j.1.the_labels y) _ _ _ c.into_dyn_box.ensures.1
     ∙ ap labels_of made in
-    encrypting_meant _ _ _ _ _ _ _ _ _ _ wraps labels c.encrypt_for.ensures.encrypts
+    encrypting_meant wraps labels c.encrypt_for.ensures.encrypts
 
 pub returns-in_default-clause-encrypts : goal.returns-in_default-clause-encrypts
 returns-in_default-clause-encrypts g c =

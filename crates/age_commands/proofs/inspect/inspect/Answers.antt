@@ -7,7 +7,7 @@ use Rattle.age_header.specs.Device.{flow_by}
 
 pub returns-in-Err-clause-inspects : goal.returns-in-Err-clause-inspects
 returns-in-Err-clause-inspects g c =
-    missed _ _ _ _ _ _ _ _ c.limits_of.ensures
+    missed _ _ _ c.limits_of.ensures
     (subst (λ r. Inspects c.limits_of.result
     (flow_by g.S.Source.to_come g.S.Source.gave c.args.input.now c.inspect.new.input) r)
     c.in-Err.is c.inspect.ensures.verdict)
@@ -15,7 +15,7 @@ returns-in-Err-clause-inspects g c =
 pub returns-in_err-show-clause-inspects : goal.returns-in_err-show-clause-inspects
 returns-in_err-show-clause-inspects g c =
     let is : c.from_residual.result ≡ Err c.in_err-show.field-0.0 = search rules in
-    rw is (shown_in_part _ _ _ _ _ _ _ _ _ _ _ c.limits_of.ensures
+    rw is (shown_in_part _ _ _ _ c.limits_of.ensures
     (subst (λ r. Inspects c.limits_of.result
     (flow_by g.S.Source.to_come g.S.Source.gave c.args.input.now c.inspect.new.input) r)
     c.in-Ok.is c.inspect.ensures.verdict)
@@ -23,7 +23,7 @@ returns-in_err-show-clause-inspects g c =
 
 pub returns-in-Bad-clause-inspects : goal.returns-in-Bad-clause-inspects
 returns-in-Bad-clause-inspects g c =
-    shown _ _ _ _ _ _ _ _ _ c.in-Ok-check_of.check _ c.limits_of.ensures
+    shown _ _ _ _ c.in-Ok-check_of.check c.limits_of.ensures
     (subst (λ r. Inspects c.limits_of.result
     (flow_by g.S.Source.to_come g.S.Source.gave c.args.input.now c.inspect.new.input) r)
     c.in-Ok.is c.inspect.ensures.verdict)
@@ -31,7 +31,7 @@ returns-in-Bad-clause-inspects g c =
 
 pub returns : goal.returns
 returns g c = record {
-  inspects = shown _ _ _ _ _ _ _ _ _ c.in-Ok-check_of.check _ c.limits_of.ensures
+  inspects = shown _ _ _ _ c.in-Ok-check_of.check c.limits_of.ensures
       (subst (λ r. Inspects c.limits_of.result
       (flow_by g.S.Source.to_come g.S.Source.gave c.args.input.now c.inspect.new.input) r)
       c.in-Ok.is c.inspect.ensures.verdict)

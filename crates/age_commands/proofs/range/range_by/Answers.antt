@@ -8,8 +8,8 @@ use Rattle.age_commands.proofs.range.range_by.Goals as goal
 
 pub returns-in-Ok-opened_ranges-clause-known : goal.returns-in-Ok-opened_ranges-clause-known
 returns-in-Ok-opened_ranges-clause-known g c =
-    ranged (λ i. (goal.Identity-dyn g (i.vtable, i.value)).meaning i.value) c.in-Ok.identities.items c.args.identity _ _
-    c.args.job.now.at c.args.job.now.len _ _ _ _ _ _ _ _ (search rules)
+    ranged (λ i. (goal.Identity-dyn g (i.vtable, i.value)).meaning i.value) c.in-Ok.identities.items c.args.identity
+    c.args.job.now.at c.args.job.now.len _ _ _ _ _ (search rules)
     c.limits_of.ensures c.in-Ok-opened_ranges.ensures.ranges.0
     (rw c.as_slice.ensures.value at c.in-Ok-opened_ranges.ensures.ranges.1) c.write_range-written.ensures.known
 
@@ -17,8 +17,8 @@ pub returns-in-Ok-opened_ranges-clause-any : goal.returns-in-Ok-opened_ranges-cl
 returns-in-Ok-opened_ranges-clause-any g c =
     let same = c.into_inner-source.ensures.same_reference ∙ c.write_range-written.ensures.same_reference
     ∙ c.in-Ok-opened_ranges.ensures.same_reference in
-    verified.ranged _ _ (λ i. (goal.Identity-dyn g (i.vtable, i.value)).meaning i.value) c.in-Ok.identities.items
-    c.args.identity _ _ c.args.job.now.at c.args.job.now.len _ _ _ _ _ _ (search rules)
+    verified.ranged (λ i. (goal.Identity-dyn g (i.vtable, i.value)).meaning i.value) c.in-Ok.identities.items
+    c.args.identity c.args.job.now.at c.args.job.now.len _ (search rules)
     c.limits_of.ensures (rw c.as_slice.ensures.value at c.in-Ok-opened_ranges.ensures.ranges.2)
     (subst (λ d. WritesAny (g.D.ReadAt.gave d) c.in-Ok-opened_ranges.reader.chunks c.args.job.now.at c.args.job.now.len
     (moved (g.W.Sink.taken c.args.out.now) (g.W.Sink.taken c.write_range-written.new.out)) c.write_range-written.result)
@@ -29,13 +29,13 @@ pub returns-clause-known : goal.returns-clause-known
 returns-clause-known g c =
     rw c.fault.ensures.fault
     (unopened (λ i. (goal.Identity-dyn g (i.vtable, i.value)).meaning i.value) c.in-Ok.identities.items c.args.identity
-    _ _ c.args.job.now.at c.args.job.now.len _ _ _ (search rules)
+    c.args.job.now.at c.args.job.now.len _ _ (search rules)
     c.limits_of.ensures (rw c.as_slice.ensures.value at c.in-Err.ensures.refuses.misses))
 
 pub returns-clause-any : goal.returns-clause-any
 returns-clause-any g c =
     rw c.fault.ensures.fault
-    (verified.unopened _ _ _ _ c.args.job.now.at c.args.job.now.len _ _ _ c.in-Err.ensures.refuses.named)
+    (verified.unopened c.args.job.now.at c.args.job.now.len c.in-Err.ensures.refuses.named)
 
 pub returns-clause-writes : goal.returns-clause-writes
 returns-clause-writes g c =

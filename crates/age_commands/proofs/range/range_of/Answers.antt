@@ -10,10 +10,10 @@ pub returns-in-Ok-new-clause-known : goal.returns-in-Ok-new-clause-known
 returns-in-Ok-new-clause-known g c =
     let same = read_made own-1 entry-1-1 at-1-1 same-1-1 _ (λ j y. j.1.meaning y) _ _ _ c.into_dyn_box.ensures.1
     ∙ ap unwraps_of (c.in-Ok-new.ensures.ok ∙ c.in-Ok.ensures) in
-    ranging_meant _ _ _ _ _ _ _ _ _ same c.range_by.ensures.known
+    ranging_meant _ _ _ _ _ _ _ same c.range_by.ensures.known
 
 pub returns-in-Ok-new-clause-any : goal.returns-in-Ok-new-clause-any
 returns-in-Ok-new-clause-any g c =
     let same = read_made own-1 entry-1-1 at-1-1 same-1-1 _ (λ j y. j.1.meaning y) _ _ _ c.into_dyn_box.ensures.1
     ∙ ap unwraps_of (c.in-Ok-new.ensures.ok ∙ c.in-Ok.ensures) in
-    verified.ranging_meant _ _ _ _ _ _ _ _ _ _ _ same c.range_by.ensures.any
+    verified.ranging_meant same c.range_by.ensures.any

@@ -5,35 +5,33 @@ use Rattle.age_commands.proofs.range.write_next.Goals as goal
 
 pub returns-in-Err-clause-known : goal.returns-in-Err-clause-known
 returns-in-Err-clause-known g c = λ sound.
-    stopped _ _ c.args.at c.args.left _ _ _ _ _ _ _ (search rules) (search rules) c.from.ensures sound
-    c.in-Err.ensures.reads.stop
+    stopped c.args.at c.args.left (search rules) (search rules) c.from.ensures sound c.in-Err.ensures.reads.stop
 
 pub returns-in-Ok-write_all-clause-known : goal.returns-in-Ok-write_all-clause-known
 returns-in-Ok-write_all-clause-known g c = λ sound.
-    written _ _ c.args.at c.in-Ok.n c.read_range.new.buf _ _ _ (search rules) (c.in-Ok.ensures.reads.filled.1 sound)
+    written c.args.at c.in-Ok.n c.read_range.new.buf _ (search rules) (c.in-Ok.ensures.reads.filled.1 sound)
     c.in-Ok-write_all.ensures.text
 
 pub returns-in-Err-write_all-clause-known : goal.returns-in-Err-write_all-clause-known
 returns-in-Err-write_all-clause-known g c = λ sound.
     inr (
       inr refl,
-      written_part _ _ c.args.at c.in-Ok.n _ _ c.read_range.new.buf _ _ _ (search rules)
+      written_part c.args.at c.in-Ok.n _ c.read_range.new.buf _ (search rules)
           (c.in-Ok.ensures.reads.filled.1 sound) (search rules) c.in-Err-write_all.ensures.text.1,
     )
 
 pub returns-in-Err-clause-any : goal.returns-in-Err-clause-any
 returns-in-Err-clause-any g c = λ keeps.
-    verified.stopped _ _ _ c.args.at c.args.left _ _ _ _ _ _ _ (search rules) c.from.ensures
-    c.in-Err.ensures.reads.stop
+    verified.stopped c.args.at c.args.left (search rules) c.from.ensures c.in-Err.ensures.reads.stop
 
 pub returns-in-Ok-write_all-clause-any : goal.returns-in-Ok-write_all-clause-any
 returns-in-Ok-write_all-clause-any g c = λ keeps.
-    verified.written _ _ c.args.at c.in-Ok.n c.read_range.new.buf _ _ _ (search rules)
+    verified.written c.args.at c.in-Ok.n c.read_range.new.buf _ (search rules)
     (c.in-Ok.ensures.reads.verified keeps) c.in-Ok-write_all.ensures.text
 
 pub returns-in-Err-write_all-clause-any : goal.returns-in-Err-write_all-clause-any
 returns-in-Err-write_all-clause-any g c = λ keeps. (
   inr (inr refl),
-  verified.written_part _ _ c.args.at c.in-Ok.n _ _ c.read_range.new.buf _ _ _ (search rules)
+  verified.written_part c.args.at c.in-Ok.n _ c.read_range.new.buf _ (search rules)
       (c.in-Ok.ensures.reads.verified keeps) (search rules) c.in-Err-write_all.ensures.text.1,
 )

@@ -10,15 +10,14 @@ use Rattle.age_commands.proofs.range.write_range.Goals as goal
 pub returns-in-Err-clause-any : goal.returns-in-Err-clause-any
 returns-in-Err-clause-any g c = λ keeps.
     let inv = c.loop-left.invariant in
-    verified.failed_on _ _ c.args.reader.now.chunks c.loop-left.reader.chunks c.args.at c.args.len c.loop-left.at
-    c.loop-left.left _ _ _ _
-    c.write_next.ensures.stays_given inv.same inv.end inv.begin inv.some (inv.verified keeps)
+    verified.failed_on c.args.reader.now.chunks c.loop-left.reader.chunks c.args.at c.args.len c.loop-left.at
+    c.loop-left.left c.write_next.ensures.stays_given inv.same inv.end inv.begin inv.some (inv.verified keeps)
     (c.in-Err.ensures.any (inv.keeps keeps))
 
 pub returns-in-Err-clause-known : goal.returns-in-Err-clause-known
 returns-in-Err-clause-known g c = λ sound.
     let inv = c.loop-left.invariant in
-    failed_on _ _ _ _ c.args.at c.args.len c.loop-left.at c.loop-left.left _ _ _ _ inv.stay inv.same inv.end inv.begin
+    failed_on c.args.at c.args.len c.loop-left.at c.loop-left.left inv.stay inv.same inv.end inv.begin
     inv.some inv.whole (inv.written sound)
     (c.in-Err.ensures.known (subst (λ (k : Known). IsSound k c.loop-left.reader.chunks) (sym inv.stay)
     (inv.sound sound)))
@@ -45,17 +44,16 @@ loop-left-preserved g c =
       sound = λ sound. subst (λ (k : Known). IsSound k c.write_next.new.reader.chunks) inv.stay
           (c.in-Ok.ensures.sound (subst (λ (k : Known). IsSound k c.loop-left.reader.chunks) (sym inv.stay)
           (inv.sound sound)));
-      some = some_on _ _ _ _ _ _ number end begin inv.some;
-      whole = whole_on _ _ _ _ _ number;
+      some = some_on _ _ _ number end begin inv.some;
+      whole = whole_on _ _ number;
       written = λ sound. joined _ _ _ _ c.args.at (c.loop-left.at - c.args.at) c.loop-left.at c.in-Ok.n
-          (c.loop-left.at + c.in-Ok.n - c.args.at) _ _ _ inv.stay inv.same (omega arith) (omega arith)
-          (inv.written sound)
+          (c.loop-left.at + c.in-Ok.n - c.args.at) inv.stay inv.same (omega arith) (omega arith) (inv.written sound)
           (c.in-Ok.ensures.known (subst (λ (k : Known). IsSound k c.loop-left.reader.chunks) (sym inv.stay)
           (inv.sound sound)));
       given = λ at byte was. c.write_next.ensures.stays_given at byte (inv.given at byte was);
       keeps = λ keeps. c.write_next.ensures.keeps_verified (inv.keeps keeps);
       verified = λ keeps. verified.joined _ _ _ _ c.args.at (c.loop-left.at - c.args.at) c.loop-left.at c.in-Ok.n
-          (c.loop-left.at + c.in-Ok.n - c.args.at) _ _ _ c.write_next.ensures.stays_given inv.same (omega arith)
+          (c.loop-left.at + c.in-Ok.n - c.args.at) c.write_next.ensures.stays_given inv.same (omega arith)
           (omega arith) (inv.verified keeps) (c.in-Ok.ensures.any (inv.keeps keeps));
       reads = c.in-Ok.ensures.reads ∙ inv.reads;
       writes = c.in-Ok.ensures.writes ∙ inv.writes;
@@ -74,7 +72,7 @@ returns-in-Ok-eq0-clause-any g c = λ keeps.
     (ap (λ (l : Layout). l.plain) inv.same) in
     let some : at - c.args.at ≤ min c.args.len (plain - c.args.at) = inv.some in
     let more : 0 < left = omega (arith, c.loop-left-test.true) in
-    verified.joined _ _ _ _ c.args.at (at - c.args.at) at n (min c.args.len (plain - c.args.at)) _ _ _
+    verified.joined _ _ _ _ c.args.at (at - c.args.at) at n (min c.args.len (plain - c.args.at))
     c.write_next.ensures.stays_given inv.same (omega (arith, inv.begin))
     (omega (arith, none, number, more, some, inv.end, inv.begin)) (inv.verified keeps)
     (c.in-Ok-eq0.ensures.any (inv.keeps keeps))

@@ -16,7 +16,7 @@ returns-in-Ok-new-3-clause-rewraps g c =
     c.into_dyn_box-in-Ok-new-3.ensures.1 ∙ ap wraps_of made in
     let labels = read_made own-2 entry-2-1 at-2-1 same-2-1 _ (λ j y. j.1.the_labels y) _ _ _
     c.into_dyn_box-in-Ok-new-3.ensures.1 ∙ ap labels_of made in
-    rewrapping_meant _ _ _ _ _ _ _ _ _ _ _ answers wraps labels c.rewrap_for.ensures.rewraps
+    rewrapping_meant _ _ _ _ answers wraps labels c.rewrap_for.ensures.rewraps
 
 pub returns-in_default-clause-rewraps : goal.returns-in_default-clause-rewraps
 returns-in_default-clause-rewraps g c =

@@ -9,7 +9,7 @@ returns-clause-rewraps g c =
     let answers = rw (c.as_slice.ensures.value, c.as_slice-2.ensures.value) at c.rewrap.ensures.rewraps in
     rewraps_alone (λ i. (goal.Identity-dyn g (i.vtable, i.value)).meaning i.value)
     (λ r. (goal.Recipient-dyn g (r.vtable, r.value)).wraps r.value)
-    (λ r. (goal.Recipient-dyn g (r.vtable, r.value)).the_labels r.value) _ c.args.identity _ c.args.recipient _ _ _ _ _
+    (λ r. (goal.Recipient-dyn g (r.vtable, r.value)).the_labels r.value) c.args.identity c.args.recipient _ _
     _ (search rules) (search rules)
     c.limits_of.ensures answers
 

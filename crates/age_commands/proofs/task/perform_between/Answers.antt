@@ -16,7 +16,7 @@ returns-in_default-source_at_offsets-clause-performs g c = no_memory c.args.job.
 
 pub returns-in-Ok-source_at_offsets-clause-performs : goal.returns-in-Ok-source_at_offsets-clause-performs
 returns-in-Ok-source_at_offsets-clause-performs g c =
-    rw c.in-Range.is (ranges_unseen _ c.args.job.now c.in-Range.secret _ _ _ c.range_of.ensures.any)
+    rw c.in-Range.is (ranges_unseen c.args.job.now c.in-Range.secret c.range_of.ensures.any)
 
 pub returns-in_default-file_source-2-clause-performs : goal.returns-in_default-file_source-2-clause-performs
 returns-in_default-file_source-2-clause-performs g c = no_memory c.args.job.now c.args.task _ _
