@@ -42,17 +42,17 @@ first_is key i size left piece sized is =
     ] in
     ap (outcome key limits.max_chunks i (nat_le (length left) sealed_chunk_size)) (whole ∙ same)
 
-pub first_given : (o p : Result Bytes StreamFault) (n : ℕ) (after text old new : Bytes) → p ≡ o
+pub first_given : {o p : Result Bytes StreamFault} (n : ℕ) (after text old : Bytes) {new : Bytes} → p ≡ o
     → GivesText p after (Ok n) → text ≡ take n after → new ≡ text ++ drop n old
     → GivesFirst o old new (Ok n)
-first_given o p n after text old new same h is put =
+first_given n after text old {new} same h is put =
     let len : length text ≡ n = ap length is ∙ length-take-le n after h.1 in
     subst (λ x. GivesFirst x old new (Ok n)) (ap Ok is ∙ sym h.0 ∙ same)
     (ap Ok (sym len), put ∙ ap (λ k. text ++ drop k old) (sym len))
 
-pub first_fault : (o p : Result Bytes StreamFault) (fault : StreamFault) (after old : Bytes) → p ≡ o
+pub first_fault : {o p : Result Bytes StreamFault} (fault : StreamFault) (after old : Bytes) → p ≡ o
     → GivesText p after (Err fault) → GivesFirst o old old (Err fault)
-first_fault o p fault after old same h = subst (λ x. GivesFirst x old old (Err fault)) (sym h ∙ same) (refl, refl)
+first_fault fault after old same h = subst (λ x. GivesFirst x old old (Err fault)) (sym h ∙ same) (refl, refl)
 
 -- ---- one chunk after another
 
@@ -133,12 +133,12 @@ faulty (Ok text) fault old new h = absurd (cc (h.0))
 faulty (Err f) fault old new h = (ap Err (same_fault f fault h.0), h.1)
 
 -- a chunk had a fault
-pub read_stops : (key sealed old out : Bytes) (at len number : ℕ) (fault : StreamFault) (mid new : Bytes)
-    → IsReadTo key sealed old out at len number
+pub read_stops : {key sealed old : Bytes} (out : Bytes) (at len number : ℕ) (fault : StreamFault) (mid : Bytes)
+    {new : Bytes} → IsReadTo key sealed old out at len number
     → GivesFirst (first_outcome key limits.max_chunks number (drop at sealed)) (drop len out) mid (Err fault)
     → new ≡ take len out ++ mid
     → GivesReading (reading_from key limits.max_chunks 0 sealed) old new len (Some fault)
-read_stops key sealed old out at len number fault mid new r gives joined =
+read_stops {key} {sealed} {old} out at len number fault mid {new} r gives joined =
     let f = faulty (first_outcome key limits.max_chunks number (drop at sealed)) fault (drop len out) mid gives in
     let same : new ≡ out = joined ∙ ap (λ m. take len out ++ m) f.1 ∙ take-append-drop len out in
     let all : reading_from key limits.max_chunks 0 sealed ≡ before (take len out) (stops fault) =
@@ -181,12 +181,12 @@ put old out mid new text len n fits count is joined rest =
     }
 
 -- the last chunk opened
-pub read_ends : (key sealed old out : Bytes) (at len number n : ℕ) (mid new : Bytes)
+pub read_ends : {key sealed old : Bytes} (out : Bytes) (at len number n : ℕ) (mid : Bytes) {new : Bytes}
     → IsReadTo key sealed old out at len number
     → GivesFirst (first_outcome key limits.max_chunks number (drop at sealed)) (drop len out) mid (Ok n)
     → new ≡ take len out ++ mid → length (drop at sealed) ≤ sealed_chunk_size
     → len + n ≤ length out → GivesReading (reading_from key limits.max_chunks 0 sealed) old new (len + n) None
-read_ends key sealed old out at len number n mid new r gives joined last fits =
+read_ends {key} {sealed} {old} out at len number n mid {new} r gives joined last fits =
     let o = opened (first_outcome key limits.max_chunks number (drop at sealed)) n (drop len out) mid gives in
     let p = put old out mid new o.0 len n fits o.2 o.3 joined r.rest in
     let none : None ≡ after_first (drop at sealed) =
@@ -200,13 +200,13 @@ read_ends key sealed old out at len number n mid new r gives joined last fits =
     (ap (λ (x : Reading StreamFault). x.fault) all) p.rest
 
 -- another chunk opened
-pub read_more : (key sealed old out : Bytes) (at len number n : ℕ) (mid new : Bytes)
+pub read_more : {key sealed old : Bytes} (out : Bytes) (at len number n : ℕ) (mid : Bytes) {new : Bytes}
     → IsReadTo key sealed old out at len number
     → GivesFirst (first_outcome key limits.max_chunks number (drop at sealed)) (drop len out) mid (Ok n)
     → new ≡ take len out ++ mid → sealed_chunk_size < length (drop at sealed)
     → n ≡ min (length (drop at sealed)) sealed_chunk_size - 16
     → IsReadTo key sealed old new (at + sealed_chunk_size) (len + n) (number + 1)
-read_more key sealed old out at len number n mid new r gives joined more count =
+read_more {key} {sealed} {old} out at len number n mid {new} r gives joined more count =
     let fits : len + n ≤ length out = omega (arith, count, text_fits key sealed old out at len number r) in
     let o = opened (first_outcome key limits.max_chunks number (drop at sealed)) n (drop len out) mid gives in
     let p = put old out mid new o.0 len n fits o.2 o.3 joined r.rest in
@@ -278,15 +278,16 @@ reading_fits reading v old new report code len fault is gives size reported retu
       buffer = gives.buffer;
     })
 
-pub decrypts_opened : (answers : Answering) (b rest old new : Bytes) (report : Report) (code len : ℕ) (start : Start)
-    (fault : Option StreamFault) → FindsStart answers b (Ok start)
+pub decrypts_opened : (answers : Answering) {b : Bytes} (rest old new : Bytes) {report : Report} {code : ℕ} (len : ℕ)
+    (start : Start) (fault : Option StreamFault) → FindsStart answers b (Ok start)
     → rest ≡ drop start.first b → opened_len (length rest) ≤ length old
     → GivesReading (reading_from start.key limits.max_chunks 0 rest) old new len fault → length new ≡ length old
     → report ≡ report_of len (option_map stream_fault fault) → code ≡ code_of (option_map stream_fault fault)
     → Decrypts answers b old new report code
-decrypts_opened answers b rest old new report code len start fault (inl memory) back room gives size reported returned =
+decrypts_opened answers rest old new len start fault (inl memory) back room gives size reported returned =
     absurd (cc)
-decrypts_opened answers b rest old new report code len start fault (inr (header, verdict, is)) back room gives size
+decrypts_opened answers {b} rest old new {report} {code} len start fault
+    (inr (header, verdict, is)) back room gives size
     reported returned =
     let v : Reading Fault = judged limits answers b header in
     let judged_so : IsVerdict limits answers b v = record { header = header; header_verdict = verdict; is = refl } in
@@ -301,11 +302,11 @@ decrypts_opened answers b rest old new report code len start fault (inr (header,
       inr (there, (v, judged_so, reading_fits _ v old new report code len fault from mine size reported returned)),
     )
 
-pub no_room : (answers : Answering) (b rest old : Bytes) (report : Report) (room : ℕ) (start : Start)
-    → FindsStart answers b (Ok start) → rest ≡ drop start.first b
+pub no_room : (answers : Answering) {b : Bytes} (rest : Bytes) {old : Bytes} {report : Report} (room : ℕ)
+    (start : Start) → FindsStart answers b (Ok start) → rest ≡ drop start.first b
     → room ≡ opened_len (length rest) → report ≡ report_of room None → length old < room
     → Decrypts answers b old old report 21
-no_room answers b rest old report room start found back is reported more =
+no_room answers {b} rest {old} {report} room start found back is reported more =
     decrypts_exceeds answers b old old report 21 room start found
     (is ∙ ap opened_len (ap length back ∙ length-drop start.first b))
     (record { exceeds = more; returned = refl; reported = reported; buffer = refl })

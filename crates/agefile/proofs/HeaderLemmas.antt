@@ -36,10 +36,10 @@ of_answer b source r (Err header.Read) same count h = let rises = subst (CountsI
     absurd (omega arith)
 of_answer b source r (Err reason) same count h = subst (HeaderOf b) (sym same) (inr (reason, h, refl))
 
-pub header_found : (l : Bounds) (b : Bytes) (source : Flow) (r : Result HeaderParts Fault) → l ≡ limits
+pub header_found : {l : Bounds} {b : Bytes} {source : Flow} {r : Result HeaderParts Fault} → l ≡ limits
     → source.before.to_come ≡ Some b
     → CountsIf is_read 0 0 r → Inspects l source r → HeaderOf b r
-header_found l b source r at come count h =
+header_found {b} {source} {r} at come count h =
     let inspects = subst (λ bounds. Inspects bounds source r) at h in
     of_answer b source r inspects.0 inspects.1 count
     (reads_known b source limits.max_header inspects.0 come inspects.2)
@@ -53,9 +53,10 @@ whole_of b (Ok h) (text, found) = (
 whole_of b (Err fault) (inl memory) = inl memory
 whole_of b (Err fault) (inr (reason, found, is)) = inr (reason, whole_verdict b (Err reason) found, is)
 
-pub found_whole : (b front : Bytes) (r : Result HeaderParts Fault) → front ≡ take front_size b → HeaderOf front r
+pub found_whole : (b : Bytes) {front : Bytes} (r : Result HeaderParts Fault)
+    → front ≡ take front_size b → HeaderOf front r
     → HeaderOf b r
-found_whole b front r same h = whole_of b r (subst (λ f. HeaderOf f r) same h)
+found_whole b r same h = whole_of b r (subst (λ f. HeaderOf f r) same h)
 
 -- the length of a header that was found is that of its text
 pub found_len : (b text h : Bytes) (ss : List StanzaParts) (mac : Bytes) (len : ℕ)
@@ -68,28 +69,28 @@ found_len b text h ss mac len found head is =
     omega arith
 
 -- what a caller is given of a header
-pub inspected : (b h : Bytes) (header : HeaderParts) (old : Summary) (report : Report) (len stanzas : ℕ) (mac : Bytes)
-    → HeaderOf b (Ok header) → report ≡ report_of 0 None
+pub inspected : (b : Bytes) {h : Bytes} (header : HeaderParts) {old : Summary} {report : Report} {len stanzas : ℕ}
+    {mac : Bytes} → HeaderOf b (Ok header) → report ≡ report_of 0 None
     → Head header.stanzas header.mac h → len ≡ min (length h) (2 ^ 64 - 1) → stanzas ≡ length header.stanzas
     → mac ≡ header.mac
     → Inspected b old (record { header_len = len; stanzas = stanzas; mac = mac }) report 0
-inspected b h header old report len stanzas mac (text, found) none head is count same =
+inspected b {h} header {len} {stanzas} {mac} (text, found) none head is count same =
     inr (
       Ok (record { stanzas = header.stanzas; mac = header.mac; text = text }),
       found,
       (refl, none, rw (found_len b text h header.stanzas header.mac len found head is, count, same) refl),
     )
 
-pub inspected_fault : (b : Bytes) (old : Summary) (report : Report) (code : ℕ) (fault : Fault) → HeaderOf b (Err fault)
+pub inspected_fault : (b : Bytes) {old : Summary} {report : Report} {code : ℕ} (fault : Fault) → HeaderOf b (Err fault)
     → report ≡ report_of 0 (Some fault) → code ≡ fault_code fault
     → Inspected b old old report code
-inspected_fault b old report code fault (inl memory) place returned =
+inspected_fault b fault (inl memory) place returned =
     inl (record {
       returned = returned ∙ ap fault_code memory;
       reported = place ∙ ap (λ f. report_of 0 (Some f)) memory;
       same = refl;
     })
-inspected_fault b old report code fault (inr (reason, found, same)) place returned =
+inspected_fault b fault (inr (reason, found, same)) place returned =
     inr (
       Err reason,
       found,
@@ -109,8 +110,8 @@ joined_map : {X : Type 0} (f : X → Bytes) (xs : List X) → join_by f (32 ∷ 
 joined_map f [] = refl
 joined_map f (x ∷ xs) = ap (λ t. f x ++ t) (join_map f xs)
 
-pub joined_text : {X E : Type 0} (f : X → Bytes) (xs : List X) (args : List Bytes) (r : Result (String Global) E)
+pub joined_text : {X E : Type 0} (f : X → Bytes) (xs : List X) {args : List Bytes} (r : Result (String Global) E)
     → map f xs ≡ args
     → IfOk r (λ t. string_bytes t ≡ join_by f (32 ∷ []) xs) → IfOk r (λ t. string_bytes t ≡ joined args)
-joined_text f xs args (Ok t) same h = h ∙ joined_map f xs ∙ ap joined same
-joined_text f xs args (Err e) same h = tt
+joined_text f xs (Ok t) same h = h ∙ joined_map f xs ∙ ap joined same
+joined_text f xs (Err e) same h = tt

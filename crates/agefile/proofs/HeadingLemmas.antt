@@ -28,19 +28,19 @@ use Rattle.agefile.proofs.UnlockLemmas.{Fronts, ok-ok}
 
 -- ---- the MAC
 
-pub mac_none : (text : Bytes) (k : FileKey) (fault other : Fault) → other ≡ in_text fault
+pub mac_none : (text : Bytes) (k : FileKey) (fault : Fault) {other : Fault} → other ≡ in_text fault
     → HeaderOf (probe text) (Err fault) → FindsMac text k (Err other)
-mac_none text k fault other is (inl memory) = inl (ap Err (is ∙ ap in_text memory))
-mac_none text k fault other is (inr (reason, h, same)) = inr (Err reason, h, ap Err (is ∙ ap in_text same))
+mac_none text k fault is (inl memory) = inl (ap Err (is ∙ ap in_text memory))
+mac_none text k fault is (inr (reason, h, same)) = inr (Err reason, h, ap Err (is ∙ ap in_text same))
 
 abbrev found_of : (b rest : Bytes) (h : HeaderParts) → Fronts b rest h → Found
 found_of b rest h f = record { stanzas = h.stanzas; mac = h.mac; text = f.text }
 
-pub mac_early : (text rest front : Bytes) (h : HeaderParts) (k : FileKey) (fault : Fault) → Fronts (probe text) rest h
+pub mac_early : (text rest front : Bytes) (h : HeaderParts) (k : FileKey) {fault : Fault} → Fronts (probe text) rest h
     → 0 < length rest
     → front ≡ take (length (probe text) - length rest) (probe text) → fault ≡ BadLine (lines_in front - 1)
     → FindsMac text k (Err fault)
-mac_early text rest front h k fault f some is count =
+mac_early text rest front h k {fault} f some is count =
     let size : length (probe text) ≡ length f.text + length rest = ap length f.front ∙ length-append f.text rest in
     let len : length (probe text) - length rest ≡ length f.text = omega (arith, size) in
     let same : front ≡ f.text = is ∙ ap (λ n. take n (probe text)) len ∙ ap (take (length f.text)) f.front
@@ -71,10 +71,11 @@ mac_mixed text rest h k f none mixed =
           (subst (λ s. IsMac k s (Err MixedPassphrase)) (sym (cond-true (is_mixed h.stanzas) _ _ mixed)) refl),
     )
 
-pub mac_made : (text rest mac : Bytes) (h : HeaderParts) (k : FileKey) → Fronts (probe text) rest h → length rest ≡ 0
+pub mac_made : (text rest : Bytes) {mac : Bytes} (h : HeaderParts) (k : FileKey)
+    → Fronts (probe text) rest h → length rest ≡ 0
     → is_mixed h.stanzas ≡ false → mac ≡ header_mac k.0 h.stanzas
     → FindsMac text k (Ok mac)
-mac_made text rest mac h k f none mixed is =
+mac_made text rest {mac} h k f none mixed is =
     inr (
       Ok (found_of (probe text) rest h f),
       f.verdict,
@@ -92,10 +93,10 @@ none_of text k fault verdict (Ok ss) some h eq is = absurd (cc)
 none_of text k fault verdict (Err f) some h eq is =
     inr (Err f, inr (some, (verdict, h, eq)), ap Err (err-err {A = Bytes} fault f is))
 
-pub header_none : (text : Bytes) (k : FileKey) (fault : Fault) → text ≢ [] → FindsMac text k (Err fault)
+pub header_none : {text : Bytes} {k : FileKey} (fault : Fault) → text ≢ [] → FindsMac text k (Err fault)
     → MakesHeader text k (Err fault)
-header_none text k fault some (inl memory) = inl (ap Err (err-err {A = Bytes} fault OutOfMemory memory))
-header_none text k fault some (inr (verdict, h, is)) =
+header_none fault some (inl memory) = inl (ap Err (err-err {A = Bytes} fault OutOfMemory memory))
+header_none {text} {k} fault some (inr (verdict, h, is)) =
     none_of text k fault verdict (unless_mixed (stanzas_in text verdict)) some h refl is
 
 unmixed : (b : Bool) (xs ss : List StanzaParts)
@@ -148,8 +149,8 @@ pub read_of : (text : Bytes) (ss : List StanzaParts) → HasStanzas text (Ok ss)
 read_of text ss (inl (none, is)) = absurd (cc)
 read_of text ss (inr (some, (verdict, h, eq))) = reads text verdict ss h eq
 
-same_front : (a b c d : Bytes) → a ++ b ≡ c ++ d → length b ≡ length d → a ≡ c
-same_front a b c d e len =
+same_front : {a : Bytes} (b : Bytes) {c : Bytes} (d : Bytes) → a ++ b ≡ c ++ d → length b ≡ length d → a ≡ c
+same_front {a} b {c} d e len =
     let size : length c ≡ length a = omega (arith, ap length e, length-append a b, length-append c d, len) in
     sym (take_at a b (length a) refl) ∙ ap (take (length a)) e ∙ take_at c d (length a) size
 
@@ -172,7 +173,7 @@ same_body text mac ss h =
     let sized : length h.characters ≡ 43 = omega (arith, b64_size mac h.characters h.mac_text, h.mac_len) in
     let theirs : length (line (codes "--- " ++ h.characters)) ≡ 48 =
     omega (arith, sized, length-line (codes "--- " ++ h.characters), length-append (codes "--- ") h.characters) in
-    let front : version_line ++ text ≡ version_line ++ h.body = same_front _ _ _ _ h.spelled (mine ∙ sym theirs) in
+    let front : version_line ++ text ≡ version_line ++ h.body = same_front _ _ h.spelled (mine ∙ sym theirs) in
     sym (drop_at version_line text 22 length-version_line) ∙ ap (drop 22) front
     ∙ drop_at version_line h.body 22 length-version_line
 
@@ -214,11 +215,11 @@ made_of text mac characters k made verdict (Ok ss) some h eq is spelled bytes le
           len),
     )
 
-pub header_made : (text mac characters : Bytes) (k : FileKey) (made : Vec ℕ Global) → text ≢ []
+pub header_made : {text : Bytes} (mac characters : Bytes) {k : FileKey} {made : Vec ℕ Global} → text ≢ []
     → FindsMac text k (Ok mac) → IsBase64 mac characters → length mac ≡ 32
     → made.items ≡ framed text characters → MakesHeader text k (Ok made)
-header_made text mac characters k made some (inl memory) bytes len spelled = absurd (cc)
-header_made text mac characters k made some (inr (verdict, h, is)) bytes len spelled =
+header_made mac characters some (inl memory) bytes len spelled = absurd (cc)
+header_made {text} mac characters {k} {made} some (inr (verdict, h, is)) bytes len spelled =
     made_of text mac characters k made verdict (unless_mixed (stanzas_in text verdict)) some h refl is spelled bytes len
 
 pub characters_known : {E : Type 0} (mac : Bytes) (r : Result (String Global) E) → ((i : ℕ) → slice_index mac i < 256)
@@ -227,10 +228,10 @@ pub characters_known : {E : Type 0} (mac : Bytes) (r : Result (String Global) E)
 characters_known mac (Ok t) bytes is = subst (IsBase64 mac) (sym is) (characters_are mac bytes)
 characters_known mac (Err e) bytes is = tt
 
-pub framed_text : (first text characters all : Bytes) → first ≡ codes "age-encryption.org/v1" ++ 10 ∷ []
+pub framed_text : (first text characters : Bytes) {all : Bytes} → first ≡ codes "age-encryption.org/v1" ++ 10 ∷ []
     → all ≡ (((first ++ text) ++ codes "--- ") ++ characters) ++ 10 ∷ [] → all ≡ framed text characters
 unfolding version_line
-framed_text first text characters all same is =
+framed_text first text characters same is =
     is ∙ ap (λ x. (((x ++ text) ++ codes "--- ") ++ characters) ++ 10 ∷ []) same
     ∙ ap (λ x. x ++ 10 ∷ []) (append_assoc (version_line ++ text) (codes "--- ") characters)
     ∙ append_assoc (version_line ++ text) (codes "--- " ++ characters) (10 ∷ [])

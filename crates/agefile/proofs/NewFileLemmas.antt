@@ -97,9 +97,9 @@ pub size_of : (k : FileKey) (header nonce plain : Bytes) → length nonce ≡ 16
 size_of k header nonce plain len = omega
     (arith, len, length-append header (payload k nonce plain), payload_size k nonce plain)
 
-file_size : (k : FileKey) (ss : List StanzaParts) (plain file : Bytes) (f : AgeFile limits k ss plain file)
+file_size : {k : FileKey} {ss : List StanzaParts} (plain file : Bytes) (f : AgeFile limits k ss plain file)
     → length file ≡ file_len (length f.header) (length plain)
-file_size k ss plain file f = ap length f.spelled ∙ size_of k f.header f.nonce plain f.nonce_len
+file_size {k} plain file f = ap length f.spelled ∙ size_of k f.header f.nonce plain f.nonce_len
 
 pub key_file : (key salt stanza file_key nonce plain file : Bytes) → length salt ≡ 16 → length file_key ≡ 16
     → length nonce ≡ 16
@@ -108,7 +108,7 @@ pub key_file : (key salt stanza file_key nonce plain file : Bytes) → length sa
 key_file key salt stanza file_key nonce plain file salted keyed len is new =
     let f = one_file (keyed_stanza key salt (record { 0 = file_key })) stanza file_key nonce plain file len is new in
     let head : length f.header ≡ 156 = key_header key salt (record { 0 = file_key }) _ f.header salted keyed f.head in
-    file_size _ _ plain file f ∙ ap (λ n. file_len n (length plain)) head
+    file_size plain file f ∙ ap (λ n. file_len n (length plain)) head
 
 pub pass_file : (pass salt stanza file_key nonce plain file : Bytes) (work : ℕ) → length salt ≡ 16
     → length file_key ≡ 16 → length nonce ≡ 16 → work ≤ 30
@@ -119,4 +119,4 @@ pass_file pass salt stanza file_key nonce plain file work salted keyed len high 
     new in
     let head : length f.header ≤ 150 = pass_header pass salt work (record { 0 = file_key }) _ f.header salted keyed high
     f.head in
-    omega (arith, head, file_size _ _ plain file f)
+    omega (arith, head, file_size plain file f)

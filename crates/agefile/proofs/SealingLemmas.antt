@@ -36,12 +36,13 @@ SealsFirst key number left room new =
     new ≡ sealed key (chunk_nonce number (nat_le (length left) chunk_size)) [] (take chunk_size left)
     ++ drop (min (length left) chunk_size + 16) room
 
-pub first_sealed : (key : Bytes) (number size : ℕ) (left text front back chunk rest room : Bytes)
+pub first_sealed : (key : Bytes) (number size : ℕ) (left : Bytes) {text : Bytes} (front back : Bytes)
+    {chunk rest : Bytes} (room : Bytes)
     → size ≡ min (length left) chunk_size → text ≡ take size left → front ≡ text → length back ≡ 16
     → chunk ≡ sealed key (chunk_nonce number (nat_le (length left) chunk_size)) []
     (take (length (front ++ back) - 16) (front ++ back)) → rest ≡ drop (size + 16) room
     → SealsFirst key number left room (chunk ++ rest)
-first_sealed key number size left text front back chunk rest room sized is copied tag sealed_so behind =
+first_sealed key number size left front back {rest} room sized is copied tag sealed_so behind =
     let same : take (length (front ++ back) - 16) (front ++ back) ≡ take chunk_size left =
     take_at front back (length (front ++ back) - 16) (omega (arith, tag, length-append front back)) ∙ copied ∙ is
     ∙ first_text size left sized in
@@ -99,11 +100,12 @@ last_fills key plain out at done number r last =
       | inr lt ↦ omega (arith, lt, left, r.place, r.sealed_so, r.size, last)
     ]
 
-pub seals_end : (key plain out mid new : Bytes) (at done number : ℕ) → IsSealedTo key plain out at done number
+pub seals_end : {key plain : Bytes} (out mid : Bytes) {new : Bytes} (at done number : ℕ)
+    → IsSealedTo key plain out at done number
     → length (drop at plain) ≤ chunk_size
     → SealsFirst key number (drop at plain) (drop done out) mid → new ≡ take done out ++ mid
     → new ≡ concat (sealed_from key 0 (chunks plain))
-seals_end key plain out mid new at done number r last is joined =
+seals_end {key} {plain} out mid at done number r last is joined =
     let left : Bytes = drop at plain in
     let fills = last_fills key plain out at done number r last in
     let none : drop (min (length left) chunk_size + 16) (drop done out) ≡ [] =
@@ -122,11 +124,12 @@ seals_end key plain out mid new at done number r last is joined =
     ap (λ cs. concat (sealed_from key number cs)) (cut-last chunk_size left last) in
     joined ∙ ap (λ m. take done out ++ m) (one ∙ sym rest) ∙ sym r.seals
 
-pub seals_more : (key plain out mid new : Bytes) (at done number : ℕ) → IsSealedTo key plain out at done number
+pub seals_more : {key plain : Bytes} (out mid : Bytes) {new : Bytes} (at done number : ℕ)
+    → IsSealedTo key plain out at done number
     → chunk_size < length (drop at plain)
     → SealsFirst key number (drop at plain) (drop done out) mid → new ≡ take done out ++ mid
     → IsSealedTo key plain new (at + chunk_size) (done + sealed_chunk_size) (number + 1)
-seals_more key plain out mid new at done number r more is joined =
+seals_more {key} {plain} out mid {new} at done number r more is joined =
     let left : Bytes = drop at plain in
     let text : Bytes = take chunk_size left in
     let one : Bytes = sealed key (chunk_nonce number false) [] text in
@@ -186,12 +189,12 @@ pub file_size : (k : FileKey) (header nonce plain : Bytes) (size : ℕ) → leng
     → size ≡ length (header ++ payload k nonce plain)
 file_size k header nonce plain size len short low is = omega (arith, is, short, low, size_of k header nonce plain len)
 
-pub encrypts_exceeds : (stanzas file_key nonce plain old : Bytes) (header : Vec ℕ Global) (report : Report) (size : ℕ)
+pub encrypts_exceeds : {stanzas file_key nonce plain old : Bytes} (header : Vec ℕ Global) {report : Report} (size : ℕ)
     → MakesHeader stanzas (record { 0 = file_key }) (Ok header)
     → length plain < 2 ^ 63 → size ≡ length (header.items ++ payload (record { 0 = file_key }) nonce plain)
     → report ≡ report_of size None → length old < size
     → Encrypts stanzas file_key nonce plain old old report 21
-encrypts_exceeds stanzas file_key nonce plain old header report size made low is reported more =
+encrypts_exceeds {plain} header size made low is reported more =
     inr (
       Ok header,
       made,
@@ -207,13 +210,13 @@ encrypts_exceeds stanzas file_key nonce plain old header report size made low is
       ),
     )
 
-pub encrypts_whole : (stanzas file_key nonce plain old file rest : Bytes) (header : Vec ℕ Global) (report : Report)
-    (size : ℕ) → MakesHeader stanzas (record { 0 = file_key }) (Ok header)
+pub encrypts_whole : {stanzas file_key nonce plain old : Bytes} (file : Bytes) {rest : Bytes} (header : Vec ℕ Global)
+    {report : Report} (size : ℕ) → MakesHeader stanzas (record { 0 = file_key }) (Ok header)
     → length plain < 2 ^ 63 → size ≡ length (header.items ++ payload (record { 0 = file_key }) nonce plain)
     → report ≡ report_of size None → size ≤ length old
     → file ≡ header.items ++ payload (record { 0 = file_key }) nonce plain → rest ≡ drop size old
     → Encrypts stanzas file_key nonce plain old (file ++ rest) report 0
-encrypts_whole stanzas file_key nonce plain old file rest header report size made low is reported fits written behind =
+encrypts_whole {file_key} {nonce} {plain} {old} file {rest} header size made low is reported fits written behind =
     inr (
       Ok header,
       made,

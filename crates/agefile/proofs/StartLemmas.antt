@@ -61,18 +61,18 @@ key_in_front answers b found (inr (Ok head, verdict, opens)) =
     let w = begins_found b limits.max_header head verdict in
     omega (arith, k.1, ap length w.prefix, length-append head.text w.rest)
 
-pub start_cut : (answers : Answering) (b rest : Bytes) (found : Unlocked) → FindsKey answers b (Ok found)
+pub start_cut : (answers : Answering) {b rest : Bytes} (found : Unlocked) → FindsKey answers b (Ok found)
     → rest ≡ drop found.header_len b → length rest < 16 → FindsStart answers b (Err NonceTruncated)
-start_cut answers b rest found finds back short =
+start_cut answers {b} {rest} found finds back short =
     start_after answers b found (Err NonceTruncated) finds
     (sym (cond-true (nat_lt (length rest) 16) _ _ (lt-ltb (length rest) 16 short))
     ∙ ap (λ r. start_under found.header_len r (Ok found.key)) back)
 
-pub start_found : (answers : Answering) (b rest nonce key : Bytes) (found : Unlocked)
+pub start_found : (answers : Answering) {b rest : Bytes} (nonce : Bytes) {key : Bytes} (found : Unlocked)
     → FindsKey answers b (Ok found) → rest ≡ drop found.header_len b → 16 ≤ length rest → nonce ≡ take 16 rest
     → key ≡ payload_key found.key nonce
     → FindsStart answers b (Ok (record { first = length b - length rest + 16; key = key }))
-start_found answers b rest nonce key found finds back long nonce_is key_is =
+start_found answers {b} {rest} nonce {key} found finds back long nonce_is key_is =
     let low = key_in_front answers b found finds in
     let size : length rest ≡ length b - found.header_len = ap length back ∙ length-drop found.header_len b in
     start_after answers b found _ finds
@@ -82,9 +82,9 @@ start_found answers b rest nonce key found finds back long nonce_is key_is =
     ∙ ap (λ r. start_under found.header_len r (Ok found.key)) back)
 
 -- of one identity, known by its meaning
-pub start_meant : (f g : List StanzaParts → Unwrapped) (b : Bytes) (start : Result Start Fault) → f ≡ g
+pub start_meant : {f g : List StanzaParts → Unwrapped} {b : Bytes} {start : Result Start Fault} → f ≡ g
     → FindsStart (alone f) b start → FindsStart (alone g) b start
-start_meant f g b start same h = subst (λ m. FindsStart (alone m) b start) same h
+start_meant {b} {start} same h = subst (λ m. FindsStart (alone m) b start) same h
 
 -- ---- what a start is
 

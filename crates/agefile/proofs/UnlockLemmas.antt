@@ -57,34 +57,34 @@ faulty : (answers : Answering) (b : Bytes) (fault : Fault) (g : HeaderFault)
     → FindsKey answers b (Err fault)
 faulty answers b fault g is verdict = inr (Err g, verdict, ap Err (err-err {A = HeaderParts} fault (header_fault g) is))
 
-pub key_none : (answers : Answering) (b : Bytes) (mid : Seen) (fault : Fault)
+pub key_none : (answers : Answering) {b : Bytes} (mid : Seen) {fault : Fault}
     → Inspects limits (flow (of_told b) mid) (Err fault)
     → CountsFaultIf is_read 0 0 fault → FindsKey answers b (Err fault)
-key_none answers b mid fault (Ok parts, is, h) count = absurd (cc)
-key_none answers b mid fault (Err header.Read, is, h) count =
+key_none answers mid (Ok parts, is, h) count = absurd (cc)
+key_none answers mid {fault} (Err header.Read, is, h) count =
     let read_count : CountsFaultIf is_read 0 0 Read =
     subst (λ f. CountsFaultIf is_read 0 0 f) (err-err {A = HeaderParts} fault Read is) count in
     absurd (omega (arith, read_count))
-key_none answers b mid fault (Err header.Memory, is, h) count =
+key_none answers mid {fault} (Err header.Memory, is, h) count =
     inl (ap Err (err-err {A = HeaderParts} fault OutOfMemory is))
-key_none answers b mid fault (Err g, is, h) count =
+key_none answers {b} mid {fault} (Err g, is, h) count =
     faulty answers b fault g is (reads_known b (flow (of_told b) mid) limits.max_header (Err g) refl h)
 
-pub key_locked : (answers : Answering) (b rest : Bytes) (h : HeaderParts) (fault : Fault)
+pub key_locked : (answers : Answering) {b rest : Bytes} {h : HeaderParts} {fault : Fault}
     → Inspects limits (flow (of_told b) (of_told rest)) (Ok h)
     → (◌≡◌ {A = Result FileKey Fault} (Err fault) (Err OutOfMemory)) ⊎ (Err fault ≡ unlocked answers h)
     → FindsKey answers b (Err fault)
-key_locked answers b rest h fault i (inl memory) = inl (ap Err (err-err {A = FileKey} fault OutOfMemory memory))
-key_locked answers b rest h fault i (inr is) =
+key_locked answers {fault} i (inl memory) = inl (ap Err (err-err {A = FileKey} fault OutOfMemory memory))
+key_locked answers {b} {rest} {h} i (inr is) =
     let f = fronts b rest h i in
     inr (Ok (record { stanzas = h.stanzas; mac = h.mac; text = f.text }), f.verdict, ap (with_len (length f.text)) is)
 
-pub key_found : (answers : Answering) (b rest : Bytes) (h : HeaderParts) (k : FileKey)
+pub key_found : (answers : Answering) {b : Bytes} (rest : Bytes) {h : HeaderParts} (k : FileKey)
     → Inspects limits (flow (of_told b) (of_told rest)) (Ok h)
     → (◌≡◌ {A = Result FileKey Fault} (Ok k) (Err OutOfMemory)) ⊎ (Ok k ≡ unlocked answers h)
     → FindsKey answers b (Ok (record { header_len = length b - length rest; key = k }))
-key_found answers b rest h k i (inl memory) = absurd (cc)
-key_found answers b rest h k i (inr is) =
+key_found answers rest k i (inl memory) = absurd (cc)
+key_found answers {b} rest {h} k i (inr is) =
     let f = fronts b rest h i in
     let size : length b ≡ length f.text + length rest = ap length f.front ∙ length-append f.text rest in
     let len : length b - length rest ≡ length f.text = omega (arith, size) in
@@ -95,15 +95,15 @@ key_found answers b rest h k i (inr is) =
     )
 
 -- of one identity in a list
-pub key_alone : {X : Type 0} (m : X → List StanzaParts → Unwrapped) (items : List X) (x : X) (b : Bytes)
-    (key : Result Unlocked Fault) → items ≡ x ∷ []
+pub key_alone : {X : Type 0} (m : X → List StanzaParts → Unwrapped) (items : List X) (x : X) {b : Bytes}
+    {key : Result Unlocked Fault} → items ≡ x ∷ []
     → FindsKey (λ s. map (λ i. m i s) items) b key → FindsKey (alone (m x)) b key
-key_alone m items x b key one h = subst (λ xs. FindsKey (λ s. map (λ i. m i s) xs) b key) one h
+key_alone m items x {b} {key} one h = subst (λ xs. FindsKey (λ s. map (λ i. m i s) xs) b key) one h
 
 -- of one identity, known by its meaning
-pub key_meant : (f g : List StanzaParts → Unwrapped) (b : Bytes) (key : Result Unlocked Fault) → f ≡ g
+pub key_meant : {f g : List StanzaParts → Unwrapped} {b : Bytes} {key : Result Unlocked Fault} → f ≡ g
     → FindsKey (alone f) b key → FindsKey (alone g) b key
-key_meant f g b key same h = subst (λ m. FindsKey (alone m) b key) same h
+key_meant {b} {key} same h = subst (λ m. FindsKey (alone m) b key) same h
 
 -- the first 65,552 bytes of a file have its file key
 whole_key : (answers : Answering) (b : Bytes) (key : Result Unlocked Fault) → FindsKey answers (take front_size b) key
@@ -111,10 +111,10 @@ whole_key : (answers : Answering) (b : Bytes) (key : Result Unlocked Fault) → 
 whole_key answers b key (inl memory) = inl memory
 whole_key answers b key (inr (header, verdict, is)) = inr (header, whole_verdict b header verdict, is)
 
-pub whole_unlocks : (answers : Answering) (b front old new : Bytes) (report : Report) (code : ℕ)
+pub whole_unlocks : (answers : Answering) (b : Bytes) {front old new : Bytes} {report : Report} {code : ℕ}
     (key : Result Unlocked Fault) → front ≡ take front_size b
     → FindsKey answers front key → GivesKey key old new report code → Unlocks answers b old new report code
-whole_unlocks answers b front old new report code key same finds gives =
+whole_unlocks answers b key same finds gives =
     (key, whole_key answers b key (subst (λ f. FindsKey answers f key) same finds), gives)
 
 -- ---- the verdict, by the file key

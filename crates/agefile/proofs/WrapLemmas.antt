@@ -43,11 +43,11 @@ between ss =
     ∙ take_at (version_line ++ body) (codes "---") (length (signed ss) - 3) front)
     ∙ drop_at version_line body 22 length-version_line
 
-pub text_given : (s : StanzaParts) (ss : List StanzaParts) (mac text part old new : Bytes) (report : Report) (code : ℕ)
-    → ss ≡ s ∷ [] → IsHeaderValue ss mac → text ≡ signed ss
+pub text_given : (s : StanzaParts) (ss : List StanzaParts) {mac : Bytes} (text : Bytes) {part old new : Bytes}
+    {report : Report} {code : ℕ} → ss ≡ s ∷ [] → IsHeaderValue ss mac → text ≡ signed ss
     → part ≡ drop 22 (take (length text - 3) text) → Gives part None old new report code
     → GivesText s old new report code
-text_given s ss mac text part old new report code one whole is cut gives =
+text_given s ss text {part} {old} {new} {report} {code} one whole is cut gives =
     let mine : IsWhole s = (subst (λ xs. AllByRecursion IsWhole xs) one whole.each).0 in
     let same : part ≡ stanza_text s = cut ∙ ap (λ t. drop 22 (take (length t - 3) t)) is ∙ between ss
     ∙ ap (flat_map stanza_text) one ∙ append-nil (stanza_text s) in
@@ -55,11 +55,11 @@ text_given s ss mac text part old new report code one whole is cut gives =
 
 -- ---- a caller's own arguments
 
-pub own_given : (s : StanzaParts) (args body old new : Bytes) (report : Report) (code : ℕ) → IsUtf8 args
+pub own_given : {s : StanzaParts} {args body old new : Bytes} {report : Report} {code : ℕ} → IsUtf8 args
     → s.args ≡ words args → s.body ≡ body → GivesText s old new report code
     → GivesOwn args body old new report code
-own_given s args body old new report code utf8 same_args same_body (inl up) = inl up
-own_given s args body old new report code utf8 same_args same_body (inr (text, is, gives)) =
+own_given utf8 same_args same_body (inl up) = inl up
+own_given {s} {args} {body} utf8 same_args same_body (inr (text, is, gives)) =
     let mine : IsStanza (record { args = words args; body = body }) text =
     subst (λ a. IsStanza (record { args = a; body = body }) text) same_args
     (subst (λ b. IsStanza (record { args = s.args; body = b }) text) same_body is) in
@@ -71,12 +71,12 @@ at_index [] i d all low = absurd (omega (arith, low))
 at_index (x ∷ xs) zero d all low = all.0
 at_index (x ∷ xs) (suc i) d all low = at_index xs i d all.1 (omega (arith, low))
 
-pub own_refused : (args body old new : Bytes) (report : Report) (code : ℕ) (error : StanzaError)
+pub own_refused : {args body old new : Bytes} {report : Report} {code : ℕ} (error : StanzaError)
     → IsStanzaError (words args) error → Returns (refusal_code error) None old new report code
     → GivesOwn args body old new report code
-own_refused args body old new report code NoArgs h up = inr (inl (λ are. are.1.0 h, up))
-own_refused args body old new report code (EmptyArg i) h up =
+own_refused NoArgs h up = inr (inl (λ are. are.1.0 h, up))
+own_refused {args} (EmptyArg i) h up =
     inr (inl (λ are. (subst IsArgument h.2 (at_index (words args) i [] are.1.1 h.0)).0 refl, up))
-own_refused args body old new report code (BadByte i) (a, some, bad, h) up =
+own_refused {args} (BadByte i) (a, some, bad, h) up =
     inr (inl (λ are. bad (subst IsArgument h.2 (at_index (words args) i a are.1.1 h.0)), up))
-own_refused args body old new report code Memory h up = inl up
+own_refused Memory h up = inl up

@@ -20,10 +20,10 @@ use Rattle.age_recipient.proofs.HeaderSizeLemmas.{key_header, pass_header}
 abbrev Given : (stanza : StanzaParts) (meant : Labels) (gathered : Result (List StanzaParts) Fault) → Type 0
 Given stanza meant gathered = Gathered (Ok (stanza ∷ []) ∷ []) (meant ∷ []) gathered
 
-given_is : (stanza : StanzaParts) (meant : Labels) (gathered : Result (List StanzaParts) Fault)
+given_is : (stanza : StanzaParts) (meant : Labels) {gathered : Result (List StanzaParts) Fault}
     → Given stanza meant gathered → gathered ≡ Ok (stanza ∷ [])
-given_is stanza meant gathered (None, apart, e) = e
-given_is stanza meant gathered (Some i, apart, e) = let none : Some i ≡ None = one_index meant (Some i) apart in
+given_is stanza meant (None, apart, e) = e
+given_is stanza meant (Some i, apart, e) = let none : Some i ≡ None = one_index meant (Some i) apart in
     absurd (cc)
 
 -- every header of the stanza alone has at most so many bytes
@@ -34,15 +34,15 @@ IsShort stanza = (mac text : Bytes) → Head (stanza ∷ []) mac text → length
 unrefused : (limits : Bounds) (k : FileKey) (stanza : StanzaParts) (meant : Labels) → IsBounds limits → IsShort stanza
     → (fault : Fault)
     → IsRefusal limits k (Gathered (Ok (stanza ∷ []) ∷ []) (meant ∷ [])) fault → ⊥
-unrefused limits k stanza meant bounds short (Refused i code) h = let e = given_is stanza meant _ h in absurd (cc)
-unrefused limits k stanza meant bounds short (IncompatibleRecipients i) h = let e = given_is stanza meant _ h in
+unrefused limits k stanza meant bounds short (Refused i code) h = let e = given_is stanza meant h in absurd (cc)
+unrefused limits k stanza meant bounds short (IncompatibleRecipients i) h = let e = given_is stanza meant h in
     absurd (cc)
-unrefused limits k stanza meant bounds short NoRecipients h = let e = given_is stanza meant _ h in absurd (cc)
+unrefused limits k stanza meant bounds short NoRecipients h = let e = given_is stanza meant h in absurd (cc)
 unrefused limits k stanza meant bounds short MixedPassphrase h =
-    let e : h.0 ≡ stanza ∷ [] = cc (given_is stanza meant _ h.1) in
+    let e : h.0 ≡ stanza ∷ [] = cc (given_is stanza meant h.1) in
     absurd (false≢true (sym (ap is_mixed e) ∙ h.2))
 unrefused limits k stanza meant bounds short HeaderTooLarge h =
-    let e : h.stanzas ≡ stanza ∷ [] = cc (given_is stanza meant _ h.gives) in
+    let e : h.stanzas ≡ stanza ∷ [] = cc (given_is stanza meant h.gives) in
     let most = short (header_mac k.0 h.stanzas) h.text
     (subst (λ ss. Head ss (header_mac k.0 h.stanzas) h.text) e h.head) in
     let least = bounds.header_low in

@@ -119,11 +119,11 @@ parts_more plain rs i r lt is =
     ∙ ap (λ t. parts plain (take i rs) ++ t) (append-nil (part plain (get_or rs i r)))
     ∙ ap (λ x. parts plain (take i rs) ++ part plain x) (sym is)
 
-pub lost_part : (told t2 : Known) (s s2 : RangeState) (plain : Bytes) (range : Range) (old new : Bytes) (fault : Fault)
+pub lost_part : {told t2 : Known} {s s2 : RangeState} (plain : Bytes) (range : Range) (old new : Bytes) (fault : Fault)
     → t2 ≡ told → s2.layout ≡ s.layout
     → (IsSound told s → IsSound told s2) → IsSound told s → IsSliced told s.layout plain
     → (IsSound t2 s2 → AddsPart t2 s2 range.at range.len old new (Err fault)) → (fault ≡ OutOfMemory) ⊎ (fault ≡ Read)
-lost_part told t2 s s2 plain range old new fault stay same keeps sound sliced adds =
+lost_part {told} {s2} plain range old new fault stay same keeps sound sliced adds =
     let at_told = subst (λ t. IsSound t s2 → AddsPart t s2 range.at range.len old new (Err fault)) stay adds in
     elim (at_told (keeps sound)) [
       | inl memory ↦ inl memory
@@ -136,12 +136,12 @@ lost_part told t2 s s2 plain range old new fault stay same keeps sound sliced ad
       ]
     ]
 
-pub more_parts : (told t2 : Known) (s s2 : RangeState) (plain : Bytes) (rs : List Range) (i : ℕ) (range : Range)
-    (old new : Bytes) → t2 ≡ told → s2.layout ≡ s.layout
+pub more_parts : {told t2 : Known} {s s2 : RangeState} (plain : Bytes) (rs : List Range) (i : ℕ) {range : Range}
+    {old new : Bytes} → t2 ≡ told → s2.layout ≡ s.layout
     → (IsSound told s → IsSound told s2) → IsSound told s → IsSliced told s.layout plain → i < length rs
     → range ≡ get_or rs i range → old ≡ parts plain (take i rs)
     → (IsSound t2 s2 → AddsPart t2 s2 range.at range.len old new (Ok tt)) → new ≡ parts plain (take (i + 1) rs)
-more_parts told t2 s s2 plain rs i range old new stay same keeps sound sliced lt is before adds =
+more_parts {told} {s2} plain rs i {range} {old} {new} stay same keeps sound sliced lt is before adds =
     let at_told = subst (λ t. IsSound t s2 → AddsPart t s2 range.at range.len old new (Ok tt)) stay adds in
     let a = at_told (keeps sound) in
     let size : s2.layout.plain ≡ length plain = ap (λ (l : Layout). l.plain) same ∙ sliced.len in
@@ -177,12 +177,12 @@ unopened laws limits meaning xs x b plain bytes fault list is count misses v =
 
 -- a reader that one identity opened
 pub opened_sliced : {X : Type 0} (laws : SlicedLaws) (limits : Bounds) (meaning : X → List StanzaParts → Unwrapped)
-    (xs : List X) (x : X) (b : Bytes) (bytes told : Known) (s : RangeState) (given given2 : ℕ) → xs ≡ x ∷ []
+    (xs : List X) (x : X) (b : Bytes) {bytes told : Known} (s : RangeState) (given given2 : ℕ) → xs ≡ x ∷ []
     → bytes ≡ Some b → told ≡ bytes → IfSome bytes
     (λ c. IsRangesOf limits (λ st. map (λ i. meaning i st) xs) c s given given2)
     → IsSound told s × ((plain : Bytes) → IsVerdict limits (λ st. meaning x st ∷ []) b (whole plain)
     → IsSliced told s.layout plain)
-opened_sliced laws limits meaning xs x b bytes told s given given2 list is stay ranges =
+opened_sliced laws limits meaning xs x b {told} s given given2 list is stay ranges =
     let some : IsRangesOf limits (λ st. map (λ i. meaning i st) xs) b s given given2 =
     subst (λ k. IfSome k (λ c. IsRangesOf limits (λ st. map (λ i. meaning i st) xs) c s given given2)) is ranges in
     let one = subst (λ z. IsRangesOf limits (λ st. map (λ i. meaning i st) z) b s given given2) list some in
@@ -193,12 +193,12 @@ opened_sliced laws limits meaning xs x b bytes told s given given2 list is stay 
     )
 
 -- what holds of a result for each plaintext
-pub ok_inside : {A E : Type 0} (r : Result A E) (V : Bytes → Type 0) (Q : A → Bytes → Type 0)
+pub ok_inside : {A E : Type 0} (r : Result A E) {V : Bytes → Type 0} (Q : A → Bytes → Type 0)
     → ((plain : Bytes) → V plain → IfOk r (λ x. Q x plain)) → IfOk r (λ x. (plain : Bytes) → V plain → Q x plain)
-ok_inside (Ok x) V Q h = h
-ok_inside (Err e) V Q h = tt
+ok_inside (Ok x) Q h = h
+ok_inside (Err e) Q h = tt
 
-pub err_inside : {A E : Type 0} (r : Result A E) (V : Bytes → Type 0) (Q : E → Bytes → Type 0)
+pub err_inside : {A E : Type 0} (r : Result A E) {V : Bytes → Type 0} (Q : E → Bytes → Type 0)
     → ((plain : Bytes) → V plain → IfErr r (λ e. Q e plain)) → IfErr r (λ e. (plain : Bytes) → V plain → Q e plain)
-err_inside (Ok x) V Q h = tt
-err_inside (Err e) V Q h = h
+err_inside (Ok x) Q h = tt
+err_inside (Err e) Q h = h

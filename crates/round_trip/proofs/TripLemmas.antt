@@ -26,12 +26,11 @@ gathered_one (Ok given) meant stanzas (None, apart, e) = let same : stanzas ≡ 
 gathered_one (Ok given) meant stanzas (Some i, apart, e) = cc
 gathered_one (Err code) meant stanzas (place, apart, e) = cc
 
-pub file_of_one : (limits : Bounds) (fresh : Fresh) (wrapped : Result (List StanzaParts) ℕ) (meant : List Labels)
-    (plain file : Bytes) (done : Done)
-    → (source : Flow) → source.before.to_come ≡ Some plain
+pub file_of_one : (limits : Bounds) (fresh : Fresh) {wrapped : Result (List StanzaParts) ℕ} (meant : List Labels)
+    (plain file : Bytes) (done : Done) → {source : Flow} → source.before.to_come ≡ Some plain
     → EncryptsGiven limits fresh (Gathered (wrapped ∷ []) meant) source (moved (Some []) (Some file)) (Ok done)
     → (stanzas : List StanzaParts) × (wrapped ≡ Ok stanzas) × AgeFile limits fresh.file_key stanzas plain file
-file_of_one limits fresh wrapped meant plain file done source come given =
+file_of_one limits fresh {wrapped} meant plain file done {source} come given =
     let h = of-known
     (λ x. EncryptsText limits fresh (Gathered (wrapped ∷ []) meant) x (moved (Some []) (Some file)) (Ok done))
     source plain come given in
@@ -45,13 +44,13 @@ file_of_one limits fresh wrapped meant plain file done source come given =
 abbrev pub IsOnce : Bounds → Answering → Bytes → Type 0
 IsOnce limits answers b = (v w : Reading Fault) → IsVerdict limits answers b v → IsVerdict limits answers b w → v ≡ w
 
-pub text_of_whole : (limits : Bounds) (answers : Answering) (b plain text : Bytes) (done : Done)
+pub text_of_whole : (limits : Bounds) {answers : Answering} (b plain text : Bytes) (done : Done)
     → IsOnce limits answers b
     → IsVerdict limits answers b (whole plain)
-    → (source : Flow) → source.before.to_come ≡ Some b
+    → {source : Flow} → source.before.to_come ≡ Some b
     → Decrypts limits answers source (moved (Some []) (Some text)) (Ok done)
     → text ≡ plain
-text_of_whole limits answers b plain text done once is source come decrypts =
+text_of_whole limits {answers} b plain text done once is {source} come decrypts =
     let h = of-known (λ x. DecryptsText limits answers x (moved (Some []) (Some text)) (Ok done)) source b come decrypts
     in
     h.3 ∙ ap (λ (v : Reading Fault). v.front) (once h.0 (whole plain) h.1 is)
@@ -131,8 +130,8 @@ no_loss refuses limits plain (Encrypting fault) never loss = no_refusal refuses 
 no_loss refuses limits plain (Rewrapping fault) never loss = no_refusal refuses limits plain fault never loss
 no_loss refuses limits plain (Decrypting fault) never loss = loss
 
-pub without_refusal : {A : Type 0} (refuses : Fault → Type 0) (limits : Bounds) (plain : Bytes) (r : Result A Lost)
+pub without_refusal : {A : Type 0} {refuses : Fault → Type 0} (limits : Bounds) (plain : Bytes) (r : Result A Lost)
     → ((fault : Fault) → refuses fault → ⊥)
     → IfErr r (IsLoss refuses limits plain) → IfErr r (IsLoss none limits plain)
-without_refusal refuses limits plain (Ok x) never h = tt
-without_refusal refuses limits plain (Err lost) never h = no_loss refuses limits plain lost never h
+without_refusal limits plain (Ok x) never h = tt
+without_refusal {refuses} limits plain (Err lost) never h = no_loss refuses limits plain lost never h

@@ -13,14 +13,14 @@ split_at-requires c = start_within (by_file_key c.args.file_key.now) _ c.in-Ok.s
 
 pub returns-then-room-out : goal.returns-then-room-out
 returns-then-room-out c =
-    no_room (by_file_key c.args.file_key.now) _ c.split_at.result.1.now _ _ c.opened_len-room.result c.in-Ok.start
+    no_room (by_file_key c.args.file_key.now) c.split_at.result.1.now c.opened_len-room.result c.in-Ok.start
     c.in-Ok.ensures c.split_at.ensures.back c.opened_len-room.ensures c.of_len.ensures
     c.if-room-out.true
 
 pub returns-in-Some : goal.returns-in-Some
 returns-in-Some c =
-    decrypts_opened (by_file_key c.args.file_key.now) _ c.split_at.result.1.now c.args.out.now c.open_pieces-len.new.out
-    _ _ c.open_pieces-len.result.0 c.in-Ok.start c.open_pieces-len.result.1
+    decrypts_opened (by_file_key c.args.file_key.now) c.split_at.result.1.now c.args.out.now c.open_pieces-len.new.out
+    c.open_pieces-len.result.0 c.in-Ok.start c.open_pieces-len.result.1
     c.in-Ok.ensures c.split_at.ensures.back (omega (arith, c.opened_len-room.ensures, c.if-room-out.false))
     c.open_pieces-len.ensures c.open_pieces-len.auto.out
     (c.of_fault.ensures ∙ ap (λ f. report_of c.open_pieces-len.result.0 (Some f)) c.from-fault.ensures
@@ -30,8 +30,8 @@ returns-in-Some c =
 
 pub returns : goal.returns
 returns c =
-    decrypts_opened (by_file_key c.args.file_key.now) _ c.split_at.result.1.now c.args.out.now c.open_pieces-len.new.out
-    _ _ c.open_pieces-len.result.0 c.in-Ok.start c.open_pieces-len.result.1
+    decrypts_opened (by_file_key c.args.file_key.now) c.split_at.result.1.now c.args.out.now c.open_pieces-len.new.out
+    c.open_pieces-len.result.0 c.in-Ok.start c.open_pieces-len.result.1
     c.in-Ok.ensures c.split_at.ensures.back (omega (arith, c.opened_len-room.ensures, c.if-room-out.false))
     c.open_pieces-len.ensures c.open_pieces-len.auto.out
     (c.of_len-in-None.ensures ∙ ap (λ f. report_of c.open_pieces-len.result.0 (option_map stream_fault f))

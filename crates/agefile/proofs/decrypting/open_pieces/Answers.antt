@@ -5,7 +5,7 @@ use Rattle.agefile.proofs.decrypting.open_pieces.Goals as goal
 
 pub returns-in-Err : goal.returns-in-Err
 returns-in-Err c =
-    read_stops _ _ _ c.pieces.out c.pieces.at c.pieces.len c.pieces.number c.in-Err.fault c.open_first.new.room _
+    read_stops c.pieces.out c.pieces.at c.pieces.len c.pieces.number c.in-Err.fault c.open_first.new.room
     c.pieces.invariant.read
     (first_there c.args.key.now c.args.sealed.now c.pieces.out c.split_at.result.1.now c.split_at_mut-room.result.1.now
     c.open_first.new.room c.pieces.at c.pieces.len c.pieces.number _ c.split_at.ensures.back
@@ -16,7 +16,7 @@ pub returns-then-left-le-SEALED_CHUNK_SIZE : goal.returns-then-left-le-SEALED_CH
 returns-then-left-le-SEALED_CHUNK_SIZE c =
     let fits = text_fits _ _ _ c.pieces.out c.pieces.at c.pieces.len c.pieces.number c.pieces.invariant.read in
     let count = c.in-Ok.ensures.size ∙ ap (λ l. min (length l) sealed_chunk_size - 16) c.split_at.ensures.back in
-    read_ends _ _ _ c.pieces.out c.pieces.at c.pieces.len c.pieces.number c.in-Ok.n c.open_first.new.room _
+    read_ends c.pieces.out c.pieces.at c.pieces.len c.pieces.number c.in-Ok.n c.open_first.new.room
     c.pieces.invariant.read
     (first_there c.args.key.now c.args.sealed.now c.pieces.out c.split_at.result.1.now c.split_at_mut-room.result.1.now
     c.open_first.new.room c.pieces.at c.pieces.len c.pieces.number _ c.split_at.ensures.back
@@ -27,7 +27,7 @@ returns-then-left-le-SEALED_CHUNK_SIZE c =
 pub pieces-preserved : goal.pieces-preserved
 pieces-preserved c = record {
   chunk = c.in-Ok.ensures.chunk;
-  read = read_more _ _ _ c.pieces.out c.pieces.at c.pieces.len c.pieces.number c.in-Ok.n c.open_first.new.room _
+  read = read_more c.pieces.out c.pieces.at c.pieces.len c.pieces.number c.in-Ok.n c.open_first.new.room
       c.pieces.invariant.read
       (first_there c.args.key.now c.args.sealed.now c.pieces.out c.split_at.result.1.now
       c.split_at_mut-room.result.1.now c.open_first.new.room c.pieces.at c.pieces.len c.pieces.number _

@@ -2,10 +2,8 @@ use Rattle.agefile.proofs.HeaderLemmas.{found_whole, header_found}
 use Rattle.agefile.proofs.inspecting.header_of.Goals as goal
 
 pub returns-clause-front : goal.returns-clause-front
-returns-clause-front c = header_found _ _ _ _ c.limits.ensures c.new.ensures
-    c.inspect.ensures.reads c.inspect.ensures.verdict
+returns-clause-front c = header_found c.limits.ensures c.new.ensures c.inspect.ensures.reads c.inspect.ensures.verdict
 
 pub returns-clause-file : goal.returns-clause-file
 returns-clause-file c b same =
-    found_whole b _ _ same (header_found _ _ _ _ c.limits.ensures c.new.ensures
-    c.inspect.ensures.reads c.inspect.ensures.verdict)
+    found_whole b _ same (header_found c.limits.ensures c.new.ensures c.inspect.ensures.reads c.inspect.ensures.verdict)

@@ -10,7 +10,7 @@ returns-then-size-out c =
     let len : c.len.result ≡ length c.in-Ok.header.items = search rules in
     let size = file_size (record { 0 = c.args.file_key.now }) c.in-Ok.header.items c.args.nonce.now c.args.plain.now
     c.agefile_file_len-size.result nonce short low (rw len at c.agefile_file_len-size.ensures.value) in
-    encrypts_exceeds _ _ _ _ _ c.in-Ok.header _ c.agefile_file_len-size.result c.in-Ok.ensures low size c.of_len.ensures
+    encrypts_exceeds c.in-Ok.header c.agefile_file_len-size.result c.in-Ok.ensures low size c.of_len.ensures
     c.if-size-out.true
 
 pub returns : goal.returns
@@ -21,6 +21,6 @@ returns c =
     let len : c.len.result ≡ length c.in-Ok.header.items = search rules in
     let size = file_size (record { 0 = c.args.file_key.now }) c.in-Ok.header.items c.args.nonce.now c.args.plain.now
     c.agefile_file_len-size.result nonce short low (rw len at c.agefile_file_len-size.ensures.value) in
-    encrypts_whole _ _ _ _ _ c.write_file.new.file _ c.in-Ok.header _ c.agefile_file_len-size.result c.in-Ok.ensures low
+    encrypts_whole c.write_file.new.file c.in-Ok.header c.agefile_file_len-size.result c.in-Ok.ensures low
     size c.of_len.ensures (omega (arith, c.if-size-out.false))
     (rw c.as_slice.ensures.value at c.write_file.ensures) c.split_at_mut-file.ensures.back

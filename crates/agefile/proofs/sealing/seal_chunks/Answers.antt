@@ -4,7 +4,7 @@ use Rattle.agefile.proofs.sealing.seal_chunks.Goals as goal
 
 pub returns-then-left-le-CHUNK_SIZE : goal.returns-then-left-le-CHUNK_SIZE
 returns-then-left-le-CHUNK_SIZE c =
-    seals_end _ _ c.chunks.out c.seal_first.new.room _ c.chunks.at c.chunks.done c.chunks.number c.chunks.invariant
+    seals_end c.chunks.out c.seal_first.new.room c.chunks.at c.chunks.done c.chunks.number c.chunks.invariant
     (omega (arith, ap length c.split_at.ensures.back, c.if-left-le-CHUNK_SIZE.true))
     (sealed_there c.args.key.now c.args.plain.now c.chunks.out c.split_at.result.1.now c.split_at_mut-room.result.1.now
     c.seal_first.new.room c.chunks.at c.chunks.done c.chunks.number c.split_at.ensures.back
@@ -13,7 +13,7 @@ returns-then-left-le-CHUNK_SIZE c =
 
 pub chunks-preserved : goal.chunks-preserved
 chunks-preserved c =
-    seals_more _ _ c.chunks.out c.seal_first.new.room _ c.chunks.at c.chunks.done c.chunks.number c.chunks.invariant
+    seals_more c.chunks.out c.seal_first.new.room c.chunks.at c.chunks.done c.chunks.number c.chunks.invariant
     (omega (arith, ap length c.split_at.ensures.back, c.if-left-le-CHUNK_SIZE.false))
     (sealed_there c.args.key.now c.args.plain.now c.chunks.out c.split_at.result.1.now c.split_at_mut-room.result.1.now
     c.seal_first.new.room c.chunks.at c.chunks.done c.chunks.number c.split_at.ensures.back

@@ -15,10 +15,10 @@ split_at-requires g c =
 pub returns-then-rest-lt-NONCE_SIZE : goal.returns-then-rest-lt-NONCE_SIZE
 returns-then-rest-lt-NONCE_SIZE g c =
     let of = (goal.Identity-dyn g (c.args.identity.vtable, c.args.identity.value)).meaning c.args.identity.value in
-    start_cut (alone of) _ _ c.in-Ok.found c.in-Ok.ensures c.split_at.ensures.back c.if-rest-lt-NONCE_SIZE.true
+    start_cut (alone of) c.in-Ok.found c.in-Ok.ensures c.split_at.ensures.back c.if-rest-lt-NONCE_SIZE.true
 
 pub returns : goal.returns
 returns g c =
     let of = (goal.Identity-dyn g (c.args.identity.vtable, c.args.identity.value)).meaning c.args.identity.value in
-    start_found (alone of) _ _ c.copy_from_slice.new.self _ c.in-Ok.found c.in-Ok.ensures c.split_at.ensures.back
+    start_found (alone of) c.copy_from_slice.new.self c.in-Ok.found c.in-Ok.ensures c.split_at.ensures.back
     c.if-rest-lt-NONCE_SIZE.false c.copy_from_slice.ensures.after c.payload_key.ensures

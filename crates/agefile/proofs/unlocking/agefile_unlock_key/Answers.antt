@@ -8,5 +8,5 @@ returns-clause-front c = (c.key_for_key.result, c.key_for_key.ensures, c.give_ke
 
 pub returns-clause-file : goal.returns-clause-file
 returns-clause-file c b same =
-    whole_unlocks (alone (key_unwraps c.args.key.now)) b _ _ _ _ _ c.key_for_key.result same c.key_for_key.ensures
+    whole_unlocks (alone (key_unwraps c.args.key.now)) b c.key_for_key.result same c.key_for_key.ensures
     c.give_key.ensures

@@ -9,8 +9,8 @@ returns-in-Err g c =
     let come : c.new-source.result.rest.now ≡ c.args.front.now = cc (c.new-source.ensures) in
     key_none
     (λ (s : List StanzaParts). map (λ i. (goal.Identity-dyn g (i.vtable, i.value)).meaning i.value s)
-    c.args.identities.now)
-    _ (of_told c.inspect.new.input.rest.now) _ (rw (c.limits.ensures, come) at c.in-Err.ensures.verdict)
+    c.args.identities.now) (of_told c.inspect.new.input.rest.now)
+    (rw (c.limits.ensures, come) at c.in-Err.ensures.verdict)
     c.in-Err.ensures.reads
 
 pub returns-in-Err-unlock_header : goal.returns-in-Err-unlock_header
@@ -18,8 +18,7 @@ returns-in-Err-unlock_header g c =
     let come : c.new-source.result.rest.now ≡ c.args.front.now = cc (c.new-source.ensures) in
     key_locked
     (λ (s : List StanzaParts). map (λ i. (goal.Identity-dyn g (i.vtable, i.value)).meaning i.value s)
-    c.args.identities.now)
-    _ _ _ _ (rw (c.limits.ensures, come) at c.in-Ok.ensures.verdict) c.in-Err-unlock_header.ensures.key
+    c.args.identities.now) (rw (c.limits.ensures, come) at c.in-Ok.ensures.verdict) c.in-Err-unlock_header.ensures.key
 
 pub returns : goal.returns
 returns g c =
@@ -27,6 +26,6 @@ returns g c =
     let left : c.inspect.new.input.rest.now ≡ c.rest.result.now = cc (c.rest.ensures) in
     key_found
     (λ (s : List StanzaParts). map (λ i. (goal.Identity-dyn g (i.vtable, i.value)).meaning i.value s)
-    c.args.identities.now)
-    _ c.rest.result.now _ c.in-Ok-unlock_header.key (rw (c.limits.ensures, come, left) at c.in-Ok.ensures.verdict)
+    c.args.identities.now) c.rest.result.now c.in-Ok-unlock_header.key
+    (rw (c.limits.ensures, come, left) at c.in-Ok.ensures.verdict)
     c.in-Ok-unlock_header.ensures.key

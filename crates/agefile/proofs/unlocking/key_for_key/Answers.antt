@@ -9,4 +9,4 @@ pub returns-in-Ok : goal.returns-in-Ok
 returns-in-Ok c =
     let same = read_made own-1 entry-1-1 at-1-1 same-1-1 _ (λ j y. j.1.meaning y) _ _ _ c.into_dyn_box.ensures.1
     ∙ ap key_unwraps (c.in-Ok.ensures.ok ∙ c.new.ensures) in
-    key_meant _ _ _ _ same c.key_for.ensures
+    key_meant same c.key_for.ensures

@@ -14,7 +14,7 @@ returns-in-Ok-new c =
     rw c.in-Ok-collect.is at (map_from_collect c.collect.result c.collect.ensures.ran
     (YieldsList-from_str_split 32 c.in-Ok.text.now (omega arith) c.split.ensures.text c.split.ensures.has_more
     c.split.ensures.pattern)) in
-    own_given _ _ _ _ _ _ _ c.in-Ok.ensures.cases.1
+    own_given c.in-Ok.ensures.cases.1
     ((rw c.as_slice.ensures.value at c.in-Ok-new.ensures.ok.0) ∙ split ∙ ap words c.in-Ok.ensures.cases.0)
     c.in-Ok-new.ensures.ok.1
     c.give_one.ensures
@@ -25,5 +25,5 @@ returns c =
     rw c.in-Ok-collect.is at (map_from_collect c.collect.result c.collect.ensures.ran
     (YieldsList-from_str_split 32 c.in-Ok.text.now (omega arith) c.split.ensures.text c.split.ensures.has_more
     c.split.ensures.pattern)) in
-    own_refused _ _ _ _ _ _ _ (rw (c.as_slice.ensures.value, split, c.in-Ok.ensures.cases.0) at
+    own_refused _ (rw (c.as_slice.ensures.value, split, c.in-Ok.ensures.cases.0) at
     c.in-Err-new.ensures.err) (rw c.refusal_code.ensures at c.give_up-in-Err-new.ensures)

@@ -18,7 +18,7 @@ pub returns-in-Ok : goal.returns-in-Ok
 returns-in-Ok c stanza one =
     let size : c.len.result ≡ length c.in-Ok.text.items =
     omega (arith, c.len.ensures, c.as_slice.ensures.len, ap length c.as_slice.ensures.value) in
-    text_given stanza c.in-Some.header.stanzas _ c.in-Ok.text.items _ _ _ _ _ (c.in-Some.ensures.some.1 ∙ one)
+    text_given stanza c.in-Some.header.stanzas c.in-Ok.text.items (c.in-Some.ensures.some.1 ∙ one)
     c.stanzas.ensures.whole (rw c.stanzas.ensures.value at c.in-Ok.ensures)
     (c.split_at-in-Ok.ensures.back ∙ ap (drop 22)
     (c.split_at.ensures.front ∙ ap (take (c.len.result - 3)) c.as_slice.ensures.value

@@ -8,9 +8,9 @@ returns-in-Ok-clause-text g c plain is =
     let come : c.new-source.result.rest.now ≡ c.args.file.now = cc (c.new-source.ensures) in
     let empty : c.new-text.result.out.items ≡ [] = search rules in
     let out : c.decrypt.new.out.out.items ≡ c.into_vec.result.items = cc (c.into_vec.ensures) in
-    text_of_whole c.args.limits.now _ c.args.file.now plain c.into_vec.result.items c.in-Ok.field-0
+    text_of_whole c.args.limits.now c.args.file.now plain c.into_vec.result.items c.in-Ok.field-0
     (c.ok_is_age_file.ensures.one c.args.limits.now _ c.args.file.now)
-    is _ (ap Some come) (rw (list, empty, out) at c.in-Ok.ensures.decrypts)
+    is (ap Some come) (rw (list, empty, out) at c.in-Ok.ensures.decrypts)
 
 pub returns-clause-lost : goal.returns-clause-lost
 returns-clause-lost g c plain is =

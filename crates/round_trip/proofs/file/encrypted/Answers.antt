@@ -8,10 +8,10 @@ returns-in-Ok-clause-file g c =
     let come : c.new-source.result.rest.now ≡ c.args.plain.now = cc (c.new-source.ensures) in
     let empty : c.new-file.result.out.items ≡ [] = search rules in
     let out : c.encrypt.new.out.out.items ≡ c.into_vec.result.items = cc (c.into_vec.ensures) in
-    file_of_one c.args.limits.now c.args.fresh.now _
+    file_of_one c.args.limits.now c.args.fresh.now
     ((goal.Recipient-dyn g (c.args.recipient.vtable, c.args.recipient.value)).the_labels c.args.recipient.value
-    ∷ []) c.args.plain.now c.into_vec.result.items c.in-Ok.field-0
-    _ (ap Some come) (rw (list, empty, out) at c.in-Ok.ensures.encrypts)
+    ∷ []) c.args.plain.now c.into_vec.result.items c.in-Ok.field-0 (ap Some come)
+    (rw (list, empty, out) at c.in-Ok.ensures.encrypts)
 
 pub returns-clause-lost : goal.returns-clause-lost
 returns-clause-lost g c =

@@ -14,17 +14,17 @@ returns-in-Err-clause-lost c =
 pub returns-clause-back : goal.returns-clause-back
 returns-clause-back c =
     let file = c.in-Ok.ensures.file in
-    if_ok c.rewrapped_and_back.result _ _
+    if_ok c.rewrapped_and_back.result
     (λ text back. back file.0 c.args.fresh.now.file_key c.args.plain.now c.has_sixteen_bytes.ensures
     (rw c.as_slice.ensures.value file.2) file.1) c.rewrapped_and_back.ensures.back
 
 pub returns-clause-lost : goal.returns-clause-lost
 returns-clause-lost c =
     let file = c.in-Ok.ensures.file in
-    without_refusal _ c.args.limits.now c.args.plain.now c.rewrapped_and_back.result
+    without_refusal c.args.limits.now c.args.plain.now c.rewrapped_and_back.result
     (key_unrefused c.args.limits.now c.args.fresh.now.file_key c.args.new_key c.args.salt _ c.are_bounds.ensures
     (search rules) c.has_sixteen_bytes.ensures)
-    (if_err c.rewrapped_and_back.result _ _
+    (if_err c.rewrapped_and_back.result
     (λ lost loss. loss file.0 c.args.fresh.now.file_key c.args.plain.now c.has_sixteen_bytes.ensures
     (rw c.as_slice.ensures.value file.2) file.1)
     (rw c.new-to.ensures.recipient at c.rewrapped_and_back.ensures.lost))

@@ -14,7 +14,7 @@ loop-range-preserved g c =
       sound = λ sound. subst (λ (k : Known). IsSound k c.read_part.new.reader.chunks) inv.stay
           (c.in_ok-read_part.ensures.sound (subst (λ (k : Known). IsSound k c.loop-range.reader.chunks) (sym inv.stay)
           (inv.sound sound)));
-      text = λ sound plain sliced. more_parts _ _ _ _ plain c.args.ranges.now c.loop-range.range-index _ _ _ inv.stay
+      text = λ sound plain sliced. more_parts plain c.args.ranges.now c.loop-range.range-index inv.stay
           inv.same inv.sound sound sliced c.loop-range-test.true (search rules)
           (inv.text sound plain sliced) c.in_ok-read_part.ensures.part;
     }
@@ -28,5 +28,5 @@ pub returns-in_err-read_part-clause-lost : goal.returns-in_err-read_part-clause-
 returns-in_err-read_part-clause-lost g c = λ sound plain sliced.
     let inv = c.loop-range.invariant in
     let is : c.from_residual.result ≡ Err c.in_err-read_part.field-0.0 = search rules in
-    rw is (lost_part _ _ _ _ plain (record { at = 0; len = 0 }) [] [] _ inv.stay inv.same inv.sound sound sliced
+    rw is (lost_part plain (record { at = 0; len = 0 }) [] [] _ inv.stay inv.same inv.sound sound sliced
     c.in_err-read_part.ensures.part)

@@ -12,9 +12,9 @@ returns-in-Ok-clause-parts g c =
     } in
     let list : c.as_slice.result.now ≡ c.args.identity ∷ [] = search rules in
     let o = opened_sliced laws c.args.limits.now (λ i. (goal.Identity-dyn g (i.vtable, i.value)).meaning i.value)
-    c.as_slice.result.now c.args.identity c.args.file.now _ _ c.in-Ok.reader.chunks _ _ list
+    c.as_slice.result.now c.args.identity c.args.file.now c.in-Ok.reader.chunks _ _ list
     c.new-dev.ensures.bytes c.in-Ok.ensures.ranges.0 c.in-Ok.ensures.ranges.1 in
-    ok_inside c.read_parts.result _ _ (λ plain v. c.read_parts.ensures.parts o.0 plain (o.1 plain v))
+    ok_inside c.read_parts.result _ (λ plain v. c.read_parts.ensures.parts o.0 plain (o.1 plain v))
 
 pub returns-in-Ok-clause-lost : goal.returns-in-Ok-clause-lost
 returns-in-Ok-clause-lost g c =
@@ -26,9 +26,9 @@ returns-in-Ok-clause-lost g c =
     } in
     let list : c.as_slice.result.now ≡ c.args.identity ∷ [] = search rules in
     let o = opened_sliced laws c.args.limits.now (λ i. (goal.Identity-dyn g (i.vtable, i.value)).meaning i.value)
-    c.as_slice.result.now c.args.identity c.args.file.now _ _ c.in-Ok.reader.chunks _ _ list
+    c.as_slice.result.now c.args.identity c.args.file.now c.in-Ok.reader.chunks _ _ list
     c.new-dev.ensures.bytes c.in-Ok.ensures.ranges.0 c.in-Ok.ensures.ranges.1 in
-    err_inside c.read_parts.result _ _ (λ plain v. never_read c.read_parts.result
+    err_inside c.read_parts.result _ (λ plain v. never_read c.read_parts.result
     (c.read_parts.ensures.lost o.0 plain (o.1 plain v))
     (λ read. let count = c.read_parts.ensures.counted read in absurd (omega arith)))
 
