@@ -117,11 +117,11 @@ written_part {told} {layout} at n k buf rest {old} {new} le plain low a =
     )
 
 -- two parts that follow one another are one
-pub joined : (told again : Known) (layout same : Layout) (at k from n m : ℕ) {old mid new : Known} → again ≡ told
+pub joined : {told again : Known} {layout same : Layout} (at k from n m : ℕ) {old mid new : Known} → again ≡ told
     → same ≡ layout → from ≡ at + k → m ≡ k + n
     → WritesPlain told layout at k (moved old mid) → WritesPlain again same from n (moved mid new)
     → WritesPlain told layout at m (moved old new)
-joined told again layout same at k from n m {old} {mid} {new} et el ef em one more =
+joined {told} {layout} {same} at k from n m {old} {mid} {new} et el ef em one more =
     let all : length (one.part ++ more.part) ≡ length one.part + length more.part = length-append one.part more.part in
     let a : length one.part ≡ k = one.size in
     let b : length more.part ≡ n = more.size in
@@ -183,8 +183,7 @@ failed_on {told} {again} {s} {t} begin len at left {old} {mid} {new} et el end l
         has = record { some = omega arith; from = omega arith; to = omega arith };
         lost = subst (λ (l : Layout). opens_to told l i ≡ None) el
             (subst (λ (k : Known). opens_to k t.layout i ≡ None) et stops.lost);
-        writes = joined told again s.layout t.layout begin (at - begin) at (chunk_size * i - at)
-            (chunk_size * i - begin) et el (omega arith)
+        writes = joined begin (at - begin) at (chunk_size * i - at) (chunk_size * i - begin) et el (omega arith)
             (before_chunk s.layout.plain begin at left i whole low (omega arith) from) one stops.writes;
       },
     )
@@ -196,7 +195,7 @@ failed_on {told} {again} {s} {t} begin len at left {old} {mid} {new} et el end l
       (
         at - begin + n,
         omega arith,
-        joined told again s.layout t.layout begin (at - begin) at n (at - begin + n) et el (omega arith) refl one more,
+        joined begin (at - begin) at n (at - begin + n) et el (omega arith) refl one more,
       ),
     )
 

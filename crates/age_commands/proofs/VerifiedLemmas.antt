@@ -113,11 +113,11 @@ part_of_whole s t begin len at left fault el end low (inl (i, is, has)) =
     inl (i, is, record { some = omega arith; from = omega arith; to = omega arith })
 
 -- two parts that follow one another are one
-pub joined : (early late : ℕ → ℕ → Type 0) (layout same : Layout) (at k from n m : ℕ) {old mid new : Known}
+pub joined : {early late : ℕ → ℕ → Type 0} {layout same : Layout} (at k from n m : ℕ) {old mid new : Known}
     → StaysGiven early late → same ≡ layout → from ≡ at + k → m ≡ k + n
     → WritesVerified early layout at k (moved old mid) → WritesVerified late same from n (moved mid new)
     → WritesVerified late layout at m (moved old new)
-joined early late layout same at k from n m {old} {mid} {new} stays el ef em one more =
+joined {early} {late} {layout} at k from n m {old} {mid} {new} stays el ef em one more =
     let all : length (one.part ++ more.part) ≡ length one.part + length more.part = length-append one.part more.part in
     let a : length one.part ≡ k = one.size in
     let b : length more.part ≡ n = more.size in
@@ -155,8 +155,7 @@ failed_on {early} {late} s t begin len at left {old} {mid} {new} {fault} stays e
       (
         at - begin + n,
         omega (arith, within, plain, end, low, some),
-        joined early late s.layout t.layout begin (at - begin) at n (at - begin + n) stays el
-            (omega (arith, low)) refl one more,
+        joined begin (at - begin) at n (at - begin + n) stays el (omega (arith, low)) refl one more,
       ),
     )
 

@@ -71,9 +71,9 @@ abbrev is_good : Rule → Bool
 is_good a = covers (parser_for a.id) (parser_of_value a.parser)
     && (not a.ignore_case && (is_as_written (reading_by a) && (not (is_count (action_of a)) && has_value a)))
 
-both : (a b : Bool) → (a && b) ≡ true → (a ≡ true) × (b ≡ true)
-both true b e = (refl, e)
-both false b e = absurd (true≢false (sym e))
+both : {a b : Bool} → (a && b) ≡ true → (a ≡ true) × (b ≡ true)
+both {a = true} e = (refl, e)
+both {a = false} e = absurd (true≢false (sym e))
 
 -- ---- lists
 
@@ -120,7 +120,7 @@ with_values_passes id s values rows written some pass q =
 accepts_too : (p q : ValueParser) (v : Text) → covers p q ≡ true → accepts false q v ≡ true → accepts false p v ≡ true
 accepts_too vp.String q v f h = refl
 accepts_too (vp.Unsigned a b) (vp.Unsigned x y) v f h =
-    let same = both (a == x) (b == y) f in
+    let same = both f in
     let first : a ≡ x = eqb-true a x same.0 in
     let second : b ≡ y = eqb-true b y same.1 in
     rw (first, second) h
@@ -156,10 +156,10 @@ reads r e = absurd (true≢false (sym e))
 
 good_of : (a : Rule) → is_good a ≡ true → IsGood a
 good_of a e =
-    let p = both _ _ e in
-    let q = both _ _ p.1 in
-    let r = both _ _ q.1 in
-    let t = both _ _ r.1 in
+    let p = both e in
+    let q = both p.1 in
+    let r = both q.1 in
+    let t = both r.1 in
     record {
       covered = p.0;
       exact = not_true q.0;
@@ -355,7 +355,7 @@ each_of P (x ∷ xs) p = (p x, each_of P xs p)
 each_good : (P : Rule → Type 0) (rules : List Rule) → ((a : Rule) → is_good a ≡ true → P a)
     → list_all is_good rules ≡ true → Each P rules
 each_good P [] p e = tt
-each_good P (a ∷ rest) p e = let h = both _ _ e in (p a h.0, each_good P rest p h.1)
+each_good P (a ∷ rest) p e = let h = both e in (p a h.0, each_good P rest p h.1)
 
 found_where : {X : Type 0} (U : X → Type 0) (p : X → Bool) (xs : List X) → Each U xs
     → IfSome (find p xs) (λ x. (p x ≡ true) × U x)
@@ -381,8 +381,8 @@ level_taken : (command : Command) (s : Shape) (words : List Text) → is_good_fo
     → level_fault s [] nothing_held words false [] ≡ []
     → IsTaken command (rows_after s.rules [] words)
 level_taken command s words good e =
-    let g = both _ _ good in
-    let h = both _ _ g.1 in
+    let g = both good in
+    let h = both g.1 in
     let level = level_ok s [] RowPasses (λ _. ⊤) (each_good _ s.rules (used_well s.args_override_self) h.0)
     (each_good _ s.rules (defaults_well s.args_override_self) h.0) (λ _ _. tt) words false [] e in
     let wanted = wanted_kind _ _ level.2 in

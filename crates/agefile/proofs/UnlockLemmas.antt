@@ -36,10 +36,10 @@ pub record Fronts (b rest : Bytes) (h : HeaderParts) : Type 0 where
   pub verdict : HeaderVerdict b limits.max_header (Ok (record { stanzas = h.stanzas; mac = h.mac; text = text }))
   pub front : b ≡ text ++ rest
 
-pub fronts : (b rest : Bytes) (h : HeaderParts) → Inspects limits (flow (of_told b) (of_told rest)) (Ok h)
+pub fronts : {b rest : Bytes} {h : HeaderParts} → Inspects limits (flow (of_told b) (of_told rest)) (Ok h)
     → Fronts b rest h
-fronts b rest h (Err g, is, _) = absurd (cc)
-fronts b rest h (Ok parts, is, reads) =
+fronts (Err g, is, _) = absurd (cc)
+fronts {b} {rest} {h} (Ok parts, is, reads) =
     let r = reads_known b (flow (of_told b) (of_told rest)) limits.max_header (Ok parts) refl reads in
     subst (Fronts b rest) (sym (ok-ok h parts is)) (record { text = r.0; verdict = r.1; front = r.2.consumes })
 
@@ -76,7 +76,7 @@ pub key_locked : (answers : Answering) {b rest : Bytes} {h : HeaderParts} {fault
     → FindsKey answers b (Err fault)
 key_locked answers {fault} i (inl memory) = inl (ap Err (err-err {A = FileKey} fault OutOfMemory memory))
 key_locked answers {b} {rest} {h} i (inr is) =
-    let f = fronts b rest h i in
+    let f = fronts i in
     inr (Ok (record { stanzas = h.stanzas; mac = h.mac; text = f.text }), f.verdict, ap (with_len (length f.text)) is)
 
 pub key_found : (answers : Answering) {b : Bytes} (rest : Bytes) {h : HeaderParts} (k : FileKey)
@@ -85,7 +85,7 @@ pub key_found : (answers : Answering) {b : Bytes} (rest : Bytes) {h : HeaderPart
     → FindsKey answers b (Ok (record { header_len = length b - length rest; key = k }))
 key_found answers rest k i (inl memory) = absurd (cc)
 key_found answers {b} rest {h} k i (inr is) =
-    let f = fronts b rest h i in
+    let f = fronts i in
     let size : length b ≡ length f.text + length rest = ap length f.front ∙ length-append f.text rest in
     let len : length b - length rest ≡ length f.text = omega (arith, size) in
     inr (

@@ -46,13 +46,13 @@ loop-left-preserved g c =
           (inv.sound sound)));
       some = some_on _ _ _ number end begin inv.some;
       whole = whole_on _ _ number;
-      written = λ sound. joined _ _ _ _ c.args.at (c.loop-left.at - c.args.at) c.loop-left.at c.in-Ok.n
+      written = λ sound. joined c.args.at (c.loop-left.at - c.args.at) c.loop-left.at c.in-Ok.n
           (c.loop-left.at + c.in-Ok.n - c.args.at) inv.stay inv.same (omega arith) (omega arith) (inv.written sound)
           (c.in-Ok.ensures.known (subst (λ (k : Known). IsSound k c.loop-left.reader.chunks) (sym inv.stay)
           (inv.sound sound)));
       given = λ at byte was. c.write_next.ensures.stays_given at byte (inv.given at byte was);
       keeps = λ keeps. c.write_next.ensures.keeps_verified (inv.keeps keeps);
-      verified = λ keeps. verified.joined _ _ _ _ c.args.at (c.loop-left.at - c.args.at) c.loop-left.at c.in-Ok.n
+      verified = λ keeps. verified.joined c.args.at (c.loop-left.at - c.args.at) c.loop-left.at c.in-Ok.n
           (c.loop-left.at + c.in-Ok.n - c.args.at) c.write_next.ensures.stays_given inv.same (omega arith)
           (omega arith) (inv.verified keeps) (c.in-Ok.ensures.any (inv.keeps keeps));
       reads = c.in-Ok.ensures.reads ∙ inv.reads;
@@ -72,7 +72,7 @@ returns-in-Ok-eq0-clause-any g c = λ keeps.
     (ap (λ (l : Layout). l.plain) inv.same) in
     let some : at - c.args.at ≤ min c.args.len (plain - c.args.at) = inv.some in
     let more : 0 < left = omega (arith, c.loop-left-test.true) in
-    verified.joined _ _ _ _ c.args.at (at - c.args.at) at n (min c.args.len (plain - c.args.at))
+    verified.joined c.args.at (at - c.args.at) at n (min c.args.len (plain - c.args.at))
     c.write_next.ensures.stays_given inv.same (omega (arith, inv.begin))
     (omega (arith, none, number, more, some, inv.end, inv.begin)) (inv.verified keeps)
     (c.in-Ok-eq0.ensures.any (inv.keeps keeps))

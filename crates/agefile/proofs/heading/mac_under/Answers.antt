@@ -17,7 +17,7 @@ returns-then-rest-gt0 c stanzas is =
     let come : c.new-source.result.rest.now ≡ c.args.text.now = cc (c.new-source.ensures) in
     let left : c.inspect.new.input.rest.now ≡ c.rest-rest.result.now = cc (c.rest-rest.ensures) in
     mac_early stanzas c.rest-rest.result.now c.split_at.result.0.now c.in-Ok.header _
-    (fronts _ _ _ (rw (c.limits.ensures, come, is, left) at c.in-Ok.ensures.verdict)) c.if-rest-gt0.true
+    (fronts (rw (c.limits.ensures, come, is, left) at c.in-Ok.ensures.verdict)) c.if-rest-gt0.true
     (subst (λ b. c.split_at.result.0.now ≡ take (length b - length c.rest-rest.result.now) b) is
     c.split_at.ensures.front)
     (c.in_text-then-rest-gt0.ensures ∙ ap (λ n. BadLine (n - 1)) c.lines_in.ensures)
@@ -27,8 +27,7 @@ returns-then-is_mixed c stanzas is =
     let come : c.new-source.result.rest.now ≡ c.args.text.now = cc (c.new-source.ensures) in
     let left : c.inspect.new.input.rest.now ≡ c.rest-rest.result.now = cc (c.rest-rest.ensures) in
     mac_mixed stanzas c.rest-rest.result.now c.in-Ok.header _
-    (fronts _ _ _ (rw (c.limits.ensures, come, is, left) at c.in-Ok.ensures.verdict))
-    (omega (arith, c.if-rest-gt0.false))
+    (fronts (rw (c.limits.ensures, come, is, left) at c.in-Ok.ensures.verdict)) (omega (arith, c.if-rest-gt0.false))
     (rw c.stanzas.ensures.value at (sym c.is_mixed.ensures ∙ c.if-is_mixed.true))
 
 pub returns-in-Ok-mac_of : goal.returns-in-Ok-mac_of
@@ -36,7 +35,6 @@ returns-in-Ok-mac_of c stanzas is =
     let come : c.new-source.result.rest.now ≡ c.args.text.now = cc (c.new-source.ensures) in
     let left : c.inspect.new.input.rest.now ≡ c.rest-rest.result.now = cc (c.rest-rest.ensures) in
     mac_made stanzas c.rest-rest.result.now c.in-Ok.header _
-    (fronts _ _ _ (rw (c.limits.ensures, come, is, left) at c.in-Ok.ensures.verdict))
-    (omega (arith, c.if-rest-gt0.false))
+    (fronts (rw (c.limits.ensures, come, is, left) at c.in-Ok.ensures.verdict)) (omega (arith, c.if-rest-gt0.false))
     (rw c.stanzas.ensures.value at (sym c.is_mixed.ensures ∙ c.if-is_mixed.false))
     (rw c.stanzas-2.ensures.value at c.in-Ok-mac_of.ensures)
