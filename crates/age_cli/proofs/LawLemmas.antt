@@ -216,41 +216,41 @@ done_range job from xs new one (task, is, w) =
     range_done job from xs new task (subst (λ (x : Command). IsTaskFor x job task) one is) w
 
 -- the same from the words
-pub words_decrypt : OkIsAgeFile → (F : Type 0) (remaining contents : F → Known) (words : List Bytes) (b xs : Bytes)
+pub words_decrypt : OkIsAgeFile → {F : Type 0} {remaining contents : F → Known} (words : List Bytes) (b xs : Bytes)
     (new : Known) → IsPiped command.Decrypt words
     → FinishesWords F remaining contents words (Some b) (moved (Some xs) new) → Gained (word_limits words) b xs new
-words_decrypt law F remaining contents words b xs new pipe (job, makes, done) =
+words_decrypt law {F} {remaining} {contents} words b xs new pipe (job, makes, done) =
     let p = piped command.Decrypt words job pipe makes in
     subst (λ (n : ℕ). Gained (record { max_header = n; max_chunks = 2 ^ 88 }) b xs new) p.max_header
     (done_decrypt law job b xs new p.is
-    (alone F remaining contents job _ _ p.input p.output done))
+    (alone F remaining contents job p.input p.output done))
 
-pub words_encrypt : (F : Type 0) (remaining contents : F → Known) (words : List Bytes) (plain xs : Bytes) (new : Known)
+pub words_encrypt : {F : Type 0} {remaining contents : F → Known} (words : List Bytes) (plain xs : Bytes) (new : Known)
     → IsPiped command.Encrypt words → FinishesWords F remaining contents words (Some plain) (moved (Some xs) new)
     → Made (word_limits words) plain xs new
-words_encrypt F remaining contents words plain xs new pipe (job, makes, done) =
+words_encrypt {F} {remaining} {contents} words plain xs new pipe (job, makes, done) =
     let p = piped command.Encrypt words job pipe makes in
     subst (λ (n : ℕ). Made (record { max_header = n; max_chunks = 2 ^ 88 }) plain xs new) p.max_header
     (done_encrypt job plain xs new p.is
-    (alone F remaining contents job _ _ p.input p.output done))
+    (alone F remaining contents job p.input p.output done))
 
-pub words_rewrap : (F : Type 0) (remaining contents : F → Known) (words : List Bytes) (b xs : Bytes) (new : Known)
+pub words_rewrap : {F : Type 0} {remaining contents : F → Known} (words : List Bytes) (b xs : Bytes) (new : Known)
     → IsPiped command.Rewrap words → FinishesWords F remaining contents words (Some b) (moved (Some xs) new)
     → Rewrote (word_limits words) b xs new
-words_rewrap F remaining contents words b xs new pipe (job, makes, done) =
+words_rewrap {F} {remaining} {contents} words b xs new pipe (job, makes, done) =
     let p = piped command.Rewrap words job pipe makes in
     subst (λ (n : ℕ). Rewrote (record { max_header = n; max_chunks = 2 ^ 88 }) b xs new) p.max_header
     (done_rewrap job b xs new p.is
-    (alone F remaining contents job _ _ p.input p.output done))
+    (alone F remaining contents job p.input p.output done))
 
-pub words_inspect : (F : Type 0) (remaining contents : F → Known) (words : List Bytes) (b xs : Bytes) (new : Known)
+pub words_inspect : {F : Type 0} {remaining contents : F → Known} (words : List Bytes) (b xs : Bytes) (new : Known)
     → IsPiped command.Inspect words → FinishesWords F remaining contents words (Some b) (moved (Some xs) new)
     → (job : Job) × Makes words job × Showed (word_limits words) job.raw b xs new
-words_inspect F remaining contents words b xs new pipe (job, makes, done) =
+words_inspect {F} {remaining} {contents} words b xs new pipe (job, makes, done) =
     let p = piped command.Inspect words job pipe makes in (
       job,
       makes,
       subst (λ (n : ℕ). Showed (record { max_header = n; max_chunks = 2 ^ 88 }) job.raw b xs new) p.max_header
           (done_inspect job b xs new p.is
-          (alone F remaining contents job _ _ p.input p.output done)),
+          (alone F remaining contents job p.input p.output done)),
     )

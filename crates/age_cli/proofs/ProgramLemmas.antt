@@ -30,18 +30,18 @@ begins : (F : Type 0) (remaining : F → Known) (job : Job) (task : Task) (from 
 begins F remaining job task from source sink is i (inl keeps) = inl keeps
 begins F remaining job task from source sink is i (inr h) = inr (source, i, (task, is, h))
 
-pub completes : (F : Type 0) (remaining contents : F → Known) (job : Job) (task : Task) (from source : Known)
+pub completes : {F : Type 0} (remaining contents : F → Known) (job : Job) (task : Task) (from source : Known)
     (sink : Moved) (r : Result ⊤ Failure) → IsTaskOf job task → IsInput F remaining job.input from source
     → PerformsOn F contents job task source sink r → Completes F remaining contents job from sink r
-completes F remaining contents job task from source sink (Ok u) is i (target, o, w) =
+completes remaining contents job task from source sink (Ok u) is i (target, o, w) =
     (source, i, (target, o, (task, is, w)))
-completes F remaining contents job task from source sink (Err failure) is i h = λ silent.
+completes {F} remaining contents job task from source sink (Err failure) is i h = λ silent.
     begins F remaining job task from source sink is i (h silent)
 
 -- what is done from standard input to standard output
-pub alone : (F : Type 0) (remaining contents : F → Known) (job : Job) (from : Known) (sink : Moved) → job.input ≡ None
+pub alone : (F : Type 0) (remaining contents : F → Known) (job : Job) {from : Known} {sink : Moved} → job.input ≡ None
     → job.output ≡ None → FinishesOn F remaining contents job from sink → Finishes job from sink
-alone F remaining contents job from sink none silent (source, i, (target, o, h)) =
+alone F remaining contents job {from} {sink} none silent (source, i, (target, o, h)) =
     subst (λ (k : Known). Finishes job k sink) (input_is F remaining job.input from source none i)
     (subst (λ (s : Moved). Finishes job source s) (output_is F contents job.output sink target silent o) h)
 
