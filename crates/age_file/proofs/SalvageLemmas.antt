@@ -153,5 +153,5 @@ salvage-takes limits come mid to old new h max stream.Read i same e = tt
 salvage-takes limits come mid to old new h max stream.NonceTruncated i same e = tt
 salvage-takes limits come mid to old new h max stream.Memory i same e = tt
 salvage-takes limits come mid to old new h max fault i same e =
-    payload-takes limits come mid to old new h fault i
+    payload-takes mid fault i
     (inr (subst (λ m. EndsAt m 16 (flow mid to) (moved old new) fault) same e))
