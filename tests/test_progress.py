@@ -13,6 +13,7 @@ from program import AGEP, ProgramCase, fault, read, write
 
 ERASE = "\r\x1b[K"
 MANY = b"".join(b"%d\n" % i for i in range(1, 100001))[:450000]
+KEY_FRONT = 172
 AMOUNT = r"\d+ [KM]iB"
 
 
@@ -83,9 +84,22 @@ class Progress(ProgramCase):
         self.assertEqual((status, out), (1, MANY[:393216]))
         self.assert_drawn(said, f"agep: {AMOUNT} of 439 KiB, {AMOUNT}/s, \\d+ s left", took, last)
 
+    def test_lost(self):
+        """A line on lost chunks takes its place: of chunk 1 in the midst, and of chunk 4 in the end."""
+        text = fixture.changed(read("many.age"), KEY_FRONT + 65552)
+        write("damaged", fixture.changed(text, KEY_FRONT + 4 * 65552))
+        status, out, said, took = self.at_terminal("salvage", "-v", "-k", "key", "damaged")
+        zeros = bytes(65536)
+        self.assertEqual((status, out), (1, MANY[:65536] + zeros + MANY[131072:262144] + zeros + MANY[327680:]))
+        for lost in ("chunk 1 is lost: bytes 65536 to 131071", "chunk 4 is lost: bytes 262144 to 327679"):
+            before, line, after = said.partition(f"{ERASE}agep: {lost} of the plaintext\r\n")
+            self.assertTrue(line, said)
+            said = before + after
+        self.assert_drawn(said, f"agep: {AMOUNT} of 439 KiB, {AMOUNT}/s, \\d+ s left", took)
+
     def test_none(self):
-        """Nothing is shown without -v, of a small file, or of salvage, which prints lines of its own."""
-        for words, plain in (("decrypt -k key many.age", MANY), ("decrypt -v -k key key.age", HELLO), ("salvage -v -k key many.age", MANY)):
+        """Nothing is shown without -v, or of a small file."""
+        for words, plain in (("decrypt -k key many.age", MANY), ("decrypt -v -k key key.age", HELLO)):
             with self.subTest(words):
                 status, out, said, _ = self.at_terminal(*words.split())
                 self.assertEqual((status, out, said), (0, plain, ""))

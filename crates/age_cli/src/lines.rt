@@ -3,6 +3,7 @@
 use crate::program::say;
 use age_commands::Report;
 use age_file::{Losses, Lost, LostRun, join_lost};
+use age_job::ERASE;
 use std::alloc::Global;
 use std::fmt;
 use std::io::Write;
@@ -13,6 +14,8 @@ pub(crate) struct LossLines<'a, E> {
     pub(crate) alloc: Global,
     pub(crate) err: &'a mut E,
     pub(crate) run: Option<LostRun>,
+    /// Whether the line may show how much was read, which a line printed here takes the place of.
+    pub(crate) is_shown: bool,
 }
 
 /// A run of lost chunks. Its text is what follows `agep: ` on standard error.
@@ -43,16 +46,20 @@ impl fmt::Display for RunLine {
 }
 
 impl<'a, E: Write> LossLines<'a, E> {
-    fn print(&mut self, run: LostRun) {
-        let line = RunLine(run);
-        say(self.alloc, &format_args!("agep: {line}\n"), self.err);
+    fn print<D: fmt::Display>(&mut self, line: &D) {
+        let before = if self.is_shown { ERASE } else { "" };
+        say(
+            self.alloc,
+            &format_args!("{before}agep: {line}\n"),
+            self.err,
+        );
     }
 
     /// Prints the last run.
     pub(crate) fn end(&mut self) {
         if let Some(run) = self.run {
             self.run = None;
-            self.print(run);
+            self.print(&RunLine(run));
         }
     }
 }
@@ -67,7 +74,7 @@ impl<'a, E: Write> Losses for LossLines<'a, E> {
             return;
         }
         if let Some(run) = join_lost(&mut self.run, chunk) {
-            self.print(run);
+            self.print(&RunLine(run));
         }
     }
 }
@@ -75,7 +82,6 @@ impl<'a, E: Write> Losses for LossLines<'a, E> {
 impl<'a, E: Write> Report for LossLines<'a, E> {
     fn cut(&mut self, bytes: u128) {
         self.end();
-        let line = format_args!("agep: the file is cut short after byte {bytes}\n");
-        say(self.alloc, &line, self.err);
+        self.print(&format_args!("the file is cut short after byte {bytes}"));
     }
 }

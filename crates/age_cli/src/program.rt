@@ -106,13 +106,14 @@ pub fn run_job<
         alloc: rt.alloc(),
         err,
         run: None,
+        is_shown,
     };
     let mut read = ReadFiles::new(rt, job);
     match perform(rt, job, &mut read, is_shown, input, out, &mut lines) {
         Ok(()) => DONE,
         Err(failure) => {
             lines.end();
-            let LossLines { alloc, err, run: _ } = lines;
+            let LossLines { alloc, err, .. } = lines;
             if is_told(job, &failure) {
                 return FAILED;
             }
@@ -122,10 +123,10 @@ pub fn run_job<
     }
 }
 
-/// Whether a line shows how much was read: at a terminal that gets nothing else meanwhile.
+/// Whether a line shows how much was read: at a terminal that does not get the output meanwhile.
 fn shows_progress<W: IsTerminal, E: IsTerminal>(job: &Job, out: &W, err: &E) -> bool {
     let is_alone = job.output.is_some() || !out.is_terminal();
-    job.verbose && job.command != Command::Salvage && is_alone && err.is_terminal()
+    job.verbose && is_alone && err.is_terminal()
 }
 
 /// Whether lines on what is lost were printed in place of the fault.

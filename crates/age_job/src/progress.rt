@@ -14,7 +14,7 @@ const STRIDE: u64 = 65_536;
 const PAUSE: u128 = 500;
 
 /// Moves to the start of the line, and erases it.
-const ERASE: &[u8] = b"\r\x1b[K";
+pub const ERASE: &str = "\r\x1b[K";
 
 /// A reader, and the line that shows how much it gave.
 #[derive(Drop)]
@@ -100,7 +100,7 @@ impl<C: Clock, T: Write + Drop> Line<'_, C, T> {
     /// Draws the line. A failed write changes nothing.
     fn draw(&mut self) {
         let portion = self.portion;
-        let _ = self.terminal.write_all(ERASE);
+        let _ = self.terminal.write_all(ERASE.as_bytes());
         let _ = write!(self.terminal, "{portion}");
     }
 }
@@ -108,7 +108,7 @@ impl<C: Clock, T: Write + Drop> Line<'_, C, T> {
 impl<C: Clock, T: Write + Drop> Drop for Line<'_, C, T> {
     fn drop(mut self) {
         if self.drawn > self.started {
-            let _ = self.terminal.write_all(ERASE);
+            let _ = self.terminal.write_all(ERASE.as_bytes());
         }
         let Line {
             clock: _,
