@@ -50,8 +50,14 @@ def run(*words, **options):
     return done.stdout
 
 
+MODULES = ("build", "setuptools", "wheel")
+
+
 def needs(*tools):
-    missing = [tool for tool in tools if shutil.which(tool) is None]
+    """Skips where one of these commands, or modules of Debian's Python, is missing."""
+    words = ("/usr/bin/python3", "-c", "import importlib, sys; importlib.import_module(sys.argv[1])")
+    modules = {tool for tool in tools if tool in MODULES and subprocess.run([*words, tool], capture_output=True).returncode == 0}
+    missing = [tool for tool in tools if shutil.which(tool) is None and tool not in modules]
     return unittest.skipIf(missing, f"{' and '.join(missing)} missing")
 
 
@@ -67,7 +73,7 @@ def can_mount():
     return subprocess.run([*WITHOUT_PROC, "true"], capture_output=True).returncode == 0
 
 
-@needs("dpkg-buildpackage", "dh", "dh_python3", "cargo", "xz")
+@needs("dpkg-buildpackage", "dh", "dh_python3", "cargo", "xz", "unzip", *MODULES)
 class Packages(unittest.TestCase):
     @classmethod
     def setUpClass(cls):
