@@ -49,7 +49,7 @@ pub fn run<F: Files + Clock + AllocGlobal, R: Read, W: Write + IsTerminal, E: Wr
     // nor the output written.
     ensures refused { result ≡ 2 → (input.new ≡ input.old) × (out.new ≡ out.old)
         × AreWrong (map (λ word. word.now) words.now) }
-    // With status 0 nothing was written to standard error.
+    // With status 0 `err` is as it was. No clause speaks of the line on how much was read.
     ensures quiet { result ≡ 0 → err.new ≡ err.old }
     // Status 0: `clap` shows a text that the words ask for, or the words make a job and a task of
     // its command was done, from its IN to its OUT: from standard input or a file that was opened,
@@ -81,7 +81,7 @@ pub fn run_job<
     requires { IsInRange job.now }
     // 0 or 1.
     ensures status { result ≤ 1 }
-    // With status 0 nothing was written to standard error.
+    // With status 0 `err` is as it was. No clause speaks of the line on how much was read.
     ensures quiet { result ≡ 0 → err.new ≡ err.old }
     // Status 0: a task of the job's command was done, with some secret of the kind that the options
     // name and some seed, from its IN to its OUT. Where the contents of both are known, the output
